@@ -1,0 +1,10 @@
+pub mod Copies
+pub mod Faults
+pub mod Heads
+pub mod Keys
+pub mod KeysDiffer
+pub mod Orders
+pub mod Parts
+pub mod Spelled
+pub mod Stars
+pub mod Suffixes

@@ -1,0 +1,37 @@
+-- What a walk over a text has left.
+use Rattle.std.specs.Prelude.{◌≡◌, ◌≢◌, ℕ, ◌+◌, List, [], ◌∷◌, Bool, true, false, if◌then◌else◌, Option, Some, None, length, ⊤, ◌⊎◌}
+use Rattle.opc_names.specs.Names.{qualifiers}
+use Rattle.opc_names.specs.Order.{Earlier, is_open, key_byte}
+use Rattle.opc_names.specs.declared.token.Token.{Token}
+
+-- the qualifiers of the text that is left, and none where nothing is
+abbrev pub qualifiers_left : Option (List ℕ) → List (List ℕ)
+qualifiers_left None = []
+qualifiers_left (Some text) = qualifiers text
+
+-- how much is left
+abbrev pub left_len : Option (List ℕ) → ℕ
+left_len None = 0
+left_len (Some text) = length text + 1
+
+-- a `*` only at the end
+abbrev pub StarOnlyLast : List ℕ → Type 0
+StarOnlyLast [] = ⊤
+StarOnlyLast (c ∷ []) = ⊤
+StarOnlyLast (c ∷ (d ∷ q)) = (c ≢ 42) × StarOnlyLast (d ∷ q)
+
+-- a qualifier of a pattern: `**`, or one with a `*` only at its end
+abbrev pub IsQualifier : List ℕ → Type 0
+IsQualifier q = (q ≡ 42 ∷ 42 ∷ []) ⊎ StarOnlyLast q
+
+-- the order behind a common part, of which `opened` says whether it ends in `*` or `**`
+abbrev pub BeforeBehind : Bool → List Token → List Token → Type 0
+BeforeBehind opened [] [] = ⊥
+BeforeBehind opened [] (u ∷ q) = opened ≡ false
+BeforeBehind opened (t ∷ p) [] = opened ≡ true
+BeforeBehind opened (t ∷ p) (u ∷ q) = Earlier t u ⊎ ((t ≡ u) × BeforeBehind (is_open t) p q)
+
+-- a byte for each token, and one more behind the last where that leaves open what follows
+abbrev pub sort_key_behind : Bool → List Token → List ℕ
+sort_key_behind opened [] = if opened then 255 ∷ [] else []
+sort_key_behind opened (t ∷ ts) = key_byte t ∷ sort_key_behind (is_open t) ts

@@ -1,0 +1,26 @@
+//! The laws of the order of patterns, their sort keys and their heads.
+ghost use Rattle.opc_names.specs.Laws.{NoneIsBeforeItself, BeforeIsTransitive, OneIsBefore, KeysAreInOrder, KeysDiffer, KeysAreShort, HeadsArePrefixes, LongerHeadsComeFirst};
+
+/// The order of patterns is strict and total.
+pub fn patterns_are_ordered()
+    ensures irreflexive { NoneIsBeforeItself }
+    ensures transitive { BeforeIsTransitive }
+    ensures total { OneIsBefore }
+{}
+
+/// Sort keys order patterns as the patterns are ordered, and tell them apart.
+pub fn keys_order_patterns()
+    ensures in_order { KeysAreInOrder }
+    ensures differ { KeysDiffer }
+    ensures short { KeysAreShort }
+{}
+
+/// The head of a pattern that covers a name is a prefix of that name.
+pub fn heads_are_prefixes()
+    ensures { HeadsArePrefixes }
+{}
+
+/// Of two patterns that cover a name, one with a longer head comes before the other.
+pub fn longer_heads_come_first()
+    ensures { LongerHeadsComeFirst }
+{}

@@ -1,0 +1,83 @@
+//! What a pattern covers, and where it stands in the order of patterns.
+ghost use Rattle.std.specs.Prelude.{◌≡◌, ◌≤◌, ◌↔◌, IsTrue, false, length};
+ghost use Rattle.opc_names.specs.Order.{Before, sort_key, head};
+ghost use Rattle.opc_names.specs.Patterns.{tokens, CoversText};
+ghost use Rattle.opc_names.specs.Walk.{BeforeBehind, sort_key_behind};
+
+use crate::bytes::Bytes;
+use crate::cover;
+use crate::name::{Pattern, Resource};
+use crate::token::{first_token, head_len};
+use arrayvec::ArrayVec;
+
+/// The sort key of a pattern: at most 40 bytes, whose order is that of the patterns.
+pub type SortKey = Bytes<40>;
+
+impl Pattern {
+    /// Whether the pattern covers a resource.
+    pub fn covers(&self, resource: &Resource) -> bool
+        ensures { IsTrue result ↔ CoversText self.now resource.now }
+    {
+        cover::covers(self.text(), resource.text())
+    }
+
+    /// Whether the pattern comes before another one.
+    pub fn before(&self, other: &Pattern) -> bool
+        ensures { IsTrue result ↔ Before (tokens self.now) (tokens other.now) }
+    {
+        before_behind(false, self.text().as_bytes(), other.text().as_bytes())
+    }
+
+    /// Bytes whose order is that of the patterns.
+    pub fn sort_key(&self) -> SortKey
+        ensures key { result ≡ sort_key self.now }
+        ensures short { length result ≤ 40 }
+    {
+        SortKey::copied(key_bytes(self.text().as_bytes()).as_slice())
+    }
+
+    /// What every resource that the pattern covers begins with.
+    pub fn head(&self) -> &str
+        ensures { result.now ≡ head (tokens self.now) }
+    {
+        let text = self.text();
+        &text[..head_len(text.as_bytes())]
+    }
+}
+
+/// The bytes of a sort key: one for each token, and one more behind a last `*` or `**`.
+fn key_bytes(text: &[u8]) -> ArrayVec<u8, 40>
+    requires { length text.now ≤ 39 }
+    ensures key { result.items ≡ sort_key_behind false (tokens text.now) }
+    ensures short { length result.items ≤ 40 }
+{
+    let mut bytes = ArrayVec::new();
+    let mut opened = false;
+    let mut left = text;
+    while let Some((token, rest)) = first_token(left) {
+        bytes.push(token.key_byte());
+        opened = token.is_open();
+        left = rest;
+    }
+    if opened {
+        bytes.push(0xff);
+    }
+    bytes
+}
+
+fn before_behind(opened: bool, ours: &[u8], theirs: &[u8]) -> bool
+    ensures { IsTrue result ↔ BeforeBehind opened (tokens ours.now) (tokens theirs.now) }
+{
+    match (first_token(ours), first_token(theirs)) {
+        (None, None) => false,
+        (None, Some(_)) => !opened,
+        (Some(_), None) => opened,
+        (Some((token, ours)), Some((other, theirs))) => {
+            if token == other {
+                before_behind(token.is_open(), ours, theirs)
+            } else {
+                token.is_earlier(other)
+            }
+        }
+    }
+}

@@ -5,6 +5,7 @@ pub mod Keys
 pub mod KeysDiffer
 pub mod Orders
 pub mod Parts
+pub mod Resources
 pub mod Spelled
 pub mod Stars
 pub mod Suffixes

@@ -11,5 +11,6 @@ pub mod level;
 pub mod name;
 pub mod pattern;
 mod qualifier;
+mod resource;
 pub mod rule;
 pub mod token;

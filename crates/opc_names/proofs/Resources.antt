@@ -1,8 +1,8 @@
 -- Resources made of words and names.
-use Rattle.std.proofs.Common.{◌≡◌, ℕ, ◌≤◌, ◌<◌, ◌+◌, Bool, true, false, not, cond, nat_lt, nat_le, ◌==◌, ◌&&◌, List, [], ◌∷◌, ◌++◌, length, suc, Option, Some, None, refl, sym, ap, ◌∙◌, arith}
+use Rattle.std.proofs.Common.{◌≡◌, ℕ, ◌≤◌, ◌<◌, ◌+◌, Bool, true, false, not, cond, nat_lt, nat_le, ◌==◌, ◌&&◌, List, [], ◌∷◌, ◌++◌, length, suc, Some, None, refl, ap, ◌∙◌, arith}
 use Rattle.std.specs.List.{position, position_or_len, list_all, onto_first}
-use Rattle.std.specs.Option.{option_map, is_some}
-use Rattle.std.specs.Str.{IsAscii, chars}
+use Rattle.std.specs.Option.{option_map}
+use Rattle.std.specs.Str.{IsAscii}
 use Rattle.std.proofs.lemmas.Bool.Decides.{nat_tests}
 use Rattle.std.proofs.lemmas.List.{length-append}
 use Rattle.std.proofs.lemmas.List.Folds.{list_all-append}
@@ -10,9 +10,8 @@ use Rattle.std.proofs.lemmas.Str.{chars-IsAscii}
 use Rattle.opc_names.specs.declared.rule.Alphabet.{Alphabet}
 use Rattle.opc_names.specs.declared.rule.Alphabet.TheVariants.{NameCharacters, NoDigitFirst, Hexadecimal, Qualified, Generic}
 use Rattle.opc_names.specs.declared.rule.NameRule.{NameRule}
-use Rattle.opc_names.specs.declared.rule.NameFault.TheVariants.{Empty, TooShort, TooLong, BadCharacter, BadQualifier}
-use Rattle.opc_names.specs.Names.{may_begin, may_follow, bad_character, name_fault, resource_rule, is_plain, is_qualifier, bad_part, bad_qualifier, qualifiers, is_resource, IsResource}
-use Rattle.opc_names.proofs.Faults.{all_pass, none_of_map, begin_follows, name_passes, name_ascii, name_short, name_long}
+use Rattle.opc_names.specs.Names.{may_begin, may_follow, bad_character, name_fault, resource_rule, is_plain, is_qualifier, bad_part, qualifiers, is_resource, IsResource}
+use Rattle.opc_names.proofs.Faults.{all_pass, none_of_map, begin_follows, name_passes, name_short, name_long}
 use Rattle.opc_names.proofs.Parts.{qualifiers_one, qualifiers_some}
 
 both : (a b : Bool) → (a && b) ≡ true → (a ≡ true) × (b ≡ true)

@@ -13,4 +13,6 @@ pub mod pattern;
 mod qualifier;
 mod resource;
 pub mod rule;
+#[cfg(test)]
+mod tests;
 pub mod token;

@@ -1,6 +1,7 @@
 -- Which texts are names, and the first fault of those that are not.
-use Rattle.std.specs.Prelude.{◌≡◌, ℕ, ◌+◌, Bool, true, false, not, ◌||◌, ◌&&◌, ◌==◌, nat_lt, nat_le, if◌then◌else◌, List, [], ◌∷◌, length, Option, Some, None}
+use Rattle.std.specs.Prelude.{◌≡◌, ℕ, ◌+◌, Bool, true, false, not, ◌||◌, ◌&&◌, ◌==◌, nat_lt, nat_le, if◌then◌else◌, List, [], ◌∷◌, ◌++◌, codes, length, Option, Some, None}
 use Rattle.std.specs.Char.{is_ascii_digit, is_ascii_uppercase}
+use Rattle.std.specs.Fmt.{decimal}
 use Rattle.std.specs.List.{position, slice_split, list_all}
 use Rattle.std.specs.Option.{option_map, option_or}
 use Rattle.std.specs.Str.{bytes_eq, chars}
@@ -104,6 +105,14 @@ is_plain Generic = false
 -- whether a text is a resource, as a test that computes on a literal
 abbrev pub is_resource : List ℕ → Bool
 is_resource text = nat_le (length text) 39 && (list_all (may_follow Qualified) text && list_all (is_qualifier Qualified) (qualifiers text))
+
+-- the words for a fault
+abbrev pub fault_words : NameFault → List ℕ
+fault_words Empty = codes "empty"
+fault_words TooShort = codes "too short"
+fault_words TooLong = codes "too long"
+fault_words (BadCharacter at) = codes "bad character at " ++ decimal at
+fault_words (BadQualifier at) = codes "bad qualifier at " ++ decimal at
 
 -- a text that reads as a resource, or as a pattern
 abbrev pub IsResource : List ℕ → Type 0

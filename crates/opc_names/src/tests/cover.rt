@@ -1,7 +1,7 @@
 //! What patterns cover, against a plain program, and the work that it takes.
 use super::texts::all_texts;
 use crate::name::{Pattern, Resource};
-use std::alloc::AllocError;
+use std::alloc::{AllocError, Global};
 use std::process::Abort;
 use std::test::Fail;
 
@@ -34,6 +34,29 @@ fn plainly_covers(pattern: &[&str], name: &[&str]) -> bool {
         && (others.is_empty() && qualifier.ends_with('*') || plainly_covers(others, rest))
 }
 
+/// The texts that read as patterns, or as names, each with its qualifiers.
+type Split<'a, N> = Vec<(N, Vec<&'a str>)>;
+
+fn patterns_of<'a>(alloc: Global, texts: &'a [String]) -> Result<Split<'a, Pattern>, AllocError> {
+    let mut patterns = Vec::new(alloc);
+    for text in texts {
+        if let Ok(pattern) = Pattern::read(text) {
+            patterns.push((pattern, text.split('.').collect(alloc)?))?;
+        }
+    }
+    Ok(patterns)
+}
+
+fn names_of<'a>(alloc: Global, texts: &'a [String]) -> Result<Split<'a, Resource>, AllocError> {
+    let mut names = Vec::new(alloc);
+    for text in texts {
+        if let Ok(name) = Resource::read(text) {
+            names.push((name, text.split('.').collect(alloc)?))?;
+        }
+    }
+    Ok(names)
+}
+
 /// Compares all patterns and names over two alphabets, each to a length: how many patterns and names
 /// there are, and in how many pairs the pattern covers the name.
 fn compared(
@@ -41,28 +64,19 @@ fn compared(
     pattern_texts: (&str, usize),
     name_texts: (&str, usize),
 ) -> Result<(usize, usize, usize), AllocError> {
-    let texts = all_texts(rt.alloc(), name_texts.0, name_texts.1)?;
-    let mut names = Vec::new(rt.alloc());
-    for text in &texts {
-        if let Ok(name) = Resource::read(text) {
-            let parts: Vec<&str> = text.split('.').collect(rt.alloc())?;
-            names.push((name, parts))?;
+    let pattern_texts = all_texts(rt.alloc(), pattern_texts.0, pattern_texts.1)?;
+    let name_texts = all_texts(rt.alloc(), name_texts.0, name_texts.1)?;
+    let patterns = patterns_of(rt.alloc(), &pattern_texts)?;
+    let names = names_of(rt.alloc(), &name_texts)?;
+    let mut covering = 0usize;
+    for (pattern, qualifiers) in &patterns {
+        for (name, parts) in &names {
+            let wanted = plainly_covers(qualifiers, parts);
+            assert!(rt; pattern.covers(name) == wanted, "{pattern} over {name}");
+            covering = covering.saturating_add(usize::from(wanted));
         }
     }
-    let mut patterns = 0;
-    let mut covering = 0;
-    for text in &all_texts(rt.alloc(), pattern_texts.0, pattern_texts.1)? {
-        if let Ok(pattern) = Pattern::read(text) {
-            let qualifiers: Vec<&str> = text.split('.').collect(rt.alloc())?;
-            patterns += 1;
-            for (name, parts) in &names {
-                let wanted = plainly_covers(&qualifiers, parts);
-                assert!(rt; pattern.covers(name) == wanted, "{pattern} over {name}");
-                covering += usize::from(wanted);
-            }
-        }
-    }
-    Ok((patterns, names.len(), covering))
+    Ok((patterns.len(), names.len(), covering))
 }
 
 #[test]

@@ -1,4 +1,4 @@
--- Bytes in an array, with zeros behind them.
+-- Bytes in an array, with zeros behind them. The model of `Bytes` cites this page, no contract does.
 use Rattle.std.specs.Prelude.{◌≡◌, ℕ, ◌-◌, ◌≤◌, List, ◌++◌, length, take, drop, replicate}
 use Rattle.std.proofs.Common.{arith}
 use Rattle.std.proofs.lemmas.List.{take-append-drop, length-take-le}

@@ -80,6 +80,35 @@ fn compared(
 }
 
 #[test]
+fn covers_the_examples(rt: HostRuntime) -> Result<(), Fail> {
+    let cases = [
+        ("A.B", "A.B", true),
+        ("A.B.**", "A.B", true),
+        ("A.B*", "A.B", true),
+        ("A.B*", "A.BC.D", true),
+        ("A.*", "A.X.B", true),
+        ("A.**.B", "A.X.B", true),
+        ("A.**.B", "A.B", true),
+        ("A.**.B.*", "A.B.C.X", true),
+        ("A.**.C.*", "A.B.C.X", true),
+        ("A.**", "A", true),
+        ("**", "A.B.C", true),
+        ("A.%", "A.X", true),
+        ("A.%", "A.XY", false),
+        ("A.*.C", "A.XY", false),
+        ("A.*.C", "A.X.Y.C", false),
+        ("A.B.*", "A.B", false),
+        ("AB.CD.*", "AB.CD", false),
+        ("A*.C", "A.B.C", false),
+    ];
+    for (pattern, name, wanted) in cases {
+        let covers = Pattern::read(pattern)?.covers(&Resource::read(name)?);
+        assert_eq!(rt; covers, wanted, "{pattern} over {name}");
+    }
+    Ok(())
+}
+
+#[test]
 fn covers_as_defined(rt: HostRuntime) -> Result<(), Fail> {
     let short = compared(&rt, ("A1#.%*", 4), ("A1#.", 4))?;
     assert_eq!(rt; short, (661, 183, 5679));

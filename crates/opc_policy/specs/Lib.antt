@@ -1,3 +1,5 @@
 pub mod Access
 pub mod Entries
+pub mod Held
 pub mod Modes
+pub mod Rulings

@@ -1,9 +1,10 @@
 //! Access lists.
 ghost use Rattle.std.specs.Prelude.{◌≡◌, [], List, IfOk, OnOk, OnErr, length};
-ghost use Rattle.opc_policy.specs.Access.{entry_level, with_entry, AreInOrder};
+ghost use Rattle.opc_policy.specs.Access.{entry_level, highest_level, higher, first_level, AreInOrder};
 
-use crate::entry::{Entry, EntryId};
+use crate::entry::Entry;
 use opc_names::level::Level;
+use opc_names::name::{GroupName, UserId};
 use std::alloc::{AllocError, Global};
 use std::marker::Model;
 
@@ -48,6 +49,39 @@ impl Entries {
     {
         let entry = self.list.iter().find(|entry| entry.id.text() == id)?;
         Some(entry.level)
+    }
+
+    /// The highest level of the entries for these groups.
+    pub fn highest_level(&self, groups: &[GroupName]) -> Option<Level>
+        ensures { result ≡ highest_level self.now groups.now }
+    {
+        let mut highest = None;
+        for group in groups {
+            highest = higher(highest, self.level_of(group.text()));
+        }
+        highest
+    }
+
+    /// The level of the first that has one: the user's own entry, the highest entry for one of the groups, the
+    /// entry for everyone, and last what is given.
+    pub fn first_level(&self, user: &UserId, groups: &[GroupName], last: Level) -> Level
+        ensures { result ≡ first_level self.now user.now groups.now last }
+    {
+        self.level_of(user.text())
+            .or_else(|| self.highest_level(groups))
+            .or_else(|| self.level_of("*"))
+            .unwrap_or(last)
+    }
+}
+
+/// The higher of two levels, of those that are there.
+fn higher(level: Option<Level>, other: Option<Level>) -> Option<Level>
+    ensures { result ≡ higher level other }
+{
+    match (level, other) {
+        (Some(level), Some(other)) => Some(if level.includes(other) { level } else { other }),
+        (Some(level), None) => Some(level),
+        (None, other) => other,
     }
 }
 

@@ -1,8 +1,11 @@
 //! Profiles.
+ghost use Rattle.std.specs.Prelude.{◌≡◌};
+
 use crate::entries::Entries;
+use crate::user::User;
 use opc_names::class::Class;
 use opc_names::level::Level;
-use opc_names::name::{Pattern, UserId};
+use opc_names::name::{GroupName, Pattern, UserId};
 
 /// What a class says of the resources that a pattern covers: who owns the profile, the universal access,
 /// whether it only warns, and the access list (RACF guide: general resource profile).
@@ -14,4 +17,16 @@ pub struct Profile {
     pub uacc: Level,
     pub warning: bool,
     pub entries: Entries,
+}
+
+impl Profile {
+    ghost use Rattle.opc_policy.specs.Held.{held};
+
+    /// The level that a user holds, who is connected to these groups.
+    #[tactic(auto, unfolding(crate::specs::Held::held))]
+    pub fn level_of(&self, user: &User, groups: &[GroupName]) -> Level
+        ensures { result ≡ held self.now user.now groups.now }
+    {
+        self.entries.first_level(&user.id, groups, self.uacc)
+    }
 }

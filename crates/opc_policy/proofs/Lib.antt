@@ -1,1 +1,4 @@
+pub mod ByHeads
+pub mod Counts
 pub mod Highest
+pub mod MostSpecific

@@ -3,6 +3,7 @@
 
 pub mod entries;
 pub mod entry;
+pub mod laws;
 pub mod mode;
 pub mod need;
 pub mod profile;

@@ -1,5 +1,12 @@
 //! Where profiles come from.
+ghost use Rattle.std.specs.Prelude.{◌≡◌, List, IfOk, length};
+ghost use Rattle.opc_policy.specs.Deciding.{AreProfiles, of_class, deciding};
+ghost use Rattle.opc_policy.specs.Examined.{with_head, read_until};
+ghost use Rattle.opc_policy.specs.declared.profile.Profile.{Profile as TheProfile};
+
 use crate::profile::Profile;
+use opc_names::class::Class;
+use opc_names::name::Resource;
 use std::alloc::AllocError;
 use thiserror::Error;
 
@@ -28,4 +35,30 @@ impl From<AllocError> for StoreFault {
 pub struct Taken {
     pub profile: Option<Profile>,
     pub rows: u64,
+}
+
+/// Where profiles come from: of one class and with one head at a time.
+pub trait ProfileSource {
+    /// The profiles.
+    ghost content: { Self → List TheProfile };
+
+    /// Where this holds, the answers are of the content, and asking changes nothing.
+    ghost is_faithful: { Self → Type 0 };
+
+    /// The first profile, in the order of the patterns, that covers a resource, of those of a class with this
+    /// very head, and how many profiles were read for it.
+    fn first_in(
+        &mut self,
+        class: Class,
+        head: &str,
+        resource: &Resource,
+    ) -> Result<Taken, StoreFault>
+        ensures first { IfOk result (λ taken. is_faithful self.old →
+            taken.profile ≡ deciding (with_head head.now (of_class class (content self.old))) resource.now) }
+        ensures rows { IfOk result (λ taken. is_faithful self.old →
+            taken.rows ≡ length (read_until taken.profile (with_head head.now (of_class class (content self.old))))) }
+        ensures same { is_faithful self.old → content self.new ≡ content self.old }
+        ensures faithful { is_faithful self.old → is_faithful self.new };
+
+    ghost sound: { (source : Self) → is_faithful source → AreProfiles (content source) };
 }

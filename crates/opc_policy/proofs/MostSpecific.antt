@@ -1,5 +1,5 @@
 -- The profile that is computed is the most specific one, and there is no other.
-use Rattle.std.proofs.Common.{◌≡◌, ◌≢◌, ℕ, ◌<◌, ◌+◌, Bool, true, false, cond, List, [], ◌∷◌, ◌++◌, length, filter, get_or, zero, suc, Option, Some, None, refl, sym, ap, ◌∙◌, subst, ◌⊎◌, inl, inr, ⊎_elim, arith, All, Contains, ◌↔◌, Decides}
+use Rattle.std.proofs.Common.{◌≡◌, ◌≢◌, ℕ, ◌<◌, ◌+◌, Bool, true, false, cond, List, [], ◌∷◌, ◌++◌, length, filter, get_or, zero, suc, Option, Some, None, refl, sym, ap, ◌∙◌, subst, ◌⊎◌, inl, inr, ⊎_elim, arith, All, Contains, ◌↔◌, Decides, map}
 use Rattle.std.specs.Cmp.{IsStrictWeakOrder}
 use Rattle.std.specs.Cmp.Lexicographic.{slice_cmp, nat_list_cmp_total}
 use Rattle.std.specs.List.{AllPairs}
@@ -18,12 +18,13 @@ use Rattle.opc_names.specs.declared.class.Class.TheVariants.{Console, Opercmds}
 use Rattle.opc_names.specs.Authority.{same_class}
 use Rattle.opc_names.specs.Names.{IsPattern}
 use Rattle.opc_names.specs.Order.{sort_key}
-use Rattle.opc_names.specs.Patterns.{tokens, CoversText}
+use Rattle.opc_names.specs.Patterns.{tokens, CoversText, covers_text}
+use Rattle.opc_names.specs.Names.{qualifiers}
+use Rattle.opc_names.proofs.Computed.{covers_computes}
 use Rattle.opc_names.proofs.Keys.{keys_are_in_order}
 use Rattle.opc_names.proofs.Orders.{one_is_before}
 use Rattle.opc_policy.specs.Deciding.{AreProfiles, of_class, IsBefore, IsDeciding, covering, is_before, first_with, first_of, deciding}
 use Rattle.opc_policy.specs.Laws.{DecidingIsMostSpecific, OneIsDeciding}
-use Rattle.opc_policy.specs.Temporary.{covers_text, text_computes}
 use Rattle.opc_policy.specs.declared.profile.Profile.{Profile}
 
 -- what a filter keeps
@@ -93,7 +94,7 @@ before_is p q hp hq =
     (λ e. keys.0 (less.0 e), λ b. less.1 (keys.1 b))
 
 covers_is : (p : Profile) (resource : List ℕ) → (covers_text p.pattern resource ≡ true) ↔ CoversText p.pattern resource
-covers_is p resource = text_computes (covers_text p.pattern resource) p.pattern resource refl
+covers_is p resource = covers_computes (map tokens (qualifiers p.pattern)) (qualifiers resource)
 
 module _ (profiles : List Profile) (resource : List ℕ) (patterns : (q : Profile) → Contains profiles q → IsPattern q.pattern) where
   decided_by : (o : Option Profile) → FirstIs (covering resource profiles) o → IsDeciding profiles resource o

@@ -7,8 +7,7 @@ use Rattle.opc_names.specs.declared.class.Class.{Class}
 use Rattle.opc_names.specs.Authority.{same_class}
 use Rattle.opc_names.specs.Names.{IsPattern}
 use Rattle.opc_names.specs.Order.{Before, sort_key}
-use Rattle.opc_names.specs.Patterns.{tokens, CoversText}
-use Rattle.opc_policy.specs.Temporary.{covers_text}
+use Rattle.opc_names.specs.Patterns.{tokens, CoversText, covers_text}
 use Rattle.opc_policy.specs.declared.profile.Profile.{Profile}
 
 -- The profiles of a policy: their patterns are patterns, and no two have one class and one pattern.

@@ -6,4 +6,3 @@ pub mod Held
 pub mod Laws
 pub mod Modes
 pub mod Rulings
-pub mod Temporary

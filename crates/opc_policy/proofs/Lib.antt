@@ -2,3 +2,4 @@ pub mod ByHeads
 pub mod Counts
 pub mod Highest
 pub mod MostSpecific
+pub mod OneMore

@@ -6,6 +6,7 @@ pub mod entry;
 pub mod laws;
 pub mod mode;
 pub mod need;
+pub mod plain;
 pub mod profile;
 pub mod row;
 pub mod rule;

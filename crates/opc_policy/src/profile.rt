@@ -20,7 +20,18 @@ pub struct Profile {
 }
 
 impl Profile {
+    ghost use Rattle.opc_names.specs.Authority.{same_class};
     ghost use Rattle.opc_policy.specs.Held.{held};
+
+    /// Whether it is a profile of a class.
+    pub(crate) fn is_of(&self, class: Class) -> bool
+        ensures { result ≡ same_class self.now.class class }
+    {
+        match (self.class, class) {
+            (Class::Console, Class::Console) | (Class::Opercmds, Class::Opercmds) => true,
+            _ => false,
+        }
+    }
 
     /// The level that a user holds, who is connected to these groups.
     #[tactic(auto, unfolding(crate::specs::Held::held))]

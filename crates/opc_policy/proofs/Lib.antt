@@ -3,3 +3,4 @@ pub mod Counts
 pub mod Highest
 pub mod MostSpecific
 pub mod OneMore
+pub mod Placed

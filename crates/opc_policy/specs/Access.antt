@@ -1,23 +1,28 @@
 -- Access lists, and the level that a user holds by one.
-use Rattle.std.specs.Prelude.{◌≡◌, ℕ, List, [], ◌∷◌, ◌++◌, Option, Some, None, if◌then◌else◌, find, filter, unwrap_or, codes}
+use Rattle.std.specs.Prelude.{◌≡◌, ℕ, List, [], ◌∷◌, Option, Some, None, if◌then◌else◌, find, unwrap_or, codes}
+use Rattle.std.specs.BTreeSet.{replace_key}
 use Rattle.std.specs.Cmp.Lexicographic.{slice_cmp}
 use Rattle.std.specs.List.{AllPairs}
 use Rattle.std.specs.Option.{option_map, option_or}
-use Rattle.std.specs.Ordering.{nat_cmp, is_lt, is_gt}
+use Rattle.std.specs.Ordering.{nat_cmp}
+use Rattle.std.specs.declared.cmp.Ordering.{Ordering}
 use Rattle.std.specs.declared.cmp.Ordering.TheVariants.{Less}
 use Rattle.std.specs.Str.{bytes_eq}
 use Rattle.opc_names.specs.declared.level.Level.{Level}
 use Rattle.opc_names.specs.Authority.{includes}
 use Rattle.opc_policy.specs.declared.entry.Entry.{Entry}
 
+-- entries by their ids
+abbrev pub entry_cmp : Entry → Entry → Ordering
+entry_cmp e f = slice_cmp nat_cmp e.id f.id
+
 -- the id of each entry comes before those of all later ones
 abbrev pub AreInOrder : List Entry → Type 0
-AreInOrder entries = AllPairs (λ (e f : Entry). slice_cmp nat_cmp e.id f.id ≡ Less) entries
+AreInOrder entries = AllPairs (λ (e f : Entry). entry_cmp e f ≡ Less) entries
 
--- an access list with an entry at its place, the only one for its id
+-- an access list with an entry at its place, where it replaces the one for its id
 abbrev pub with_entry : Entry → List Entry → List Entry
-with_entry entry entries =
-    filter (λ (e : Entry). is_lt (slice_cmp nat_cmp e.id entry.id)) entries ++ entry ∷ filter (λ (e : Entry). is_gt (slice_cmp nat_cmp e.id entry.id)) entries
+with_entry entry entries = replace_key entry_cmp entries entry
 
 -- the level of the entry for an id
 abbrev pub entry_level : List Entry → List ℕ → Option Level

@@ -5,4 +5,5 @@ pub mod Examined
 pub mod Held
 pub mod Laws
 pub mod Modes
+pub mod Places
 pub mod Rulings

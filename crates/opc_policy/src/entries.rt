@@ -1,8 +1,9 @@
 //! Access lists.
-ghost use Rattle.std.specs.Prelude.{◌≡◌, [], List, IfOk, OnOk, OnErr, length};
-ghost use Rattle.opc_policy.specs.Access.{entry_level, highest_level, higher, first_level, AreInOrder};
+ghost use Rattle.std.specs.Prelude.{◌≡◌, [], OnOk, OnErr};
+ghost use Rattle.opc_policy.specs.Access.{entry_level, with_entry, highest_level, higher, first_level, AreInOrder};
+ghost use Rattle.opc_policy.specs.Places.{IsPlace};
 
-use crate::entry::Entry;
+use crate::entry::{Entry, EntryId};
 use opc_names::level::Level;
 use opc_names::name::{GroupName, UserId};
 use std::alloc::{AllocError, Global};
@@ -51,6 +52,18 @@ impl Entries {
         Some(entry.level)
     }
 
+    /// Sets the level for an id.
+    pub fn set(&mut self, entry: Entry) -> Result<(), AllocError>
+        ensures ok { OnOk result (self.new ≡ with_entry entry self.old) }
+        ensures err { OnErr result (self.new ≡ self.old) }
+    {
+        match place_of(self.list.as_slice(), &entry.id) {
+            Ok(at) => self.list[at] = entry,
+            Err(at) => self.list.insert(at, entry)?,
+        }
+        Ok(())
+    }
+
     /// The highest level of the entries for these groups.
     pub fn highest_level(&self, groups: &[GroupName]) -> Option<Level>
         ensures { result ≡ highest_level self.now groups.now }
@@ -72,6 +85,14 @@ impl Entries {
             .or_else(|| self.level_of("*"))
             .unwrap_or(last)
     }
+}
+
+/// Where the entry for an id stands, or where it would stand.
+fn place_of(entries: &[Entry], id: &EntryId) -> Result<usize, usize>
+    requires { AreInOrder entries.now }
+    ensures { IsPlace id.now entries.now result }
+{
+    entries.binary_search_by(|entry| entry.id.cmp(id))
 }
 
 /// The higher of two levels, of those that are there.

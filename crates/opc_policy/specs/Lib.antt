@@ -1,4 +1,5 @@
 pub mod Access
+pub mod BasePolicy
 pub mod Deciding
 pub mod Entries
 pub mod Examined

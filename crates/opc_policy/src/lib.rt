@@ -1,6 +1,7 @@
 //! Profiles and access: who holds which level, which profile decides, and by which rule.
 #![tactic(auto)]
 
+pub mod cases;
 pub mod entries;
 pub mod entry;
 pub mod laws;

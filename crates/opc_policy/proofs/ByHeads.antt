@@ -1,7 +1,11 @@
 -- The deciding profile, head by head.
-use Rattle.std.proofs.Common.{◌≡◌, ℕ, ◌<◌, ◌≤◌, ◌+◌, ◌-◌, Bool, true, false, cond, List, [], ◌∷◌, filter, take, length, get_or, zero, suc, Option, Some, None, refl, sym, ap, ◌∙◌, arith, ◌⊎◌, inl, inr}
+use Rattle.std.proofs.Common.{◌≡◌, ℕ, ◌<◌, ◌≤◌, ◌+◌, ◌-◌, Bool, true, false, cond, ◌&&◌, nat_le, List, [], ◌∷◌, filter, take, length, get_or, zero, suc, Option, Some, None, refl, sym, ap, ◌∙◌, arith, ◌⊎◌, inl, inr}
 use Rattle.std.specs.List.{Contains}
 use Rattle.std.specs.Option.{is_some}
+use Rattle.std.specs.List.{starts_with}
+use Rattle.std.specs.Prelude.{nat_eq}
+use Rattle.std.proofs.lemmas.List.Sums.{count_by-le-length, length-filter}
+use Rattle.opc_names.specs.Authority.{same_class}
 use Rattle.std.proofs.lemmas.Bool.{false≢true}
 use Rattle.std.proofs.lemmas.Bool.Decides.{eqb_tells}
 use Rattle.std.proofs.lemmas.List.{take_at, length-take-le}
@@ -14,7 +18,7 @@ use Rattle.opc_names.proofs.Heads.{heads_are_prefixes, longer_heads_come_first}
 use Rattle.opc_names.proofs.Orders.{before_itself, before_trans}
 use Rattle.opc_policy.specs.declared.profile.Profile.{Profile}
 use Rattle.opc_policy.specs.Deciding.{AreProfiles, of_class, IsBefore, IsDeciding, deciding}
-use Rattle.opc_policy.specs.Examined.{head_of, head_length, with_head, read_until, examined}
+use Rattle.opc_policy.specs.Examined.{head_of, head_length, with_head, read_until, is_examined, examined}
 use Rattle.opc_policy.proofs.MostSpecific.{of_filter, to_filter, deciding_is, class_pattern, one_is_deciding}
 use Rattle.opc_policy.proofs.Counts.{front_fits, longer, as_long, longer_none, longer_last, longer_more, as_long_all, as_long_more}
 
@@ -104,6 +108,20 @@ module _ (content : List Profile) (class : Class) (name : List ℕ) (sound : Are
           e ∙ one_is_deciding content class name None sound (deciding_none (of_class class content) name patterns (rw z at before.longest) (rw z at here)),
           asked_more e ∙ rw (z, e) (as_long_all name (of_class class content)),
         )
+
+    -- no more profiles are read than there are
+    few : rows + more ≤ length (of_class class content)
+    few = go answer refl
+      where
+        go : (x : Option Profile) → answer ≡ x → rows + more ≤ length (of_class class content)
+        go (Some d) e = rw ((asked_some d e).1, length-filter {X = Profile}) (count_by-le-length (λ (p : Profile). is_examined answer name p) (of_class class content))
+        go None e = rw (asked_more e) (count_by-le-length (λ (p : Profile). starts_with nat_eq name (head_of p) && nat_le k (length (head_of p))) (of_class class content))
+
+    pub asked_few : rows + more ≤ length content
+    asked_few =
+        let within : length (of_class class content) ≤ length content = rw length-filter (count_by-le-length (λ (p : Profile). same_class p.class class) content) in
+        let read_few = few in
+        omega (arith, read_few, within)
 
     -- at the first cover, or at the empty head
     pub asked_last : (is_some answer ≡ true) ⊎ ((is_some answer ≡ false) × (k ≡ 0)) → (answer ≡ deciding (of_class class content) name) × (rows + more ≡ length (examined answer name (of_class class content))) × (length name + 1 - k + head_length answer ≡ length name + 1)

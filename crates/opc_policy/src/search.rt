@@ -1,5 +1,6 @@
 //! The search for the deciding profile.
-ghost use Rattle.std.specs.Prelude.{◌≡◌, ◌+◌, IfOk, length};
+ghost use Rattle.std.specs.Prelude.{◌≡◌, ◌≤◌, ◌+◌, ◌^◌, ◌⊎◌, IfOk, IfErr, MatchResult, length};
+ghost use Rattle.opc_policy.specs.declared.source.StoreFault.TheVariants.{Store};
 ghost use Rattle.opc_policy.specs.Deciding.{of_class, deciding};
 ghost use Rattle.opc_policy.specs.Examined.{examined, head_length};
 
@@ -29,6 +30,9 @@ pub fn search<S: ProfileSource>(
         found.ranges + head_length found.profile ≡ length resource.now + 1) }
     ensures rows { IfOk result (λ found. S.is_faithful source.old →
         found.rows ≡ length (examined found.profile resource.now (of_class class (S.content source.old)))) }
+    // Besides the faults of the source: the count of what was read does not fit.
+    ensures fault { S.is_faithful source.old → IfErr result (λ fault.
+        S.can_fail_with fault ⊎ ((fault ≡ Store) × (2 ^ 64 ≤ length (S.content source.old)))) }
     ensures same { S.is_faithful source.old → S.content source.new ≡ S.content source.old }
     ensures faithful { S.is_faithful source.old → S.is_faithful source.new }
 {
@@ -55,7 +59,7 @@ pub fn search<S: ProfileSource>(
 }
 
 fn sum(rows: u64, read: u64) -> Result<u64, StoreFault>
-    ensures { IfOk result (λ sum. sum ≡ rows + read) }
+    ensures { MatchResult result (λ sum. sum ≡ rows + read) (λ fault. (fault ≡ Store) × (2 ^ 64 ≤ rows + read)) }
 {
     rows.checked_add(read).ok_or(StoreFault::Store)
 }

@@ -1,8 +1,9 @@
 //! Where profiles come from.
-ghost use Rattle.std.specs.Prelude.{◌≡◌, List, IfOk, length};
+ghost use Rattle.std.specs.Prelude.{◌≡◌, List, IfOk, IfErr, length};
 ghost use Rattle.opc_policy.specs.Deciding.{AreProfiles, of_class, deciding};
 ghost use Rattle.opc_policy.specs.Examined.{with_head, read_until};
 ghost use Rattle.opc_policy.specs.declared.profile.Profile.{Profile as TheProfile};
+ghost use Rattle.opc_policy.specs.declared.source.StoreFault.{StoreFault as TheFault};
 
 use crate::profile::Profile;
 use opc_names::class::Class;
@@ -45,6 +46,9 @@ pub trait ProfileSource {
     /// Where this holds, the answers are of the content, and asking changes nothing.
     ghost is_faithful: { Self → Type 0 };
 
+    /// The faults that asking may end in.
+    ghost can_fail_with: { TheFault → Type 0 };
+
     /// The first profile, in the order of the patterns, that covers a resource, of those of a class with this
     /// very head, and how many profiles were read for it.
     fn first_in(
@@ -57,6 +61,7 @@ pub trait ProfileSource {
             taken.profile ≡ deciding (with_head head.now (of_class class (content self.old))) resource.now) }
         ensures rows { IfOk result (λ taken. is_faithful self.old →
             taken.rows ≡ length (read_until taken.profile (with_head head.now (of_class class (content self.old))))) }
+        ensures fault { IfErr result can_fail_with }
         ensures same { is_faithful self.old → content self.new ≡ content self.old }
         ensures faithful { is_faithful self.old → is_faithful self.new };
 

@@ -1,5 +1,6 @@
-use Rattle.std.proofs.Common.{◌≡◌, ◌-◌, ◌+◌, ◌≤◌, length, take, ap, ◌∙◌, refl, sym, arith, rules}
-use Rattle.opc_policy.proofs.ByHeads.{asked_start, asked_last, asked_next}
+use Rattle.std.proofs.Common.{◌≡◌, ◌-◌, ◌+◌, ◌≤◌, length, take, ap, ◌∙◌, refl, sym, arith, rules, inr}
+use Rattle.std.proofs.lemmas.Result.{err_from_is_err_and}
+use Rattle.opc_policy.proofs.ByHeads.{asked_start, asked_last, asked_few, asked_next}
 use Rattle.opc_policy.proofs.search.search.Goals as goal
 
 pub heads-init : goal.heads-init
@@ -63,3 +64,16 @@ heads-preserved g c = record {
         asked = rw (c.text-name.ensures.text, c.in_ok-rows.ensures) (asked_next (g.S.ProfileSource.content c.args.source.now) c.args.class c.args.resource.now sound c.heads.length c.heads.rows c.in_ok-taken.taken.rows asked c.in_ok-taken.taken.profile first rows (c.heads.length - 1) less (sym c.is_some.ensures ∙ c.if-is_some.false));
       };
 }
+
+pub returns-in_err-rows-clause-fault : goal.returns-in_err-rows-clause-fault
+returns-in_err-rows-clause-fault g c = λ faithful.
+    let told = c.heads.invariant.told faithful in
+    let whole : c.heads.length - 0 ≡ c.heads.length = omega arith in
+    let head : c.range.result.now ≡ take c.heads.length c.args.resource.now = c.range.ensures.value ∙ rw (c.text-name.ensures.text, whole) refl in
+    let asked = rw c.text-name.ensures.text at told.asked in
+    let first = rw (head, told.same) at (c.in_ok-taken.ensures.first told.faithful) in
+    let rows = rw (head, told.same) at (c.in_ok-taken.ensures.rows told.faithful) in
+    let sound = g.met.S.ProfileSource.sound c.args.source.now faithful in
+    let few = asked_few (g.S.ProfileSource.content c.args.source.now) c.args.class c.args.resource.now sound c.heads.length c.heads.rows c.in_ok-taken.taken.rows asked c.in_ok-taken.taken.profile first rows in
+    let err = err_from_is_err_and c.from_residual-in_err-rows.result c.from_residual-in_err-rows.ensures.1 in
+    rw (err.1, err.2) (inr (c.in_err-rows.ensures.0, omega (arith, few, c.in_err-rows.ensures.1)))

@@ -57,6 +57,7 @@ pub trait ProfileSource {
         head: &str,
         resource: &Resource,
     ) -> Result<Taken, StoreFault>
+        ensures profiles { is_faithful self.old → AreProfiles (content self.old) }
         ensures first { IfOk result (λ taken. is_faithful self.old →
             taken.profile ≡ deciding (with_head head.now (of_class class (content self.old))) resource.now) }
         ensures rows { IfOk result (λ taken. is_faithful self.old →
@@ -64,6 +65,4 @@ pub trait ProfileSource {
         ensures fault { IfErr result can_fail_with }
         ensures same { is_faithful self.old → content self.new ≡ content self.old }
         ensures faithful { is_faithful self.old → is_faithful self.new };
-
-    ghost sound: { (source : Self) → is_faithful source → AreProfiles (content source) };
 }

@@ -4,3 +4,5 @@ pub mod Highest
 pub mod MostSpecific
 pub mod OneMore
 pub mod Placed
+pub mod Maps
+pub mod UsersById

@@ -5,6 +5,11 @@ pub mod Entries
 pub mod Examined
 pub mod Held
 pub mod Laws
+pub mod Faults
+pub mod Held
+pub mod Members
 pub mod Modes
 pub mod Places
+pub mod Rules
 pub mod Rulings
+pub mod Stored

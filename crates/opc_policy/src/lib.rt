@@ -2,9 +2,12 @@
 #![tactic(auto)]
 
 pub mod cases;
+pub mod connect;
 pub mod entries;
 pub mod entry;
 pub mod laws;
+pub mod fault;
+pub mod groups;
 pub mod mode;
 pub mod need;
 pub mod plain;
@@ -16,4 +19,5 @@ pub mod search;
 pub mod source;
 pub mod unit_kind;
 pub mod user;
+pub mod users;
 pub mod verdict;

@@ -1,11 +1,16 @@
 -- Maps whose values tell their keys, as the lists of their values.
-use Rattle.std.proofs.Common.{◌≡◌, refl, sym, ap, ◌∙◌, ℕ, Bool, true, false, List, [], ◌∷◌, Option, Some, None}
-use Rattle.std.specs.BTreeMap.{insert_entry}
+use Rattle.std.proofs.Common.{◌≡◌, refl, sym, ap, ◌∙◌, ℕ, Bool, true, false, cond, List, [], ◌∷◌, Option, Some, None}
+use Rattle.std.specs.BTreeMap.{insert_entry, is_at}
 use Rattle.std.specs.BTreeSet.{replace_key}
 use Rattle.std.specs.Prelude.{find}
 use Rattle.std.specs.List.{AllByRecursion}
-use Rattle.std.specs.Map.{lookup, values_of}
-use Rattle.std.specs.Ordering.{match_ordering}
+use Rattle.std.specs.Cmp.{IsTotalOrder}
+use Rattle.std.specs.List.Sorted.{IsStrictlySortedBy}
+use Rattle.std.specs.Map.{keys_of, lookup, set_value, values_of}
+use Rattle.std.specs.Ordering.{is_eq, match_ordering}
+use Rattle.std.proofs.lemmas.Map.{lookup-none}
+use Rattle.std.proofs.lemmas.Map.Entries.{none_below_head}
+use Rattle.std.proofs.lemmas.Map.Keys.{sorted_tail}
 use Rattle.std.specs.declared.cmp.Ordering.{Ordering}
 use Rattle.std.specs.declared.cmp.Ordering.TheVariants.{Less, Equal, Greater}
 
@@ -38,3 +43,25 @@ All-insert P key_cmp k v (e ∷ es) new same h = go (key_cmp k e.0) (same e) (Al
 pub All-weaker : {X : Type 0} (P Q : X → Type 0) → ((x : X) → P x → Q x) → (xs : List X) → AllByRecursion P xs → AllByRecursion Q xs
 All-weaker P Q f [] h = tt
 All-weaker P Q f (x ∷ xs) h = (f x h.0, All-weaker P Q f xs h.1)
+
+some_none : {X : Type 0} {x : X} → Some x ≡ None → ⊥
+some_none e = (cc)
+
+-- a value written at a key that is there is one inserted at it
+pub set-insert : {K X : Type 0} {key_cmp : K → K → Ordering} → IsTotalOrder key_cmp → (k : K) (v old : X) (es : List (K × X)) → IsStrictlySortedBy key_cmp (keys_of es) → lookup (is_at (key_cmp k)) es ≡ Some old → set_value (is_at (key_cmp k)) es v ≡ insert_entry key_cmp es k v
+set-insert order k v old [] sorted found = (cc)
+set-insert {K} {X} {key_cmp} order k v old (e ∷ es) sorted found = go (key_cmp k e.0) refl (λ later. set-insert order k v old es (sorted_tail key_cmp e.0 (keys_of es) sorted) later)
+  where
+    go : (o : Ordering) → key_cmp k e.0 ≡ o → (lookup (is_at (key_cmp k)) es ≡ Some old → set_value (is_at (key_cmp k)) es v ≡ insert_entry key_cmp es k v) → cond (is_eq o) ((e.0, v) ∷ es) (e ∷ set_value (is_at (key_cmp k)) es v) ≡ match_ordering o ((k, v) ∷ e ∷ es) ((e.0, v) ∷ es) (e ∷ insert_entry key_cmp es k v)
+    go Less at later = absurd (some_none (sym found ∙ lookup-none (is_at (key_cmp k)) (e ∷ es) (none_below_head order k e es sorted at)))
+    go Equal at later = refl
+    go Greater at later = ap (λ fs. e ∷ fs) (later (sym (rw at refl) ∙ found))
+
+-- what a test finds passes it
+pub passes-find : {X : Type 0} (p : X → Bool) (x : X) (xs : List X) → find p xs ≡ Some x → p x ≡ true
+passes-find p x [] found = (cc)
+passes-find p x (y ∷ ys) found = go (p y) refl found (passes-find p x ys)
+  where
+    go : (b : Bool) → p y ≡ b → cond b (Some y) (find p ys) ≡ Some x → (find p ys ≡ Some x → p x ≡ true) → p x ≡ true
+    go true at same later = let e : y ≡ x = cc in ap p (sym e) ∙ at
+    go false at same later = later same

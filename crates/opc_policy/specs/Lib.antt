@@ -10,6 +10,7 @@ pub mod Held
 pub mod Members
 pub mod Modes
 pub mod Places
+pub mod Profiles
 pub mod Rules
 pub mod Rulings
 pub mod Stored

@@ -12,6 +12,7 @@ pub mod mode;
 pub mod need;
 pub mod plain;
 pub mod profile;
+pub mod profiles;
 pub mod row;
 pub mod rule;
 pub mod ruling;

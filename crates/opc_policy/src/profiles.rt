@@ -1,0 +1,77 @@
+//! The profiles of a policy.
+ghost use Rattle.std.specs.Prelude.{◌≡◌, [], OnOk, OnErr};
+ghost use Rattle.std.specs.Option.{option_copied};
+ghost use Rattle.opc_names.specs.Order.{sort_key};
+ghost use Rattle.opc_policy.specs.Profiles.{profile_of, with_profile, with_definition};
+
+use crate::entry::Entry;
+use crate::profile::Profile;
+use opc_names::class::Class;
+use opc_names::name::Pattern;
+use opc_names::pattern::SortKey;
+use std::alloc::{AllocError, Global};
+use std::collections::BTreeMap;
+use std::marker::Model;
+
+/// The profiles of a policy, by class and then by pattern, in the order of the patterns.
+#[derive(Drop)]
+pub struct Profiles {
+    by_key: BTreeMap<(Class, SortKey), Profile>,
+}
+
+impl Model for Profiles {
+    ghost use Rattle.std.specs.Prelude.{List, ℕ};
+    ghost use Rattle.std.specs.BTreeMap.{values};
+    ghost use Rattle.opc_policy.specs.declared.profile.Profile.{Profile};
+    ghost use Rattle.opc_policy.specs.Stored.{AreByKey};
+
+    ghost Value = { List Profile };
+
+    ghost view = { λ p. values p.by_key };
+
+    ghost invariant = { λ p. AreByKey p.by_key.entries };
+}
+
+impl Profiles {
+    pub fn new(alloc: Global) -> Self
+        ensures { result ≡ [] }
+    {
+        Profiles {
+            by_key: BTreeMap::new(alloc),
+        }
+    }
+
+    pub fn get(&self, class: Class, pattern: &Pattern) -> Option<&Profile>
+        ensures { option_copied result ≡ profile_of self.now class pattern.now }
+    {
+        self.by_key.get(&(class, pattern.sort_key()))
+    }
+
+    /// One more profile, in the place of one of its class and pattern.
+    fn put(&mut self, profile: Profile) -> Result<(), AllocError>
+        ensures ok { OnOk result (self.new ≡ with_profile profile self.old) }
+        ensures err { OnErr result (self.new ≡ self.old) }
+    {
+        let key = profile.pattern.sort_key();
+        self.by_key.insert((profile.class, key), profile)?;
+        Ok(())
+    }
+
+    /// One more profile. Where there is one of its class and pattern, it takes its place and keeps the access
+    /// list that is there.
+    pub fn define(&mut self, profile: Profile) -> Result<(), AllocError>
+        ensures ok { OnOk result (self.new ≡ with_definition profile self.old) }
+        ensures err { OnErr result (self.new ≡ self.old) }
+    {
+        let key = profile.pattern.sort_key();
+        match self.by_key.get_mut(&(profile.class, key)) {
+            Some(stored) => {
+                stored.owner = profile.owner;
+                stored.uacc = profile.uacc;
+                stored.warning = profile.warning;
+                Ok(())
+            }
+            None => self.put(profile),
+        }
+    }
+}

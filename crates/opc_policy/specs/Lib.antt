@@ -3,10 +3,9 @@ pub mod BasePolicy
 pub mod Deciding
 pub mod Entries
 pub mod Examined
-pub mod Held
-pub mod Laws
 pub mod Faults
 pub mod Held
+pub mod Laws
 pub mod Members
 pub mod Modes
 pub mod Places
@@ -14,3 +13,4 @@ pub mod Profiles
 pub mod Rules
 pub mod Rulings
 pub mod Stored
+pub mod Taken

@@ -2,6 +2,7 @@
 ghost use Rattle.std.specs.Prelude.{◌≡◌, ◌≤◌, IfOk, length, string_bytes};
 ghost use Rattle.std.specs.Str.{IsAscii};
 
+use crate::entry::EntryId;
 use opc_names::bytes::Bytes;
 use opc_names::name::{Name, NameKind, UserId};
 use std::alloc::{AllocError, Global};
@@ -33,6 +34,15 @@ impl Subject {
     {
         Subject {
             bytes: Bytes::copied(name.text().as_bytes()),
+        }
+    }
+
+    /// The id of an entry of an access list.
+    pub fn of_entry(id: &EntryId) -> Self
+        ensures { result ≡ id.now }
+    {
+        Subject {
+            bytes: Bytes::copied(id.text().as_bytes()),
         }
     }
 
@@ -261,6 +271,17 @@ impl Fault {
         ensures { IfOk result (λ text. string_bytes text ≡ fault_text self.now) }
     {
         self.to_string(alloc)
+    }
+}
+
+impl From<AllocError> for Fault {
+    ghost use Rattle.std.specs.Prelude.{◌≡◌};
+    ghost use Rattle.opc_policy.specs.declared.fault.Fault.TheVariants.{NoMemory};
+
+    ghost from_gives = { λ _ fault. fault ≡ NoMemory };
+
+    fn from(_refused: AllocError) -> Self {
+        Fault::NoMemory
     }
 }
 

@@ -1,16 +1,17 @@
 //! The groups of a policy.
-ghost use Rattle.std.specs.Prelude.{◌≡◌, [], OnOk, OnErr};
+ghost use Rattle.std.specs.Prelude.{◌≡◌, ◌≤◌, [], OnOk, OnErr, length};
 ghost use Rattle.opc_policy.specs.Members.{with_group, is_group};
 
+use opc_names::bytes::Bytes;
 use opc_names::name::GroupName;
 use std::alloc::{AllocError, Global};
 use std::collections::BTreeSet;
 use std::marker::Model;
 
-/// The groups of a policy, in order.
+/// The groups of a policy, in order. They are kept by their texts, so that a name of any kind can be looked up.
 #[derive(Debug, Drop)]
 pub struct Groups {
-    set: BTreeSet<GroupName>,
+    set: BTreeSet<Bytes<8>>,
 }
 
 impl Model for Groups {
@@ -30,10 +31,12 @@ impl Groups {
         }
     }
 
-    pub fn contains(&self, name: &GroupName) -> bool
+    /// Whether a group has this name.
+    pub fn contains(&self, name: &str) -> bool
+        requires { length name.now ≤ 8 }
         ensures { result ≡ is_group self.now name.now }
     {
-        self.set.contains(name)
+        self.set.contains(&Bytes::copied(name.as_bytes()))
     }
 
     /// One more group; one that is there stays.
@@ -41,7 +44,7 @@ impl Groups {
         ensures ok { OnOk result (self.new ≡ with_group name self.old) }
         ensures err { OnErr result (self.new ≡ self.old) }
     {
-        self.set.insert(name)?;
+        self.set.insert(Bytes::copied(name.text().as_bytes()))?;
         Ok(())
     }
 }

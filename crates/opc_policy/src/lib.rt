@@ -5,12 +5,13 @@ pub mod cases;
 pub mod connect;
 pub mod entries;
 pub mod entry;
-pub mod laws;
 pub mod fault;
 pub mod groups;
+pub mod laws;
 pub mod mode;
 pub mod need;
 pub mod plain;
+pub mod policy
 pub mod profile;
 pub mod profiles;
 pub mod row;

@@ -2,7 +2,7 @@
 ghost use Rattle.std.specs.Prelude.{◌≡◌, [], OnOk, OnErr};
 ghost use Rattle.std.specs.Option.{option_copied};
 ghost use Rattle.opc_names.specs.Order.{sort_key};
-ghost use Rattle.opc_policy.specs.Profiles.{profile_of, with_profile, with_definition};
+ghost use Rattle.opc_policy.specs.Profiles.{profile_of, with_profile, with_definition, with_permission};
 
 use crate::entry::Entry;
 use crate::profile::Profile;
@@ -72,6 +72,24 @@ impl Profiles {
                 Ok(())
             }
             None => self.put(profile),
+        }
+    }
+
+    /// One more entry in the access list of a profile, in the place of one for its id. Where there is no such profile
+    /// nothing changes.
+    pub fn permit(
+        &mut self,
+        class: Class,
+        pattern: &Pattern,
+        entry: Entry,
+    ) -> Result<(), AllocError>
+        ensures ok { OnOk result (self.new ≡ with_permission class pattern.now entry self.old) }
+        ensures err { OnErr result (self.new ≡ self.old) }
+    {
+        let key = pattern.sort_key();
+        match self.by_key.get_mut(&(class, key)) {
+            Some(stored) => stored.entries.set(entry),
+            None => Ok(()),
         }
     }
 }

@@ -5,6 +5,5 @@ pub mod Maps
 pub mod MostSpecific
 pub mod OneMore
 pub mod Placed
-pub mod Maps
 pub mod ProfilesByKey
 pub mod UsersById

@@ -18,8 +18,10 @@ use Rattle.opc_names.specs.declared.class.Class.{Class}
 use Rattle.opc_names.specs.declared.class.Class.TheVariants.{Console, Opercmds}
 use Rattle.opc_names.proofs.KeysDiffer.{keys_differ}
 use Rattle.opc_policy.proofs.Maps.{lookup-values, values-insert, All-insert, All-weaker, passes-find, set-insert}
+use Rattle.opc_policy.specs.declared.entry.Entry.{Entry}
 use Rattle.opc_policy.specs.declared.profile.Profile.{Profile}
-use Rattle.opc_policy.specs.Profiles.{class_cmp, pattern_cmp, profile_cmp, is_of, profile_of, with_profile, with_definition}
+use Rattle.opc_policy.specs.Access.{with_entry}
+use Rattle.opc_policy.specs.Profiles.{class_cmp, pattern_cmp, profile_cmp, is_of, profile_of, with_profile, with_definition, with_permission}
 use Rattle.opc_policy.specs.Stored.{IsAtItsKey, AreByKey}
 
 -- keys as the map compares them
@@ -91,11 +93,6 @@ AreByKey-insert profile es valid h =
     (sym both.0, sym ((bytes_eq-Decides (sort_key profile.pattern) e.0.1).0 (texts_ties (sort_key profile.pattern) e.0.1 ∙ ap is_eq both.1)), valid))
     h
 
--- a profile that is written at its key, where one is
-pub entries-set : (profile old : Profile) (es : List ((Class × List ℕ) × Profile)) → IsPattern profile.pattern → IsStrictlySortedBy key_cmp (keys_of es) → AreByKey es → profile_of (values_of es) profile.class profile.pattern ≡ Some old → set_value (is_at (key_cmp (profile.class, sort_key profile.pattern))) es profile ≡ insert_entry key_cmp es (profile.class, sort_key profile.pattern) profile
-entries-set profile old es valid sorted h found =
-    set-insert key_order (profile.class, sort_key profile.pattern) profile old es sorted (lookup-profile profile.class profile.pattern es valid h ∙ found)
-
 same_of : (class : Class) (pattern : List ℕ) (profile : Profile) → is_of class pattern profile ≡ true → (profile.class ≡ class) × (profile.pattern ≡ pattern)
 same_of class pattern profile h = go profile.class class refl refl h
   where
@@ -116,20 +113,56 @@ redefined old profile = record { class = old.class; pattern = old.pattern; owner
 pub redefined-is : (old profile : Profile) → old.class ≡ profile.class → old.pattern ≡ profile.pattern → redefined old profile ≡ record profile { entries = old.entries }
 redefined-is old profile a b = rw (a, b) refl
 
+-- a profile that is written where the one of its class and pattern is
+written : (class : Class) (pattern : List ℕ) (old new : Profile) (es : List ((Class × List ℕ) × Profile)) → IsPattern pattern → IsStrictlySortedBy key_cmp (keys_of es) → AreByKey es → profile_of (values_of es) class pattern ≡ Some old → new.class ≡ class → new.pattern ≡ pattern
+    → set_value (is_at (key_cmp (class, sort_key pattern))) es new ≡ insert_entry key_cmp es (new.class, sort_key new.pattern) new
+written class pattern old new es valid sorted h found a b =
+    set-insert key_order (class, sort_key pattern) new old es sorted (lookup-profile class pattern es valid h ∙ found)
+    ∙ rw (a, b) refl
+
+pub values-written : (class : Class) (pattern : List ℕ) (old new : Profile) (es : List ((Class × List ℕ) × Profile)) → IsPattern pattern → IsStrictlySortedBy key_cmp (keys_of es) → AreByKey es → profile_of (values_of es) class pattern ≡ Some old → new.class ≡ class → new.pattern ≡ pattern
+    → values_of (set_value (is_at (key_cmp (class, sort_key pattern))) es new) ≡ with_profile new (values_of es)
+values-written class pattern old new es valid sorted h found a b =
+    ap values_of (written class pattern old new es valid sorted h found a b) ∙ values-with_profile new es h
+
+pub AreByKey-written : (class : Class) (pattern : List ℕ) (old new : Profile) (es : List ((Class × List ℕ) × Profile)) → IsPattern pattern → IsStrictlySortedBy key_cmp (keys_of es) → AreByKey es → profile_of (values_of es) class pattern ≡ Some old → new.class ≡ class → new.pattern ≡ pattern
+    → AreByKey (set_value (is_at (key_cmp (class, sort_key pattern))) es new)
+AreByKey-written class pattern old new es valid sorted h found a b =
+    rw (written class pattern old new es valid sorted h found a b) (AreByKey-insert new es (rw b valid) h)
+
 pub values-redefined : (profile old : Profile) (es : List ((Class × List ℕ) × Profile)) → IsPattern profile.pattern → IsStrictlySortedBy key_cmp (keys_of es) → AreByKey es → profile_of (values_of es) profile.class profile.pattern ≡ Some old
     → values_of (set_value (is_at (key_cmp (profile.class, sort_key profile.pattern))) es (redefined old profile)) ≡ with_definition profile (values_of es)
 values-redefined profile old es valid sorted h found =
     let is = profile_of-is profile.class profile.pattern (values_of es) old found in
     let new : Profile = record profile { entries = old.entries } in
-    rw (redefined-is old profile is.0 is.1, entries-set new old es valid sorted h found, found) (values-with_profile new es h)
+    rw (redefined-is old profile is.0 is.1, found) (values-written profile.class profile.pattern old new es valid sorted h found refl refl)
 
 pub AreByKey-redefined : (profile old : Profile) (es : List ((Class × List ℕ) × Profile)) → IsPattern profile.pattern → IsStrictlySortedBy key_cmp (keys_of es) → AreByKey es → profile_of (values_of es) profile.class profile.pattern ≡ Some old
     → AreByKey (set_value (is_at (key_cmp (profile.class, sort_key profile.pattern))) es (redefined old profile))
 AreByKey-redefined profile old es valid sorted h found =
     let is = profile_of-is profile.class profile.pattern (values_of es) old found in
-    let new : Profile = record profile { entries = old.entries } in
-    rw (redefined-is old profile is.0 is.1, entries-set new old es valid sorted h found) (AreByKey-insert new es valid h)
+    AreByKey-written profile.class profile.pattern old (redefined old profile) es valid sorted h found is.0 is.1
 
 -- a profile that is new keeps its own access list
 pub with_new_definition : (profile : Profile) (profiles : List Profile) → profile_of profiles profile.class profile.pattern ≡ None → with_profile profile profiles ≡ with_definition profile profiles
 with_new_definition profile profiles found = rw found refl
+
+-- a profile with one more entry
+abbrev pub permitted : Profile → List Entry → Profile
+permitted old entries = record { class = old.class; pattern = old.pattern; owner = old.owner; uacc = old.uacc; warning = old.warning; entries = entries }
+
+pub values-permitted : (class : Class) (pattern : List ℕ) (entry : Entry) (old : Profile) (es : List ((Class × List ℕ) × Profile)) → IsPattern pattern → IsStrictlySortedBy key_cmp (keys_of es) → AreByKey es → profile_of (values_of es) class pattern ≡ Some old
+    → values_of (set_value (is_at (key_cmp (class, sort_key pattern))) es (permitted old (with_entry entry old.entries))) ≡ with_permission class pattern entry (values_of es)
+values-permitted class pattern entry old es valid sorted h found =
+    let is = profile_of-is class pattern (values_of es) old found in
+    rw found (values-written class pattern old (permitted old (with_entry entry old.entries)) es valid sorted h found is.0 is.1)
+
+pub AreByKey-permitted : (class : Class) (pattern : List ℕ) (entries : List Entry) (old : Profile) (es : List ((Class × List ℕ) × Profile)) → IsPattern pattern → IsStrictlySortedBy key_cmp (keys_of es) → AreByKey es → profile_of (values_of es) class pattern ≡ Some old
+    → AreByKey (set_value (is_at (key_cmp (class, sort_key pattern))) es (permitted old entries))
+AreByKey-permitted class pattern entries old es valid sorted h found =
+    let is = profile_of-is class pattern (values_of es) old found in
+    AreByKey-written class pattern old (permitted old entries) es valid sorted h found is.0 is.1
+
+-- without the profile nothing changes
+pub without_profile : (class : Class) (pattern : List ℕ) (entry : Entry) (profiles : List Profile) → profile_of profiles class pattern ≡ None → profiles ≡ with_permission class pattern entry profiles
+without_profile class pattern entry profiles found = rw found refl

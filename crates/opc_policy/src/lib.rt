@@ -11,7 +11,7 @@ pub mod laws;
 pub mod mode;
 pub mod need;
 pub mod plain;
-pub mod policy
+pub mod policy;
 pub mod profile;
 pub mod profiles;
 pub mod row;

@@ -46,7 +46,7 @@ impl ActiveClasses {
 }
 
 /// A policy: users, groups, the connects between them, profiles, and the active classes.
-#[derive(Drop)]
+#[derive(Debug, Drop)]
 pub struct Policy {
     pub users: Users,
     pub groups: Groups,
@@ -64,8 +64,12 @@ impl Policy {
     /// A policy with nothing in it, and no class active.
     pub fn new(alloc: Global) -> Self
         ensures { result ≡ record {
-            users = []; groups = []; connects = []; profiles = [];
-            active = record { console = false; opercmds = false } } }
+          users = [];
+          groups = [];
+          connects = [];
+          profiles = [];
+          active = record { console = false; opercmds = false };
+        } }
     {
         Policy {
             users: Users::new(alloc),

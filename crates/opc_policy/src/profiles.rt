@@ -14,7 +14,7 @@ use std::collections::BTreeMap;
 use std::marker::Model;
 
 /// The profiles of a policy, by class and then by pattern, in the order of the patterns.
-#[derive(Drop)]
+#[derive(Debug, Drop)]
 pub struct Profiles {
     by_key: BTreeMap<(Class, SortKey), Profile>,
 }
@@ -87,9 +87,9 @@ impl Profiles {
         ensures err { OnErr result (self.new ≡ self.old) }
     {
         let key = pattern.sort_key();
-        match self.by_key.get_mut(&(class, key)) {
-            Some(stored) => stored.entries.set(entry),
-            None => Ok(()),
-        }
+        let Some(stored) = self.by_key.get_mut(&(class, key)) else {
+            return Ok(());
+        };
+        stored.entries.set(entry)
     }
 }

@@ -1,6 +1,7 @@
 pub mod ByHeads
 pub mod Counts
 pub mod Highest
+pub mod InOrder
 pub mod Maps
 pub mod MostSpecific
 pub mod OneMore

@@ -1,5 +1,5 @@
 -- Which profile decides.
-use Rattle.std.specs.Prelude.{◌≡◌, ◌≢◌, ℕ, Bool, List, [], ◌∷◌, Option, Some, None, if◌then◌else◌, filter, All, Contains}
+use Rattle.std.specs.Prelude.{◌≡◌, ◌≢◌, ℕ, Bool, true, List, [], ◌∷◌, Option, Some, None, if◌then◌else◌, filter, All, Contains}
 use Rattle.std.specs.Cmp.Lexicographic.{slice_cmp}
 use Rattle.std.specs.List.{AllPairs}
 use Rattle.std.specs.Ordering.{nat_cmp, is_lt}
@@ -48,3 +48,7 @@ first_of (p ∷ profiles) = Some (first_with p (first_of profiles))
 -- and the first of those that cover.
 abbrev pub deciding : List Profile → List ℕ → Option Profile
 deciding profiles resource = first_of (covering resource profiles)
+
+-- of two profiles of one class the earlier in a list comes before
+abbrev pub AreMostSpecificFirst : List Profile → Type 0
+AreMostSpecificFirst profiles = AllPairs (λ (p q : Profile). p.class ≡ q.class → is_before p q ≡ true) profiles

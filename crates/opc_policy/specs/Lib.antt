@@ -3,6 +3,7 @@ pub mod BasePolicy
 pub mod Deciding
 pub mod Entries
 pub mod Examined
+pub mod Explained
 pub mod Faults
 pub mod Held
 pub mod Laws
@@ -14,3 +15,4 @@ pub mod Rules
 pub mod Rulings
 pub mod Stored
 pub mod Taken
+pub mod Verdicts

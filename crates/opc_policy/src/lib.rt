@@ -5,6 +5,7 @@ pub mod cases;
 pub mod connect;
 pub mod entries;
 pub mod entry;
+pub mod explained;
 pub mod fault;
 pub mod groups;
 pub mod laws;

@@ -1,7 +1,8 @@
 //! The profiles of a policy.
-ghost use Rattle.std.specs.Prelude.{◌≡◌, [], OnOk, OnErr};
+ghost use Rattle.std.specs.Prelude.{◌≡◌, ◌<◌, ◌^◌, [], OnOk, OnErr, length};
 ghost use Rattle.std.specs.Option.{option_copied};
 ghost use Rattle.opc_names.specs.Order.{sort_key};
+ghost use Rattle.opc_policy.specs.Deciding.{AreProfiles, AreMostSpecificFirst};
 ghost use Rattle.opc_policy.specs.Profiles.{profile_of, with_profile, with_definition, with_permission};
 
 use crate::entry::Entry;
@@ -11,6 +12,7 @@ use opc_names::name::Pattern;
 use opc_names::pattern::SortKey;
 use std::alloc::{AllocError, Global};
 use std::collections::BTreeMap;
+use std::collections::btree_map::Values;
 use std::marker::Model;
 
 /// The profiles of a policy, by class and then by pattern, in the order of the patterns.
@@ -39,6 +41,16 @@ impl Profiles {
         Profiles {
             by_key: BTreeMap::new(alloc),
         }
+    }
+
+    /// The profiles, by class and then in the order of their patterns.
+    pub fn iter(&self) -> Values<'_, (Class, SortKey), Profile>
+        ensures rest { result ≡ self.now }
+        ensures profiles { AreProfiles self.now }
+        ensures in_order { AreMostSpecificFirst self.now }
+        ensures fits { length self.now < 2 ^ 63 }
+    {
+        self.by_key.values()
     }
 
     pub fn get(&self, class: Class, pattern: &Pattern) -> Option<&Profile>

@@ -6,6 +6,7 @@ use crate::entry::EntryId;
 use opc_names::bytes::Bytes;
 use opc_names::name::{Name, NameKind, UserId};
 use std::alloc::{AllocError, Global};
+use std::error::Error;
 use std::marker::Model;
 use std::{fmt, str};
 
@@ -273,6 +274,8 @@ impl Fault {
         self.to_string(alloc)
     }
 }
+
+impl Error for Fault {}
 
 impl From<AllocError> for Fault {
     ghost use Rattle.std.specs.Prelude.{◌≡◌};

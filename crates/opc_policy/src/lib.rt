@@ -24,3 +24,9 @@ pub mod unit_kind;
 pub mod user;
 pub mod users;
 pub mod verdict;
+#[cfg(test)]
+mod base_policy;
+#[cfg(test)]
+mod policy_tests;
+#[cfg(test)]
+mod text_tests;

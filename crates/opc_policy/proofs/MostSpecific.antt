@@ -49,10 +49,10 @@ no_member : {X : Type 0} (y : X) → Contains [] y → ⊥
 no_member y h = omega (arith, h.1)
 
 -- the order of the profiles by their keys
-ordered : IsStrictWeakOrder is_before
+pub ordered : IsStrictWeakOrder is_before
 ordered = ranks_by nat_list_cmp_total (λ (p : Profile). sort_key p.pattern)
 
-not_before_itself : (p : Profile) → is_before p p ≡ false
+pub not_before_itself : (p : Profile) → is_before p p ≡ false
 not_before_itself p = go (is_before p p) refl
   where
     go : (b : Bool) → is_before p p ≡ b → b ≡ false
@@ -60,7 +60,7 @@ not_before_itself p = go (is_before p p) refl
     go false e = refl
 
 -- the first of some is one of them, and none of them is before it
-FirstIs : List Profile → Option Profile → Type 0
+unfoldable pub FirstIs : List Profile → Option Profile → Type 0
 FirstIs profiles None = profiles ≡ []
 FirstIs profiles (Some d) = Contains profiles d × ((q : Profile) → Contains profiles q → is_before q d ≡ false)
 
@@ -76,7 +76,7 @@ first_among p profiles (Some d) h = go (is_before d p) refl
     go false e =
         ((0, omega arith, refl), λ q m. ⊎_elim (λ s. subst (λ x. is_before x p ≡ false) s (not_before_itself p)) (λ n. ordered.chain q d p (h.1 q n) e) (member_cases p profiles q m))
 
-first_is : (profiles : List Profile) → FirstIs profiles (first_of profiles)
+pub first_is : (profiles : List Profile) → FirstIs profiles (first_of profiles)
 unfolding FirstIs
 first_is [] = refl
 first_is (p ∷ profiles) = first_among p profiles (first_of profiles) (first_is profiles)
@@ -93,7 +93,7 @@ before_is p q hp hq =
     let less = is_lt_less (slice_cmp nat_cmp (sort_key p.pattern) (sort_key q.pattern)) in
     (λ e. keys.0 (less.0 e), λ b. less.1 (keys.1 b))
 
-covers_is : (p : Profile) (resource : List ℕ) → (covers_text p.pattern resource ≡ true) ↔ CoversText p.pattern resource
+pub covers_is : (p : Profile) (resource : List ℕ) → (covers_text p.pattern resource ≡ true) ↔ CoversText p.pattern resource
 covers_is p resource = covers_computes (map tokens (qualifiers p.pattern)) (qualifiers resource)
 
 module _ (profiles : List Profile) (resource : List ℕ) (patterns : (q : Profile) → Contains profiles q → IsPattern q.pattern) where
@@ -147,7 +147,7 @@ module _ (profiles : List Profile) (resource : List ℕ) (class : Class) (sound 
       same false d = ⊎_elim (λ b. absurd (k.2 p h.0 h.1 b)) (λ b. absurd (h.2 q k.0 k.1 b)) (one_is_before p.pattern q.pattern (pattern_of p h.0) (pattern_of q k.0) (λ e. false≢true (d.1 e)))
 
 -- the profiles of a class
-same_class_is : (c d : Class) → same_class c d ≡ true → c ≡ d
+pub same_class_is : (c d : Class) → same_class c d ≡ true → c ≡ d
 same_class_is Console Console e = refl
 same_class_is Console Opercmds e = cc
 same_class_is Opercmds Console e = cc

@@ -2,7 +2,9 @@
 use Rattle.std.specs.Prelude.{ℕ, Bool, ◌&&◌, ◌||◌, not, nat_lt, nat_eq, List, Option, Some, None, filter, length}
 use Rattle.std.specs.List.{starts_with}
 use Rattle.std.specs.Str.{bytes_eq}
+use Rattle.opc_names.specs.Authority.{same_class}
 use Rattle.opc_names.specs.Order.{head}
+use Rattle.opc_names.specs.declared.class.Class.{Class}
 use Rattle.opc_names.specs.Patterns.{tokens}
 use Rattle.opc_policy.specs.Deciding.{is_before}
 use Rattle.opc_policy.specs.declared.profile.Profile.{Profile}
@@ -19,6 +21,11 @@ head_length (Some p) = length (head_of p)
 -- the profiles with a head
 abbrev pub with_head : List ℕ → List Profile → List Profile
 with_head text profiles = filter (λ (p : Profile). bytes_eq (head_of p) text) profiles
+
+-- whether a profile is of a class, and has a head where one is asked for
+abbrev pub is_chosen : Class → Option (List ℕ) → Profile → Bool
+is_chosen class None p = same_class p.class class
+is_chosen class (Some text) p = same_class p.class class && bytes_eq (head_of p) text
 
 -- The profiles that are read, in the order of their patterns, up to the first that covers: it and those before
 -- it; all of them where none covers.

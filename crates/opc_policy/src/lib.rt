@@ -13,6 +13,7 @@ pub mod mode;
 pub mod need;
 pub mod plain;
 pub mod policy;
+mod policy_source;
 pub mod profile;
 pub mod profiles;
 pub mod row;

@@ -38,6 +38,18 @@ pub struct Taken {
     pub rows: u64,
 }
 
+impl Taken {
+    /// A copy of the profile that was found.
+    pub(crate) fn of(profile: &Profile, rows: u64) -> Result<Self, AllocError>
+        ensures { IfOk result (λ taken. (taken.profile ≡ Some profile.now) × (taken.rows ≡ rows)) }
+    {
+        Ok(Taken {
+            profile: Some(profile.clone()?),
+            rows,
+        })
+    }
+}
+
 /// Where profiles come from: of one class and with one head at a time.
 pub trait ProfileSource {
     /// The profiles.

@@ -1,5 +1,6 @@
 //! What a pattern covers, and where it stands in the order of patterns.
 ghost use Rattle.std.specs.Prelude.{◌≡◌, ◌≤◌, ◌↔◌, IsTrue, false, length};
+ghost use Rattle.opc_names.specs.Names.{IsPattern};
 ghost use Rattle.opc_names.specs.Order.{Before, sort_key, head};
 ghost use Rattle.opc_names.specs.Patterns.{tokens, CoversText};
 ghost use Rattle.opc_names.specs.Walk.{BeforeBehind, sort_key_behind};
@@ -32,6 +33,7 @@ impl Pattern {
     pub fn sort_key(&self) -> SortKey
         ensures key { result ≡ sort_key self.now }
         ensures short { length result ≤ 40 }
+        ensures valid { IsPattern self.now }
     {
         SortKey::copied(key_bytes(self.text().as_bytes()).as_slice())
     }

@@ -1,0 +1,12 @@
+pub mod ByHeads
+pub mod Counts
+pub mod FirstCovering
+pub mod Highest
+pub mod InOrder
+pub mod KeyOrder
+pub mod Maps
+pub mod MostSpecific
+pub mod OneMore
+pub mod Placed
+pub mod ProfilesByKey
+pub mod UsersById

@@ -1,0 +1,49 @@
+-- What the profile that decides says of a user, and the ruling on a command.
+use Rattle.std.specs.Prelude.{ℕ, Bool, true, false, ◌||◌, ◌&&◌, not, List, Option, Some, None, if◌then◌else◌}
+use Rattle.opc_names.specs.declared.auth.Auth.{Auth}
+use Rattle.opc_names.specs.declared.level.Level.{Level}
+use Rattle.opc_names.specs.Authority.{includes, enters}
+use Rattle.opc_policy.specs.Held.{held}
+use Rattle.opc_policy.specs.declared.need.Need.{Need}
+use Rattle.opc_policy.specs.declared.profile.Profile.{Profile}
+use Rattle.opc_policy.specs.declared.rule.Rule.{Rule}
+use Rattle.opc_policy.specs.declared.rule.Rule.TheVariants as rules
+use Rattle.opc_policy.specs.declared.ruling.Ruling.{Ruling}
+use Rattle.opc_policy.specs.declared.ruling.Ruling.TheVariants as rulings
+use Rattle.opc_policy.specs.declared.user.User.{User}
+use Rattle.opc_policy.specs.declared.verdict.Verdict.{Verdict}
+use Rattle.opc_policy.specs.declared.verdict.Verdict.TheVariants.{Allowed, Undecided, Denied}
+
+-- The verdict of a class on a user and a level, by the profile that decides in it: undecided where the class is
+-- inactive or none decides; allowed where the user holds the level, or the profile only warns; else denied.
+abbrev pub verdict : Bool → Option Profile → User → List (List ℕ) → Level → Verdict
+verdict false decided user groups needed = Undecided
+verdict true None user groups needed = Undecided
+verdict true (Some p) user groups needed = if includes (held p user groups) needed || p.warning then Allowed else Denied
+
+-- the rule of a profile for a user: with a warning where the level is not held and the profile only warns
+abbrev pub profile_rule : Profile → User → List (List ℕ) → Level → Rule
+profile_rule p user groups needed = rules.Profile p.class p.pattern (held p user groups) needed (not (includes (held p user groups) needed) && p.warning)
+
+-- the rule of a verdict
+abbrev pub verdict_rule : Bool → Option Profile → User → List (List ℕ) → Level → Rule
+verdict_rule false decided user groups needed = rules.NoProfile
+verdict_rule true None user groups needed = rules.NoProfile
+verdict_rule true (Some p) user groups needed = profile_rule p user groups needed
+
+-- by the authority of the console and the group of the command (MVS Planning: Operations)
+abbrev pub console_ruling : Auth → Need → Ruling
+console_ruling auth need = if enters auth need.group then rulings.Allowed (rules.ConsoleGroup need.group auth) else rulings.Denied (rules.ConsoleGroup need.group auth)
+
+-- a verdict that decides is final; where it is undecided something else decides
+abbrev pub by_verdict : Verdict → Rule → Ruling → Ruling
+by_verdict Allowed rule other = rulings.Allowed rule
+by_verdict Denied rule other = rulings.Denied rule
+by_verdict Undecided rule other = other
+
+-- The ruling on a command at a console, where logon is no question: by the verdict on the acting user, that is
+-- the user who is on; where there is none, or the verdict is undecided, by the authority of the console.
+abbrev pub ruling : Bool → Option Profile → Option User → List (List ℕ) → Auth → Need → Ruling
+ruling active decided None groups auth need = console_ruling auth need
+ruling active decided (Some user) groups auth need =
+    by_verdict (verdict active decided user groups need.level) (verdict_rule active decided user groups need.level) (console_ruling auth need)

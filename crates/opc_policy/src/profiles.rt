@@ -1,0 +1,107 @@
+//! The profiles of a policy.
+ghost use Rattle.std.specs.Prelude.{◌≡◌, ◌<◌, ◌^◌, [], OnOk, OnErr, length};
+ghost use Rattle.std.specs.Option.{option_copied};
+ghost use Rattle.opc_names.specs.Order.{sort_key};
+ghost use Rattle.opc_policy.specs.Deciding.{AreProfiles, AreMostSpecificFirst};
+ghost use Rattle.opc_policy.specs.Profiles.{profile_of, with_profile, with_definition, with_permission};
+
+use crate::entry::Entry;
+use crate::profile::Profile;
+use opc_names::class::Class;
+use opc_names::name::Pattern;
+use opc_names::pattern::SortKey;
+use std::alloc::{AllocError, Global};
+use std::collections::BTreeMap;
+use std::collections::btree_map::Values;
+use std::marker::Model;
+
+/// The profiles of a policy, by class and then by pattern, in the order of the patterns.
+#[derive(Debug, Drop)]
+pub struct Profiles {
+    by_key: BTreeMap<(Class, SortKey), Profile>,
+}
+
+impl Model for Profiles {
+    ghost use Rattle.std.specs.Prelude.{List, ℕ};
+    ghost use Rattle.std.specs.BTreeMap.{values};
+    ghost use Rattle.opc_policy.specs.declared.profile.Profile.{Profile};
+    ghost use Rattle.opc_policy.specs.Stored.{AreByKey};
+
+    ghost Value = { List Profile };
+
+    ghost view = { λ p. values p.by_key };
+
+    ghost invariant = { λ p. AreByKey p.by_key.entries };
+}
+
+impl Profiles {
+    pub fn new(alloc: Global) -> Self
+        ensures { result ≡ [] }
+    {
+        Profiles {
+            by_key: BTreeMap::new(alloc),
+        }
+    }
+
+    /// The profiles, by class and then in the order of their patterns.
+    pub fn iter(&self) -> Values<'_, (Class, SortKey), Profile>
+        ensures rest { result ≡ self.now }
+        ensures profiles { AreProfiles self.now }
+        ensures in_order { AreMostSpecificFirst self.now }
+        ensures fits { length self.now < 2 ^ 63 }
+    {
+        self.by_key.values()
+    }
+
+    pub fn get(&self, class: Class, pattern: &Pattern) -> Option<&Profile>
+        ensures { option_copied result ≡ profile_of self.now class pattern.now }
+    {
+        self.by_key.get(&(class, pattern.sort_key()))
+    }
+
+    /// One more profile, in the place of one of its class and pattern.
+    fn put(&mut self, profile: Profile) -> Result<(), AllocError>
+        ensures ok { OnOk result (self.new ≡ with_profile profile self.old) }
+        ensures err { OnErr result (self.new ≡ self.old) }
+    {
+        let key = profile.pattern.sort_key();
+        self.by_key.insert((profile.class, key), profile)?;
+        Ok(())
+    }
+
+    /// One more profile. Where there is one of its class and pattern, it takes its place and keeps the access
+    /// list that is there.
+    pub fn define(&mut self, profile: Profile) -> Result<(), AllocError>
+        ensures ok { OnOk result (self.new ≡ with_definition profile self.old) }
+        ensures err { OnErr result (self.new ≡ self.old) }
+    {
+        let key = profile.pattern.sort_key();
+        match self.by_key.get_mut(&(profile.class, key)) {
+            Some(stored) => {
+                stored.owner = profile.owner;
+                stored.uacc = profile.uacc;
+                stored.warning = profile.warning;
+                Ok(())
+            }
+            None => self.put(profile),
+        }
+    }
+
+    /// One more entry in the access list of a profile, in the place of one for its id. Where there is no such profile
+    /// nothing changes.
+    pub fn permit(
+        &mut self,
+        class: Class,
+        pattern: &Pattern,
+        entry: Entry,
+    ) -> Result<(), AllocError>
+        ensures ok { OnOk result (self.new ≡ with_permission class pattern.now entry self.old) }
+        ensures err { OnErr result (self.new ≡ self.old) }
+    {
+        let key = pattern.sort_key();
+        let Some(stored) = self.by_key.get_mut(&(class, key)) else {
+            return Ok(());
+        };
+        stored.entries.set(entry)
+    }
+}

@@ -2,13 +2,12 @@
 ghost use Rattle.std.specs.Prelude.{◌≡◌};
 ghost use Rattle.opc_reader.specs.Reading.{fixed, only, display, cancel, start, modify, reply, vary_device, vary_console, vary, mount, swap, reset, send, logon, command};
 
-use crate::command::{Command, Operand};
+use crate::command::Command;
 use crate::operand::{
     any_text, authority, last_name, name, number_front, quoted_front, quoted_text,
 };
 use crate::piece::Piece;
 use crate::verb::Verb;
-use opc_names::name::ConsoleName;
 
 /// The command, where a piece is one word.
 fn fixed<'a>(s: &Piece<'a>, word: &str, command: Command<'a>) -> Option<Command<'a>>

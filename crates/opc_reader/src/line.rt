@@ -1,5 +1,5 @@
 //! Command lines.
-ghost use Rattle.std.specs.Prelude.{◌≡◌, ◌≤◌, ◌<◌, ◌==◌, ◌↔◌, ℕ, not, length, Some, None, IfSome, IfNone, IfOk};
+ghost use Rattle.std.specs.Prelude.{◌≡◌, ◌≤◌, ◌<◌, ◌==◌, ◌↔◌, not, length, IfSome, IfNone, IfOk};
 ghost use Rattle.std.specs.List.{list_all, position, prefix_len, suffix_len};
 ghost use Rattle.std.specs.Str.{chars, IsAscii};
 ghost use Rattle.opc_reader.specs.declared.command.Command.{Command as TheCommand};

@@ -1,5 +1,5 @@
 //! Operands: names, numbers, authorities and texts, read off a piece of a line.
-ghost use Rattle.std.specs.Prelude.{◌≡◌, ◌≤◌, length, Some, None};
+ghost use Rattle.std.specs.Prelude.{◌≡◌, ◌≤◌, length};
 ghost use Rattle.std.specs.List.{prefix_len};
 ghost use Rattle.std.specs.Char.{is_ascii_digit};
 ghost use Rattle.opc_names.specs.Spellings.{lookup};

@@ -21,7 +21,7 @@ fn repeated(
     Ok(line)
 }
 
-/// How many characters a quoted text of so many has in a line of the log, and the fault of that line.
+/// The fault of a line of the log whose quoted text is a part so many times.
 fn logged(alloc: Global, times: usize, part: &str) -> Result<Option<ReadFault>, AllocError> {
     let line = repeated(alloc, "L '", times, part, "'")?;
     Ok(read_command(line.as_str()).err())

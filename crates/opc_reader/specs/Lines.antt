@@ -1,5 +1,6 @@
 -- Which lines are commands, and the first fault of those that are none.
-use Rattle.std.specs.Prelude.{◌≡◌, ◌≤◌, ◌+◌, ◌-◌, ◌==◌, ◌&&◌, ℕ, Bool, not, ◌⊎◌, ◌↔◌, List, [], ◌∷◌, ◌++◌, Option, Some, None, true, if◌then◌else◌, length, nat_lt, nat_le, drop}
+use Rattle.std.specs.Prelude.{◌≡◌, ◌≤◌, ◌+◌, ◌-◌, ◌==◌, ◌&&◌, ℕ, Bool, not, ◌⊎◌, ◌↔◌, List, [], ◌∷◌, ◌++◌, Option, Some, None, true, if◌then◌else◌, length, nat_lt, nat_le, drop, codes}
+use Rattle.std.specs.Fmt.{decimal}
 use Rattle.std.specs.Option.{option_map}
 use Rattle.std.specs.List.{list_all, position, prefix_len, suffix_len, slice_range, flat_map, AllByRecursion}
 use Rattle.std.specs.Str.{chars}
@@ -105,6 +106,18 @@ abbrev pub IsReadFault : List ℕ → ReadFault → Type 0
 IsReadFault line fault =
     (early_fault line ≡ Some fault) ⊎
     ((early_fault line ≡ None) × ((c : Command) → Reads line c → ⊥) × (fault ≡ BadOperand (span (operands_place (trimmed line)))))
+
+-- the words for a fault
+abbrev pub span_words : Span → List ℕ
+span_words s = codes " from " ++ (decimal s.from ++ (codes " to " ++ decimal s.to))
+
+abbrev pub fault_words : ReadFault → List ℕ
+fault_words Empty = codes "empty"
+fault_words TooLong = codes "too long"
+fault_words (BadCharacter at) = codes "bad character at " ++ decimal at
+fault_words (UnknownVerb s) = codes "unknown verb" ++ span_words s
+fault_words (BadOperand s) = codes "bad operand" ++ span_words s
+fault_words (OpenQuote at) = codes "open quote at " ++ decimal at
 
 -- each line is one command, or has one fault, and not both
 abbrev pub ReadsInOneWay : List ℕ → Type 0

@@ -35,6 +35,11 @@ pub enum ReadFault {
 }
 
 impl fmt::Display for ReadFault {
+    ghost use Rattle.std.specs.Prelude.{Some};
+    ghost use Rattle.opc_reader.specs.Lines.{fault_words};
+
+    ghost output = { λ fault. Some (fault_words fault) };
+
     fn fmt<W: fmt::Write>(&self, f: &mut fmt::Formatter<W>) -> fmt::Result {
         match self {
             ReadFault::Empty => write!(f, "empty"),

@@ -1,0 +1,11 @@
+//! What a unit of the board is.
+use opc_names::name::UnitName;
+
+/// What the unit is that a command names: absent, a job, a started task of a member, or a user's session.
+#[derive(Clone, Copy, Debug, PartialEq, Eq)]
+pub enum UnitKindAt {
+    Absent,
+    Job,
+    Stc { member: UnitName },
+    Tsu,
+}

@@ -1,0 +1,12 @@
+//! Users.
+use opc_names::name::UserId;
+
+/// A user of the policy. The digest is the SHA-256 of the password; without one the user cannot log on.
+#[derive(Clone, Copy, Debug, PartialEq, Eq)]
+pub struct User {
+    pub id: UserId,
+    pub special: bool,
+    pub auditor: bool,
+    pub revoked: bool,
+    pub digest: Option<[u8; 32]>,
+}

@@ -9,4 +9,6 @@ pub mod line;
 mod operand;
 pub mod piece;
 mod quote;
+#[cfg(test)]
+mod tests;
 mod verb;

@@ -1,29 +1,24 @@
 -- A line is read as a command exactly where the definition has one.
-use Rattle.std.proofs.Common.{◌≡◌, ℕ, ◌+◌, ◌-◌, ◌≤◌, ◌<◌, ◌==◌, ◌&&◌, ◌↔◌, Bool, true, false, not, cond, eqb, nat_lt, List, [], ◌∷◌, ◌++◌, length, take, drop, Option, Some, None, Result, Ok, Err, refl, sym, ap, ◌∙◌, arith, suc, subst, IsTrue, codes, inl, inr, ◌⊎◌}
-use Rattle.std.specs.Option.{option_map}
+use Rattle.std.proofs.Common.{◌≡◌, ℕ, ◌+◌, ◌-◌, ◌≤◌, ◌&&◌, Bool, true, false, not, cond, nat_lt, List, [], ◌∷◌, ◌++◌, length, take, drop, Option, Some, None, Result, Ok, Err, refl, sym, ap, ◌∙◌, arith, suc, subst, inl, inr}
 use Rattle.std.specs.List.{prefix_len, suffix_len, list_all, position, position_or_len}
 use Rattle.std.specs.Str.{chars}
-use Rattle.std.specs.Char.{to_ascii_uppercase, is_ascii_digit}
 use Rattle.std.proofs.lemmas.Bool.Decides.{nat_tests}
 use Rattle.std.proofs.lemmas.List.{append_assoc, length-append, take-append-drop, length-take-le, length-drop}
-use Rattle.std.proofs.lemmas.List.Folds.{prefix_len-append, length-prefix_len}
-use Rattle.std.proofs.lemmas.List.Sums.{prefix_len-le-length}
-use Rattle.std.proofs.Math.Seq.{take-append_seam, drop-append_seam}
+use Rattle.std.proofs.lemmas.List.Folds.{length-prefix_len}
 use Rattle.opc_reader.specs.declared.verb.Verb.{Verb}
-use Rattle.opc_reader.specs.declared.verb.Verb.TheVariants as verb
 use Rattle.opc_reader.specs.declared.command.Command.{Command}
 use Rattle.opc_reader.specs.declared.line.ReadFault.{ReadFault}
-use Rattle.opc_reader.specs.declared.line.ReadFault.TheVariants.{Empty, TooLong, BadCharacter, UnknownVerb, OpenQuote, BadOperand}
-use Rattle.opc_reader.specs.Stretches.{Stretch, folded, front, behind}
+use Rattle.opc_reader.specs.declared.line.ReadFault.TheVariants.{Empty, TooLong, BadCharacter, BadOperand}
+use Rattle.opc_reader.specs.Stretches.{Stretch, folded}
 use Rattle.opc_names.specs.Spellings.{lookup}
 use Rattle.opc_reader.specs.Verbs.{verbs}
 use Rattle.opc_reader.specs.Forms.{verb_of, parts, AreTyped}
 use Rattle.opc_reader.specs.Reading.{command, outcome, outcome_of, reading}
-use Rattle.opc_reader.specs.Lines.{is_space, is_typeable, AreSpaces, IsBare, Reads, trimmed, verb_place, skip_spaces, operands_place, span, open_place, some_fault, quote_fault, early_fault, IsReadFault}
+use Rattle.opc_reader.specs.Lines.{is_space, is_typeable, Reads, trimmed, verb_place, operands_place, span, open_place, some_fault, quote_fault, early_fault, IsReadFault}
 use Rattle.opc_reader.proofs.Forms.{complete, sound}
 use Rattle.opc_reader.proofs.Opens.{no_open}
 use Rattle.opc_reader.proofs.Steps.{Gives}
-use Rattle.opc_reader.proofs.Runs.{all_run, run_all, run_front, run_rest, suffix_append, suffix_all, all_suffix, ended}
+use Rattle.opc_reader.proofs.Runs.{all_run, run_all, run_front, run_rest, suffix_append, suffix_all, ended}
 use Rattle.opc_reader.proofs.Scans.{no_space, verb_word, IsWord, Laid, scan, scan_verb, scan_operands, nothing}
 
 laid_of : (line : List ℕ) (c : Command) (r : Reads line c) → Laid r.before r.verb r.gap r.operands r.after

@@ -1,10 +1,10 @@
 -- Each command is read from its parts, and nothing else is.
-use Rattle.std.proofs.Common.{◌≡◌, List, [], ◌∷◌, Some, refl, codes}
+use Rattle.std.proofs.Common.{◌≡◌, Some, refl, codes}
 use Rattle.opc_reader.specs.declared.verb.Verb.{Verb}
 use Rattle.opc_reader.specs.declared.verb.Verb.TheVariants as verb
 use Rattle.opc_reader.specs.declared.command.Command.{Command}
 use Rattle.opc_reader.specs.declared.command.Command.TheVariants.{DisplayUnits, DisplayUnit, DisplayDevices, DisplayConsoles, DisplayReplies, Cancel, CancelUser, Force, Start, StartAs, Stop, Modify, Reply, VaryDeviceOnline, VaryDeviceOffline, VaryConsoleOnline, VaryConsoleOffline, VaryConsoleAuth, Mount, Unload, Swap, ResetConsole, Send, Log, Monitor, StopMonitor, Halt, Logon, Logoff}
-use Rattle.opc_reader.specs.Forms.{Word, verb_of, parts, IsMeant, AreTyped}
+use Rattle.opc_reader.specs.Forms.{verb_of, parts, IsMeant, AreTyped}
 use Rattle.opc_reader.specs.Reading.{command}
 use Rattle.opc_reader.specs.Stretches.{Stretch}
 use Rattle.opc_reader.proofs.Cancels

@@ -7,7 +7,7 @@ use Rattle.opc_reader.specs.declared.command.Operand.{Operand}
 use Rattle.opc_reader.specs.declared.command.Text.{Text}
 use Rattle.opc_reader.specs.declared.command.Command.{Command}
 use Rattle.opc_reader.specs.declared.command.Command.TheVariants.{Modify, Reply, Send, Log}
-use Rattle.opc_reader.specs.Forms.{Part, Word, Name, QuotedText, AnyText, parts, AreTyped}
+use Rattle.opc_reader.specs.Forms.{Part, Word, Name, AnyText, parts, AreTyped}
 use Rattle.opc_reader.specs.Reading.{name, number_front, quoted_text, quoted_front, any_text, modify, reply, send, log}
 use Rattle.opc_reader.specs.Stretches.{Stretch, word}
 use Rattle.opc_reader.proofs.Steps.{over_word, back_word, over_name, back_name, over_number, back_number, over_text, back_text, over_quoted, back_quoted, over_quoted_front, back_quoted_front, only_read, only_found, bind_some, Gives, gives}

@@ -5,7 +5,6 @@ use Rattle.std.specs.List.{prefix_len, position, position_or_len}
 use Rattle.std.specs.Char.{to_ascii_uppercase, is_ascii_digit}
 use Rattle.std.proofs.lemmas.Bool.Decides.{nat_tests}
 use Rattle.std.proofs.lemmas.List.{append_assoc, length-append}
-use Rattle.std.proofs.lemmas.Option.{none-some}
 use Rattle.std.proofs.Math.Seq.{drop-append_seam}
 use Rattle.opc_names.specs.Names.{name_fault, user_rule, unit_rule}
 use Rattle.opc_reader.specs.declared.command.Text.{Text}

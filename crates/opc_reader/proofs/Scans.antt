@@ -1,21 +1,20 @@
 -- What the parts of a line are.
-use Rattle.std.proofs.Common.{◌≡◌, ℕ, ◌+◌, ◌-◌, ◌≤◌, ◌<◌, ◌==◌, ◌&&◌, ◌↔◌, Bool, true, false, not, cond, eqb, nat_lt, List, [], ◌∷◌, ◌++◌, length, take, drop, reverse, Option, Some, None, refl, sym, ap, ◌∙◌, arith, suc, subst, IsTrue}
-use Rattle.std.specs.List.{prefix_len, suffix_len, list_all, position, position_or_len}
+use Rattle.std.proofs.Common.{◌≡◌, ℕ, ◌+◌, ◌-◌, ◌<◌, ◌&&◌, ◌↔◌, Bool, true, false, not, cond, nat_lt, List, [], ◌∷◌, ◌++◌, length, take, drop, reverse, Some, refl, sym, ap, ◌∙◌, arith, suc}
+use Rattle.std.specs.List.{prefix_len, suffix_len, list_all}
 use Rattle.std.specs.Str.{bytes_eq}
 use Rattle.std.specs.Char.{to_ascii_uppercase}
 use Rattle.std.proofs.lemmas.Bool.Decides.{nat_tests}
-use Rattle.std.proofs.lemmas.List.{append_assoc, length-reverse, length-append, take-append-drop, append-nil}
+use Rattle.std.proofs.lemmas.List.{append_assoc, length-reverse, length-append, append-nil}
 use Rattle.std.proofs.lemmas.List.Folds.{prefix_len-append}
 use Rattle.std.proofs.Math.Seq.{take-append_seam, drop-append_seam}
 use Rattle.opc_reader.specs.declared.verb.Verb.{Verb}
-use Rattle.opc_reader.specs.declared.command.Command.{Command}
-use Rattle.opc_reader.specs.Stretches.{Stretch, folded, front, behind}
+use Rattle.opc_reader.specs.Stretches.{Stretch, folded}
 use Rattle.opc_names.specs.Spellings.{lookup}
 use Rattle.opc_reader.specs.Verbs.{verbs}
-use Rattle.opc_reader.specs.Lines.{is_space, is_typeable, AreSpaces, IsBare, trimmed, verb_place, skip_spaces, operands_place}
+use Rattle.opc_reader.specs.Lines.{is_space, IsBare, trimmed, verb_place, skip_spaces, operands_place}
 use Rattle.opc_reader.proofs.Leaves.{bytes_same}
 use Rattle.opc_reader.proofs.Quoted.{both_true}
-use Rattle.opc_reader.proofs.Runs.{all_run, run_all, suffix_append, suffix_all}
+use Rattle.opc_reader.proofs.Runs.{all_run, suffix_append, suffix_all}
 
 abbrev pub no_space : ℕ → Bool
 no_space c = not (is_space c)

@@ -1,5 +1,5 @@
 -- The step over one part of a form, in both directions: what is typed so is read, and what is read is typed so.
-use Rattle.std.proofs.Common.{◌≡◌, ◌≢◌, ℕ, ◌+◌, ◌<◌, ◌≤◌, ◌==◌, ◌&&◌, ◌-◌, ◌*◌, Bool, true, false, not, cond, List, [], ◌∷◌, ◌++◌, length, take, drop, Option, Some, None, refl, sym, ap, ◌∙◌, subst, arith, suc, inl, inr, codes, ◌⊎◌}
+use Rattle.std.proofs.Common.{◌≡◌, ◌≢◌, ℕ, ◌+◌, ◌<◌, ◌≤◌, ◌==◌, ◌&&◌, ◌-◌, ◌*◌, Bool, true, false, cond, List, [], ◌∷◌, ◌++◌, length, take, drop, Option, Some, None, refl, sym, ap, ◌∙◌, subst, arith, suc, inl, inr, codes, ◌⊎◌}
 use Rattle.std.specs.Prelude.{⊤}
 use Rattle.std.specs.Option.{option_map}
 use Rattle.std.specs.List.{prefix_len}
@@ -23,11 +23,11 @@ use Rattle.opc_reader.specs.declared.command.Command.{Command}
 use Rattle.opc_reader.specs.Authorities.{authorities}
 use Rattle.opc_reader.specs.Forms.{Part, Word, Name, Number, Authority, QuotedText, AnyText, verb_of, parts, IsMeant, IsTyped, AreTyped}
 use Rattle.opc_reader.specs.Operands.{in_name, number}
-use Rattle.opc_reader.specs.Quotes.{doubled, quoted, closing_len, quoted_len, opens_quote, is_quoted, IsQuoted, OpensQuote}
+use Rattle.opc_reader.specs.Quotes.{doubled, closing_len, quoted_len, opens_quote, is_quoted, IsQuoted, OpensQuote}
 use Rattle.opc_reader.specs.Reading.{◌>>=◌, only, fixed, name, last_name, number_front, valued, authority, quoted_text, quoted_front, any_text}
 use Rattle.opc_reader.specs.Stretches.{Stretch, folded, front, behind, word}
 use Rattle.opc_reader.proofs.Leaves.{bytes_same, bytes_refl, joined, behind_part, length_folded, word_read, word_found, name_read, name_found}
-use Rattle.opc_reader.proofs.Quoted.{quoted_is, is_quoted_of, quoted_opens, not_opens, opens_not, both_true, quote_front, front_found, same_code, some_of_map}
+use Rattle.opc_reader.proofs.Quoted.{quoted_is, is_quoted_of, quoted_opens, not_opens, opens_not, both_true, quote_front, front_found, same_code}
 
 -- What follows a name begins with no name character.
 abbrev pub Stops : List Part → Type 0

@@ -1,9 +1,9 @@
 -- V.
-use Rattle.std.proofs.Common.{◌≡◌, ℕ, ◌+◌, cond, Bool, true, false, List, [], ◌∷◌, ◌++◌, length, take, Option, Some, None, refl, sym, ap, ◌∙◌, arith, lit<, inl, inr, codes, ◌⊎◌}
+use Rattle.std.proofs.Common.{◌≡◌, ℕ, cond, true, false, List, [], ◌∷◌, ◌++◌, length, take, Option, Some, None, refl, sym, ap, ◌∙◌, arith, lit<, inl, inr, codes, ◌⊎◌}
 use Rattle.std.specs.List.{prefix_len}
 use Rattle.std.specs.Str.{bytes_eq, IsAscii}
 use Rattle.std.specs.Char.{to_ascii_uppercase}
-use Rattle.std.proofs.lemmas.List.{map-append, length-append, take-append-le, take-map}
+use Rattle.std.proofs.lemmas.List.{map-append, take-append-le, take-map}
 use Rattle.std.proofs.lemmas.List.Folds.{prefix_len-append}
 use Rattle.std.proofs.Math.Seq.{take-append_seam}
 use Rattle.std.proofs.lemmas.Option.{same_Some, none-some}
@@ -19,7 +19,7 @@ use Rattle.opc_reader.specs.declared.command.Command.{Command}
 use Rattle.opc_reader.specs.declared.command.Command.TheVariants.{VaryDeviceOnline, VaryDeviceOffline, VaryConsoleOnline, VaryConsoleOffline, VaryConsoleAuth}
 use Rattle.opc_reader.specs.Forms.{Part, Word, Name, Authority, parts, AreTyped}
 use Rattle.opc_reader.specs.Operands.{in_name}
-use Rattle.opc_reader.specs.Reading.{◌>>=◌, name, authority, vary_device_behind, vary_device, vary_console_behind, vary_console, vary_opened, vary}
+use Rattle.opc_reader.specs.Reading.{◌>>=◌, name, authority, vary_device, vary_console, vary_opened, vary}
 use Rattle.opc_reader.specs.Stretches.{Stretch, folded, word}
 use Rattle.opc_reader.proofs.Leaves.{bytes_same, length_folded, word_found, word_run, name_chars, name_long}
 use Rattle.opc_reader.proofs.Steps.{Stops, stops, over_word, back_word, over_name, back_name, over_last, back_last, over_authority, back_authority, bind_some, cond_cases, Gives, gives}

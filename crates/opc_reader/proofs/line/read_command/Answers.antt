@@ -1,6 +1,3 @@
-use Rattle.std.proofs.Common.{Result, Ok, Err, refl, sym, ap, ◌∙◌, ◌≡◌, IfOk}
-use Rattle.opc_reader.specs.declared.command.Command.{Command}
-use Rattle.opc_reader.specs.declared.line.ReadFault.{ReadFault}
 use Rattle.opc_reader.proofs.OneWay.{commands, faults, slices}
 use Rattle.opc_reader.proofs.line.read_command.Goals as goal
 

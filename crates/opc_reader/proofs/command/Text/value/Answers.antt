@@ -1,4 +1,4 @@
-use Rattle.std.proofs.Common.{◌≡◌, ◌∙◌, string_bytes}
+use Rattle.std.proofs.Common.{◌∙◌, string_bytes}
 use Rattle.opc_reader.proofs.Quoted.{said}
 use Rattle.opc_reader.proofs.command.Text.value.Goals as goal
 

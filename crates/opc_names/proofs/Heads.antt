@@ -11,8 +11,7 @@ use Rattle.opc_names.specs.Patterns.{tokens, Matches, EndsInStar, Covers}
 use Rattle.opc_names.specs.Walk.{BeforeBehind}
 use Rattle.opc_names.proofs.Keys.{before_behind}
 use Rattle.opc_names.proofs.Spelled.{spell, spell_name, spelled_pattern, spelled_name, NoPeriod, IsPart, pattern_parts}
-use Rattle.opc_names.proofs.Stars.{BeginsOther}
-use Rattle.opc_names.proofs.Suffixes.{covers_none, covers_part}
+use Rattle.opc_names.proofs.Stars.{BeginsOther, covers_none, covers_part}
 
 abbrev IsFront : List ℕ → List ℕ → Type 0
 IsFront xs ys = (rest : List ℕ) × (ys ≡ xs ++ rest)

@@ -1,10 +1,14 @@
+pub mod Computed
 pub mod Copies
+pub mod CoveredSuffixes
 pub mod Faults
+pub mod FewParts
 pub mod Heads
 pub mod Keys
 pub mod KeysDiffer
 pub mod Orders
 pub mod Parts
+pub mod Resources
 pub mod Spelled
 pub mod Stars
-pub mod Suffixes
+pub mod Worked

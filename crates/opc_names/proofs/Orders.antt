@@ -1,5 +1,5 @@
 -- `Before` is a strict total order.
-use Rattle.std.proofs.Common.{◌≡◌, ◌≢◌, ◌⊎◌, ⊎_elim, Bool, true, false, List, [], ◌∷◌, inl, inr, refl, sym, ap, subst, arith, rules}
+use Rattle.std.proofs.Common.{◌≡◌, ◌⊎◌, Bool, true, false, List, [], ◌∷◌, inl, inr, refl, sym, ap, subst, arith, rules}
 use Rattle.std.proofs.lemmas.Bool.{cases_order}
 use Rattle.opc_names.specs.declared.token.Token.{Token}
 use Rattle.opc_names.specs.declared.token.Token.TheVariants.{Literal, Percent, Star, Stars}

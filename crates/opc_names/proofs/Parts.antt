@@ -1,11 +1,9 @@
 -- The first part of a text.
-use Rattle.std.proofs.Common.{◌≡◌, ℕ, ◌+◌, ◌≤◌, ◌==◌, not, cond, List, [], ◌∷◌, length, take, drop, Some, None, true, false, Bool, Option, IsTrue, ◌↔◌, Bor, arith, ap, suc, refl}
-use Rattle.std.specs.Option.{is_some, option_copied}
+use Rattle.std.proofs.Common.{◌≡◌, ℕ, ◌+◌, ◌≤◌, ◌==◌, not, cond, List, [], ◌∷◌, length, take, drop, Some, None, true, false, arith, ap, suc, refl}
 use Rattle.std.specs.List.{position, position_or_len, onto_first}
 use Rattle.std.proofs.lemmas.Bool.Decides.{nat_tests}
 use Rattle.std.proofs.lemmas.List.Splits.{slice_split_first}
 use Rattle.opc_names.specs.Names.{qualifiers}
-use Rattle.opc_names.specs.Walk.{qualifiers_left}
 
 pub qualifiers_found : (text : List ℕ) (at : ℕ) → position (λ c. c == 46) text ≡ Some at → qualifiers text ≡ take at text ∷ qualifiers (drop (at + 1) text)
 qualifiers_found text at e = grind (arith, nat_tests, slice_split_first (λ c. c == 46) text 0)
@@ -33,10 +31,3 @@ qualifiers_some (c ∷ cs) e =
       | true ↦ (λ k. cc)
       | false ↦ onto_first_some c (qualifiers cs)
     ] e
-
--- nothing is left exactly where there is no text
-pub none_left : (text : Option (Bor (List ℕ))) (r : Bool) → is_some text ≡ not r → IsTrue r ↔ (qualifiers_left (option_copied text) ≡ [])
-none_left None true e = (λ h. refl, λ h. refl)
-none_left None false e = cc
-none_left (Some x) true e = cc
-none_left (Some x) false e = (λ h. cc, λ h. absurd (qualifiers_some x.now h))

@@ -1,10 +1,10 @@
--- Where a `*` stands in a qualifier.
-use Rattle.std.proofs.Common.{◌≡◌, ◌≢◌, ℕ, ◌-◌, ◌==◌, if◌then◌else◌, ◌↔◌, List, [], ◌∷◌, length, Some, true, false, arith, refl, inl, inr, sub-one}
+-- Qualifiers of patterns other than `**`.
+use Rattle.std.proofs.Common.{◌≡◌, ◌≢◌, ℕ, ◌-◌, ◌==◌, if◌then◌else◌, ◌↔◌, List, [], ◌∷◌, length, Some, true, false, arith, refl, ◌⊎◌, inl, inr, sub-one}
 use Rattle.std.specs.List.{slice_get}
 use Rattle.std.proofs.lemmas.Bool.Decides.{nat_tests, eqb_tells}
 use Rattle.opc_names.specs.declared.token.Token.{Token}
 use Rattle.opc_names.specs.declared.token.Token.TheVariants.{Literal, Percent, Star, Stars}
-use Rattle.opc_names.specs.Patterns.{token_of, tokens, EndsInStar}
+use Rattle.opc_names.specs.Patterns.{token_of, tokens, Matches, EndsInStar, Covers}
 use Rattle.opc_names.specs.Walk.{StarOnlyLast}
 
 -- a qualifier other than `**`
@@ -50,3 +50,18 @@ last_star (c ∷ (d ∷ q)) h =
     let more = ends_one c (tokens (d ∷ q)) h.0 in
     let rest = last_star (d ∷ q) h.1 in
     rw (tokens-other c (d ∷ q) h.0, sub-one) (λ e. more.1 (rest.0 (rw sub-one e)), λ e. rw sub-one at (rest.1 (more.0 e)))
+
+-- what a qualifier other than `**` covers with those behind it
+pub covers_none : (q : List Token) (p : List (List Token)) → BeginsOther q → Covers (q ∷ p) [] → ⊥
+covers_none [] p b h = h
+covers_none (Literal c ∷ q) p b h = h
+covers_none (Percent ∷ q) p b h = h
+covers_none (Star ∷ q) p b h = h
+covers_none (Stars ∷ q) p b h = b
+
+pub covers_part : (q : List Token) (p : List (List Token)) (s : List ℕ) (r : List (List ℕ)) → BeginsOther q → Covers (q ∷ p) (s ∷ r) ↔ (Matches q s × (((p ≡ []) × EndsInStar q) ⊎ Covers p r))
+covers_part [] p s r b = (λ h. h, λ h. h)
+covers_part (Literal c ∷ q) p s r b = (λ h. h, λ h. h)
+covers_part (Percent ∷ q) p s r b = (λ h. h, λ h. h)
+covers_part (Star ∷ q) p s r b = (λ h. h, λ h. h)
+covers_part (Stars ∷ q) p s r b = absurd b

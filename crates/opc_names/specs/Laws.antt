@@ -1,12 +1,17 @@
--- The laws of the order of patterns, their sort keys and their heads. A search over stored keys stands on them.
+-- The laws of covering, of the order of patterns, their sort keys and their heads. A search over stored keys
+-- stands on them.
 use Rattle.std.specs.Prelude.{◌≡◌, ◌≢◌, ℕ, ◌<◌, ◌≤◌, List, ◌++◌, length, ◌⊎◌, ◌↔◌, IsTrue}
 use Rattle.std.specs.Cmp.Lexicographic.{slice_cmp}
 use Rattle.std.specs.Ordering.{nat_cmp}
 use Rattle.std.specs.declared.cmp.Ordering.TheVariants.{Less}
 use Rattle.opc_names.specs.Names.{IsPattern}
 use Rattle.opc_names.specs.Order.{Before, sort_key, head}
-use Rattle.opc_names.specs.Patterns.{tokens, CoversText}
+use Rattle.opc_names.specs.Patterns.{tokens, covers, Covers, CoversText}
 use Rattle.opc_names.specs.declared.token.Token.{Token}
+
+-- `covers` is true exactly where the pattern covers
+abbrev pub CoversComputes : Type 0
+CoversComputes = (p : List (List Token)) (r : List (List ℕ)) → IsTrue (covers p r) ↔ Covers p r
 
 -- The order is strict and total.
 abbrev pub NoneIsBeforeItself : Type 0

@@ -1,7 +1,7 @@
 -- Which texts are names, and the first fault of those that are not.
 use Rattle.std.specs.Prelude.{◌≡◌, ℕ, ◌+◌, Bool, true, false, not, ◌||◌, ◌&&◌, ◌==◌, nat_lt, nat_le, if◌then◌else◌, List, [], ◌∷◌, length, Option, Some, None}
 use Rattle.std.specs.Char.{is_ascii_digit, is_ascii_uppercase}
-use Rattle.std.specs.List.{position, slice_split}
+use Rattle.std.specs.List.{position, slice_split, list_all}
 use Rattle.std.specs.Option.{option_map, option_or}
 use Rattle.std.specs.Str.{bytes_eq, chars}
 use Rattle.opc_names.specs.declared.rule.Alphabet.{Alphabet}
@@ -92,6 +92,18 @@ name_fault rule text =
     (if nat_lt (length (chars text)) rule.least then Some TooShort else
     (if nat_lt rule.most (length (chars text)) then Some TooLong else
     option_or (option_map BadCharacter (bad_character rule.alphabet text)) (option_map BadQualifier (bad_qualifier rule.alphabet text))))
+
+-- whether a name of this alphabet is one qualifier
+abbrev pub is_plain : Alphabet → Bool
+is_plain NameCharacters = true
+is_plain NoDigitFirst = true
+is_plain Hexadecimal = true
+is_plain Qualified = false
+is_plain Generic = false
+
+-- whether a text is a resource, as a test that computes on a literal
+abbrev pub is_resource : List ℕ → Bool
+is_resource text = nat_le (length text) 39 && (list_all (may_follow Qualified) text && list_all (is_qualifier Qualified) (qualifiers text))
 
 -- a text that reads as a resource, or as a pattern
 abbrev pub IsResource : List ℕ → Type 0

@@ -1,6 +1,8 @@
 -- What a walk over a text has left.
-use Rattle.std.specs.Prelude.{◌≡◌, ◌≢◌, ℕ, ◌+◌, List, [], ◌∷◌, Bool, true, false, if◌then◌else◌, Option, Some, None, length, ⊤, ◌⊎◌}
+use Rattle.std.specs.Prelude.{◌≡◌, ◌≢◌, ℕ, ◌+◌, List, [], ◌∷◌, map, Bool, true, false, if◌then◌else◌, Option, Some, None, length, ⊤, ◌⊎◌}
+use Rattle.std.specs.List.{list_any}
 use Rattle.opc_names.specs.Names.{qualifiers}
+use Rattle.opc_names.specs.Patterns.{covers, suffixes}
 use Rattle.opc_names.specs.Order.{Earlier, is_open, key_byte}
 use Rattle.opc_names.specs.declared.token.Token.{Token}
 
@@ -23,6 +25,15 @@ StarOnlyLast (c ∷ (d ∷ q)) = (c ≢ 42) × StarOnlyLast (d ∷ q)
 -- a qualifier of a pattern: `**`, or one with a `*` only at its end
 abbrev pub IsQualifier : List ℕ → Type 0
 IsQualifier q = (q ≡ 42 ∷ 42 ∷ []) ⊎ StarOnlyLast q
+
+-- of each suffix of a name, longest first, whether a pattern covers it
+abbrev pub covered_suffixes : List (List Token) → List (List ℕ) → List Bool
+covered_suffixes p r = map (covers p) (suffixes r)
+
+-- of each place in a list, whether it or a later one is true
+abbrev pub any_from_here : List Bool → List Bool
+any_from_here [] = []
+any_from_here (b ∷ bs) = list_any (λ x. x) (b ∷ bs) ∷ any_from_here bs
 
 -- the order behind a common part, of which `opened` says whether it ends in `*` or `**`
 abbrev pub BeforeBehind : Bool → List Token → List Token → Type 0

@@ -1,5 +1,10 @@
-//! The laws of the order of patterns, their sort keys and their heads.
-ghost use Rattle.opc_names.specs.Laws.{NoneIsBeforeItself, BeforeIsTransitive, OneIsBefore, KeysAreInOrder, KeysDiffer, KeysAreShort, HeadsArePrefixes, LongerHeadsComeFirst};
+//! The laws of covering, of the order of patterns, their sort keys and their heads.
+ghost use Rattle.opc_names.specs.Laws.{CoversComputes, NoneIsBeforeItself, BeforeIsTransitive, OneIsBefore, KeysAreInOrder, KeysDiffer, KeysAreShort, HeadsArePrefixes, LongerHeadsComeFirst};
+
+/// The function that computes what a pattern covers is true exactly where the pattern covers.
+pub fn covers_computes()
+    ensures { CoversComputes }
+{}
 
 /// The order of patterns is strict and total.
 pub fn patterns_are_ordered()

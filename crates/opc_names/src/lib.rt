@@ -11,5 +11,8 @@ pub mod level;
 pub mod name;
 pub mod pattern;
 mod qualifier;
+mod resource;
 pub mod rule;
+#[cfg(test)]
+mod tests;
 pub mod token;

@@ -59,10 +59,18 @@ impl<K: NameKind<N>, const N: usize> Name<K, N> {
     {
         match K::rule().fault(text) {
             Some(fault) => Err(fault),
-            None => Ok(Name {
-                bytes: Bytes::copied(text.as_bytes()),
-                kind: PhantomData,
-            }),
+            None => Ok(Self::of(text)),
+        }
+    }
+
+    /// The name with a text that is known to be one.
+    pub(crate) fn of(text: &str) -> Self
+        requires { name_fault K.rule text.now ≡ None }
+        ensures { result ≡ text.now }
+    {
+        Name {
+            bytes: Bytes::copied(text.as_bytes()),
+            kind: PhantomData,
         }
     }
 

@@ -1,4 +1,3 @@
-use Rattle.std.proofs.Common.{sym}
 use Rattle.std.proofs.lemmas.Str.{IsUtf8-from_ascii}
 use Rattle.opc_names.proofs.Faults.{name_ascii}
 use Rattle.opc_names.proofs.name.Name.text.Goals as goal

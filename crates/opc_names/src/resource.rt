@@ -1,0 +1,40 @@
+//! Resources made of fixed words and names: no test, no fault, no memory.
+ghost use Rattle.std.specs.Prelude.{◌≡◌, ◌≤◌, ◌<◌, ◌+◌, ◌++◌, ◌∷◌, IsTrue, length};
+ghost use Rattle.opc_names.specs.Names.{is_plain, is_resource, IsResource};
+
+use crate::name::{Name, NameKind, Resource};
+use arrayvec::ArrayString;
+
+impl Resource {
+    /// The resource with these fixed words.
+    pub fn of_words(words: &str) -> Self
+        requires { IsTrue (is_resource words.now) }
+        ensures { result ≡ words.now }
+    {
+        Resource::of(words)
+    }
+
+    /// The resource with a name as one more qualifier.
+    pub fn with<K: NameKind<8>>(&self, name: &Name<K, 8>) -> Self
+        requires room { length self.now ≤ 30 }
+        requires plain { IsTrue (is_plain K.rule.alphabet) }
+        ensures value { result ≡ self.now ++ 46 ∷ name.now }
+        ensures short { length result ≤ length self.now + 9 }
+    {
+        joined(self.text(), name.text())
+    }
+}
+
+/// Two resources with a period between them.
+fn joined(front: &str, behind: &str) -> Resource
+    requires front { IsResource front.now }
+    requires behind { IsResource behind.now }
+    requires room { length front.now + length behind.now < 39 }
+    ensures { result ≡ front.now ++ 46 ∷ behind.now }
+{
+    let mut text = ArrayString::<39>::new();
+    text.push_str(front);
+    text.push('.');
+    text.push_str(behind);
+    Resource::of(text.as_str())
+}

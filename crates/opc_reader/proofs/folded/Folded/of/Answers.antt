@@ -1,0 +1,16 @@
+use Rattle.std.proofs.Common.{◌≡◌, ℕ, List, ◌++◌, length, map, take, sym, ap, ◌∙◌, subst}
+use Rattle.std.specs.Char.{to_ascii_uppercase}
+use Rattle.std.specs.Str.{IsAscii}
+use Rattle.std.proofs.lemmas.List.{length-map, take_at}
+use Rattle.std.proofs.lemmas.Str.Ascii.{IsAscii-map, uppercase_ascii}
+use Rattle.opc_reader.proofs.folded.Folded.of.Goals as goal
+
+upper_front : (text front rest : List ℕ) → front ≡ map to_ascii_uppercase text → IsAscii text → IsAscii (take (length text) (front ++ rest))
+upper_front text front rest e ascii =
+    let count : length front ≡ length text = ap length e ∙ length-map text to_ascii_uppercase in
+    let upper : IsAscii front = subst IsAscii (sym e) (IsAscii-map to_ascii_uppercase text uppercase_ascii ascii) in
+    subst IsAscii (sym (take_at front rest (length text) count)) upper
+
+pub invariant_of-result : goal.invariant_of-result
+invariant_of-result c =
+    (c.requires.fits, upper_front _ _ _ (c.make_ascii_uppercase.ensures.after ∙ ap (map to_ascii_uppercase) (c.copy_from_slice.ensures.after ∙ c.as_bytes.ensures.value)) c.requires.ascii)

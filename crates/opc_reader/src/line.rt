@@ -1,0 +1,183 @@
+//! Command lines.
+ghost use Rattle.std.specs.Prelude.{◌≡◌, ◌≤◌, ◌<◌, ◌==◌, ◌↔◌, ℕ, not, length, Some, None, IfSome, IfNone, IfOk};
+ghost use Rattle.std.specs.List.{list_all, position, prefix_len, suffix_len};
+ghost use Rattle.std.specs.Str.{chars, IsAscii};
+ghost use Rattle.opc_reader.specs.declared.command.Command.{Command as TheCommand};
+ghost use Rattle.opc_reader.specs.declared.line.ReadFault.{ReadFault as TheFault};
+ghost use Rattle.opc_reader.specs.Lines.{Reads, IsReadFault, OperandsAreSlices, is_space, is_typeable, trimmed, skip_spaces, open_at, open_place};
+ghost use Rattle.opc_reader.specs.Reading.{reading};
+
+use crate::command::Command;
+use crate::form::command;
+use crate::piece::{Piece, Span};
+use crate::quote::is_open;
+use crate::verb::Verb;
+use std::error::Error;
+use std::fmt;
+
+/// Why a line is no command: the first of these that holds, an open quote before a bad operand. Places are byte
+/// places.
+#[derive(Clone, Copy, Debug, PartialEq, Eq)]
+pub enum ReadFault {
+    /// Nothing, or spaces alone.
+    Empty,
+    /// More than 126 characters.
+    TooLong,
+    /// Where the first character stands that isn't one from the space to the tilde.
+    BadCharacter(usize),
+    /// A verb that isn't one: all up to the next space.
+    UnknownVerb(Span),
+    /// Operands that are no form of the verb: from the first of their characters to the last but spaces. Both
+    /// places are that end where there are none.
+    BadOperand(Span),
+    /// Where a quoted text begins that isn't closed.
+    OpenQuote(usize),
+}
+
+impl fmt::Display for ReadFault {
+    fn fmt<W: fmt::Write>(&self, f: &mut fmt::Formatter<W>) -> fmt::Result {
+        match self {
+            ReadFault::Empty => write!(f, "empty"),
+            ReadFault::TooLong => write!(f, "too long"),
+            ReadFault::BadCharacter(at) => write!(f, "bad character at {at}"),
+            ReadFault::UnknownVerb(span) => write!(
+                f,
+                "unknown verb from {} to {}",
+                span.from, span.to
+            ),
+            ReadFault::BadOperand(span) => write!(
+                f,
+                "bad operand from {} to {}",
+                span.from, span.to
+            ),
+            ReadFault::OpenQuote(at) => write!(f, "open quote at {at}"),
+        }
+    }
+}
+
+impl Error for ReadFault {}
+
+const SPACE: u8 = b' ';
+
+fn is_blank(line: &[u8]) -> bool
+    ensures { result ≡ list_all is_space line.now }
+{
+    line.iter().all(|c| *c == SPACE)
+}
+
+fn count_characters(line: &str) -> usize
+    ensures { result ≡ length (chars line.now) }
+{
+    line.chars().count()
+}
+
+fn bad_place(line: &[u8]) -> Option<usize>
+    ensures place { result ≡ position (λ c. not (is_typeable c)) line.now }
+    ensures ascii { IfNone result (IsAscii line.now) }
+{
+    line.iter().position(|c| !(32 <= *c && *c <= 126))
+}
+
+fn spaces_before(text: &[u8]) -> usize
+    ensures value { result ≡ prefix_len is_space text.now }
+    ensures within { result ≤ length text.now }
+{
+    text.iter().take_while(|c| **c == SPACE).count()
+}
+
+fn spaces_behind(text: &[u8]) -> usize
+    ensures value { result ≡ suffix_len is_space text.now }
+    ensures within { result ≤ length text.now }
+{
+    text.iter().rev().take_while(|c| **c == SPACE).count()
+}
+
+fn word_len(text: &[u8]) -> usize
+    ensures value { result ≡ prefix_len (λ c. not (is_space c)) text.now }
+    ensures within { result ≤ length text.now }
+{
+    text.iter().take_while(|c| **c != SPACE).count()
+}
+
+fn skip_spaces<'a>(s: &Piece<'a>) -> Piece<'a>
+    ensures { result ≡ skip_spaces s.now }
+{
+    s.split(spaces_before(s.text().as_bytes())).1
+}
+
+/// A line without the spaces round it.
+fn trimmed(line: &str) -> Piece<'_>
+    requires ascii { IsAscii line.now }
+    requires short { length line.now ≤ 126 }
+    ensures { result ≡ trimmed line.now }
+{
+    let end = line.len() - spaces_behind(line.as_bytes());
+    let (front, _) = Piece::whole(line).split(end);
+    skip_spaces(&front)
+}
+
+fn open_at(at: usize, text: &[u8]) -> Option<usize>
+    ensures { result ≡ open_at at text.now }
+{
+    if is_open(text) { Some(at) } else { None }
+}
+
+fn comma(text: &[u8]) -> Option<usize>
+    ensures value { result ≡ position (λ c. c == 44) text.now }
+    ensures within { IfSome result (λ at. at < length text.now) }
+{
+    text.iter().position(|c| *c == b',')
+}
+
+/// Where a quoted text stands that isn't closed.
+fn open_place(verb: Verb, s: &Piece<'_>) -> Option<usize>
+    ensures { result ≡ open_place verb s.now }
+{
+    match verb {
+        Verb::Modify | Verb::Reply => {
+            let (_, rest) = s.split(comma(s.text().as_bytes())? + 1);
+            open_at(rest.span().from, rest.text().as_bytes())
+        }
+        Verb::Send | Verb::Log => open_at(s.span().from, s.text().as_bytes()),
+        _ => None,
+    }
+}
+
+fn read(line: &str) -> Result<Command<'_>, ReadFault>
+    ensures { result ≡ reading line.now }
+{
+    if is_blank(line.as_bytes()) {
+        return Err(ReadFault::Empty);
+    }
+    if count_characters(line) > 126 {
+        return Err(ReadFault::TooLong);
+    }
+    if let Some(at) = bad_place(line.as_bytes()) {
+        return Err(ReadFault::BadCharacter(at));
+    }
+    let body = trimmed(line);
+    let (word, rest) = body.split(word_len(body.text().as_bytes()));
+    let operands = skip_spaces(&rest);
+    let Some(verb) = Verb::spelled(word.folded().as_str()) else {
+        return Err(ReadFault::UnknownVerb(word.span()));
+    };
+    if let Some(at) = open_place(verb, &operands) {
+        return Err(ReadFault::OpenQuote(at));
+    }
+    let span = operands.span();
+    match command(verb, operands) {
+        Some(command) => Ok(command),
+        None => Err(ReadFault::BadOperand(span)),
+    }
+}
+
+/// The command that a line is, with each operand as the slice of the line at its span, or the first fault of the
+/// line. It takes no memory.
+pub fn read_command(line: &str) -> Result<Command<'_>, ReadFault>
+    // It is a command exactly where the grammar has one.
+    ensures command { (c : TheCommand) → (result ≡ Ok c) ↔ Reads line.now c }
+    ensures fault { (f : TheFault) → (result ≡ Err f) ↔ IsReadFault line.now f }
+    ensures slices { IfOk result (λ c. OperandsAreSlices line.now c) }
+{
+    read(line)
+}

@@ -1,0 +1,107 @@
+//! Pieces of a line.
+ghost use Rattle.std.specs.Prelude.{◌≡◌, ◌+◌, ◌≤◌, length};
+ghost use Rattle.std.specs.Str.{IsAscii};
+ghost use Rattle.opc_reader.specs.Stretches.{folded, front, behind, word};
+
+use crate::folded::Folded;
+use std::marker::Model;
+
+/// A piece of a line as it was typed, and where it begins.
+#[derive(Debug, Drop)]
+pub struct Piece<'a> {
+    text: &'a str,
+    from: usize,
+}
+
+impl<'a> Model for Piece<'a> {
+    ghost use Rattle.std.specs.Prelude.{◌≤◌, ◌+◌, length};
+    ghost use Rattle.std.specs.Str.{IsAscii};
+    ghost use Rattle.opc_reader.specs.Stretches.{Stretch};
+
+    ghost Value = { Stretch };
+
+    ghost view = { λ p. record { text = p.text.now; from = p.from } };
+
+    ghost invariant = { λ p. IsAscii p.text.now × (p.from + length p.text.now ≤ 126) };
+}
+
+/// Where a piece of a line stands, as byte places: `from` is its first, `to` the one behind its last.
+#[derive(Clone, Copy, Debug, PartialEq, Eq)]
+pub struct Span {
+    pub from: usize,
+    pub to: usize,
+}
+
+impl<'a> Piece<'a> {
+    /// A line as one piece.
+    pub(crate) fn whole(line: &'a str) -> Piece<'a>
+        requires ascii { IsAscii line.now }
+        requires short { length line.now ≤ 126 }
+        ensures { result ≡ record { text = line.now; from = 0 } }
+    {
+        Piece {
+            text: line,
+            from: 0,
+        }
+    }
+
+    /// The slice of the line.
+    pub fn text(&self) -> &'a str
+        ensures text { result.now ≡ self.now.text }
+        ensures ascii { IsAscii self.now.text }
+    {
+        self.text
+    }
+
+    /// Where it stands in the line.
+    pub fn span(&self) -> Span
+        ensures { result ≡ record { from = self.now.from; to = self.now.from + length self.now.text } }
+    {
+        Span {
+            from: self.from,
+            to: self.from + self.text.len(),
+        }
+    }
+
+    /// Its first bytes, and those behind them.
+    pub(crate) fn split(&self, at: usize) -> (Piece<'a>, Piece<'a>)
+        requires { at ≤ length self.now.text }
+        ensures front { result.0 ≡ front at self.now }
+        ensures behind { result.1 ≡ behind at self.now }
+    {
+        let (front, behind) = self.text.split_at(at);
+        (
+            Piece {
+                text: front,
+                from: self.from,
+            },
+            Piece {
+                text: behind,
+                from: self.from + at,
+            },
+        )
+    }
+
+    /// In upper case.
+    pub(crate) fn folded(&self) -> Folded
+        ensures { result ≡ folded self.now.text }
+    {
+        Folded::of(self.text)
+    }
+
+    /// What stands behind a word, where the piece begins with it in any case.
+    #[tactic(auto, unfolding(crate::specs::Stretches::word))]
+    pub(crate) fn word(&self, text: &str) -> Option<Piece<'a>>
+        ensures { result ≡ word text.now self.now }
+    {
+        if self.text.len() < text.len() {
+            return None;
+        }
+        let (front, behind) = self.split(text.len());
+        if front.folded().as_str() == text {
+            Some(behind)
+        } else {
+            None
+        }
+    }
+}

@@ -20,9 +20,9 @@ pub all_map : {A : Type 0} (P Q : A → Type 0) (f : A → A) → ((x : A) → P
 all_map P Q f keeps [] all = tt
 all_map P Q f keeps (x ∷ xs) all = (keeps x all.0, all_map P Q f keeps xs all.1)
 
-pub all_changed : {A : Type 0} (P : A → Type 0) (p : A → Bool) (f : A → A) → ((x : A) → P x → P (f x)) → (xs : List A) → AllByRecursion P xs → AllByRecursion P (changed p f xs)
+pub all_changed : {A : Type 0} (P : A → Type 0) (p : A → Bool) (f : A → A) → ((x : A) → p x ≡ true → P x → P (f x)) → (xs : List A) → AllByRecursion P xs → AllByRecursion P (changed p f xs)
 all_changed P p f keeps [] all = tt
-all_changed P p f keeps (x ∷ xs) all = elim (p x) as (λ b. AllByRecursion P (cond b (f x ∷ xs) (x ∷ changed p f xs))) [ true ↦ (keeps x all.0, all.1) | false ↦ (all.0, all_changed P p f keeps xs all.1) ]
+all_changed P p f keeps (x ∷ xs) all = elim (p x) as (λ b. p x ≡ b → AllByRecursion P (cond b (f x ∷ xs) (x ∷ changed p f xs))) [ true ↦ λ here. (keeps x here all.0, all.1) | false ↦ λ here. (all.0, all_changed P p f keeps xs all.1) ] refl
 
 pub all_put : {A : Type 0} (P : A → Type 0) (before : A → A → Bool) (x : A) → P x → (xs : List A) → AllByRecursion P xs → AllByRecursion P (put before x xs)
 all_put P before x here [] all = (here, tt)
@@ -42,12 +42,12 @@ pub ascends_map : {A : Type 0} (before : A → A → Bool) (f : A → A) → ((x
 ascends_map before f blind [] order = tt
 ascends_map before f blind (x ∷ xs) order = (all_map (λ y. before x y ≡ true) (λ y. before (f x) y ≡ true) f (λ y e. blind x y ∙ e) xs order.0, ascends_map before f blind xs order.1)
 
-pub ascends_changed : {A : Type 0} (before : A → A → Bool) (p : A → Bool) (f : A → A) → ((x y : A) → before (f x) y ≡ before x y) → ((x y : A) → before x (f y) ≡ before x y) → (xs : List A) → Ascends before xs → Ascends before (changed p f xs)
+pub ascends_changed : {A : Type 0} (before : A → A → Bool) (p : A → Bool) (f : A → A) → ((x y : A) → p x ≡ true → before (f x) y ≡ before x y) → ((x y : A) → p y ≡ true → before x (f y) ≡ before x y) → (xs : List A) → Ascends before xs → Ascends before (changed p f xs)
 ascends_changed before p f left right [] order = tt
-ascends_changed before p f left right (x ∷ xs) order = elim (p x) as (λ b. Ascends before (cond b (f x ∷ xs) (x ∷ changed p f xs))) [
-  | true ↦ (all_weaker (λ y. before x y ≡ true) (λ y. before (f x) y ≡ true) (λ y e. left x y ∙ e) xs order.0, order.1)
-  | false ↦ (all_changed (λ y. before x y ≡ true) p f (λ y e. right x y ∙ e) xs order.0, ascends_changed before p f left right xs order.1)
-]
+ascends_changed before p f left right (x ∷ xs) order = elim (p x) as (λ b. p x ≡ b → Ascends before (cond b (f x ∷ xs) (x ∷ changed p f xs))) [
+  | true ↦ λ here. (all_weaker (λ y. before x y ≡ true) (λ y. before (f x) y ≡ true) (λ y e. left x y here ∙ e) xs order.0, order.1)
+  | false ↦ λ here. (all_changed (λ y. before x y ≡ true) p f (λ y there e. right x y there ∙ e) xs order.0, ascends_changed before p f left right xs order.1)
+] refl
 
 module _ {A : Type 0} (before : A → A → Bool) (trans : (x y z : A) → before x y ≡ true → before y z ≡ true → before x z ≡ true) where
   -- an element put in its place, where each element is before or behind it
@@ -83,14 +83,6 @@ find_none p (x ∷ xs) = elim (p x) as (λ b. p x ≡ b → is_some (cond b (Som
   | false ↦ λ here nowhere. (here, find_none p xs nowhere)
 ] refl
 
--- a change at what is found
-pub all_changed_found : {A : Type 0} (P : A → Type 0) (p : A → Bool) (f : A → A) (y : A) → P (f y) → (xs : List A) → find p xs ≡ Some y → AllByRecursion P xs → AllByRecursion P (changed p f xs)
-all_changed_found {A = A} P p f y right [] = λ at all. tt
-all_changed_found {A = A} P p f y right (x ∷ xs) = elim (p x) as (λ b. cond b (Some x) (find p xs) ≡ Some y → AllByRecursion P (x ∷ xs) → AllByRecursion P (cond b (f x ∷ xs) (x ∷ changed p f xs))) [
-  | true ↦ λ at all. let same : y ≡ x = cc in (subst (λ (z : A). P (f z)) same right, all.1)
-  | false ↦ λ at all. (all.0, all_changed_found P p f y right xs at all.1)
-]
-
 -- what holds of each element holds of what is found
 pub all_found : {A : Type 0} (P : A → Type 0) (p : A → Bool) (y : A) (xs : List A) → find p xs ≡ Some y → AllByRecursion P xs → P y
 all_found P p y [] = λ at all. absurd (cc)
@@ -99,46 +91,29 @@ all_found P p y (x ∷ xs) = elim (p x) as (λ b. cond b (Some x) (find p xs) �
   | false ↦ λ at all. all_found P p y xs at all.1
 ]
 
--- a change elsewhere is not seen
-pub find_changed : {A : Type 0} (p q : A → Bool) (f : A → A) → ((x : A) → q x ≡ true → p x ≡ false) → ((x : A) → p (f x) ≡ p x) → (xs : List A) → find p (changed q f xs) ≡ find p xs
-find_changed p q f other blind [] = refl
-find_changed p q f other blind (x ∷ xs) = elim (q x) as (λ b. q x ≡ b → find p (cond b (f x ∷ xs) (x ∷ changed q f xs)) ≡ find p (x ∷ xs)) [
-  | true ↦ λ here. let no : p x ≡ false = other x here in let no_more : p (f x) ≡ false = blind x ∙ no in rw (no, no_more) refl
-  | false ↦ λ here. ap (λ o. cond (p x) (Some x) o) (find_changed p q f other blind xs)
+-- a change that a look-up does not see
+pub find_changed : {A : Type 0} (p q : A → Bool) (f : A → A) → ((x : A) → q x ≡ true → p (f x) ≡ p x) → (xs : List A) → is_some (find p (changed q f xs)) ≡ is_some (find p xs)
+find_changed p q f blind [] = refl
+find_changed p q f blind (x ∷ xs) = elim (q x) as (λ b. q x ≡ b → is_some (find p (cond b (f x ∷ xs) (x ∷ changed q f xs))) ≡ is_some (find p (x ∷ xs))) [
+  | true ↦ λ here. rw (blind x here) (elim (p x) as (λ b. is_some (cond b (Some (f x)) (find p xs)) ≡ is_some (cond b (Some x) (find p xs))) [ true ↦ refl | false ↦ refl ])
+  | false ↦ λ here. elim (p x) as (λ b. is_some (cond b (Some x) (find p (changed q f xs))) ≡ is_some (cond b (Some x) (find p xs))) [ true ↦ refl | false ↦ find_changed p q f blind xs ]
 ] refl
 
--- whether there is one of a kind
+-- the first of a kind is the only one
+not_changed : {A : Type 0} (p : A → Bool) (f : A → A) (xs : List A) → AllByRecursion (λ x. p x ≡ false) xs → xs ≡ map (λ x. cond (p x) (f x) x) xs
+not_changed p f [] none = refl
+not_changed p f (x ∷ xs) none = let here : p x ≡ false = none.0 in rw here (ap (λ ws. x ∷ ws) (not_changed p f xs none.1))
 
-and_false : (b : Bool) → b && false ≡ false
-and_false true = refl
-and_false false = refl
-
-and_true : (b : Bool) → b && true ≡ b
-and_true true = refl
-and_true false = refl
-
-any_other : {A : Type 0} (p q : A → Bool) (xs : List A) → AllByRecursion (λ x. p x ≡ false) xs → list_any q xs ≡ list_any (λ x. q x && not (p x)) xs
-any_other p q [] none = refl
-any_other p q (x ∷ xs) none = let e : p x ≡ false = none.0 in let f : list_any q xs ≡ list_any (λ x. q x && not (p x)) xs = any_other p q xs none.1 in rw (e, and_true, f) refl
-
--- what is changed is of the kind no more, so only another can be
-pub any_changed : {A : Type 0} (before : A → A → Bool) (p q : A → Bool) (f : A → A) → ((x : A) → q (f x) ≡ false) → ((x y : A) → p x ≡ true → before x y ≡ true → p y ≡ false) → (xs : List A) → Ascends before xs → list_any q (changed p f xs) ≡ list_any (λ x. q x && not (p x)) xs
-any_changed before p q f gone once [] order = refl
-any_changed before p q f gone once (x ∷ xs) order = elim (p x) as (λ b. p x ≡ b → list_any q (cond b (f x ∷ xs) (x ∷ changed p f xs)) ≡ (q x && not b) || list_any (λ x. q x && not (p x)) xs) [
-  | true ↦ λ e. rw (gone x, and_false) (any_other p q xs (all_weaker (λ y. before x y ≡ true) (λ y. p y ≡ false) (λ y behind. once x y e behind) xs order.0))
-  | false ↦ λ e. rw (and_true) (ap (λ r. q x || r) (any_changed before p q f gone once xs order.1))
+pub changed_is_map : {A : Type 0} (before : A → A → Bool) (p : A → Bool) (f : A → A) → ((x y : A) → p x ≡ true → before x y ≡ true → p y ≡ false) → (xs : List A) → Ascends before xs → changed p f xs ≡ map (λ x. cond (p x) (f x) x) xs
+changed_is_map before p f once [] order = refl
+changed_is_map before p f once (x ∷ xs) order = elim (p x) as (λ b. p x ≡ b → cond b (f x ∷ xs) (x ∷ changed p f xs) ≡ cond b (f x) x ∷ map (λ x. cond (p x) (f x) x) xs) [
+  | true ↦ λ here. ap (λ ws. f x ∷ ws) (not_changed p f xs (all_weaker (λ y. before x y ≡ true) (λ y. p y ≡ false) (λ y behind. once x y here behind) xs order.0))
+  | false ↦ λ here. ap (λ ws. x ∷ ws) (changed_is_map before p f once xs order.1)
 ] refl
 
--- what was of the kind still is
-pub any_kept : {A : Type 0} (p q : A → Bool) (f : A → A) → ((x : A) → q x ≡ true → q (f x) ≡ true) → (xs : List A) → list_any q xs ≡ true → list_any q (changed p f xs) ≡ true
-any_kept p q f kept [] = λ some. some
-any_kept p q f kept (x ∷ xs) = elim (p x) as (λ b. list_any q (x ∷ xs) ≡ true → list_any q (cond b (f x ∷ xs) (x ∷ changed p f xs)) ≡ true) [
-  | true ↦ elim (q x) as (λ c. q x ≡ c → c || list_any q xs ≡ true → q (f x) || list_any q xs ≡ true) [
-    | true ↦ λ e some. rw (kept x e) refl
-    | false ↦ λ e some. elim (q (f x)) as (λ c. c || list_any q xs ≡ true) [ true ↦ refl | false ↦ some ]
-  ] refl
-  | false ↦ elim (q x) as (λ c. c || list_any q xs ≡ true → c || list_any q (changed p f xs) ≡ true) [ true ↦ λ some. refl | false ↦ any_kept p q f kept xs ]
-]
+pub any_of_map : {A : Type 0} (q : A → Bool) (f : A → A) (xs : List A) → list_any q (map f xs) ≡ list_any (λ x. q (f x)) xs
+any_of_map q f [] = refl
+any_of_map q f (x ∷ xs) = ap (λ b. q (f x) || b) (any_of_map q f xs)
 
 -- neighbours in order, and all in order
 

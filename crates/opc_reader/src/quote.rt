@@ -109,7 +109,8 @@ impl Text<'_> {
     /// What the text says: of quoted text what stands between its apostrophes, with each pair as one and in the
     /// case in which it was typed; of plain text all of it, in upper case.
     pub fn value(&self, alloc: Global) -> Result<String, AllocError>
-        ensures { IfOk result (λ value. Says self.now.typed.text (string_bytes value)) }
+        ensures value { IfOk result (λ value. string_bytes value ≡ text_value self.now.typed.text) }
+        ensures says { IfOk result (λ value. Says self.now.typed.text (string_bytes value)) }
     {
         value_of(self.typed.text().as_bytes(), alloc)
     }

@@ -5,3 +5,5 @@ pub mod Units
 pub mod Devices
 pub mod Consoles
 pub mod Replies
+pub mod Effect
+pub mod History

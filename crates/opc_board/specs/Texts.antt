@@ -71,6 +71,11 @@ plain text = record { item = Plain; text = text }
 abbrev pub unit_line : UnitRow → Line
 unit_line u = record { item = Unit u.name; text = unit_text u }
 
+-- the line of a unit that is there
+abbrev pub lines_of : Option UnitRow → List Line
+lines_of None = []
+lines_of (Some unit) = unit_line unit ∷ []
+
 abbrev pub device_line : DeviceRow → Line
 device_line d = plain (device_text d)
 

@@ -1,7 +1,8 @@
 //! Lines of answers.
 ghost use Rattle.std.specs.Prelude.{◌≡◌, ◌≤◌, ◌∷◌, [], IfOk, codes, length, map, string_bytes};
+ghost use Rattle.std.specs.Option.{option_copied};
 ghost use Rattle.std.specs.Str.{IsAscii};
-ghost use Rattle.opc_board.specs.Texts.{activity_text, columns, console_line, console_text, device_line, device_text, kind_text, left, monitor_text, online_text, reply_line, reply_text, text_or, unit_line, unit_text};
+ghost use Rattle.opc_board.specs.Texts.{activity_text, columns, console_line, console_text, device_line, device_text, kind_text, left, lines_of, monitor_text, online_text, reply_line, reply_text, text_or, unit_line, unit_text};
 
 use crate::rows::{ConsoleRow, DeviceRow, ReplyId, ReplyRow, UnitKind, UnitRow};
 use crate::text::KeptText;
@@ -167,7 +168,7 @@ fn text_of_console(alloc: Global, console: &ConsoleRow) -> Result<String, AllocE
     )
 }
 
-pub(crate) fn unit_line(alloc: Global, unit: &UnitRow) -> Result<Line, AllocError>
+fn unit_line(alloc: Global, unit: &UnitRow) -> Result<Line, AllocError>
     ensures { IfOk result (λ line. line ≡ unit_line unit.now) }
 {
     Ok(Line {
@@ -201,6 +202,20 @@ pub(crate) fn reply_line(alloc: Global, id: ReplyId, text: &str) -> Result<Line,
         item: Item::Plain,
         text: KeptText::from(text_of_reply(alloc, id, text)?),
     })
+}
+
+// The line of a unit, if it is there.
+pub(crate) fn lines_of(alloc: Global, unit: Option<&UnitRow>) -> Result<Vec<Line>, AllocError>
+    ensures { IfOk result (λ lines. lines.items ≡ lines_of (option_copied unit.entry)) }
+{
+    let mut lines = Vec::new(alloc);
+    match unit {
+        Some(unit) => {
+            lines.push(unit_line(alloc, unit)?)?;
+            Ok(lines)
+        }
+        None => Ok(lines),
+    }
 }
 
 pub(crate) fn unit_lines(alloc: Global, units: &[UnitRow]) -> Result<Vec<Line>, AllocError>

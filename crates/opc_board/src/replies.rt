@@ -86,9 +86,14 @@ impl Board {
         }
     }
 
-    pub(crate) fn send(&mut self, user: UserId, text: KeptText) -> Result<(), BoardFault>
+    pub(crate) fn send(
+        &mut self,
+        alloc: Global,
+        user: UserId,
+        text: KeptText,
+    ) -> Result<Vec<Line>, BoardFault>
         ensures { MatchResult result
-            (λ _. send_outcome user text self.old ≡ done self.new)
+            (λ lines. send_outcome user text self.old ≡ done_with self.new lines.items)
             (λ fault. (self.new ≡ self.old) × (fault ≢ NoMemory → send_outcome user text self.old ≡ Err fault)) }
     {
         let reached = self.is_on(&user) | self.has_session(&user);
@@ -96,28 +101,32 @@ impl Board {
             return Err(BoardFault::NoTarget);
         }
         self.rows.messages.push(MessageRow { user, text })?;
-        Ok(())
+        Ok(Vec::new(alloc))
     }
 
-    pub(crate) fn log_line(&mut self, text: KeptText) -> Result<(), BoardFault>
+    pub(crate) fn log_line(
+        &mut self,
+        alloc: Global,
+        text: KeptText,
+    ) -> Result<Vec<Line>, BoardFault>
         ensures { MatchResult result
-            (λ _. log_line_outcome text self.old ≡ done self.new)
+            (λ lines. log_line_outcome text self.old ≡ done_with self.new lines.items)
             (λ fault. (self.new ≡ self.old) × (fault ≡ NoMemory)) }
     {
         self.rows.log.push(text)?;
-        Ok(())
+        Ok(Vec::new(alloc))
     }
 
-    pub(crate) fn halt(&mut self) -> Result<(), BoardFault>
+    pub(crate) fn halt(&mut self, alloc: Global) -> Result<Vec<Line>, BoardFault>
         ensures { MatchResult result
-            (λ _. halt_outcome self.old ≡ done self.new)
+            (λ lines. halt_outcome self.old ≡ done_with self.new lines.items)
             (λ fault. (self.new ≡ self.old) × (halt_outcome self.old ≡ Err fault)) }
     {
         if self.rows.halted {
             return Err(BoardFault::Halted);
         }
         self.rows.halted = true;
-        Ok(())
+        Ok(Vec::new(alloc))
     }
 
     pub(crate) fn resume(&mut self)

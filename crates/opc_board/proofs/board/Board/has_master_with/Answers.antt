@@ -1,4 +1,3 @@
-
 use Rattle.opc_board.proofs.Kept.{masters_with}
 use Rattle.opc_board.proofs.board.Board.has_master_with.Goals as goal
 

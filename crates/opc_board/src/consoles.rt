@@ -4,7 +4,7 @@ ghost use Rattle.std.specs.List.{list_any};
 ghost use Rattle.opc_board.specs.declared.fault.BoardFault.TheVariants.{NoTarget};
 ghost use Rattle.opc_board.specs.Facts.{console_at, has_master, is, is_master};
 ghost use Rattle.opc_board.specs.Outcome.{done_with, found};
-ghost use Rattle.opc_board.specs.Consoles.{console_defined, defined, logged_off, logged_on, monitored, replaced, varied, with_console, vary_console_online as vary_console_online_outcome, vary_console_offline as vary_console_offline_outcome, vary_console_auth as vary_console_auth_outcome, reset_console as reset_console_outcome};
+ghost use Rattle.opc_board.specs.Consoles.{at_console, console_defined, defined, logged_off, logged_on, monitored, replaced, varied, with_console, vary_console_online as vary_console_online_outcome, vary_console_offline as vary_console_offline_outcome, vary_console_auth as vary_console_auth_outcome, reset_console as reset_console_outcome};
 
 use crate::board::{Board, BoardRows};
 use crate::fault::BoardFault;
@@ -165,18 +165,20 @@ impl Board {
         Vec::new(alloc)
     }
 
+    fn set_user(&mut self, name: &ConsoleName, user: Option<UserId>)
+        ensures { self.new ≡ at_console name.now (λ console. record console { user = user }) self.old }
+    {
+        self.rows
+            .consoles
+            .change(name, |console| ConsoleRow { user, ..console });
+    }
+
     /// Logs a user on at a console of the board where nobody is on.
     pub fn log_on(&mut self, name: &ConsoleName, user: UserId)
         requires { IsSomeAnd (console_at self.old name.now) (λ console. console.user ≡ None) }
         ensures { self.new ≡ logged_on name.now user self.old }
     {
-        self.rows.consoles.change(
-            name,
-            |console| ConsoleRow {
-                user: Some(user),
-                ..console
-            },
-        );
+        self.set_user(name, Some(user));
     }
 
     /// Logs the user off who is on at a console of the board.
@@ -184,13 +186,7 @@ impl Board {
         requires { IsSomeAnd (console_at self.old name.now) (λ console. IsSome console.user) }
         ensures { self.new ≡ logged_off name.now self.old }
     {
-        self.rows.consoles.change(
-            name,
-            |console| ConsoleRow {
-                user: None,
-                ..console
-            },
-        );
+        self.set_user(name, None);
     }
 
     // Adds a console that isn't there.

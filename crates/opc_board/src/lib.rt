@@ -11,5 +11,7 @@ pub mod laws;
 pub mod line;
 mod replies;
 pub mod rows;
+#[cfg(test)]
+mod tests;
 pub mod text;
 mod units;

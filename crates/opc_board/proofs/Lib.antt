@@ -1,0 +1,4 @@
+pub mod Names
+pub mod Kept
+pub mod Padding
+pub mod Tested

@@ -1,0 +1,35 @@
+-- What a command or an event comes to.
+use Rattle.std.specs.Prelude.{Bool, if◌then◌else◌, List, [], ◌∷◌, Option, Some, None, Result, Ok, Err}
+use Rattle.opc_board.specs.declared.board.BoardRows.{BoardRows}
+use Rattle.opc_board.specs.declared.fault.BoardFault.{BoardFault}
+use Rattle.opc_board.specs.declared.line.Line.{Line}
+
+-- the board afterwards, and the lines
+pub record Done : Type 0 where
+  pub board : BoardRows
+  pub lines : List Line
+
+abbrev pub Outcome : Type 0
+Outcome = Result Done BoardFault
+
+abbrev pub done_with : BoardRows → List Line → Outcome
+done_with board lines = Ok (record { board = board; lines = lines })
+
+-- done without a line
+abbrev pub done : BoardRows → Outcome
+done board = done_with board []
+
+-- the first of these faults that is there, and else the outcome
+abbrev pub faults_or : List (Bool × BoardFault) → Outcome → Outcome
+faults_or [] outcome = outcome
+faults_or ((there, fault) ∷ faults) outcome = if there then Err fault else faults_or faults outcome
+
+-- what was looked up, or this fault where there is none
+abbrev pub found : {A : Type 0} → BoardFault → Option A → Result A BoardFault
+found fault (Some x) = Ok x
+found fault None = Err fault
+
+infixl 10 ◌>>=◌
+abbrev pub ◌>>=◌ : {A B : Type 0} → Result A BoardFault → (A → Result B BoardFault) → Result B BoardFault
+(Ok x) >>= f = f x
+(Err fault) >>= f = Err fault

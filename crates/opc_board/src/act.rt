@@ -1,0 +1,108 @@
+//! Commands and events on a board.
+ghost use Rattle.std.specs.Prelude.{◌≡◌, ◌≢◌, IfErr, IfOk, IsSome, Err, OnErr, OnOk, false, string_bytes};
+ghost use Rattle.opc_reader.specs.Quotes.{text_value};
+ghost use Rattle.opc_board.specs.declared.fault.BoardFault.TheVariants.{NoMemory};
+ghost use Rattle.opc_board.specs.Facts.{console_at, unit_at};
+ghost use Rattle.opc_board.specs.Texts.{lines_of};
+ghost use Rattle.opc_board.specs.Outcome.{done, done_with};
+ghost use Rattle.opc_board.specs.Effect.{effect, event_effect, is_session_command};
+
+use crate::board::Board;
+use crate::event::Event;
+use crate::fault::BoardFault;
+use crate::line::{Line, console_lines, device_lines, lines_of, reply_lines, unit_lines};
+use crate::replies::session_of;
+use crate::text::KeptText;
+use opc_names::name::{ConsoleName, UnitName};
+use opc_reader::command::{Command, Text};
+use std::alloc::{AllocError, Global};
+
+// What a text says, to be kept.
+fn kept(alloc: Global, text: &Text<'_>) -> Result<KeptText, AllocError>
+    ensures { IfOk result (λ kept. kept ≡ text_value text.now.typed.text) }
+{
+    Ok(KeptText::from(text.value(alloc)?))
+}
+
+impl Board {
+    // The line of the unit of this name, if it is on the board.
+    fn line_at(&self, alloc: Global, name: &UnitName) -> Result<Vec<Line>, AllocError>
+        ensures { IfOk result (λ lines. lines.items ≡ lines_of (unit_at self.now name.now)) }
+    {
+        lines_of(alloc, self.rows.units.find(name))
+    }
+
+    /// Runs a command that is typed at a console of the board, and gives its lines in order, unfiltered. LOGON and
+    /// LOGOFF aren't the board's. After a fault, memory too, the board is as it was.
+    pub fn act(
+        &mut self,
+        alloc: Global,
+        command: &Command<'_>,
+        console: &ConsoleName,
+    ) -> Result<Vec<Line>, BoardFault>
+        requires console { IsSome (console_at self.old console.now) }
+        requires command { is_session_command command.now ≡ false }
+        ensures done { IfOk result (λ lines. effect self.old command.now console.now ≡ done_with self.new lines.items) }
+        ensures refused { IfErr result (λ fault. fault ≢ NoMemory → effect self.old command.now console.now ≡ Err fault) }
+        ensures unchanged { OnErr result (self.new ≡ self.old) }
+    {
+        match command {
+            Command::DisplayUnits => Ok(unit_lines(alloc, self.rows.units.as_slice())?),
+            Command::DisplayUnit(name) => Ok(self.line_at(alloc, &name.value)?),
+            Command::DisplayDevices => Ok(device_lines(alloc, self.rows.devices.as_slice())?),
+            Command::DisplayConsoles => Ok(console_lines(alloc, self.rows.consoles.as_slice())?),
+            Command::DisplayReplies => Ok(reply_lines(alloc, self.rows.replies.as_slice())?),
+            Command::Cancel(name) => self.cancel(alloc, &name.value),
+            Command::CancelUser(user) => self.cancel_user(alloc, &session_of(&user.value)),
+            Command::Force(name) => self.force(alloc, &name.value),
+            Command::Start(member) => self.start(alloc, member.value, member.value),
+            Command::StartAs(member, id) => self.start(alloc, member.value, id.value),
+            Command::Stop(name) => self.stop(alloc, &name.value),
+            Command::Modify(name, text) => self.modify(alloc, &name.value, kept(alloc, text)?),
+            Command::Reply(id, text) => self.reply(alloc, id.value, kept(alloc, text)?),
+            Command::VaryDeviceOnline(device) => self.vary_online(alloc, &device.value),
+            Command::VaryDeviceOffline(device) => self.vary_offline(alloc, &device.value),
+            Command::VaryConsoleOnline(name) => self.vary_console_online(alloc, &name.value),
+            Command::VaryConsoleOffline(name) => self.vary_console_offline(alloc, &name.value),
+            Command::VaryConsoleAuth(name, auth) => self.vary_console_auth(
+                alloc,
+                &name.value,
+                auth.value,
+            ),
+            Command::Mount(device, volume) => self.mount(alloc, &device.value, volume.value),
+            Command::Unload(device) => self.unload(alloc, &device.value),
+            Command::Swap(from, to) => self.swap(alloc, &from.value, &to.value),
+            Command::ResetConsole(name) => self.reset_console(alloc, &name.value),
+            Command::Send(text, user) => self.send(alloc, user.value, kept(alloc, text)?),
+            Command::Log(text) => self.log_line(alloc, kept(alloc, text)?),
+            Command::Monitor => Ok(self.monitor(alloc, console, true)),
+            Command::StopMonitor => Ok(self.monitor(alloc, console, false)),
+            Command::Halt => self.halt(alloc),
+            Command::Logon(..) | Command::Logoff => unreachable!(),
+        }
+    }
+
+    /// Lets an event happen. After a fault, memory too, the board is as it was.
+    pub fn event(&mut self, alloc: Global, event: &Event) -> Result<(), BoardFault>
+        ensures done { OnOk result (event_effect self.old event.now ≡ done self.new) }
+        ensures refused { IfErr result (λ fault. fault ≢ NoMemory → event_effect self.old event.now ≡ Err fault) }
+        ensures unchanged { OnErr result (self.new ≡ self.old) }
+    {
+        match event {
+            Event::JobIn {
+                name,
+                kind,
+                cancelable,
+            } => self.job_in(*name, *kind, *cancelable),
+            Event::JobEnd(name) => self.job_end(name),
+            Event::Ask { id, text } => self.ask(*id, KeptText::new(alloc, text.as_str())?),
+            Event::Attach(device) => self.attach(*device),
+            Event::Allocate { device, unit } => self.allocate(device, *unit),
+            Event::Free(device) => self.free(device),
+            Event::Resume => {
+                self.resume();
+                Ok(())
+            }
+        }
+    }
+}

@@ -1,0 +1,145 @@
+//! The board.
+ghost use Rattle.std.specs.Prelude.{◌≡◌, ◌&&◌, MatchResult};
+ghost use Rattle.std.specs.List.{list_all};
+ghost use Rattle.opc_rows.specs.Ordered.{Ascends};
+ghost use Rattle.opc_board.specs.Facts.{IsBoard, held_rightly, unit_before, kind_at, has_master, is_master};
+
+use crate::rows::{ConsoleRow, DeviceRow, MessageRow, ReplyRow, UnitKind, UnitRow};
+use crate::text::KeptText;
+use opc_names::auth::Auth;
+use opc_names::name::UnitName;
+use opc_policy::unit_kind::UnitKindAt;
+use opc_rows::Rows;
+use std::marker::Model;
+
+/// The parts of a board: units, devices, consoles and open replies in order of name or number, and answered replies,
+/// log lines and messages in order of arrival.
+#[derive(Drop)]
+pub struct BoardRows {
+    pub units: Rows<UnitRow>,
+    pub devices: Rows<DeviceRow>,
+    pub consoles: Rows<ConsoleRow>,
+    pub replies: Rows<ReplyRow>,
+    pub answered: Rows<ReplyRow>,
+    pub log: Rows<KeptText>,
+    pub messages: Rows<MessageRow>,
+    /// Whether the day is halted.
+    pub halted: bool,
+}
+
+/// A board: its rows are in order, no name or number comes twice, and a device in use is online with its unit on the
+/// board.
+#[derive(Drop)]
+pub struct Board {
+    pub(crate) rows: BoardRows,
+}
+
+impl Model for Board {
+    ghost use Rattle.opc_board.specs.declared.board.BoardRows.{BoardRows};
+
+    ghost Value = { BoardRows };
+
+    ghost use Rattle.opc_board.specs.Facts.{IsBoard};
+
+    ghost view = { λ board. board.rows };
+
+    ghost invariant = { λ board. IsBoard board.rows };
+}
+
+impl BoardRows {
+    // Whether a device in use is online, with its unit on the board.
+    fn holds_rightly(&self, device: &DeviceRow) -> bool
+        requires { Ascends unit_before self.now.units }
+        ensures { result ≡ held_rightly self.now.units device.now }
+    {
+        match &device.unit {
+            Some(name) => device.online && self.units.find(name).is_some(),
+            None => true,
+        }
+    }
+
+    fn all_hold_rightly(&self) -> bool
+        requires { Ascends unit_before self.now.units }
+        ensures { result ≡ list_all (held_rightly self.now.units) self.now.devices }
+    {
+        self.devices
+            .as_slice()
+            .iter()
+            .all(|device| self.holds_rightly(device))
+    }
+}
+
+impl ConsoleRow {
+    // Whether it is online with AUTH MASTER.
+    pub(crate) fn is_master(&self) -> bool
+        ensures { result ≡ is_master self.now }
+    {
+        match self.auth {
+            Auth::Master => self.online,
+            _ => false,
+        }
+    }
+}
+
+impl Board {
+    /// The board of these rows, which are handed back where they are out of order or break a fact.
+    pub fn of(rows: BoardRows) -> Result<Self, BoardRows>
+        ensures { MatchResult result
+            (λ board. (board ≡ rows) × IsBoard rows)
+            (λ back. (back ≡ rows) × (IsBoard rows → ⊥)) }
+    {
+        let units = rows.units.is_ascending();
+        if !units {
+            return Err(rows);
+        }
+        let devices = rows.devices.is_ascending();
+        if !devices {
+            return Err(rows);
+        }
+        let consoles = rows.consoles.is_ascending();
+        if !consoles {
+            return Err(rows);
+        }
+        let replies = rows.replies.is_ascending();
+        if !replies {
+            return Err(rows);
+        }
+        let holders = rows.all_hold_rightly();
+        if !holders {
+            return Err(rows);
+        }
+        Ok(Board { rows })
+    }
+
+    pub fn rows(&self) -> &BoardRows
+        ensures rows { result.now ≡ self.now }
+        ensures facts { IsBoard self.now }
+    {
+        &self.rows
+    }
+
+    /// What the unit of this name is.
+    pub fn kind_at(&self, name: &UnitName) -> UnitKindAt
+        ensures { result ≡ kind_at self.now name.now }
+    {
+        match self.rows.units.find(name) {
+            None => UnitKindAt::Absent,
+            Some(unit) => match unit.kind {
+                UnitKind::Job => UnitKindAt::Job,
+                UnitKind::Stc { member } => UnitKindAt::Stc { member },
+                UnitKind::Tsu => UnitKindAt::Tsu,
+            },
+        }
+    }
+
+    /// Whether an online console has AUTH MASTER.
+    pub fn has_master(&self) -> bool
+        ensures { result ≡ has_master self.now.consoles }
+    {
+        self.rows
+            .consoles
+            .as_slice()
+            .iter()
+            .any(|console| console.is_master())
+    }
+}

@@ -1,0 +1,212 @@
+//! Devices that come and change.
+ghost use Rattle.std.specs.Prelude.{◌≡◌, ◌≢◌, Err, IfOk, MatchResult};
+ghost use Rattle.opc_board.specs.declared.fault.BoardFault.TheVariants.{NoDevice, NoMemory};
+ghost use Rattle.opc_board.specs.Facts.{IsHeldRightly, device_at};
+ghost use Rattle.opc_board.specs.Outcome.{done, done_with, found};
+ghost use Rattle.opc_board.specs.Devices.{with_device, vary_online as vary_online_outcome, vary_offline as vary_offline_outcome, mount as mount_outcome, unload as unload_outcome, swap as swap_outcome, attach as attach_outcome, allocate as allocate_outcome, free as free_outcome};
+
+use crate::board::Board;
+use crate::fault::BoardFault;
+use crate::line::Line;
+use crate::rows::DeviceRow;
+use opc_names::name::{Device, UnitName, Volume};
+use std::alloc::Global;
+
+impl Board {
+    fn device(&self, number: &Device) -> Result<DeviceRow, BoardFault>
+        ensures row { result ≡ found NoDevice (device_at self.now number.now) }
+        ensures held { IfOk result (IsHeldRightly self.now.units) }
+    {
+        match self.rows.devices.find(number) {
+            Some(device) => Ok(*device),
+            None => Err(BoardFault::NoDevice),
+        }
+    }
+
+    // Puts a row in place of the one of its number.
+    fn put_device(&mut self, row: DeviceRow)
+        requires { IsHeldRightly self.old.units row }
+        ensures { self.new ≡ with_device row self.old }
+    {
+        self.rows.devices.change(&row.number, |_| row);
+    }
+
+    pub(crate) fn vary_online(
+        &mut self,
+        alloc: Global,
+        number: &Device,
+    ) -> Result<Vec<Line>, BoardFault>
+        ensures { MatchResult result
+            (λ lines. vary_online_outcome number.now self.old ≡ done_with self.new lines.items)
+            (λ fault. (self.new ≡ self.old) × (vary_online_outcome number.now self.old ≡ Err fault)) }
+    {
+        let device = self.device(number)?;
+        if device.online {
+            return Err(BoardFault::DeviceState);
+        }
+        self.put_device(DeviceRow {
+            online: true,
+            ..device
+        });
+        Ok(Vec::new(alloc))
+    }
+
+    pub(crate) fn vary_offline(
+        &mut self,
+        alloc: Global,
+        number: &Device,
+    ) -> Result<Vec<Line>, BoardFault>
+        ensures { MatchResult result
+            (λ lines. vary_offline_outcome number.now self.old ≡ done_with self.new lines.items)
+            (λ fault. (self.new ≡ self.old) × (vary_offline_outcome number.now self.old ≡ Err fault)) }
+    {
+        let device = self.device(number)?;
+        if !device.online {
+            return Err(BoardFault::DeviceState);
+        }
+        if device.unit.is_some() {
+            return Err(BoardFault::DeviceInUse);
+        }
+        self.put_device(DeviceRow {
+            online: false,
+            ..device
+        });
+        Ok(Vec::new(alloc))
+    }
+
+    pub(crate) fn mount(
+        &mut self,
+        alloc: Global,
+        number: &Device,
+        volume: Volume,
+    ) -> Result<Vec<Line>, BoardFault>
+        ensures { MatchResult result
+            (λ lines. mount_outcome number.now volume self.old ≡ done_with self.new lines.items)
+            (λ fault. (self.new ≡ self.old) × (mount_outcome number.now volume self.old ≡ Err fault)) }
+    {
+        let device = self.device(number)?;
+        if !device.online {
+            return Err(BoardFault::DeviceState);
+        }
+        if device.volume.is_some() {
+            return Err(BoardFault::DeviceState);
+        }
+        self.put_device(DeviceRow {
+            volume: Some(volume),
+            ..device
+        });
+        Ok(Vec::new(alloc))
+    }
+
+    pub(crate) fn unload(&mut self, alloc: Global, number: &Device) -> Result<Vec<Line>, BoardFault>
+        ensures { MatchResult result
+            (λ lines. unload_outcome number.now self.old ≡ done_with self.new lines.items)
+            (λ fault. (self.new ≡ self.old) × (unload_outcome number.now self.old ≡ Err fault)) }
+    {
+        let device = self.device(number)?;
+        if device.volume.is_none() {
+            return Err(BoardFault::NoVolume);
+        }
+        if device.unit.is_some() {
+            return Err(BoardFault::DeviceInUse);
+        }
+        self.put_device(DeviceRow {
+            volume: None,
+            ..device
+        });
+        Ok(Vec::new(alloc))
+    }
+
+    pub(crate) fn swap(
+        &mut self,
+        alloc: Global,
+        from: &Device,
+        to: &Device,
+    ) -> Result<Vec<Line>, BoardFault>
+        ensures { MatchResult result
+            (λ lines. swap_outcome from.now to.now self.old ≡ done_with self.new lines.items)
+            (λ fault. (self.new ≡ self.old) × (swap_outcome from.now to.now self.old ≡ Err fault)) }
+    {
+        let source = self.device(from)?;
+        let target = self.device(to)?;
+        if !source.online {
+            return Err(BoardFault::DeviceState);
+        }
+        if !target.online {
+            return Err(BoardFault::DeviceState);
+        }
+        if source.volume.is_none() {
+            return Err(BoardFault::NoVolume);
+        }
+        if target.volume.is_some() {
+            return Err(BoardFault::DeviceState);
+        }
+        if target.unit.is_some() {
+            return Err(BoardFault::DeviceState);
+        }
+        self.put_device(DeviceRow {
+            volume: None,
+            unit: None,
+            ..source
+        });
+        self.put_device(DeviceRow {
+            volume: source.volume,
+            unit: source.unit,
+            ..target
+        });
+        Ok(Vec::new(alloc))
+    }
+
+    pub(crate) fn attach(&mut self, number: Device) -> Result<(), BoardFault>
+        ensures { MatchResult result
+            (λ _. attach_outcome number self.old ≡ done self.new)
+            (λ fault. (self.new ≡ self.old) × (fault ≢ NoMemory → attach_outcome number self.old ≡ Err fault)) }
+    {
+        if self.rows.devices.find(&number).is_some() {
+            return Err(BoardFault::DeviceState);
+        }
+        self.rows.devices.insert(DeviceRow {
+            number,
+            online: true,
+            volume: None,
+            unit: None,
+        })?;
+        Ok(())
+    }
+
+    pub(crate) fn allocate(&mut self, number: &Device, name: UnitName) -> Result<(), BoardFault>
+        ensures { MatchResult result
+            (λ _. allocate_outcome number.now name self.old ≡ done self.new)
+            (λ fault. (self.new ≡ self.old) × (allocate_outcome number.now name self.old ≡ Err fault)) }
+    {
+        let device = self.device(number)?;
+        self.unit(&name)?;
+        if !device.online {
+            return Err(BoardFault::DeviceState);
+        }
+        if device.unit.is_some() {
+            return Err(BoardFault::DeviceInUse);
+        }
+        self.put_device(DeviceRow {
+            unit: Some(name),
+            ..device
+        });
+        Ok(())
+    }
+
+    pub(crate) fn free(&mut self, number: &Device) -> Result<(), BoardFault>
+        ensures { MatchResult result
+            (λ _. free_outcome number.now self.old ≡ done self.new)
+            (λ fault. (self.new ≡ self.old) × (free_outcome number.now self.old ≡ Err fault)) }
+    {
+        let device = self.device(number)?;
+        if device.unit.is_none() {
+            return Err(BoardFault::DeviceState);
+        }
+        self.put_device(DeviceRow {
+            unit: None,
+            ..device
+        });
+        Ok(())
+    }
+}

@@ -1,0 +1,17 @@
+//! The board: the simulated machine room of units, devices, consoles and replies, on which commands and events act.
+#![tactic(auto)]
+
+mod act;
+pub mod board;
+mod consoles;
+mod devices;
+pub mod event;
+pub mod fault;
+pub mod laws;
+pub mod line;
+mod replies;
+pub mod rows;
+#[cfg(test)]
+mod tests;
+pub mod text;
+mod units;

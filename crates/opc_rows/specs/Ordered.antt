@@ -1,0 +1,28 @@
+-- Lists in order.
+use Rattle.std.specs.Prelude.{Bool, true, ◌≡◌, if◌then◌else◌, List, [], ◌∷◌}
+use Rattle.std.specs.declared.cmp.Ordering.{Ordering}
+use Rattle.std.specs.List.{AllByRecursion}
+use Rattle.std.specs.Ordering.{is_lt}
+
+-- each element stands in this order to all later ones
+abbrev pub Ascends : {A : Type 0} → (A → A → Bool) → List A → Type 0
+Ascends before [] = Unit {0}
+Ascends before (x ∷ xs) = AllByRecursion (λ y. before x y ≡ true) xs × Ascends before xs
+
+-- one row's key is less than another's
+abbrev pub comes_before : {K R : Type 0} → (K → K → Ordering) → (R → K) → R → R → Bool
+comes_before cmp key_of row other = is_lt (cmp (key_of row) (key_of other))
+
+-- the keys of the rows rise, so no key comes twice
+abbrev pub IsInKeyOrder : {K R : Type 0} → (K → K → Ordering) → (R → K) → List R → Type 0
+IsInKeyOrder cmp key_of rows = Ascends (comes_before cmp key_of) rows
+
+-- the list with an element before the first one that it is before
+abbrev pub put : {A : Type 0} → (A → A → Bool) → A → List A → List A
+put before x [] = x ∷ []
+put before x (y ∷ ys) = if before x y then x ∷ y ∷ ys else y ∷ put before x ys
+
+-- the list with its first element of this kind changed
+abbrev pub changed : {A : Type 0} → (A → Bool) → (A → A) → List A → List A
+changed p f [] = []
+changed p f (x ∷ xs) = if p x then f x ∷ xs else x ∷ changed p f xs

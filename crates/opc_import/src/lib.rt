@@ -1,0 +1,9 @@
+//! Policy files: a policy's rows as comma-separated text, read and written.
+#![tactic(auto)]
+
+pub mod column;
+pub mod fault;
+mod field;
+pub mod kind;
+pub mod read;
+mod records;

@@ -1,3 +1,4 @@
 pub mod FileLemmas
 pub mod RecordLemmas
+pub mod RoundTrip
 pub mod TextLemmas

@@ -2,4 +2,6 @@ pub mod Columns
 pub mod Fields
 pub mod Files
 pub mod Kinds
+pub mod Lines
 pub mod Records
+pub mod Rows

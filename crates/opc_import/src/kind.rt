@@ -2,7 +2,7 @@
 ghost use Rattle.std.specs.Prelude.{◌≡◌};
 ghost use Rattle.csv.specs.Records.{fields_of};
 ghost use Rattle.opc_names.specs.Spellings.{lookup};
-ghost use Rattle.opc_import.specs.Kinds.{class_row, connect_row, console_row, group_row, kinds, permit_row, profile_row, row_of, row_of_kind, user_row};
+ghost use Rattle.opc_import.specs.Kinds.{class_row, connect_row, console_row, group_row, kind_text, kinds, permit_row, profile_row, row_of, row_of_kind, user_row};
 
 use crate::column::{COLUMNS, Column, field_in, unused};
 use crate::fault::Why;
@@ -30,6 +30,21 @@ pub enum Kind {
 }
 
 impl Kind {
+    /// Its text in the column of kinds.
+    pub fn text(self) -> &'static str
+        ensures { result.now ≡ kind_text self }
+    {
+        match self {
+            Kind::Class => "class",
+            Kind::Group => "group",
+            Kind::User => "user",
+            Kind::Connect => "connect",
+            Kind::Console => "console",
+            Kind::Profile => "profile",
+            Kind::Permit => "permit",
+        }
+    }
+
     fn read(field: &[u8]) -> Option<Self>
         ensures { result ≡ lookup kinds field.now }
     {

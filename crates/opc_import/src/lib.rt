@@ -5,5 +5,7 @@ pub mod column;
 pub mod fault;
 mod field;
 pub mod kind;
+mod line;
 pub mod read;
 mod records;
+pub mod write;

@@ -1,3 +1,4 @@
+pub mod AsciiText
 pub mod FileLemmas
 pub mod RecordLemmas
 pub mod RoundTrip

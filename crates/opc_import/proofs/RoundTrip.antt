@@ -36,7 +36,7 @@ use Rattle.opc_import.specs.Files.{policy_of, rows_from, with_row}
 use Rattle.opc_import.specs.Kinds.{row_of}
 use Rattle.opc_import.specs.Lines.{policy_text}
 use Rattle.opc_import.specs.Records.{records_of_source}
-use Rattle.opc_import.specs.Rows.{IsValidIn, ReadsBack, activity_text, digest_text, flags_text, record_of, warning_text}
+use Rattle.opc_import.specs.Rows.{IsValid, IsValidIn, activity_text, digest_text, flags_text, record_of, warning_text}
 use Rattle.opc_import.specs.declared.column.Column.TheVariants as column
 use Rattle.opc_import.proofs.RecordLemmas.{first-left, none-first}
 
@@ -115,18 +115,29 @@ digest-back bytes sized h =
     let twice : length (encode_lower bytes) ≡ 64 = length-encode_with lower_digits bytes ∙ ap (λ (n : ℕ). 2 * n) sized in
     rw (twice, digits-lower bytes h) (ap decoded (decode_pairs-encode_with lower_digits IsDigits-lower_digits 0 bytes h))
 
--- a row whose names and digest are such
-pub row-back : (r : Row) → IsValidIn column.Name r → IsValidIn column.Id r → IsValidIn column.Owner r → IsValidIn column.Digest r → ReadsBack r
+-- a row that is valid in each column that has names or a digest
+pub valid-in-all : (r : Row) → IsValidIn column.Name r → IsValidIn column.Id r → IsValidIn column.Owner r → IsValidIn column.Digest r → IsValid r
+valid-in-all r name id owner digest column.Kind = tt
+valid-in-all r name id owner digest column.Class = tt
+valid-in-all r name id owner digest column.Name = name
+valid-in-all r name id owner digest column.Id = id
+valid-in-all r name id owner digest column.Value = tt
+valid-in-all r name id owner digest column.Owner = owner
+valid-in-all r name id owner digest column.Flags = tt
+valid-in-all r name id owner digest column.Digest = digest
+
+-- the record of a row is read as that row, whatever its number in a file
+pub row-back : (r : Row) → IsValid r → (number : ℕ) → number ≤ 10000 → row_of number (record_of r) ≡ Ok r
 unfolding field_at
-row-back (row.Class c active) name id owner digest number h = rw (within number h, classes-back c, activities-back active) refl
-row-back (row.Group n) name id owner digest number h = rw (within number h, name) refl
-row-back (row.User u) name id owner digest number h =
-    rw (within number h, name, flags-back u.id u.special u.auditor u.revoked u.digest, digest) refl
-row-back (row.Connect u g) name id owner digest number h = rw (within number h, name, id) refl
-row-back (row.Console n a m) name id owner digest number h = rw (within number h, name, auths-back a, modes-back m) refl
-row-back (row.Profile c p l o w) name id owner digest number h =
-    rw (within number h, classes-back c, name, levels-back l, owner, warnings-back w) refl
-row-back (row.Permit c p i l) name id owner digest number h = rw (within number h, classes-back c, name, id, levels-back l) refl
+row-back (row.Class c active) valid number h = rw (within number h, classes-back c, activities-back active) refl
+row-back (row.Group n) valid number h = rw (within number h, valid column.Name) refl
+row-back (row.User u) valid number h =
+    rw (within number h, valid column.Name, flags-back u.id u.special u.auditor u.revoked u.digest, valid column.Digest) refl
+row-back (row.Connect u g) valid number h = rw (within number h, valid column.Name, valid column.Id) refl
+row-back (row.Console n a m) valid number h = rw (within number h, valid column.Name, auths-back a, modes-back m) refl
+row-back (row.Profile c p l o w) valid number h =
+    rw (within number h, classes-back c, valid column.Name, levels-back l, valid column.Owner, warnings-back w) refl
+row-back (row.Permit c p i l) valid number h = rw (within number h, classes-back c, valid column.Name, valid column.Id, levels-back l) refl
 
 -- the lines of some records, read back
 lines-back : (fs : List Record) → records_of_source st.StartRecord (Some (flat_map (row_text default_writer) fs)) ≡ map read_back fs
@@ -138,11 +149,11 @@ lines-back (f ∷ fs) =
     ∙ ap (λ (t : List Record). read_back f ∷ t) (lines-back fs)
 
 -- the rows of those records
-rows-back : (number : ℕ) (rows : List Row) → number + length rows ≤ 10001 → All ReadsBack rows → rows_from number (map read_back (map record_of rows)) ≡ Ok rows
+rows-back : (number : ℕ) (rows : List Row) → number + length rows ≤ 10001 → All IsValid rows → rows_from number (map read_back (map record_of rows)) ≡ Ok rows
 unfolding rows_from
 rows-back number [] fits h = refl
 rows-back number (row ∷ rows) fits h =
-    let first : row_of number (record_of row) ≡ Ok row = h 0 row (omega arith) number (omega arith) in
+    let first : row_of number (record_of row) ≡ Ok row = row-back row (h 0 row (omega arith)) number (omega arith) in
     let rest : rows_from (number + 1) (map read_back (map record_of rows)) ≡ Ok rows = rows-back (number + 1) rows (omega arith) (λ k d lt. h (suc k) d (omega arith)) in
     rw (first, rest) refl
 
@@ -151,7 +162,7 @@ unfolding strip_bom is_blank fields_text
 no-mark rows = refl
 
 -- a file that was written
-pub file-back : (rows : List Row) → length rows ≤ 10000 → All ReadsBack rows → policy_of (policy_text rows) ≡ Ok rows
+pub file-back : (rows : List Row) → length rows ≤ 10000 → All IsValid rows → policy_of (policy_text rows) ≡ Ok rows
 unfolding field_at
 file-back rows fits h = rw (no-mark rows, lines-back (header ∷ map record_of rows)) (rows-back 1 rows (omega arith) h)
 
@@ -159,10 +170,10 @@ pub on-ok : {T E : Type 0} {P : Type 0} (r : Result T E) → P → OnOk r P
 on-ok (Ok v) p = p
 on-ok (Err e) p = tt
 
-single : (row : Row) → ReadsBack row → All ReadsBack (row ∷ [])
+single : (row : Row) → IsValid row → All IsValid (row ∷ [])
 single row one zero d h = one
 single row one (suc k) d h = absurd (omega arith)
 
 -- one row more
-pub all-more : (rows : List Row) (i : ℕ) (row : Row) → i < length rows → get_or rows i row ≡ row → All ReadsBack (take i rows) → ReadsBack row → All ReadsBack (take (i + 1) rows)
-all-more rows i row h e all one = rw (add-one i, take-suc rows i row h, e) (All-append ReadsBack (take i rows) (row ∷ []) all (single row one))
+pub all-more : (rows : List Row) (i : ℕ) (row : Row) → i < length rows → get_or rows i row ≡ row → All IsValid (take i rows) → IsValid row → All IsValid (take (i + 1) rows)
+all-more rows i row h e all one = rw (add-one i, take-suc rows i row h, e) (All-append IsValid (take i rows) (row ∷ []) all (single row one))

@@ -20,11 +20,11 @@ use Rattle.opc_import.specs.Fields.{entry_id_of, name_of}
 abbrev pub has_ascii : {A : Type 0} → List (List ℕ × A) → Bool
 has_ascii table = list_all (λ row. list_all is_ascii row.0) table
 
-both : (a b : Bool) → (a && b) ≡ true → (a ≡ true) × (b ≡ true)
+pub both : (a b : Bool) → (a && b) ≡ true → (a ≡ true) × (b ≡ true)
 both true b h = (refl, h)
 both false b h = cc
 
-ascii : (text : List ℕ) → list_all is_ascii text ≡ true → IsAscii text
+pub ascii : (text : List ℕ) → list_all is_ascii text ≡ true → IsAscii text
 ascii [] h = IsAscii-nil
 ascii (c ∷ text) h =
     let here : is_ascii c ≡ true = (both (is_ascii c) (list_all is_ascii text) h).0 in
@@ -45,12 +45,16 @@ name_of-no_text rule text no_text = go (name_fault rule text) refl
     go None e = absurd (no_text (IsUtf8-from_ascii text (name_ascii rule text e)))
     go (Some fault) e = refl
 
-star-text : (text : List ℕ) → bytes_eq text (42 ∷ []) ≡ true → ¬ (IsUtf8 text) → ⊥
-star-text text e no_text = no_text (rw ((bytes_eq-Decides text (42 ∷ [])).0 e) (IsUtf8-from_ascii (42 ∷ []) (search rules)))
+pub entry_id-ascii : (text : List ℕ) → entry_fault text ≡ None → IsAscii text
+entry_id-ascii text h =
+    elim (bytes_eq text (42 ∷ [])) as (λ b. bytes_eq text (42 ∷ []) ≡ b → cond b None (name_fault user_rule text) ≡ None → IsAscii text) [
+      | true ↦ (λ e _. rw ((bytes_eq-Decides text (42 ∷ [])).0 e) (ascii (42 ∷ []) refl))
+      | false ↦ (λ _ k. name_ascii user_rule text k)
+    ] refl h
 
 pub entry_id_of-no_text : (text : List ℕ) → ¬ (IsUtf8 text) → None ≡ entry_id_of text
-entry_id_of-no_text text no_text =
-    elim (bytes_eq text (42 ∷ [])) as (λ b. bytes_eq text (42 ∷ []) ≡ b → None ≡ cond (is_none (cond b None (name_fault user_rule text))) (Some text) None) [
-      | true ↦ (λ e. absurd (star-text text e no_text))
-      | false ↦ (λ e. name_of-no_text user_rule text no_text)
-    ] refl
+entry_id_of-no_text text no_text = go (entry_fault text) refl
+  where
+    go : (fault : Option NameFault) → entry_fault text ≡ fault → None ≡ cond (is_none fault) (Some text) None
+    go None e = absurd (no_text (IsUtf8-from_ascii text (entry_id-ascii text e)))
+    go (Some fault) e = refl

@@ -13,8 +13,8 @@ use Rattle.opc_import.specs.declared.kind.Kind.{Kind}
 use Rattle.opc_import.specs.declared.kind.Kind.TheVariants as kind
 use Rattle.opc_import.specs.declared.column.Column.{Column}
 use Rattle.opc_import.specs.declared.column.Column.TheVariants as column
-use Rattle.opc_import.specs.declared.fault.Why.{Why}
-use Rattle.opc_import.specs.declared.fault.Why.TheVariants as why
+use Rattle.opc_policy.specs.declared.fault.Why.{Why}
+use Rattle.opc_policy.specs.declared.fault.Why.TheVariants as why
 
 -- the second step, if the first gave a value
 infixl 10 ◌>>=◌

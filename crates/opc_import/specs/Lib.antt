@@ -1,4 +1,5 @@
 pub mod Columns
+pub mod Faults
 pub mod Fields
 pub mod Files
 pub mod Kinds

@@ -1,5 +1,5 @@
 -- The record that a row is written as.
-use Rattle.std.specs.Prelude.{◌≡◌, ◌≤◌, ◌++◌, ℕ, Bool, true, false, List, [], ◌∷◌, codes, Option, Some, None, Ok, ⊤, map}
+use Rattle.std.specs.Prelude.{◌≡◌, ◌++◌, ℕ, Bool, true, false, List, [], ◌∷◌, codes, Option, Some, None, ⊤, map}
 use Rattle.hex.specs.Hex.{encode_lower}
 use Rattle.opc_names.specs.Names.{console_rule, group_rule, name_fault, pattern_rule, user_rule}
 use Rattle.opc_names.specs.Spellings.{auth_text, class_text, level_text}
@@ -10,12 +10,11 @@ use Rattle.opc_policy.specs.declared.row.Row.TheVariants as row
 use Rattle.opc_policy.specs.declared.user.User.{User}
 use Rattle.opc_import.specs.Columns.{Record, columns}
 use Rattle.opc_import.specs.Fields.{digest_of}
-use Rattle.opc_import.specs.Kinds.{kind_text, row_of}
+use Rattle.opc_import.specs.Kinds.{kind_text}
 use Rattle.opc_import.specs.declared.column.Column.{Column}
 use Rattle.opc_import.specs.declared.column.Column.TheVariants as column
 use Rattle.opc_import.specs.declared.kind.Kind.{Kind}
 use Rattle.opc_import.specs.declared.kind.Kind.TheVariants as kind
-use Rattle.opc_import.specs.declared.kind.TheConstants.{MOST_ROWS}
 
 abbrev pub activity_text : Bool → List ℕ
 activity_text true = codes "ACTIVE"
@@ -77,10 +76,6 @@ text_in column row = []
 abbrev pub record_of : Row → Record
 record_of row = map (λ column. text_in column row) columns
 
--- the record of a row is read as that row, whatever its number in a file
-abbrev pub ReadsBack : Row → Type 0
-ReadsBack row = (number : ℕ) → number ≤ MOST_ROWS → row_of number (record_of row) ≡ Ok row
-
 -- the names and the digest that a row says in a column are such
 abbrev pub IsValidIn : Column → Row → Type 0
 IsValidIn column.Name (row.Group name) = name_fault group_rule name ≡ None
@@ -94,3 +89,7 @@ IsValidIn column.Id (row.Permit class pattern id level) = entry_fault id ≡ Non
 IsValidIn column.Owner (row.Profile class pattern uacc owner warning) = name_fault user_rule owner ≡ None
 IsValidIn column.Digest (row.User user) = digest_of (digest_text user.digest) ≡ Some user.digest
 IsValidIn column row = ⊤
+
+-- so in each column
+abbrev pub IsValid : Row → Type 0
+IsValid row = (column : Column) → IsValidIn column row

@@ -3,8 +3,8 @@ ghost use Rattle.std.specs.Prelude.{◌≡◌, codes};
 ghost use Rattle.csv.specs.Records.{fields_of};
 ghost use Rattle.opc_import.specs.Columns.{column_name, field_in, has_names, is_header, reason, unused};
 
-use crate::fault::Why;
 use csv::ByteRecord;
+use opc_policy::fault::Why;
 
 /// A column of a policy file.
 #[derive(Clone, Copy, Debug, PartialEq, Eq)]

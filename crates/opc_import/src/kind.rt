@@ -5,12 +5,12 @@ ghost use Rattle.opc_names.specs.Spellings.{lookup};
 ghost use Rattle.opc_import.specs.Kinds.{class_row, connect_row, console_row, group_row, kind_text, kinds, permit_row, profile_row, row_of, row_of_kind, user_row};
 
 use crate::column::{COLUMNS, Column, field_in, unused};
-use crate::fault::Why;
 use crate::field::{
     read_activity, read_auth, read_class, read_digest, read_entry_id, read_level, read_mode,
     read_name, read_user_flags, read_warning,
 };
 use csv::ByteRecord;
+use opc_policy::fault::Why;
 use opc_policy::row::Row;
 use opc_policy::user::User;
 

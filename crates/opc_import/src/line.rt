@@ -5,7 +5,7 @@ ghost use Rattle.hex.specs.Hex.{encode_lower};
 ghost use Rattle.opc_import.specs.Columns.{header};
 ghost use Rattle.opc_import.specs.Fields.{digest_of};
 ghost use Rattle.opc_import.specs.Lines.{AddsField};
-ghost use Rattle.opc_import.specs.Rows.{IsValidIn, ReadsBack, activity_text, digest_text, flags_text, kind_of, record_of, text_in, warning_text};
+ghost use Rattle.opc_import.specs.Rows.{IsValid, IsValidIn, activity_text, digest_text, flags_text, kind_of, record_of, text_in, warning_text};
 ghost use Rattle.opc_import.specs.declared.column.Column.TheVariants as column;
 
 use crate::column::COLUMNS;
@@ -175,7 +175,7 @@ fn push_digest(line: &mut ByteRecord, row: &Row) -> Result<(), AllocError>
 // Makes a record that of a row.
 pub(crate) fn fill(line: &mut ByteRecord, row: &Row) -> Result<(), AllocError>
     ensures fields { OnOk result (fields_of line.new ≡ record_of row.now) }
-    ensures reads_back { OnOk result (ReadsBack row.now) }
+    ensures valid { OnOk result (IsValid row.now) }
 {
     line.clear();
     push(line, kind_of(row).text().as_bytes())?;

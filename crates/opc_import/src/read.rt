@@ -3,10 +3,11 @@ ghost use Rattle.std.specs.Prelude.{◌≡◌, ◌≢◌, IfOk, IfErr, Ok, Err};
 ghost use Rattle.opc_import.specs.Files.{policy_of};
 
 use crate::column::is_header;
-use crate::fault::{ImportFault, Why};
+use crate::fault::ImportFault;
 use crate::kind::{MOST_ROWS, row_of};
 use crate::records::Records;
 use csv::ByteRecord;
+use opc_policy::fault::Why;
 use opc_policy::row::Row;
 use std::alloc::Global;
 

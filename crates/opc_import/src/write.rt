@@ -4,7 +4,7 @@ ghost use Rattle.std.specs.List.{All};
 ghost use Rattle.csv.specs.Records.{fields_of};
 ghost use Rattle.opc_import.specs.Files.{policy_of};
 ghost use Rattle.opc_import.specs.Lines.{AddsLine, IsFresh, policy_text};
-ghost use Rattle.opc_import.specs.Rows.{ReadsBack};
+ghost use Rattle.opc_import.specs.Rows.{IsValid};
 
 use crate::kind::MOST_ROWS;
 use crate::line::{fill, fill_header};
@@ -26,7 +26,7 @@ fn put_line(writer: &mut Writer<Vec<u8>>, line: &ByteRecord) -> Result<(), Alloc
 // The bytes of the file that has these rows.
 fn lines_of(alloc: Global, rows: &[Row]) -> Result<Vec<u8>, AllocError>
     ensures text { IfOk result (λ bytes. bytes.items ≡ policy_text rows.now) }
-    ensures reads_back { OnOk result (All ReadsBack rows.now) }
+    ensures valid { OnOk result (All IsValid rows.now) }
 {
     let mut writer = WriterBuilder::new().from_writer(Vec::new(alloc));
     let mut line = ByteRecord::new(alloc);
@@ -48,8 +48,8 @@ pub fn write_policy(alloc: Global, rows: &[Row]) -> Result<String, AllocError>
     ensures reads_back { length rows.now ≤ MOST_ROWS → IfOk result (λ text. policy_of (string_bytes text) ≡ Ok rows.now) }
 {
     let bytes = lines_of(alloc, rows)?;
-    match String::from_utf8(bytes) {
-        Ok(text) => Ok(text),
-        Err(_) => Err(AllocError),
-    }
+    let Ok(text) = String::from_utf8(bytes) else {
+        unreachable!()
+    };
+    Ok(text)
 }

@@ -8,10 +8,10 @@ pub loop-row-preserved : goal.loop-row-preserved
 loop-row-preserved c = (
   c.in_ok-put_line-2.ensures.fresh,
   grind (arith, common_steps),
-  all-more _ _ _ (omega arith) (sym c.row-item.is) c.loop-row.invariant.2 c.in_ok-fill.ensures.reads_back,
+  all-more _ _ _ (omega arith) (sym c.row-item.is) c.loop-row.invariant.2 c.in_ok-fill.ensures.valid,
 )
 
-pub returns-in-Ok-clause-reads_back : goal.returns-in-Ok-clause-reads_back
-returns-in-Ok-clause-reads_back c =
+pub returns-in-Ok-clause-valid : goal.returns-in-Ok-clause-valid
+returns-in-Ok-clause-valid c =
     let whole : take c.loop-row.row-index c.args.rows.now ≡ c.args.rows.now = take_all c.loop-row.row-index c.args.rows.now (omega arith) in
     rw whole at c.loop-row.invariant.2

@@ -8,4 +8,6 @@ pub mod kind;
 mod line;
 pub mod read;
 mod records;
+#[cfg(test)]
+mod tests;
 pub mod write;

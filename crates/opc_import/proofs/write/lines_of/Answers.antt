@@ -1,0 +1,17 @@
+use Rattle.std.proofs.Common.{◌≡◌, arith, sym, take}
+use Rattle.std.proofs.lemmas.Grind.{common_steps}
+use Rattle.std.proofs.lemmas.List.{take_all}
+use Rattle.opc_import.proofs.RoundTrip.{all-more}
+use Rattle.opc_import.proofs.write.lines_of.Goals as goal
+
+pub loop-row-preserved : goal.loop-row-preserved
+loop-row-preserved c = (
+  c.in_ok-put_line-2.ensures.fresh,
+  grind (arith, common_steps),
+  all-more _ _ _ (omega arith) (sym c.row-item.is) c.loop-row.invariant.2 c.in_ok-fill.ensures.valid,
+)
+
+pub returns-in-Ok-clause-valid : goal.returns-in-Ok-clause-valid
+returns-in-Ok-clause-valid c =
+    let whole : take c.loop-row.row-index c.args.rows.now ≡ c.args.rows.now = take_all c.loop-row.row-index c.args.rows.now (omega arith) in
+    rw whole at c.loop-row.invariant.2

@@ -1,0 +1,205 @@
+//! Records of each kind, read as rows.
+ghost use Rattle.std.specs.Prelude.{◌≡◌};
+ghost use Rattle.csv.specs.Records.{fields_of};
+ghost use Rattle.opc_names.specs.Spellings.{lookup};
+ghost use Rattle.opc_import.specs.Kinds.{class_row, connect_row, console_row, group_row, kind_text, kinds, permit_row, profile_row, row_of, row_of_kind, user_row};
+
+use crate::column::{COLUMNS, Column, field_in, unused};
+use crate::field::{
+    read_activity, read_auth, read_class, read_digest, read_entry_id, read_level, read_mode,
+    read_name, read_user_flags, read_warning,
+};
+use csv::ByteRecord;
+use opc_policy::fault::Why;
+use opc_policy::row::Row;
+use opc_policy::user::User;
+
+/// The most rows that a policy file has.
+pub const MOST_ROWS: u32 = 10_000;
+
+/// A kind of row.
+#[derive(Clone, Copy, Debug, PartialEq, Eq)]
+pub enum Kind {
+    Class,
+    Group,
+    User,
+    Connect,
+    Console,
+    Profile,
+    Permit,
+}
+
+impl Kind {
+    /// Its text in the column of kinds.
+    pub fn text(self) -> &'static str
+        ensures { result.now ≡ kind_text self }
+    {
+        match self {
+            Kind::Class => "class",
+            Kind::Group => "group",
+            Kind::User => "user",
+            Kind::Connect => "connect",
+            Kind::Console => "console",
+            Kind::Profile => "profile",
+            Kind::Permit => "permit",
+        }
+    }
+
+    fn read(field: &[u8]) -> Option<Self>
+        ensures { result ≡ lookup kinds field.now }
+    {
+        if field == b"class".as_slice() {
+            Some(Kind::Class)
+        } else if field == b"group".as_slice() {
+            Some(Kind::Group)
+        } else if field == b"user".as_slice() {
+            Some(Kind::User)
+        } else if field == b"connect".as_slice() {
+            Some(Kind::Connect)
+        } else if field == b"console".as_slice() {
+            Some(Kind::Console)
+        } else if field == b"profile".as_slice() {
+            Some(Kind::Profile)
+        } else if field == b"permit".as_slice() {
+            Some(Kind::Permit)
+        } else {
+            None
+        }
+    }
+}
+
+fn class_row(line: &ByteRecord) -> Result<Row, Why>
+    ensures { result ≡ class_row (fields_of line.now) }
+{
+    let class = read_class(field_in(line, Column::Class)).ok_or(Why::Class)?;
+    unused(line, Column::Name)?;
+    unused(line, Column::Id)?;
+    let active = read_activity(field_in(line, Column::Value)).ok_or(Why::Value)?;
+    unused(line, Column::Owner)?;
+    unused(line, Column::Flags)?;
+    unused(line, Column::Digest)?;
+    Ok(Row::Class { class, active })
+}
+
+fn group_row(line: &ByteRecord) -> Result<Row, Why>
+    ensures { result ≡ group_row (fields_of line.now) }
+{
+    unused(line, Column::Class)?;
+    let name = read_name(field_in(line, Column::Name)).ok_or(Why::Name)?;
+    unused(line, Column::Id)?;
+    unused(line, Column::Value)?;
+    unused(line, Column::Owner)?;
+    unused(line, Column::Flags)?;
+    unused(line, Column::Digest)?;
+    Ok(Row::Group { name })
+}
+
+fn user_row(line: &ByteRecord) -> Result<Row, Why>
+    ensures { result ≡ user_row (fields_of line.now) }
+{
+    unused(line, Column::Class)?;
+    let id = read_name(field_in(line, Column::Name)).ok_or(Why::Name)?;
+    unused(line, Column::Id)?;
+    unused(line, Column::Value)?;
+    unused(line, Column::Owner)?;
+    let flags = read_user_flags(field_in(line, Column::Flags)).ok_or(Why::Flags)?;
+    let digest = read_digest(field_in(line, Column::Digest)).ok_or(Why::Digest)?;
+    Ok(Row::User(User {
+        id,
+        special: flags.special,
+        auditor: flags.auditor,
+        revoked: flags.revoked,
+        digest,
+    }))
+}
+
+fn connect_row(line: &ByteRecord) -> Result<Row, Why>
+    ensures { result ≡ connect_row (fields_of line.now) }
+{
+    unused(line, Column::Class)?;
+    let user = read_name(field_in(line, Column::Name)).ok_or(Why::Name)?;
+    let group = read_name(field_in(line, Column::Id)).ok_or(Why::Id)?;
+    unused(line, Column::Value)?;
+    unused(line, Column::Owner)?;
+    unused(line, Column::Flags)?;
+    unused(line, Column::Digest)?;
+    Ok(Row::Connect { user, group })
+}
+
+fn console_row(line: &ByteRecord) -> Result<Row, Why>
+    ensures { result ≡ console_row (fields_of line.now) }
+{
+    unused(line, Column::Class)?;
+    let name = read_name(field_in(line, Column::Name)).ok_or(Why::Name)?;
+    unused(line, Column::Id)?;
+    let auth = read_auth(field_in(line, Column::Value)).ok_or(Why::Value)?;
+    unused(line, Column::Owner)?;
+    let mode = read_mode(field_in(line, Column::Flags)).ok_or(Why::Flags)?;
+    unused(line, Column::Digest)?;
+    Ok(Row::Console { name, auth, mode })
+}
+
+fn profile_row(line: &ByteRecord) -> Result<Row, Why>
+    ensures { result ≡ profile_row (fields_of line.now) }
+{
+    let class = read_class(field_in(line, Column::Class)).ok_or(Why::Class)?;
+    let pattern = read_name(field_in(line, Column::Name)).ok_or(Why::Name)?;
+    unused(line, Column::Id)?;
+    let uacc = read_level(field_in(line, Column::Value)).ok_or(Why::Value)?;
+    let owner = read_name(field_in(line, Column::Owner)).ok_or(Why::Owner)?;
+    let warning = read_warning(field_in(line, Column::Flags)).ok_or(Why::Flags)?;
+    unused(line, Column::Digest)?;
+    Ok(Row::Profile {
+        class,
+        pattern,
+        uacc,
+        owner,
+        warning,
+    })
+}
+
+fn permit_row(line: &ByteRecord) -> Result<Row, Why>
+    ensures { result ≡ permit_row (fields_of line.now) }
+{
+    let class = read_class(field_in(line, Column::Class)).ok_or(Why::Class)?;
+    let pattern = read_name(field_in(line, Column::Name)).ok_or(Why::Name)?;
+    let id = read_entry_id(field_in(line, Column::Id)).ok_or(Why::Id)?;
+    let level = read_level(field_in(line, Column::Value)).ok_or(Why::Value)?;
+    unused(line, Column::Owner)?;
+    unused(line, Column::Flags)?;
+    unused(line, Column::Digest)?;
+    Ok(Row::Permit {
+        class,
+        pattern,
+        id,
+        level,
+    })
+}
+
+fn row_of_kind(kind: Kind, line: &ByteRecord) -> Result<Row, Why>
+    ensures { result ≡ row_of_kind kind (fields_of line.now) }
+{
+    match kind {
+        Kind::Class => class_row(line),
+        Kind::Group => group_row(line),
+        Kind::User => user_row(line),
+        Kind::Connect => connect_row(line),
+        Kind::Console => console_row(line),
+        Kind::Profile => profile_row(line),
+        Kind::Permit => permit_row(line),
+    }
+}
+
+/// The row that a record is, as the data record of this number, or what is wrong with it first.
+pub(crate) fn row_of(number: u32, line: &ByteRecord) -> Result<Row, Why>
+    ensures { result ≡ row_of number (fields_of line.now) }
+{
+    if line.len() != COLUMNS.len() {
+        return Err(Why::Columns);
+    }
+    if number > MOST_ROWS {
+        return Err(Why::Many);
+    }
+    let kind = Kind::read(field_in(line, Column::Kind)).ok_or(Why::Kind)?;
+    row_of_kind(kind, line)
+}

@@ -1,0 +1,13 @@
+//! Policy files: a policy's rows as comma-separated text, read and written.
+#![tactic(auto)]
+
+pub mod column;
+pub mod fault;
+mod field;
+pub mod kind;
+mod line;
+pub mod read;
+mod records;
+#[cfg(test)]
+mod tests;
+pub mod write;

@@ -1,0 +1,38 @@
+//! Policy files, read.
+ghost use Rattle.std.specs.Prelude.{◌≡◌, ◌≢◌, IfOk, IfErr, Ok, Err};
+ghost use Rattle.opc_import.specs.Files.{policy_of};
+
+use crate::column::is_header;
+use crate::fault::ImportFault;
+use crate::kind::{MOST_ROWS, row_of};
+use crate::records::Records;
+use csv::ByteRecord;
+use opc_policy::fault::Why;
+use opc_policy::row::Row;
+use std::alloc::Global;
+
+/// The rows of a policy file, or its first fault.
+pub fn read_policy(alloc: Global, text: &str) -> Result<Vec<Row>, ImportFault>
+    ensures ok { IfOk result (λ rows. policy_of text.now ≡ Ok rows.items) }
+    ensures err { IfErr result (λ fault. fault ≢ ImportFault.NoMemory → policy_of text.now ≡ Err fault) }
+{
+    let mut records = Records::of(alloc, text);
+    let mut line = ByteRecord::new(alloc);
+    if !records.take_into(&mut line)? || !is_header(&line) {
+        return Err(ImportFault::Row {
+            row: 0,
+            why: Why::Header,
+        });
+    }
+    let mut rows = Vec::new(alloc);
+    for number in 1..MOST_ROWS + 2 {
+        if !records.take_into(&mut line)? {
+            return Ok(rows);
+        }
+        match row_of(number, &line) {
+            Ok(row) => rows.push(row)?,
+            Err(why) => return Err(ImportFault::Row { row: number, why }),
+        }
+    }
+    unreachable!()
+}

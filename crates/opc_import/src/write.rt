@@ -1,0 +1,55 @@
+//! Policy files, written.
+ghost use Rattle.std.specs.Prelude.{◌≡◌, ◌≤◌, IfOk, Ok, OnOk, length, string_bytes};
+ghost use Rattle.std.specs.List.{All};
+ghost use Rattle.csv.specs.Records.{fields_of};
+ghost use Rattle.opc_import.specs.Files.{policy_of};
+ghost use Rattle.opc_import.specs.Lines.{AddsLine, IsFresh, policy_text};
+ghost use Rattle.opc_import.specs.Rows.{IsValid};
+
+use crate::kind::MOST_ROWS;
+use crate::line::{fill, fill_header};
+use csv::{ByteRecord, Writer, WriterBuilder};
+use opc_policy::row::Row;
+use std::alloc::{AllocError, Global};
+
+// Writes a record as a line.
+fn put_line(writer: &mut Writer<Vec<u8>>, line: &ByteRecord) -> Result<(), AllocError>
+    requires { IsFresh writer.old }
+    ensures { OnOk result (AddsLine writer.old writer.new (fields_of line.now)) }
+{
+    match writer.write_byte_record(line) {
+        Ok(()) => Ok(()),
+        Err(_) => Err(AllocError),
+    }
+}
+
+// The bytes of the file that has these rows.
+fn lines_of(alloc: Global, rows: &[Row]) -> Result<Vec<u8>, AllocError>
+    ensures text { IfOk result (λ bytes. bytes.items ≡ policy_text rows.now) }
+    ensures valid { OnOk result (All IsValid rows.now) }
+{
+    let mut writer = WriterBuilder::new().from_writer(Vec::new(alloc));
+    let mut line = ByteRecord::new(alloc);
+    fill_header(&mut line)?;
+    put_line(&mut writer, &line)?;
+    for row in rows {
+        fill(&mut line, row)?;
+        put_line(&mut writer, &line)?;
+    }
+    match writer.into_inner() {
+        Ok(bytes) => Ok(bytes),
+        Err(_) => Err(AllocError),
+    }
+}
+
+/// The policy file that has these rows. One of at most `MOST_ROWS` rows reads back as they are.
+pub fn write_policy(alloc: Global, rows: &[Row]) -> Result<String, AllocError>
+    ensures text { IfOk result (λ text. string_bytes text ≡ policy_text rows.now) }
+    ensures reads_back { length rows.now ≤ MOST_ROWS → IfOk result (λ text. policy_of (string_bytes text) ≡ Ok rows.now) }
+{
+    let bytes = lines_of(alloc, rows)?;
+    let Ok(text) = String::from_utf8(bytes) else {
+        unreachable!()
+    };
+    Ok(text)
+}

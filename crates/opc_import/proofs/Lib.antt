@@ -1,5 +1,6 @@
 pub mod AsciiText
 pub mod FileLemmas
+pub mod FirstFaults
 pub mod RecordLemmas
 pub mod RoundTrip
 pub mod TextLemmas

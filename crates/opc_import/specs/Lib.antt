@@ -3,6 +3,7 @@ pub mod Faults
 pub mod Fields
 pub mod Files
 pub mod Kinds
+pub mod Laws
 pub mod Lines
 pub mod Records
 pub mod Rows

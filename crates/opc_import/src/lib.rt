@@ -5,6 +5,7 @@ pub mod column;
 pub mod fault;
 mod field;
 pub mod kind;
+pub mod laws;
 mod line;
 pub mod read;
 mod records;

@@ -1,0 +1,138 @@
+//! `opcmds explain`: which profile decides for a user, and why, by a policy file.
+ghost use Rattle.std.specs.Prelude.{◌≤◌};
+
+use crate::streams::{BAD_WORDS, DONE, REFUSED, read_up_to, tell};
+use clap::ArgMatches;
+use opc_import::fault::ImportFault;
+use opc_import::read::read_policy;
+use opc_names::class::Class;
+use opc_names::level::Level;
+use opc_names::name::{Resource, UserId};
+use opc_policy::explained::{Explained, explain};
+use opc_policy::fault::{Fault, Why};
+use opc_policy::policy::Policy;
+use opc_policy::verdict::Verdict;
+use std::alloc::Global;
+use std::io::{ErrorKind, Read, Write};
+use std::{io, str};
+
+/// The most bytes of a policy file.
+const POLICY_LIMIT: u32 = 16_777_216;
+
+/// What a file over the limit is, or one that is no text: it has no header to read.
+const NO_HEADER: Fault = Fault::RowFault {
+    row: 0,
+    why: Why::Header,
+};
+
+/// What is asked: whether a user holds a level on a resource.
+#[derive(Clone, Copy)]
+struct Question {
+    user: UserId,
+    class: Class,
+    resource: Resource,
+    level: Level,
+}
+
+impl Question {
+    /// The question of these words, or the name of the first one that does not read.
+    fn read(chosen: &ArgMatches<'_>) -> Result<Self, &'static str> {
+        let user = UserId::read(chosen.get_str("user").unwrap_or("")).map_err(|_| "--user")?;
+        let class = Class::read(chosen.get_str("class").unwrap_or("")).ok_or("--class")?;
+        let resource = chosen.get_str("resource").unwrap_or("");
+        let resource = Resource::read(resource).map_err(|_| "--resource")?;
+        let level = Level::read(chosen.get_str("level").unwrap_or("")).ok_or("--level")?;
+        Ok(Question {
+            user,
+            class,
+            resource,
+            level,
+        })
+    }
+}
+
+/// Answers the question that the words ask of the policy file on the input, and the status.
+pub fn run<R: Read, W: Write, E: Write>(
+    alloc: Global,
+    chosen: &ArgMatches<'_>,
+    input: &mut R,
+    output: &mut W,
+    errors: &mut E,
+) -> u8
+    ensures { result ≤ 3 }
+{
+    let question = match Question::read(chosen) {
+        Ok(question) => question,
+        Err(word) => {
+            let _ = writeln!(
+                errors,
+                "error: the value of {word} does not read; see opcmds explain --help"
+            );
+            return BAD_WORDS;
+        }
+    };
+    match answer(alloc, &question, input) {
+        Ok(explained) => print(alloc, &explained, output, errors),
+        Err(fault) => tell(alloc, &fault, errors),
+    }
+}
+
+fn answer<R: Read>(alloc: Global, question: &Question, input: &mut R) -> Result<Explained, Fault> {
+    let policy = read_whole(alloc, input)?;
+    explain(
+        alloc,
+        &policy,
+        question.class,
+        &question.resource,
+        &question.user,
+        question.level,
+    )
+}
+
+/// The policy of the file on the input: all of its rows are read before the first is taken.
+fn read_whole<R: Read>(alloc: Global, input: &mut R) -> Result<Policy, Fault> {
+    let bytes = match read_up_to(alloc, input, POLICY_LIMIT) {
+        Ok(bytes) => bytes,
+        Err(error) => return Err(fault_of(&error)),
+    };
+    if bytes.len() > POLICY_LIMIT as usize {
+        return Err(NO_HEADER);
+    }
+    let Ok(text) = str::from_utf8(&bytes) else {
+        return Err(NO_HEADER);
+    };
+    let mut policy = Policy::new(alloc);
+    for row in &read_policy(alloc, text)? {
+        policy.take(alloc, row)?;
+    }
+    Ok(policy)
+}
+
+/// A read that found no memory, or a device that failed.
+fn fault_of(error: &io::Error) -> Fault {
+    match error.kind() {
+        ErrorKind::OutOfMemory => Fault::NoMemory,
+        _ => Fault::Store,
+    }
+}
+
+fn print<W: Write, E: Write>(
+    alloc: Global,
+    explained: &Explained,
+    output: &mut W,
+    errors: &mut E,
+) -> u8
+    ensures { result ≤ 3 }
+{
+    let Ok(text) = format!(in alloc; "{explained}") else {
+        return tell(alloc, &Fault::NoMemory, errors);
+    };
+    if output.write_all(text.as_bytes()).is_err() {
+        return tell(alloc, &Fault::Store, errors);
+    }
+    if explained.verdict == Verdict::Denied {
+        REFUSED
+    } else {
+        DONE
+    }
+}

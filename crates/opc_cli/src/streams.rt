@@ -1,0 +1,49 @@
+//! What the program reads and prints, and the status that it ends with.
+ghost use Rattle.std.specs.Prelude.{◌≡◌, ◌+◌, ◌≤◌, IfOk, IfSome, take};
+ghost use Rattle.opc_cli.specs.Statuses.{status_of};
+
+use opc_policy::fault::Fault;
+use std::alloc::Global;
+use std::io;
+use std::io::{Read, Write};
+
+/// The statuses of the program.
+pub const DONE: u8 = 0;
+
+pub const REFUSED: u8 = 1;
+
+pub const BAD_WORDS: u8 = 2;
+
+pub const FAILED: u8 = 3;
+
+/// The status that a fault ends the program with: bad input, want of memory or of a device, or a refusal.
+pub fn status_of(fault: &Fault) -> u8
+    ensures { result ≡ status_of fault.now }
+{
+    match fault {
+        Fault::RowFault { .. } => BAD_WORDS,
+        Fault::NoMemory | Fault::Store | Fault::NotOurs { .. } => FAILED,
+        _ => REFUSED,
+    }
+}
+
+/// Tells a fault, as its code and its text, and answers its status.
+pub fn tell<E: Write>(alloc: Global, fault: &Fault, errors: &mut E) -> u8
+    ensures { result ≡ status_of fault.now }
+{
+    // The status tells the fault too, where no word can be printed.
+    if let Ok(line) = format!(in alloc; "{} {fault}\n", fault.code()) {
+        let _ = errors.write_all(line.as_bytes());
+    }
+    status_of(fault)
+}
+
+/// The bytes of a reader, one more than the limit at most.
+pub fn read_up_to<R: Read>(alloc: Global, input: &mut R, limit: u32) -> io::Result<Vec<u8>>
+    ensures bytes { IfOk result (λ v. IfSome (R.remaining input.old) (λ all. v.items ≡ take (limit + 1) all)) }
+{
+    let mut bytes = Vec::new(alloc);
+    let mut limited = Read::take(&mut *input, u64::from(limit) + 1);
+    limited.read_to_end(&mut bytes)?;
+    Ok(bytes)
+}

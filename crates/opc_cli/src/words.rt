@@ -1,0 +1,103 @@
+//! The words of the command line.
+ghost use Rattle.std.specs.Prelude.{◌≤◌};
+
+use crate::explain;
+use crate::streams::{BAD_WORDS, DONE, tell};
+use clap::error::ErrorKind;
+use clap::{Arg, ArgAction, ArgMatches, Command, Error};
+use opc_policy::fault::Fault;
+use std::alloc::{AllocError, Global};
+use std::io::{Read, Write};
+
+fn value<'a>(alloc: Global, name: &'a str, shown: &'a str, help: &'a str) -> Arg<'a> {
+    Arg::new(alloc, name)
+        .long(name)
+        .action(ArgAction::Set)
+        .value_name(shown)
+        .help(help)
+}
+
+fn explain_command<'a>(alloc: Global) -> Result<Command<'a>, AllocError> {
+    Command::new(alloc, "explain")
+        .about(
+            "Says which profile decides for a user, by the policy file on standard input (16,777,216 bytes at most)",
+        )
+        .after_help(
+            "Example: opcmds explain --user ANNA --resource MVS.CANCEL.JOB.PAYROLL --level UPDATE < policy.csv\n\
+             Status: 0 allowed or undecided, 1 refused, 2 bad words or policy file, 3 want of memory or of a device",
+        )
+        .arg(value(alloc, "user", "USER", "The user: 1 to 8 name characters").required(true))?
+        .arg(value(alloc, "class", "CLASS", "The class: OPERCMDS or CONSOLE").default_value(
+            "OPERCMDS",
+        ))?
+        .arg(value(
+            alloc,
+            "resource",
+            "RESOURCE",
+            "The resource: 1 to 39 characters",
+        )
+        .required(true))?
+        .arg(value(
+            alloc,
+            "level",
+            "LEVEL",
+            "The level that is needed: NONE, READ, UPDATE, CONTROL or ALTER",
+        )
+        .required(true))
+}
+
+fn whole_command<'a>(alloc: Global) -> Result<Command<'a>, AllocError> {
+    Command::new(alloc, "opcmds")
+        .about("The authority gate for operator commands, by RACF-like profiles")
+        .after_help("Example: opcmds explain --help")
+        .subcommand_required(true)
+        .subcommand(explain_command(alloc)?)
+}
+
+fn matches_of<'a>(alloc: Global, words: &'a [String]) -> Result<ArgMatches<'a>, Error> {
+    whole_command(alloc)?.try_get_matches_from(words)
+}
+
+/// Runs the program on its words, the first of which is its own name, and answers its status: 0 done,
+/// 1 refused, 2 bad words or input, 3 want of memory or of a device.
+pub fn run_words<T: AllocGlobal, R: Read, W: Write, E: Write>(
+    rt: &T,
+    words: &[String],
+    input: &mut R,
+    output: &mut W,
+    errors: &mut E,
+) -> u8
+    ensures { result ≤ 3 }
+{
+    let alloc = rt.alloc();
+    let matches = match matches_of(alloc, words) {
+        Ok(matches) => matches,
+        Err(error) => return tell_words(alloc, &error, output, errors),
+    };
+    if let Some(chosen) = matches.subcommand_matches("explain") {
+        return explain::run(alloc, chosen, input, output, errors);
+    }
+    BAD_WORDS
+}
+
+// What `clap` says: help to the output, a mistake to the errors.
+fn tell_words<W: Write, E: Write>(
+    alloc: Global,
+    error: &Error,
+    output: &mut W,
+    errors: &mut E,
+) -> u8
+    ensures { result ≤ 3 }
+{
+    if error.kind() == ErrorKind::OutOfMemory {
+        return tell(alloc, &Fault::NoMemory, errors);
+    }
+    if error.use_stderr() {
+        let _ = write!(errors, "{error}");
+        return BAD_WORDS;
+    }
+    match write!(output, "{error}") {
+        Ok(()) => DONE,
+        Err(_) => tell(alloc, &Fault::Store, errors),
+    }
+}

@@ -1,16 +1,14 @@
 -- A policy file is ASCII.
-use Rattle.std.proofs.Common.{◌≡◌, ◌≢◌, ◌∙◌, ◌<◌, ◌++◌, ◌∷◌, [], ℕ, zero, suc, List, Bool, true, false, sym, refl, cond, arith, inl, inr, length, codes}
-use Rattle.std.specs.Prelude.{Option, Some, None, ◌==◌, ◌&&◌, map}
-use Rattle.std.specs.Char.{is_ascii}
-use Rattle.std.specs.List.{All, AllByRecursion, flat_map, list_all, list_any}
+use Rattle.std.proofs.Common.{◌≡◌, ◌++◌, ◌∷◌, [], ℕ, suc, List, Bool, true, false, refl, cond, arith, length, codes}
+use Rattle.std.specs.Prelude.{Option, Some, None, ◌==◌, map}
+use Rattle.std.specs.List.{All, AllByRecursion, flat_map, list_all}
 use Rattle.std.specs.Str.{IsAscii}
-use Rattle.std.proofs.lemmas.Bool.{cases_Bool}
 use Rattle.std.proofs.lemmas.Bool.Decides.{nat_tests}
 use Rattle.std.proofs.lemmas.Str.{IsAscii-append}
 use Rattle.std.proofs.lemmas.Str.Ascii.{IsAscii-cons, IsAscii-nil}
-use Rattle.csv.specs.Writing.{default_writer, escaped, field_text, fields_text, is_blank, needs_quotes, quoted, row_body, row_text}
-use Rattle.hex.specs.Hex.{decode_sized, encode_lower}
-use Rattle.opc_names.specs.Names.{console_rule, group_rule, name_fault, pattern_rule, user_rule}
+use Rattle.csv.specs.Writing.{default_writer, escaped, field_text, fields_text, is_blank, needs_quotes, quoted, row_text}
+use Rattle.hex.specs.Hex.{decode_sized}
+use Rattle.opc_names.specs.Names.{console_rule, group_rule, pattern_rule, user_rule}
 use Rattle.opc_names.specs.Spellings.{auth_text, class_text, level_text}
 use Rattle.opc_names.specs.declared.auth.Auth.{Auth}
 use Rattle.opc_names.specs.declared.auth.Auth.TheVariants as auth
@@ -19,13 +17,11 @@ use Rattle.opc_names.specs.declared.class.Class.TheVariants as class
 use Rattle.opc_names.specs.declared.level.Level.{Level}
 use Rattle.opc_names.specs.declared.level.Level.TheVariants as level
 use Rattle.opc_names.proofs.Faults.{name_ascii}
-use Rattle.opc_policy.specs.Entries.{entry_fault}
 use Rattle.opc_policy.specs.Modes.{mode_text}
 use Rattle.opc_policy.specs.declared.mode.Mode.{Mode}
 use Rattle.opc_policy.specs.declared.mode.Mode.TheVariants as mode
 use Rattle.opc_policy.specs.declared.row.Row.{Row}
 use Rattle.opc_policy.specs.declared.row.Row.TheVariants as row
-use Rattle.opc_policy.specs.declared.user.User.{User}
 use Rattle.opc_import.specs.Columns.{Record, column_name, columns, header}
 use Rattle.opc_import.specs.Fields.{decoded, digest_of, is_lower_digit}
 use Rattle.opc_import.specs.Lines.{policy_text}

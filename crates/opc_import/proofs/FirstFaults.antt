@@ -1,27 +1,22 @@
 -- The first fault of a record is that of its first bad column.
-use Rattle.std.proofs.Common.{◌≡◌, ◌∙◌, ℕ, Bool, true, false, List, [], ◌∷◌, refl, cond}
+use Rattle.std.proofs.Common.{◌≡◌, ◌∙◌, ℕ, Bool, true, false, List, refl, cond}
 use Rattle.std.specs.Prelude.{Option, Some, None, is_some, Result, Ok, Err, length, nat_lt, ◌==◌}
 use Rattle.std.specs.Option.{ok_or, option_or}
 use Rattle.opc_names.specs.Names.{console_rule, group_rule, pattern_rule, user_rule}
 use Rattle.opc_names.specs.Spellings.{auths, classes, levels, lookup}
-use Rattle.opc_names.specs.declared.auth.Auth.{Auth}
-use Rattle.opc_names.specs.declared.class.Class.{Class}
-use Rattle.opc_names.specs.declared.level.Level.{Level}
 use Rattle.opc_policy.specs.Modes.{modes}
 use Rattle.opc_policy.specs.declared.fault.Why.{Why}
 use Rattle.opc_policy.specs.declared.fault.Why.TheVariants as why
-use Rattle.opc_policy.specs.declared.mode.Mode.{Mode}
 use Rattle.opc_policy.specs.declared.row.Row.{Row}
 use Rattle.opc_policy.specs.declared.row.Row.TheVariants as row
 use Rattle.opc_import.specs.Columns.{Record, columns, field_in, reason, unused}
 use Rattle.opc_import.specs.Fields.{activities, digest_of, entry_id_of, name_of, user_flags, warnings}
-use Rattle.opc_import.specs.Kinds.{◌>>=◌, kinds, read_in, row_of, row_by_kind, row_of_kind}
-use Rattle.opc_import.specs.Laws.{FirstFaultIsNamed, fault_by_kind, fault_of, field_fault, first_fault, record_fault, takes}
+use Rattle.opc_import.specs.Kinds.{◌>>=◌, kinds, read_in, row_by_kind, row_of_kind}
+use Rattle.opc_import.specs.Laws.{FirstFaultIsNamed, fault_by_kind, fault_of, first_fault}
 use Rattle.opc_import.specs.declared.column.Column.{Column}
 use Rattle.opc_import.specs.declared.column.Column.TheVariants as column
 use Rattle.opc_import.specs.declared.kind.Kind.{Kind}
 use Rattle.opc_import.specs.declared.kind.Kind.TheVariants as kind
-use Rattle.opc_import.specs.declared.field.UserFlags.{UserFlags}
 
 -- seven answers, one after the other
 seven : {A B C D E F G : Type 0} (a : Result A Why) (b : Result B Why) (c : Result C Why) (d : Result D Why) (e : Result E Why) (f : Result F Why) (g : Result G Why)
@@ -46,7 +41,10 @@ read-fault : {A : Type 0} (o : Option A) (w : Why) → fault_of (ok_or o w) ≡ 
 read-fault None w = refl
 read-fault (Some x) w = refl
 
-unused-fault : (b : Bool) (w : Why) → fault_of (cond b (Ok tt) (Err w)) ≡ cond b None (Some w)
+abbrev empty_if : Bool → Why → Result (Unit {0}) Why
+empty_if b w = cond b (Ok tt) (Err w)
+
+unused-fault : (b : Bool) (w : Why) → fault_of (empty_if b w) ≡ cond b None (Some w)
 unused-fault true w = refl
 unused-fault false w = refl
 
@@ -59,39 +57,39 @@ empty c fields = unused-fault (length (field_in c fields) == 0) (reason c)
 by-kind : (k : Kind) (fields : Record) → fault_of (row_of_kind k fields) ≡ first_fault k fields columns
 by-kind kind.Class fields =
     seven (read_in column.Class (lookup classes) fields) (unused column.Name fields) (unused column.Id fields) (read_in column.Value (lookup activities) fields)
-        (unused column.Owner fields) (unused column.Flags fields) (unused column.Digest fields) (λ class _ _ active _ _ _. row.Class class active)
+    (unused column.Owner fields) (unused column.Flags fields) (unused column.Digest fields) (λ class _ _ active _ _ _. row.Class class active)
     ∙ same-seven (read column.Class (lookup classes) fields) (empty column.Name fields) (empty column.Id fields) (read column.Value (lookup activities) fields)
-        (empty column.Owner fields) (empty column.Flags fields) (empty column.Digest fields)
+    (empty column.Owner fields) (empty column.Flags fields) (empty column.Digest fields)
 by-kind kind.Group fields =
     seven (unused column.Class fields) (read_in column.Name (name_of group_rule) fields) (unused column.Id fields) (unused column.Value fields)
-        (unused column.Owner fields) (unused column.Flags fields) (unused column.Digest fields) (λ _ name _ _ _ _ _. row.Group name)
+    (unused column.Owner fields) (unused column.Flags fields) (unused column.Digest fields) (λ _ name _ _ _ _ _. row.Group name)
     ∙ same-seven (empty column.Class fields) (read column.Name (name_of group_rule) fields) (empty column.Id fields) (empty column.Value fields)
-        (empty column.Owner fields) (empty column.Flags fields) (empty column.Digest fields)
+    (empty column.Owner fields) (empty column.Flags fields) (empty column.Digest fields)
 by-kind kind.User fields =
     seven (unused column.Class fields) (read_in column.Name (name_of user_rule) fields) (unused column.Id fields) (unused column.Value fields)
-        (unused column.Owner fields) (read_in column.Flags (lookup user_flags) fields) (read_in column.Digest digest_of fields) (λ _ name _ _ _ flags digest. row.User (record { id = name; special = flags.special; auditor = flags.auditor; revoked = flags.revoked; digest = digest }))
+    (unused column.Owner fields) (read_in column.Flags (lookup user_flags) fields) (read_in column.Digest digest_of fields) (λ _ name _ _ _ flags digest. row.User (record { id = name; special = flags.special; auditor = flags.auditor; revoked = flags.revoked; digest = digest }))
     ∙ same-seven (empty column.Class fields) (read column.Name (name_of user_rule) fields) (empty column.Id fields) (empty column.Value fields)
-        (empty column.Owner fields) (read column.Flags (lookup user_flags) fields) (read column.Digest digest_of fields)
+    (empty column.Owner fields) (read column.Flags (lookup user_flags) fields) (read column.Digest digest_of fields)
 by-kind kind.Connect fields =
     seven (unused column.Class fields) (read_in column.Name (name_of user_rule) fields) (read_in column.Id (name_of group_rule) fields) (unused column.Value fields)
-        (unused column.Owner fields) (unused column.Flags fields) (unused column.Digest fields) (λ _ user group _ _ _ _. row.Connect user group)
+    (unused column.Owner fields) (unused column.Flags fields) (unused column.Digest fields) (λ _ user group _ _ _ _. row.Connect user group)
     ∙ same-seven (empty column.Class fields) (read column.Name (name_of user_rule) fields) (read column.Id (name_of group_rule) fields) (empty column.Value fields)
-        (empty column.Owner fields) (empty column.Flags fields) (empty column.Digest fields)
+    (empty column.Owner fields) (empty column.Flags fields) (empty column.Digest fields)
 by-kind kind.Console fields =
     seven (unused column.Class fields) (read_in column.Name (name_of console_rule) fields) (unused column.Id fields) (read_in column.Value (lookup auths) fields)
-        (unused column.Owner fields) (read_in column.Flags (lookup modes) fields) (unused column.Digest fields) (λ _ name _ auth _ mode _. row.Console name auth mode)
+    (unused column.Owner fields) (read_in column.Flags (lookup modes) fields) (unused column.Digest fields) (λ _ name _ auth _ mode _. row.Console name auth mode)
     ∙ same-seven (empty column.Class fields) (read column.Name (name_of console_rule) fields) (empty column.Id fields) (read column.Value (lookup auths) fields)
-        (empty column.Owner fields) (read column.Flags (lookup modes) fields) (empty column.Digest fields)
+    (empty column.Owner fields) (read column.Flags (lookup modes) fields) (empty column.Digest fields)
 by-kind kind.Profile fields =
     seven (read_in column.Class (lookup classes) fields) (read_in column.Name (name_of pattern_rule) fields) (unused column.Id fields) (read_in column.Value (lookup levels) fields)
-        (read_in column.Owner (name_of user_rule) fields) (read_in column.Flags (lookup warnings) fields) (unused column.Digest fields) (λ class pattern _ uacc owner warning _. row.Profile class pattern uacc owner warning)
+    (read_in column.Owner (name_of user_rule) fields) (read_in column.Flags (lookup warnings) fields) (unused column.Digest fields) (λ class pattern _ uacc owner warning _. row.Profile class pattern uacc owner warning)
     ∙ same-seven (read column.Class (lookup classes) fields) (read column.Name (name_of pattern_rule) fields) (empty column.Id fields) (read column.Value (lookup levels) fields)
-        (read column.Owner (name_of user_rule) fields) (read column.Flags (lookup warnings) fields) (empty column.Digest fields)
+    (read column.Owner (name_of user_rule) fields) (read column.Flags (lookup warnings) fields) (empty column.Digest fields)
 by-kind kind.Permit fields =
     seven (read_in column.Class (lookup classes) fields) (read_in column.Name (name_of pattern_rule) fields) (read_in column.Id entry_id_of fields) (read_in column.Value (lookup levels) fields)
-        (unused column.Owner fields) (unused column.Flags fields) (unused column.Digest fields) (λ class pattern id level _ _ _. row.Permit class pattern id level)
+    (unused column.Owner fields) (unused column.Flags fields) (unused column.Digest fields) (λ class pattern id level _ _ _. row.Permit class pattern id level)
     ∙ same-seven (read column.Class (lookup classes) fields) (read column.Name (name_of pattern_rule) fields) (read column.Id entry_id_of fields) (read column.Value (lookup levels) fields)
-        (empty column.Owner fields) (empty column.Flags fields) (empty column.Digest fields)
+    (empty column.Owner fields) (empty column.Flags fields) (empty column.Digest fields)
 
 by-name : (k : Option Kind) (fields : Record) → fault_of (ok_or k why.Kind >>= λ kind. row_of_kind kind fields) ≡ fault_by_kind k fields
 by-name None fields = refl

@@ -1,21 +1,20 @@
 -- What is written reads back.
-use Rattle.std.proofs.Common.{◌≡◌, ◌∙◌, ◌≤◌, ◌<◌, ◌+◌, ◌*◌, ◌/◌, ◌%◌, ◌++◌, ◌∷◌, [], ℕ, suc, List, Bool, true, false, sym, refl, ap, arith, inl, inr, length, slice_index, codes, take, get_or, add-one, zero}
-use Rattle.std.specs.Prelude.{OnOk, Result, Ok, Err, Option, Some, None, nat_lt, map, ◌==◌}
+use Rattle.std.proofs.Common.{◌≡◌, ◌∙◌, ◌≤◌, ◌<◌, ◌+◌, ◌*◌, ◌/◌, ◌%◌, ◌++◌, ◌∷◌, [], ℕ, suc, List, Bool, true, false, sym, refl, ap, arith, inl, inr, length, slice_index, take, get_or, add-one, zero}
+use Rattle.std.specs.Prelude.{OnOk, Result, Ok, Err, Option, Some, nat_lt, map}
 use Rattle.std.specs.List.{All, flat_map, list_all}
 use Rattle.std.proofs.lemmas.Bool.{cases_Bool}
 use Rattle.std.proofs.lemmas.Bool.Decides.{nat_tests}
 use Rattle.std.proofs.lemmas.List.Elements.{All-append}
 use Rattle.std.proofs.lemmas.List.Folds.{list_all_at}
 use Rattle.std.proofs.Math.Seq.{take-suc}
-use Rattle.csv.specs.Machine.{Read, next_record}
-use Rattle.csv.specs.Reading.{default_config, records, strip_bom}
+use Rattle.csv.specs.Machine.{next_record}
+use Rattle.csv.specs.Reading.{strip_bom}
 use Rattle.csv.specs.Records.{field_at}
-use Rattle.csv.specs.Writing.{default_writer, escaped, fields_text, is_blank, read_back, row_text}
+use Rattle.csv.specs.Writing.{default_writer, fields_text, is_blank, read_back, row_text}
 use Rattle.csv.proofs.RoundTrip.{read-write}
 use Rattle.csv.specs.declared.parser.State.TheVariants as st
 use Rattle.hex.specs.Hex.{IsBytes, encode_lower, encode_with, lower_digits}
 use Rattle.hex.proofs.HexLemmas.{IsDigits-lower_digits, decode_pairs-encode_with, length-encode_with}
-use Rattle.opc_names.specs.Names.{console_rule, group_rule, name_fault, pattern_rule, user_rule}
 use Rattle.opc_names.specs.Spellings.{auth_text, auths, class_text, classes, level_text, levels, lookup}
 use Rattle.opc_names.specs.declared.auth.Auth.{Auth}
 use Rattle.opc_names.specs.declared.auth.Auth.TheVariants as auth
@@ -23,20 +22,18 @@ use Rattle.opc_names.specs.declared.class.Class.{Class}
 use Rattle.opc_names.specs.declared.class.Class.TheVariants as class
 use Rattle.opc_names.specs.declared.level.Level.{Level}
 use Rattle.opc_names.specs.declared.level.Level.TheVariants as level
-use Rattle.opc_policy.specs.Entries.{entry_fault}
 use Rattle.opc_policy.specs.Modes.{mode_text, modes}
 use Rattle.opc_policy.specs.declared.mode.Mode.{Mode}
 use Rattle.opc_policy.specs.declared.mode.Mode.TheVariants as mode
 use Rattle.opc_policy.specs.declared.row.Row.{Row}
 use Rattle.opc_policy.specs.declared.row.Row.TheVariants as row
-use Rattle.opc_policy.specs.declared.user.User.{User}
 use Rattle.opc_import.specs.Columns.{Record, header}
 use Rattle.opc_import.specs.Fields.{activities, decoded, digest_of, flags_of, is_lower_digit, user_flags, warnings}
-use Rattle.opc_import.specs.Files.{policy_of, rows_from, with_row}
+use Rattle.opc_import.specs.Files.{policy_of, rows_from}
 use Rattle.opc_import.specs.Kinds.{row_of}
 use Rattle.opc_import.specs.Lines.{policy_text}
 use Rattle.opc_import.specs.Records.{records_of_source}
-use Rattle.opc_import.specs.Rows.{IsValid, IsValidIn, activity_text, digest_text, flags_text, record_of, warning_text}
+use Rattle.opc_import.specs.Rows.{IsValid, IsValidIn, activity_text, flags_text, record_of, warning_text}
 use Rattle.opc_import.specs.declared.column.Column.TheVariants as column
 use Rattle.opc_import.proofs.RecordLemmas.{first-left, none-first}
 

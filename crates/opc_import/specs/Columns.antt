@@ -1,5 +1,5 @@
 -- The columns of a policy file, and the fields of a record that stand in them.
-use Rattle.std.specs.Prelude.{ℕ, Bool, List, [], ◌∷◌, length, codes, Option, Result, Ok, Err, if◌then◌else◌, ◌==◌, ◌&&◌, map, unwrap_or}
+use Rattle.std.specs.Prelude.{ℕ, Bool, List, [], ◌∷◌, length, codes, Result, Ok, Err, if◌then◌else◌, ◌==◌, ◌&&◌, map, unwrap_or}
 use Rattle.std.specs.List.{list_all}
 use Rattle.std.specs.Str.{bytes_eq}
 use Rattle.csv.specs.Records.{field_at}

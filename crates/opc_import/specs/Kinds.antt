@@ -1,5 +1,5 @@
 -- The kinds of rows, and the row that a record is.
-use Rattle.std.specs.Prelude.{ℕ, Bool, List, [], ◌∷◌, length, codes, Option, Some, None, Result, Ok, Err, if◌then◌else◌, nat_lt, ◌==◌}
+use Rattle.std.specs.Prelude.{ℕ, List, [], ◌∷◌, length, codes, Option, Result, Ok, Err, if◌then◌else◌, nat_lt, ◌==◌}
 use Rattle.std.specs.Option.{ok_or}
 use Rattle.opc_names.specs.Names.{console_rule, group_rule, pattern_rule, user_rule}
 use Rattle.opc_names.specs.Spellings.{auths, classes, levels, lookup}

@@ -6,7 +6,6 @@ use Rattle.opc_names.specs.Spellings.{auths, classes, levels, lookup}
 use Rattle.opc_policy.specs.Modes.{modes}
 use Rattle.opc_policy.specs.declared.fault.Why.{Why}
 use Rattle.opc_policy.specs.declared.fault.Why.TheVariants as why
-use Rattle.opc_policy.specs.declared.row.Row.{Row}
 use Rattle.opc_import.specs.Columns.{Record, columns, field_in, reason}
 use Rattle.opc_import.specs.Fields.{activities, digest_of, entry_id_of, name_of, user_flags, warnings}
 use Rattle.opc_import.specs.Kinds.{kinds, row_of}

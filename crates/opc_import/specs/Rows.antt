@@ -1,5 +1,5 @@
 -- The record that a row is written as.
-use Rattle.std.specs.Prelude.{◌≡◌, ◌++◌, ℕ, Bool, true, false, List, [], ◌∷◌, codes, Option, Some, None, ⊤, map}
+use Rattle.std.specs.Prelude.{◌≡◌, ◌++◌, ℕ, Bool, true, false, List, [], codes, Option, Some, None, ⊤, map}
 use Rattle.hex.specs.Hex.{encode_lower}
 use Rattle.opc_names.specs.Names.{console_rule, group_rule, name_fault, pattern_rule, user_rule}
 use Rattle.opc_names.specs.Spellings.{auth_text, class_text, level_text}

@@ -1,4 +1,4 @@
-use Rattle.std.proofs.Common.{◌≡◌, ◌∙◌, ◌≤◌, sym, arith}
+use Rattle.std.proofs.Common.{◌∙◌, ◌≤◌, sym, arith}
 use Rattle.opc_import.proofs.FileLemmas.{at-end, at-fault, goes-on, good-number, header-first}
 use Rattle.opc_import.proofs.read.read_policy.Goals as goal
 

@@ -81,8 +81,8 @@ pairs_map : {X Y : Type 0} (f : X → Y) (P : X → Type 0) (R : X → X → Typ
 pairs_map f P R S join [] each pairs = λ i j d first second. absurd (omega arith)
 pairs_map f P R S join (x ∷ xs) each pairs =
     AllPairs-cons S (f x) (map f xs)
-        (All-map (S (f x)) f xs (λ k d less. join x (get_or xs k d) (all_head P x xs each) (all_tail P x xs each k d less) (pairs_head R x xs pairs k d less)))
-        (pairs_map f P R S join xs (all_tail P x xs each) (pairs_tail R x xs pairs))
+    (All-map (S (f x)) f xs (λ k d less. join x (get_or xs k d) (all_head P x xs each) (all_tail P x xs each k d less) (pairs_head R x xs pairs k d less)))
+    (pairs_map f P R S join xs (all_tail P x xs each) (pairs_tail R x xs pairs))
 
 all_of_class : (class : Class) (profiles : List Profile) → All (λ (p : Profile). p.class ≡ class) (of_class class profiles)
 all_of_class class profiles k d less = one_class _ class (filter_passes (λ (p : Profile). same_class p.class class) profiles k d less)
@@ -98,9 +98,9 @@ covering-in_order class resource profiles are in_order =
     let IsIn : Profile → Type 0 = λ (p : Profile). p.class ≡ class in
     let HasPattern : Profile → Type 0 = λ (p : Profile). IsPattern p.pattern in
     pairs_map (λ (p : Profile). p.pattern) (λ (p : Profile). (p.class ≡ class) × IsPattern p.pattern) IsEarlier (λ p q. Before (tokens p) (tokens q))
-        (λ p q a b earlier. (before_is p q a.1 b.1).0 (earlier (a.0 ∙ sym b.0)))
-        (covering resource (of_class class profiles))
-        (all_both IsIn HasPattern (covering resource (of_class class profiles))
-            (All-filter covers IsIn (of_class class profiles) (all_of_class class profiles))
-            (All-filter covers HasPattern (of_class class profiles) (All-filter of HasPattern profiles are.patterns)))
-        (AllPairs-filter IsEarlier covers (of_class class profiles) (AllPairs-filter IsEarlier of profiles in_order))
+    (λ p q a b earlier. (before_is p q a.1 b.1).0 (earlier (a.0 ∙ sym b.0)))
+    (covering resource (of_class class profiles))
+    (all_both IsIn HasPattern (covering resource (of_class class profiles))
+    (All-filter covers IsIn (of_class class profiles) (all_of_class class profiles))
+    (All-filter covers HasPattern (of_class class profiles) (All-filter of HasPattern profiles are.patterns)))
+    (AllPairs-filter IsEarlier covers (of_class class profiles) (AllPairs-filter IsEarlier of profiles in_order))

@@ -36,7 +36,8 @@ explained_to (Some user) policy class resource id needed =
     Ok (record {
       covering = covering_patterns class resource policy.profiles;
       verdict = verdict active decided user groups needed;
-      rule = verdict_rule active decided user groups needed })
+      rule = verdict_rule active decided user groups needed;
+    })
 
 -- the explanation for the user with an id
 abbrev pub explanation : Policy → Class → List ℕ → List ℕ → Level → Result Explained Fault

@@ -115,3 +115,42 @@ impl Clone for Entries {
         })
     }
 }
+
+#[cfg(test)]
+mod tests {
+    use super::*;
+    use opc_names::rule::NameFault;
+    use std::test::Fail;
+
+    #[test]
+    fn entries_stay_in_order(rt: HostRuntime) -> Result<(), Fail> {
+        let mut entries = Entries::new(rt.alloc());
+        for (id, level) in [
+            ("OPS", Level::Read),
+            ("*", Level::None),
+            ("#7", Level::Alter),
+            ("ANNA", Level::Update),
+            ("*", Level::Control),
+            ("0", Level::Read),
+        ] {
+            let id = EntryId::read(id)?;
+            entries.set(Entry { id, level })?;
+        }
+        let shown = format!(in rt.alloc(); "{:?}", entries.as_slice())?;
+        assert_eq!(rt;
+            shown.as_str(),
+            "[Entry { id: \"#7\", level: Alter }, Entry { id: \"*\", level: Control }, Entry { id: \"0\", level: Read }, Entry { id: \"ANNA\", level: Update }, Entry { id: \"OPS\", level: Read }]"
+        );
+        assert_eq!(rt;
+            EntryId::read("A.B").err(),
+            Some(NameFault::BadCharacter(1))
+        );
+        assert_eq!(rt; EntryId::read("**").err(), Some(NameFault::BadCharacter(0)));
+        assert_eq!(rt; EntryId::everyone().text(), "*");
+        assert_eq!(rt;
+            EntryId::from(UserId::read("ANNA")?),
+            EntryId::read("ANNA")?
+        );
+        Ok(())
+    }
+}

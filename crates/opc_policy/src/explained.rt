@@ -1,5 +1,5 @@
 //! Why a user may or may not have a level of access to a resource.
-ghost use Rattle.std.specs.Prelude.{◌≡◌, ◌≢◌, IfOk, IfErr, Ok, Err, find};
+ghost use Rattle.std.specs.Prelude.{◌≡◌, ◌≢◌, IfOk, IfErr, IsOk, Ok, Err, find};
 ghost use Rattle.std.specs.List.{AllPairs};
 ghost use Rattle.std.specs.Option.{option_copied};
 ghost use Rattle.opc_names.specs.Order.{Before};
@@ -64,6 +64,8 @@ pub fn explain(
     ensures in_order { IfOk result (λ explained. AllPairs (λ p q. Before (tokens p) (tokens q)) explained.covering) }
     ensures fault { IfErr result (λ fault. fault ≢ Fault.NoMemory →
         explanation policy.now class resource.now id.now needed ≡ Err fault) }
+    ensures memory { IfErr result (λ fault. fault ≡ Fault.NoMemory →
+        IsOk (explanation policy.now class resource.now id.now needed)) }
 {
     let Some(user) = policy.users.get(id) else {
         return Err(Fault::Missing(Subject::of(id)));
@@ -85,11 +87,7 @@ pub fn explain(
 }
 
 /// The profile that decides: the first that covers, since profiles are in the order of their patterns.
-fn decided<'a>(
-    profiles: &'a Profiles,
-    class: Class,
-    resource: &Resource,
-) -> Option<&'a Profile>
+fn decided<'a>(profiles: &'a Profiles, class: Class, resource: &Resource) -> Option<&'a Profile>
     ensures { option_copied result ≡ deciding (of_class class profiles.now) resource.now }
 {
     first_covering(profiles, class, resource)
@@ -103,9 +101,7 @@ fn first_covering<'a>(
     ensures first { option_copied result ≡ find (is_covering class resource.now) profiles.now }
     ensures in_order { AreMostSpecificFirst profiles.now }
 {
-    profiles
-        .iter()
-        .find(|profile| profile.is_of(class) && covers(profile, resource))
+    profiles.iter().find(|profile| profile.is_of(class) && covers(profile, resource))
 }
 
 fn covering_patterns(

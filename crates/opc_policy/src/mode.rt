@@ -49,3 +49,18 @@ impl fmt::Display for Mode {
         f.pad(self.text())
     }
 }
+
+#[cfg(test)]
+mod tests {
+    use super::*;
+
+    #[test]
+    fn modes_read_back(rt: HostRuntime) {
+        for mode in [Mode::Optional, Mode::Required] {
+            assert_eq!(rt; Mode::read(mode.text()), Some(mode));
+        }
+        for text in ["", "AUTO", "required", "REQUIRED "] {
+            assert_eq!(rt; Mode::read(text), None, "{text}");
+        }
+    }
+}

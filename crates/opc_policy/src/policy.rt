@@ -1,5 +1,5 @@
 //! A policy, and what the rows of a written one make of it.
-ghost use Rattle.std.specs.Prelude.{◌≡◌, ◌≢◌, OnOk, OnErr, IfErr, Ok, Err};
+ghost use Rattle.std.specs.Prelude.{◌≡◌, ◌≢◌, OnOk, OnErr, IfErr, IsOk, Ok, Err};
 ghost use Rattle.opc_policy.specs.declared.fault.Fault.{Fault as TheFault};
 
 use crate::connect::{Connect, Connects};
@@ -87,6 +87,7 @@ impl Policy {
     pub fn take(&mut self, alloc: Global, row: &Row) -> Result<(), Fault>
         ensures ok { OnOk result (after_row row.now self.old ≡ Ok self.new) }
         ensures fault { IfErr result (λ fault. fault ≢ NoMemory → after_row row.now self.old ≡ Err fault) }
+        ensures memory { IfErr result (λ fault. fault ≡ NoMemory → IsOk (after_row row.now self.old)) }
         ensures unchanged { OnErr result (self.new ≡ self.old) }
     {
         match *row {
@@ -124,6 +125,7 @@ impl Policy {
     fn take_group(&mut self, name: GroupName) -> Result<(), Fault>
         ensures ok { OnOk result (after_row (rows.Group name) self.old ≡ Ok self.new) }
         ensures fault { IfErr result (λ fault. fault ≢ NoMemory → after_row (rows.Group name) self.old ≡ Err fault) }
+        ensures memory { IfErr result (λ fault. fault ≡ NoMemory → IsOk (after_row (rows.Group name) self.old)) }
         ensures unchanged { OnErr result (self.new ≡ self.old) }
     {
         if self.users.contains(name.text()) {
@@ -136,6 +138,7 @@ impl Policy {
     fn take_user(&mut self, user: User) -> Result<(), Fault>
         ensures ok { OnOk result (after_row (rows.User user) self.old ≡ Ok self.new) }
         ensures fault { IfErr result (λ fault. fault ≢ NoMemory → after_row (rows.User user) self.old ≡ Err fault) }
+        ensures memory { IfErr result (λ fault. fault ≡ NoMemory → IsOk (after_row (rows.User user) self.old)) }
         ensures unchanged { OnErr result (self.new ≡ self.old) }
     {
         if self.groups.contains(user.id.text()) {
@@ -148,6 +151,7 @@ impl Policy {
     fn take_connect(&mut self, connect: Connect) -> Result<(), Fault>
         ensures ok { OnOk result (after_row (rows.Connect connect.user connect.group) self.old ≡ Ok self.new) }
         ensures fault { IfErr result (λ fault. fault ≢ NoMemory → after_row (rows.Connect connect.user connect.group) self.old ≡ Err fault) }
+        ensures memory { IfErr result (λ fault. fault ≡ NoMemory → IsOk (after_row (rows.Connect connect.user connect.group) self.old)) }
         ensures unchanged { OnErr result (self.new ≡ self.old) }
     {
         if !self.users.contains(connect.user.text()) {
@@ -163,6 +167,7 @@ impl Policy {
     fn take_profile(&mut self, profile: Profile) -> Result<(), Fault>
         ensures ok { OnOk result (after_definition profile self.old ≡ Ok self.new) }
         ensures fault { IfErr result (λ fault. fault ≢ NoMemory → after_definition profile self.old ≡ Err fault) }
+        ensures memory { IfErr result (λ fault. fault ≡ NoMemory → IsOk (after_definition profile self.old)) }
         ensures unchanged { OnErr result (self.new ≡ self.old) }
     {
         if !self.users.contains(profile.owner.text()) {
@@ -175,6 +180,7 @@ impl Policy {
     fn take_permit(&mut self, class: Class, pattern: &Pattern, entry: Entry) -> Result<(), Fault>
         ensures ok { OnOk result (after_row (rows.Permit class pattern.now entry.id entry.level) self.old ≡ Ok self.new) }
         ensures fault { IfErr result (λ fault. fault ≢ NoMemory → after_row (rows.Permit class pattern.now entry.id entry.level) self.old ≡ Err fault) }
+        ensures memory { IfErr result (λ fault. fault ≡ NoMemory → IsOk (after_row (rows.Permit class pattern.now entry.id entry.level) self.old)) }
         ensures unchanged { OnErr result (self.new ≡ self.old) }
     {
         if self.profiles.get(class, pattern).is_none() {

@@ -47,7 +47,7 @@ impl Profiles {
     /// Copies of the profiles of a class, in their order.
     fn copies_of(&self, alloc: Global, class: Class) -> Result<Vec<Profile>, AllocError>
         ensures copies { IfOk result (λ profiles. profiles.items ≡ of_class class self.now) }
-        ensures sound { AreProfiles self.now }
+        ensures sound { IfOk result (λ profiles. AreProfiles profiles.items) }
     {
         let mut profiles = Vec::new(alloc);
         for profile in self.iter() {
@@ -65,7 +65,7 @@ impl Policy {
     /// Copies of the profiles of a class, in the order of their patterns.
     pub fn all(&self, alloc: Global, class: Class) -> Result<Vec<Profile>, StoreFault>
         ensures profiles { IfOk result (λ profiles. profiles.items ≡ of_class class self.now.profiles) }
-        ensures sound { AreProfiles self.now.profiles }
+        ensures sound { IfOk result (λ profiles. AreProfiles profiles.items) }
         ensures fault { IsOkUnless result NoMemory }
     {
         Ok(self.profiles.copies_of(alloc, class)?)

@@ -41,7 +41,10 @@ fn a_denial_is_explained(rt: HostRuntime) -> Result<(), Fail> {
         "MVS.CANCEL.JOB.PAYROLL",
         Level::Update,
     )?;
-    assert_eq!(rt; anna.as_str(), "COVERS MVS.CANCEL.JOB.PAY*\nCOVERS MVS.CANCEL.JOB.*\nCOVERS MVS.**\nDENIED PROFILE OPERCMDS MVS.CANCEL.JOB.PAY* HELD NONE NEEDED UPDATE\n");
+    assert_eq!(rt;
+        anna.as_str(),
+        "COVERS MVS.CANCEL.JOB.PAY*\nCOVERS MVS.CANCEL.JOB.*\nCOVERS MVS.**\nDENIED PROFILE OPERCMDS MVS.CANCEL.JOB.PAY* HELD NONE NEEDED UPDATE\n"
+    );
     let bert = explained(
         rt.alloc(),
         &policy,
@@ -49,7 +52,10 @@ fn a_denial_is_explained(rt: HostRuntime) -> Result<(), Fail> {
         "MVS.CANCEL.JOB.PAYROLL",
         Level::Update,
     )?;
-    assert_eq!(rt; bert.as_str(), "COVERS MVS.CANCEL.JOB.PAY*\nCOVERS MVS.CANCEL.JOB.*\nCOVERS MVS.**\nDENIED PROFILE OPERCMDS MVS.CANCEL.JOB.PAY* HELD READ NEEDED UPDATE\n");
+    assert_eq!(rt;
+        bert.as_str(),
+        "COVERS MVS.CANCEL.JOB.PAY*\nCOVERS MVS.CANCEL.JOB.*\nCOVERS MVS.**\nDENIED PROFILE OPERCMDS MVS.CANCEL.JOB.PAY* HELD READ NEEDED UPDATE\n"
+    );
     Ok(())
 }
 
@@ -57,9 +63,24 @@ fn a_denial_is_explained(rt: HostRuntime) -> Result<(), Fail> {
 fn an_access_is_explained(rt: HostRuntime) -> Result<(), Fail> {
     let policy = base_policy(rt.alloc())?;
     for (id, resource, needed, text) in [
-        ("ANNA", "MVS.CANCEL.JOB.BACKUP", Level::Update, "COVERS MVS.CANCEL.JOB.*\nCOVERS MVS.**\nALLOWED PROFILE OPERCMDS MVS.CANCEL.JOB.* HELD UPDATE NEEDED UPDATE\n"),
-        ("SECADM", "MVS.CANCEL.JOB.BACKUP", Level::Update, "COVERS MVS.CANCEL.JOB.*\nCOVERS MVS.**\nDENIED PROFILE OPERCMDS MVS.CANCEL.JOB.* HELD NONE NEEDED UPDATE\n"),
-        ("CARL", "MVS.VARY.DEV", Level::Update, "COVERS MVS.VARY.DEV\nCOVERS MVS.**\nALLOWED PROFILE OPERCMDS MVS.VARY.DEV HELD NONE NEEDED UPDATE WARNED\n"),
+        (
+            "ANNA",
+            "MVS.CANCEL.JOB.BACKUP",
+            Level::Update,
+            "COVERS MVS.CANCEL.JOB.*\nCOVERS MVS.**\nALLOWED PROFILE OPERCMDS MVS.CANCEL.JOB.* HELD UPDATE NEEDED UPDATE\n",
+        ),
+        (
+            "SECADM",
+            "MVS.CANCEL.JOB.BACKUP",
+            Level::Update,
+            "COVERS MVS.CANCEL.JOB.*\nCOVERS MVS.**\nDENIED PROFILE OPERCMDS MVS.CANCEL.JOB.* HELD NONE NEEDED UPDATE\n",
+        ),
+        (
+            "CARL",
+            "MVS.VARY.DEV",
+            Level::Update,
+            "COVERS MVS.VARY.DEV\nCOVERS MVS.**\nALLOWED PROFILE OPERCMDS MVS.VARY.DEV HELD NONE NEEDED UPDATE WARNED\n",
+        ),
         ("CARL", "Q", Level::Read, "UNDECIDED NOPROFILE\n"),
     ] {
         let said = explained(rt.alloc(), &policy, id, resource, needed)?;
@@ -72,22 +93,37 @@ fn an_access_is_explained(rt: HostRuntime) -> Result<(), Fail> {
 fn a_later_row_changes_what_is_explained(rt: HostRuntime) -> Result<(), Fail> {
     let mut policy = base_policy(rt.alloc())?;
     let before = explained(rt.alloc(), &policy, "ANNA", "MVS.DISPLAY.U", Level::Read)?;
-    assert_eq!(rt; before.as_str(), "COVERS MVS.DISPLAY.**\nCOVERS MVS.**\nALLOWED PROFILE OPERCMDS MVS.DISPLAY.** HELD READ NEEDED READ\n");
+    assert_eq!(rt;
+        before.as_str(),
+        "COVERS MVS.DISPLAY.**\nCOVERS MVS.**\nALLOWED PROFILE OPERCMDS MVS.DISPLAY.** HELD READ NEEDED READ\n"
+    );
     policy.take(rt.alloc(), &permit("MVS.DISPLAY.**", "ANNA", Level::None)?)?;
     let own = explained(rt.alloc(), &policy, "ANNA", "MVS.DISPLAY.U", Level::Read)?;
-    assert_eq!(rt; own.as_str(), "COVERS MVS.DISPLAY.**\nCOVERS MVS.**\nDENIED PROFILE OPERCMDS MVS.DISPLAY.** HELD NONE NEEDED READ\n");
+    assert_eq!(rt;
+        own.as_str(),
+        "COVERS MVS.DISPLAY.**\nCOVERS MVS.**\nDENIED PROFILE OPERCMDS MVS.DISPLAY.** HELD NONE NEEDED READ\n"
+    );
     policy.take(
         rt.alloc(),
         &profile("MVS.DISPLAY.**", Level::Update, "CARL", true)?,
     )?;
     let redefined = explained(rt.alloc(), &policy, "ANNA", "MVS.DISPLAY.U", Level::Read)?;
-    assert_eq!(rt; redefined.as_str(), "COVERS MVS.DISPLAY.**\nCOVERS MVS.**\nALLOWED PROFILE OPERCMDS MVS.DISPLAY.** HELD NONE NEEDED READ WARNED\n");
+    assert_eq!(rt;
+        redefined.as_str(),
+        "COVERS MVS.DISPLAY.**\nCOVERS MVS.**\nALLOWED PROFILE OPERCMDS MVS.DISPLAY.** HELD NONE NEEDED READ WARNED\n"
+    );
     policy.take(rt.alloc(), &permit("MVS.DISPLAY.**", "*", Level::Control)?)?;
     let everyone = explained(rt.alloc(), &policy, "CARL", "MVS.DISPLAY.U", Level::Alter)?;
-    assert_eq!(rt; everyone.as_str(), "COVERS MVS.DISPLAY.**\nCOVERS MVS.**\nALLOWED PROFILE OPERCMDS MVS.DISPLAY.** HELD CONTROL NEEDED ALTER WARNED\n");
+    assert_eq!(rt;
+        everyone.as_str(),
+        "COVERS MVS.DISPLAY.**\nCOVERS MVS.**\nALLOWED PROFILE OPERCMDS MVS.DISPLAY.** HELD CONTROL NEEDED ALTER WARNED\n"
+    );
     policy.take(rt.alloc(), &class(Class::Opercmds, false))?;
     let inactive = explained(rt.alloc(), &policy, "ANNA", "MVS.DISPLAY.U", Level::Read)?;
-    assert_eq!(rt; inactive.as_str(), "COVERS MVS.DISPLAY.**\nCOVERS MVS.**\nUNDECIDED NOPROFILE\n");
+    assert_eq!(rt;
+        inactive.as_str(),
+        "COVERS MVS.DISPLAY.**\nCOVERS MVS.**\nUNDECIDED NOPROFILE\n"
+    );
     Ok(())
 }
 
@@ -108,9 +144,18 @@ fn a_row_names_what_is_in_the_way(rt: HostRuntime) -> Result<(), Fail> {
         (connect("NOSUCH", "LATE")?, "E53 Missing NOSUCH"),
         (connect("ANNA", "LATE")?, "E53 Missing LATE"),
         (connect("OPS", "OPS")?, "E53 Missing OPS"),
-        (profile("A.B", Level::None, "OPS", false)?, "E53 Missing OPS"),
-        (permit("NO.SUCH", "NOSUCH", Level::Read)?, "E53 Missing NO.SUCH"),
-        (permit("MVS.**", "NOSUCH", Level::Read)?, "E53 Missing NOSUCH"),
+        (
+            profile("A.B", Level::None, "OPS", false)?,
+            "E53 Missing OPS",
+        ),
+        (
+            permit("NO.SUCH", "NOSUCH", Level::Read)?,
+            "E53 Missing NO.SUCH",
+        ),
+        (
+            permit("MVS.**", "NOSUCH", Level::Read)?,
+            "E53 Missing NOSUCH",
+        ),
         (group("OPS")?, "taken"),
         (user("ANNA", true)?, "taken"),
         (connect("ANNA", "OPS")?, "taken"),
@@ -136,6 +181,9 @@ fn a_user_who_is_missing_is_not_explained(rt: HostRuntime) -> Result<(), Fail> {
     let Err(fault) = missing else {
         return Err(Fail::from(Fault::NotOn));
     };
-    assert_eq!(rt; fault, Fault::Missing(Subject::of(&UserId::read("NOSUCH")?)));
+    assert_eq!(rt;
+        fault,
+        Fault::Missing(Subject::of(&UserId::read("NOSUCH")?))
+    );
     Ok(())
 }

@@ -17,8 +17,16 @@ fn every_fault_has_a_code_and_a_text(rt: HostRuntime) -> Result<(), Fail> {
         (Fault::Empty, "E01", "Empty"),
         (Fault::TooLong, "E02", "TooLong"),
         (Fault::BadCharacter { at: 125 }, "E03", "BadCharacter 125"),
-        (Fault::UnknownVerb { from: 0, to: 3 }, "E04", "UnknownVerb 0 3"),
-        (Fault::BadOperand { from: 0, to: 3 }, "E05", "BadOperand 0 3"),
+        (
+            Fault::UnknownVerb { from: 0, to: 3 },
+            "E04",
+            "UnknownVerb 0 3",
+        ),
+        (
+            Fault::BadOperand { from: 0, to: 3 },
+            "E05",
+            "BadOperand 0 3",
+        ),
         (Fault::OpenQuote { at: 125 }, "E06", "OpenQuote 125"),
         (Fault::NoConsole, "E10", "NoConsole"),
         (Fault::ConsoleOffline, "E11", "ConsoleOffline"),
@@ -47,11 +55,22 @@ fn every_fault_has_a_code_and_a_text(rt: HostRuntime) -> Result<(), Fail> {
         (Fault::NotSpecial, "E50", "NotSpecial"),
         (Fault::NotOwner, "E51", "NotOwner"),
         (Fault::Exists(Subject::of(&ops)), "E52", "Exists OPS"),
-        (Fault::Missing(Subject::of(&pattern)), "E53", "Missing MVS.CANCEL.JOB.PAY*"),
+        (
+            Fault::Missing(Subject::of(&pattern)),
+            "E53",
+            "Missing MVS.CANCEL.JOB.PAY*",
+        ),
         (Fault::InUse(Subject::of(&anna)), "E55", "InUse ANNA"),
         (Fault::BatchChanged, "E56", "BatchChanged"),
         (Fault::NotEmpty, "E57", "NotEmpty"),
-        (Fault::RowFault { row: 10001, why: Why::Many }, "E60", "RowFault 10001 Many"),
+        (
+            Fault::RowFault {
+                row: 10001,
+                why: Why::Many,
+            },
+            "E60",
+            "RowFault 10001 Many",
+        ),
         (Fault::NoMemory, "E90", "NoMemory"),
         (Fault::Store, "E91", "Store"),
         (Fault::NotOurs { version: 2 }, "E92", "NotOurs 2"),
@@ -105,7 +124,10 @@ fn rules_have_texts(rt: HostRuntime) -> Result<(), Fail> {
         auth: Auth::SysIoCons,
     };
     for (rule, text) in [
-        (vary, "PROFILE OPERCMDS MVS.VARY.DEV HELD NONE NEEDED UPDATE WARNED"),
+        (
+            vary,
+            "PROFILE OPERCMDS MVS.VARY.DEV HELD NONE NEEDED UPDATE WARNED",
+        ),
         (logon, "PROFILE CONSOLE C3 HELD CONTROL NEEDED ALTER"),
         (group, "GROUP MASTER AUTH SYS,IO,CONS"),
         (Rule::NoProfile, "NOPROFILE"),

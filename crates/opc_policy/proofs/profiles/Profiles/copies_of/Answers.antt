@@ -3,6 +3,7 @@ use Rattle.std.specs.Map.Iter.{deref}
 use Rattle.std.proofs.lemmas.Map.Iter.{rest_so_far}
 use Rattle.opc_policy.specs.Deciding.{of_class}
 use Rattle.opc_policy.specs.declared.profile.Profile.{Profile}
+use Rattle.opc_policy.proofs.MostSpecific.{class_profiles}
 use Rattle.opc_policy.proofs.profiles.Profiles.copies_of.Goals as goal
 
 pub returns-clause-copies : goal.returns-clause-copies
@@ -12,3 +13,12 @@ returns-clause-copies c =
     let so_far = rest_so_far deref c.loop-profile.yielded _ _ c.loop-profile.yielded_by in
     let all_is : c.args.self.now ≡ seen = sym start ∙ so_far ∙ ap (λ (t : List Profile). seen ++ t) c.in-None.ensures.steps.0 ∙ append-nil seen in
     rw all_is c.loop-profile.invariant
+
+pub returns-clause-sound : goal.returns-clause-sound
+returns-clause-sound c =
+    let seen : List Profile = map deref c.loop-profile.yielded in
+    let start : c.into_iter-profile-iterator.result ≡ c.args.self.now = search rules in
+    let so_far = rest_so_far deref c.loop-profile.yielded _ _ c.loop-profile.yielded_by in
+    let all_is : c.args.self.now ≡ seen = sym start ∙ so_far ∙ ap (λ (t : List Profile). seen ++ t) c.in-None.ensures.steps.0 ∙ append-nil seen in
+    let copies : c.loop-profile.profiles.items ≡ of_class c.args.class c.args.self.now = rw all_is c.loop-profile.invariant in
+    rw copies (class_profiles c.args.self.now c.args.class c.iter-profile-items.ensures.profiles)

@@ -2,6 +2,7 @@
 //! line also has the time that the work took.
 #![tactic(auto)]
 
+mod files;
 mod policies;
 
 use anyhow::Result;
@@ -11,5 +12,6 @@ fn main(rt: HostRuntime) -> Result<()> {
     let timed = env::args(&rt)?
         .nth(1)
         .is_some_and(|word| word.as_str() == "times");
-    policies::run(&rt, timed)
+    policies::run(&rt, timed)?;
+    files::run(&rt, timed)
 }

@@ -67,7 +67,7 @@ fn taken(alloc: Global, rows: &[Row]) -> Result<Policy> {
 }
 
 /// So many rows of a policy, or one, two or three fewer.
-fn policy_rows(alloc: Global, count: u32) -> Result<Vec<Row>> {
+pub fn policy_rows(alloc: Global, count: u32) -> Result<Vec<Row>> {
     let mut rows = Vec::new(alloc);
     add_first_rows(&mut rows)?;
     let users = count.saturating_sub(FIRST_ROWS) / ROWS_A_USER;

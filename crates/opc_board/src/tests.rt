@@ -83,14 +83,17 @@ fn event(alloc: Global, text: &str) -> Result<Event, Fail> {
 fn has_console(board: &Board, name: &ConsoleName) -> bool
     ensures { IsTrue result → IsSome (console_at board.now name.now) }
 {
-    board.rows().consoles.find(name).is_some()
+    board.rows.consoles.find(name).is_some()
 }
 
 fn is_free(board: &Board, name: &ConsoleName) -> bool
     ensures { IsTrue result → IsSomeAnd (console_at board.now name.now) (λ console. console.user ≡ None) }
 {
-    match board.rows().consoles.find(name) {
-        Some(console) => console.user.is_none(),
+    match board.rows.consoles.find(name) {
+        Some(console) => match console.user {
+            Some(_) => false,
+            None => true,
+        },
         None => false,
     }
 }
@@ -98,10 +101,30 @@ fn is_free(board: &Board, name: &ConsoleName) -> bool
 fn is_taken(board: &Board, name: &ConsoleName) -> bool
     ensures { IsTrue result → IsSomeAnd (console_at board.now name.now) (λ console. IsSome console.user) }
 {
-    match board.rows().consoles.find(name) {
-        Some(console) => console.user.is_some(),
+    match board.rows.consoles.find(name) {
+        Some(console) => match console.user {
+            Some(_) => true,
+            None => false,
+        },
         None => false,
     }
+}
+
+fn log_on(rt: &impl Abort, board: &mut Board, name: &str, id: &str) -> Result<(), Fail> {
+    let name = console(name)?;
+    let user = user(id)?;
+    let free = is_free(board, &name);
+    assert!(rt; free, "somebody is on");
+    board.log_on(&name, user);
+    Ok(())
+}
+
+fn log_off(rt: &impl Abort, board: &mut Board, name: &str) -> Result<(), Fail> {
+    let name = console(name)?;
+    let taken = is_taken(board, &name);
+    assert!(rt; taken, "nobody is on");
+    board.log_off(&name);
+    Ok(())
 }
 
 fn act(
@@ -120,39 +143,48 @@ fn act(
     }
 }
 
-// What a step of a run gives: `*` and an event, or a console and a command.
-fn told(rt: &(impl Abort + AllocGlobal), board: &mut Board, step: &str) -> Result<String, Fail> {
+fn tell_fault(told: &mut String, fault: BoardFault) -> Result<(), Fail> {
+    writeln!(told, "  {fault:?}")?;
+    Ok(())
+}
+
+// A step of a run, told with its lines or its fault below it: `*` and an event, or a console and a command.
+fn step(
+    rt: &(impl Abort + AllocGlobal),
+    board: &mut Board,
+    step: &str,
+    told: &mut String,
+) -> Result<(), Fail> {
     let (place, text) = step.split_once(' ').ok_or("a step")?;
+    writeln!(told, "{step}")?;
     if place == "*" {
         let event = event(rt.alloc(), text)?;
         return match board.event(rt.alloc(), &event) {
-            Ok(()) => Ok(String::from_str(rt.alloc(), "done")?),
-            Err(fault) => Ok(format!(in rt.alloc(); "{fault:?}")?),
+            Ok(()) => Ok(()),
+            Err(fault) => tell_fault(told, fault),
         };
     }
     match act(rt, board, place, text)? {
         Ok(lines) => {
-            let mut told = String::from_str(rt.alloc(), "done")?;
             for line in &lines {
-                told.push_str("\n")?;
-                told.push_str(line.text.as_str())?;
+                let text = line.text.as_str();
+                writeln!(told, "  {text}")?;
             }
-            Ok(told)
+            Ok(())
         }
-        Err(fault) => Ok(format!(in rt.alloc(); "{fault:?}")?),
+        Err(fault) => tell_fault(told, fault),
     }
 }
 
-/// Asserts what each step of a run gives: `done` and the lines below it, or the fault.
-fn runs(
-    rt: &(impl Abort + AllocGlobal),
-    board: &mut Board,
-    steps: &[(&str, &str)],
-) -> Result<(), Fail> {
-    for (step, wanted) in steps {
-        let told = told(rt, board, step)?;
-        assert_eq!(rt; told.as_str(), *wanted, "{step}");
+/// Runs the steps of a run, the lines that don't begin with a space, and asserts that what they give stands below them.
+fn runs(rt: &(impl Abort + AllocGlobal), board: &mut Board, run: &str) -> Result<(), Fail> {
+    let mut told = String::new(rt.alloc());
+    for line in run.lines() {
+        if !line.starts_with(' ') {
+            step(rt, board, line, &mut told)?;
+        }
     }
+    assert_eq!(rt; told.as_str(), run);
     Ok(())
 }
 
@@ -179,13 +211,13 @@ fn base(rt: &(impl Abort + AllocGlobal)) -> Result<Board, Fail> {
     runs(
         rt,
         &mut board,
-        &[
-            ("* JOBIN BACKUP JOB", "done"),
-            ("* JOBIN PAYROLL JOB", "done"),
-            ("* JOBIN SECRET JOB", "done"),
-            ("* ATTACH 0A80", "done"),
-            ("* ASK 07 MOUNT", "done"),
-        ],
+        "\
+* JOBIN BACKUP JOB
+* JOBIN PAYROLL JOB
+* JOBIN SECRET JOB
+* ATTACH 0A80
+* ASK 07 MOUNT
+",
     )?;
     Ok(board)
 }

@@ -70,7 +70,7 @@ impl Profiles {
     }
 
     /// One more profile. Where there is one of its class and pattern, it takes its place and keeps the access
-    /// list that is there.
+    /// list that is there (RACF guide: RDEFINE and RALTER).
     pub fn define(&mut self, profile: Profile) -> Result<(), AllocError>
         ensures ok { OnOk result (self.new ≡ with_definition profile self.old) }
         ensures err { OnErr result (self.new ≡ self.old) }
@@ -87,8 +87,8 @@ impl Profiles {
         }
     }
 
-    /// One more entry in the access list of a profile, in the place of one for its id. Where there is no such profile
-    /// nothing changes.
+    /// One more entry in the access list of a profile, in the place of one for its id (RACF guide: PERMIT). Where
+    /// there is no such profile nothing changes.
     pub fn permit(
         &mut self,
         class: Class,

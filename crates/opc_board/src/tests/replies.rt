@@ -1,25 +1,33 @@
-use super::{base, console, is_free, runs, user};
+use super::{base, log_on, runs, user};
 use std::test::Fail;
 
+// An id that was answered is free again, and both answers are kept.
 #[test]
 fn a_reply_is_answered_once(rt: HostRuntime) -> Result<(), Fail> {
     let mut board = base(&rt)?;
     runs(
         &rt,
         &mut board,
-        &[
-            ("* ASK 7 AGAIN", "ReplyExists"),
-            ("* ASK 3 WHO", "done"),
-            ("C1 D R", "done\n03 WHO\n07 MOUNT"),
-            ("C1 R 07,'it''s me'", "done\n07 it's me"),
-            ("C1 R 07,'it''s me'", "NoReply"),
-            ("C1 R 99,NO", "NoReply"),
-            ("C1 R 3,no one", "done\n03 NO ONE"),
-            ("C1 D R", "done"),
-            // The number is free again, and both answers are kept.
-            ("* ASK 7 AGAIN", "done"),
-            ("C1 R 7,YES", "done\n07 YES"),
-        ],
+        "\
+* ASK 7 AGAIN
+  ReplyExists
+* ASK 3 WHO
+C1 D R
+  03 WHO
+  07 MOUNT
+C1 R 07,'it''s me'
+  07 it's me
+C1 R 07,'it''s me'
+  NoReply
+C1 R 99,NO
+  NoReply
+C1 R 3,no one
+  03 NO ONE
+C1 D R
+* ASK 7 AGAIN
+C1 R 7,YES
+  07 YES
+",
     )?;
     let answered = board.rows().answered.as_slice();
     assert_eq!(rt; answered.len(), 3);
@@ -29,26 +37,32 @@ fn a_reply_is_answered_once(rt: HostRuntime) -> Result<(), Fail> {
     Ok(())
 }
 
+// A job of the name is no session.
 #[test]
 fn messages_reach_who_is_on_or_has_a_session(rt: HostRuntime) -> Result<(), Fail> {
     let mut board = base(&rt)?;
     runs(
         &rt,
         &mut board,
-        &[
-            ("* JOBIN ANNA TSU", "done"),
-            ("C1 SE 'Hello',USER=(ANNA)", "done"),
-            ("C1 SE 'Hello',USER=(BERT)", "NoTarget"),
-            // A job isn't a session.
-            ("C1 SE 'Hello',USER=(BACKUP)", "NoTarget"),
-            ("C1 L 'Night shift'", "done"),
-            ("C1 L ''", "done"),
-        ],
+        "\
+* JOBIN ANNA TSU
+C1 SE 'Hello',USER=(ANNA)
+C1 SE 'Hello',USER=(BERT)
+  NoTarget
+C1 SE 'Hello',USER=(BACKUP)
+  NoTarget
+C1 L 'Night shift'
+C1 L ''
+",
     )?;
-    let name = console("C3")?;
-    assert!(rt; is_free(&board, &name));
-    board.log_on(&name, user("BERT")?);
-    runs(&rt, &mut board, &[("C1 SE 'And you',USER=(BERT)", "done")])?;
+    log_on(&rt, &mut board, "C3", "BERT")?;
+    runs(
+        &rt,
+        &mut board,
+        "\
+C1 SE 'And you',USER=(BERT)
+",
+    )?;
     let messages = board.rows().messages.as_slice();
     assert_eq!(rt; messages.len(), 2);
     assert_eq!(rt; messages[0].text.as_str(), "Hello");

@@ -1,0 +1,71 @@
+//! Policy files that are written, read by `csv` alone, and read as rows.
+use crate::policies::policy_rows;
+use anyhow::{Result, anyhow};
+use csv::{ByteRecord, ReaderBuilder};
+use opc_import::read::read_policy;
+use opc_import::write::write_policy;
+use std::alloc::Global;
+use std::rt::Clock;
+use std::time::Instant;
+
+/// How often each file is read.
+const TIMES: u32 = 50;
+
+pub fn run<R: Print + Clock + AllocGlobal>(rt: &R, timed: bool) -> Result<()> {
+    for count in [100, 1_000, 10_000] {
+        bench(rt, count, timed)?;
+    }
+    Ok(())
+}
+
+/// Writes the file of so many rows, and reads it.
+fn bench<R: Print + Clock + AllocGlobal>(rt: &R, count: u32, timed: bool) -> Result<()> {
+    let rows = policy_rows(rt.alloc(), count)?;
+    let start = Instant::now(rt)?;
+    let text = write_policy(rt.alloc(), rows.as_slice())?;
+    let writing = start.elapsed(rt)?;
+    let mut records = 0;
+    let start = Instant::now(rt)?;
+    for _ in 0..TIMES {
+        records = count_records(rt.alloc(), text.as_bytes())?;
+    }
+    let scanning = start.elapsed(rt)?;
+    let mut read = 0;
+    let start = Instant::now(rt)?;
+    for _ in 0..TIMES {
+        match read_policy(rt.alloc(), text.as_str()) {
+            Ok(rows) => read = rows.len(),
+            Err(fault) => return Err(anyhow!("{fault:?}")),
+        }
+    }
+    let reading = start.elapsed(rt)?;
+    let bytes = text.len();
+    println!(rt; "file of {bytes} bytes: {records} records, {read} rows")?;
+    if timed {
+        let writing = writing.as_micros();
+        let scanning = scanning.as_micros() / u128::from(TIMES);
+        let reading = reading.as_micros() / u128::from(TIMES);
+        println!(rt;
+            "  written in {writing} microseconds, records in {scanning}, rows in {reading}"
+        )?;
+    }
+    Ok(())
+}
+
+/// How many records `csv` finds in these bytes.
+fn count_records(alloc: Global, bytes: &[u8]) -> Result<u64> {
+    let mut reader = ReaderBuilder::new()
+        .has_headers(false)
+        .flexible(true)
+        .from_reader(alloc, bytes);
+    let mut record = ByteRecord::new(alloc);
+    let mut count = 0u64;
+    for _ in 0..bytes.len() {
+        match reader.read_byte_record(&mut record) {
+            Ok(true) => count = count.wrapping_add(1),
+            Ok(false) => break,
+            Err(_) => return Err(anyhow!("csv refused a record")),
+        }
+    }
+    Ok(count)
+}

@@ -7,26 +7,36 @@ mod streams;
 mod tests;
 mod words;
 
-use std::env;
+use opc_policy::fault::Fault;
+use std::io::{ErrorKind, Write};
 use std::process::ExitCode;
+use std::{env, io};
 
 fn main(rt: HostRuntime) -> ExitCode {
     ExitCode::from(run(&rt))
 }
 
 fn run(rt: &HostRuntime) -> u8 {
-    let Ok(arguments) = env::args(rt) else {
-        return streams::BAD_WORDS;
-    };
-    let words: Vec<String> = match arguments.collect(rt.alloc()) {
-        Ok(words) => words,
-        Err(_) => return streams::FAILED,
-    };
-    words::run_words(
-        rt,
-        words.as_slice(),
-        &mut rt.stdin(),
-        &mut rt.stdout(),
-        &mut rt.stderr(),
-    )
+    let mut errors = rt.stderr();
+    match given_words(rt) {
+        Ok(words) => words::run_words(
+            rt,
+            words.as_slice(),
+            &mut rt.stdin(),
+            &mut rt.stdout(),
+            &mut errors,
+        ),
+        Err(error) if error.kind() == ErrorKind::OutOfMemory => {
+            streams::tell(rt.alloc(), &Fault::NoMemory, &mut errors)
+        }
+        Err(_) => {
+            let _ = writeln!(errors, "error: a word is not UTF-8");
+            streams::BAD_WORDS
+        }
+    }
+}
+
+/// The words of the command line, the program's own name first.
+fn given_words(rt: &HostRuntime) -> io::Result<Vec<String>> {
+    Ok(env::args(rt)?.collect(rt.alloc())?)
 }

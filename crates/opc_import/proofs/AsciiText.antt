@@ -24,7 +24,7 @@ use Rattle.opc_policy.specs.declared.row.Row.{Row}
 use Rattle.opc_policy.specs.declared.row.Row.TheVariants as row
 use Rattle.opc_import.specs.Columns.{Record, column_name, columns, header}
 use Rattle.opc_import.specs.Fields.{decoded, digest_of, is_lower_digit}
-use Rattle.opc_import.specs.Lines.{policy_text}
+use Rattle.opc_import.specs.Lines.{csv_text}
 use Rattle.opc_import.specs.Rows.{IsValid, activity_text, digest_text, flags_text, record_of, warning_text}
 use Rattle.opc_import.specs.declared.column.Column.{Column}
 use Rattle.opc_import.specs.declared.column.Column.TheVariants as column
@@ -189,6 +189,6 @@ names-ascii : (columns : List Column) → AllByRecursion IsAscii (map column_nam
 names-ascii [] = tt
 names-ascii (column ∷ columns) = (column_name-ascii column, names-ascii columns)
 
-pub policy_text-ascii : (rows : List Row) → All IsValid rows → IsAscii (policy_text rows)
-policy_text-ascii rows h =
+pub csv_text-ascii : (rows : List Row) → All IsValid rows → IsAscii (csv_text rows)
+csv_text-ascii rows h =
     IsAscii-append (row_text default_writer header) (flat_map (row_text default_writer) (map record_of rows)) (row-ascii header (names-ascii columns)) (lines-ascii rows h)

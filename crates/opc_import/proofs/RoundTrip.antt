@@ -31,7 +31,7 @@ use Rattle.opc_import.specs.Columns.{Record, header}
 use Rattle.opc_import.specs.Fields.{activities, decoded, digest_of, flags_of, is_lower_digit, user_flags, warnings}
 use Rattle.opc_import.specs.Files.{policy_of, rows_from}
 use Rattle.opc_import.specs.Kinds.{row_of}
-use Rattle.opc_import.specs.Lines.{policy_text}
+use Rattle.opc_import.specs.Lines.{csv_text}
 use Rattle.opc_import.specs.Records.{records_of_source}
 use Rattle.opc_import.specs.Rows.{IsValid, IsValidIn, activity_text, flags_text, record_of, warning_text}
 use Rattle.opc_import.specs.declared.column.Column.TheVariants as column
@@ -154,12 +154,12 @@ rows-back number (row ∷ rows) fits h =
     let rest : rows_from (number + 1) (map read_back (map record_of rows)) ≡ Ok rows = rows-back (number + 1) rows (omega arith) (λ k d lt. h (suc k) d (omega arith)) in
     rw (first, rest) refl
 
-no-mark : (rows : List Row) → strip_bom (policy_text rows) ≡ policy_text rows
+no-mark : (rows : List Row) → strip_bom (csv_text rows) ≡ csv_text rows
 unfolding strip_bom is_blank fields_text
 no-mark rows = refl
 
 -- a file that was written
-pub file-back : (rows : List Row) → length rows ≤ 10000 → All IsValid rows → policy_of (policy_text rows) ≡ Ok rows
+pub file-back : (rows : List Row) → length rows ≤ 10000 → All IsValid rows → policy_of (csv_text rows) ≡ Ok rows
 unfolding field_at
 file-back rows fits h = rw (no-mark rows, lines-back (header ∷ map record_of rows)) (rows-back 1 rows (omega arith) h)
 

@@ -140,7 +140,7 @@ fn each_column_of_each_kind_has_its_fault(rt: HostRuntime) -> Result<(), Fail> {
             Err(ImportFault::Row { row: 2, why }) => {
                 assert_eq!(rt; why.text(), name, "in {record:?}")
             }
-            _ => panic!(rt; "no fault of row 2 in {record:?}"),
+            other => panic!(rt; "{:?} in {record:?}", other.err()),
         }
     }
     Ok(())
@@ -200,7 +200,7 @@ fn records_are_those_of_csv(rt: HostRuntime) -> Result<(), Fail> {
 }
 
 #[test]
-fn records_of_csv_that_are_no_rows(rt: HostRuntime) {
+fn records_of_csv_that_are_no_rows(rt: HostRuntime) -> Result<(), Fail> {
     let cases = [
         ("group,,\"D\"\"Y\",,,,,\n", Why::Name),
         ("group,,\"DAY,,,,,\n", Why::Columns),
@@ -216,11 +216,10 @@ fn records_of_csv_that_are_no_rows(rt: HostRuntime) {
         ("group,OPERCMDS,9X,,,,,\n", Why::Class),
     ];
     for (record, why) in cases {
-        match format!(in rt.alloc(); "{HEADER}{record}") {
-            Ok(text) => assert_fault(&rt, rt.alloc(), text.as_str(), 1, why),
-            Err(_) => panic!(rt; "no memory"),
-        }
+        let text = format!(in rt.alloc(); "{HEADER}{record}")?;
+        assert_fault(&rt, rt.alloc(), text.as_str(), 1, why);
     }
+    Ok(())
 }
 
 #[test]

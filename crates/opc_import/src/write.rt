@@ -3,7 +3,7 @@ ghost use Rattle.std.specs.Prelude.{◌≡◌, ◌≤◌, IfOk, Ok, OnOk, length
 ghost use Rattle.std.specs.List.{All};
 ghost use Rattle.csv.specs.Records.{fields_of};
 ghost use Rattle.opc_import.specs.Files.{policy_of};
-ghost use Rattle.opc_import.specs.Lines.{AddsLine, IsFresh, policy_text};
+ghost use Rattle.opc_import.specs.Lines.{AddsLine, IsFresh, csv_text, policy_text};
 ghost use Rattle.opc_import.specs.Rows.{IsValid};
 
 use crate::kind::MOST_ROWS;
@@ -25,7 +25,7 @@ fn put_line(writer: &mut Writer<Vec<u8>>, line: &ByteRecord) -> Result<(), Alloc
 
 // The bytes of the file that has these rows.
 fn lines_of(alloc: Global, rows: &[Row]) -> Result<Vec<u8>, AllocError>
-    ensures text { IfOk result (λ bytes. bytes.items ≡ policy_text rows.now) }
+    ensures text { IfOk result (λ bytes. bytes.items ≡ csv_text rows.now) }
     ensures valid { OnOk result (All IsValid rows.now) }
 {
     let mut writer = WriterBuilder::new().from_writer(Vec::new(alloc));

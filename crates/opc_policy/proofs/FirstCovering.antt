@@ -1,5 +1,5 @@
 -- The first profile that covers, of a list in the order of the patterns.
-use Rattle.std.proofs.Common.{◌≡◌, ℕ, ◌<◌, ◌≤◌, ◌+◌, Bool, true, false, not, cond, ◌&&◌, List, [], ◌∷◌, ◌++◌, length, filter, get_or, suc, Option, Some, None, refl, sym, ap, ◌∙◌, subst, arith, All, Contains, length-append, append-nil}
+use Rattle.std.proofs.Common.{◌≡◌, ℕ, ◌≤◌, ◌+◌, Bool, true, false, not, cond, ◌&&◌, List, [], ◌∷◌, ◌++◌, length, filter, get_or, suc, Option, Some, None, refl, sym, ap, ◌∙◌, subst, arith, All, Contains, length-append, append-nil}
 use Rattle.std.specs.List.{AllPairs}
 use Rattle.std.specs.Str.{bytes_eq}
 use Rattle.std.proofs.lemmas.Bool.{false≢true}
@@ -10,8 +10,8 @@ use Rattle.std.proofs.lemmas.List.Kept.{AllPairs-filter}
 use Rattle.std.proofs.lemmas.List.Sums.{length-filter, count_by-le-length}
 use Rattle.opc_names.specs.Authority.{same_class}
 use Rattle.opc_names.specs.declared.class.Class.{Class}
-use Rattle.opc_policy.specs.Deciding.{of_class, AreMostSpecificFirst, covering, is_before, first_with, first_of, deciding}
-use Rattle.opc_policy.specs.Examined.{head_of, with_head, is_chosen, read_until}
+use Rattle.opc_policy.specs.Deciding.{AreMostSpecificFirst, covering, is_before, first_with, first_of, deciding}
+use Rattle.opc_policy.specs.Examined.{head_of, is_chosen, read_until}
 use Rattle.opc_names.specs.Patterns.{CoversText, covers_text}
 use Rattle.opc_policy.specs.declared.profile.Profile.{Profile}
 use Rattle.opc_policy.proofs.MostSpecific.{ordered, not_before_itself, of_filter, covers_is, same_class_is, FirstIs, first_is}

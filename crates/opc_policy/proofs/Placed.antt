@@ -1,18 +1,18 @@
 -- An entry at its place in an access list.
-use Rattle.std.proofs.Common.{◌≡◌, ℕ, ◌<◌, ◌≤◌, ◌+◌, Bool, true, false, List, [], ◌∷◌, length, get_or, set, zero, suc, Result, Ok, Err, All, refl, sym, ap, ◌∙◌, arith}
+use Rattle.std.proofs.Common.{◌≡◌, ℕ, ◌<◌, ◌≤◌, ◌+◌, List, [], ◌∷◌, length, get_or, set, zero, suc, Result, Ok, Err, All, refl, sym, ap, ◌∙◌, arith}
 use Rattle.std.specs.BTreeSet.{replace_key}
 use Rattle.std.specs.Cmp.{IsTotalOrder}
 use Rattle.std.specs.Cmp.Lexicographic.{slice_cmp, nat_list_cmp_total}
-use Rattle.std.specs.List.{insert, HoldsAt}
-use Rattle.std.specs.List.Sorted.{IsSortedBy, IsBinarySearchResult, IsSearchInRange, IsNonDecreasingBy}
+use Rattle.std.specs.List.{insert}
+use Rattle.std.specs.List.Sorted.{IsSortedBy, IsBinarySearchResult, IsSearchInRange}
 use Rattle.std.proofs.lemmas.List.Elements.{All-nil, All-cons, All-head, All-tail}
 use Rattle.std.proofs.lemmas.List.Kept.{AllPairs-cons}
 use Rattle.std.proofs.lemmas.List.Sorted.{searchable_from_sorted}
-use Rattle.std.specs.Ordering.{match_ordering, nat_cmp, is_lt, ordering_index, ordering_reverse}
+use Rattle.std.specs.Ordering.{match_ordering, nat_cmp, is_lt, ordering_reverse}
 use Rattle.std.specs.declared.cmp.Ordering.{Ordering}
 use Rattle.std.specs.declared.cmp.Ordering.TheVariants.{Less, Equal, Greater}
 use Rattle.opc_policy.specs.Access.{AreInOrder, entry_cmp}
-use Rattle.opc_policy.specs.Places.{IsPlace, IsBehind}
+use Rattle.opc_policy.specs.Places.{IsPlace}
 use Rattle.opc_policy.specs.declared.entry.Entry.{Entry}
 
 module _ {X : Type 0} (cmp : X → X → Ordering) (x : X) where

@@ -1,5 +1,5 @@
 -- The users, groups and connects of a policy, in their orders.
-use Rattle.std.specs.Prelude.{ℕ, Bool, ◌&&◌, List, Option, find, filter, map}
+use Rattle.std.specs.Prelude.{ℕ, Bool, List, Option, find, filter, map}
 use Rattle.std.specs.BTreeSet.{insert_key, replace_key}
 use Rattle.std.specs.Cmp.Lexicographic.{slice_cmp}
 use Rattle.std.specs.List.{list_any}

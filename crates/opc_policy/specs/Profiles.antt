@@ -1,8 +1,8 @@
 -- The profiles of a policy, in their order.
-use Rattle.std.specs.Prelude.{ℕ, Bool, ◌&&◌, List, [], Option, find, unwrap_or}
+use Rattle.std.specs.Prelude.{ℕ, Bool, ◌&&◌, List, Option, find}
 use Rattle.std.specs.BTreeSet.{replace_key}
 use Rattle.std.specs.Cmp.Lexicographic.{slice_cmp}
-use Rattle.std.specs.Option.{option_map, option_map_or}
+use Rattle.std.specs.Option.{option_map_or}
 use Rattle.std.specs.Ordering.{nat_cmp, ordering_then}
 use Rattle.std.specs.Str.{bytes_eq}
 use Rattle.std.specs.declared.cmp.Ordering.{Ordering}

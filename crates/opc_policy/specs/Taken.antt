@@ -1,5 +1,5 @@
 -- What the rows of a written policy make of a policy.
-use Rattle.std.specs.Prelude.{ℕ, Bool, true, false, ◌||◌, List, [], ◌∷◌, Option, Some, None, Result, Ok, Err, if◌then◌else◌, is_some, codes}
+use Rattle.std.specs.Prelude.{ℕ, Bool, ◌||◌, List, [], Result, Ok, Err, if◌then◌else◌, is_some, codes}
 use Rattle.std.specs.Str.{bytes_eq}
 use Rattle.opc_names.specs.declared.class.Class.{Class}
 use Rattle.opc_names.specs.declared.class.Class.TheVariants.{Console, Opercmds}

@@ -1,4 +1,4 @@
-use Rattle.std.proofs.Common.{◌≡◌, ◌-◌, ◌+◌, ◌≤◌, length, take, ap, ◌∙◌, refl, sym, arith, rules, inr}
+use Rattle.std.proofs.Common.{◌≡◌, ◌-◌, ◌+◌, take, ◌∙◌, refl, sym, arith, inr}
 use Rattle.std.proofs.lemmas.Result.{err_from_is_err_and}
 use Rattle.opc_policy.proofs.ByHeads.{asked_start, asked_last, asked_few, asked_next}
 use Rattle.opc_policy.proofs.search.search.Goals as goal

@@ -1,4 +1,4 @@
-use Rattle.std.proofs.Common.{◌≡◌, subst, sym, ◌∙◌}
+use Rattle.std.proofs.Common.{subst, sym, ◌∙◌}
 use Rattle.opc_policy.specs.Access.{AreInOrder}
 use Rattle.opc_policy.proofs.Placed.{set_in_place, insert_in_place, stays_in_order}
 use Rattle.opc_policy.proofs.entries.Entries.set.Goals as goal

@@ -1,4 +1,4 @@
-use Rattle.std.proofs.Common.{◌≡◌, ◌∷◌, [], ◌++◌, List, map, refl, sym, ap, ◌∙◌, subst, append-nil, arith, rules}
+use Rattle.std.proofs.Common.{◌≡◌, ◌∷◌, ◌++◌, List, map, refl, sym, ap, ◌∙◌, append-nil, arith, rules}
 use Rattle.std.specs.Map.Iter.{deref}
 use Rattle.std.specs.Option.{option_copied}
 use Rattle.std.proofs.lemmas.Bool.{false≢true}
@@ -7,7 +7,7 @@ use Rattle.std.proofs.lemmas.Map.Iter.{rest_so_far}
 use Rattle.std.proofs.lemmas.Result.{IfOk-weaker}
 use Rattle.opc_policy.specs.Examined.{is_chosen}
 use Rattle.opc_policy.specs.declared.profile.Profile.{Profile}
-use Rattle.opc_policy.proofs.FirstCovering.{Unfound, chosen_order, none_found, unfound_now, read_now, unfound_more, few_rows, covered_text, uncovered_text}
+use Rattle.opc_policy.proofs.FirstCovering.{chosen_order, none_found, unfound_now, read_now, unfound_more, few_rows, covered_text, uncovered_text}
 use Rattle.opc_policy.proofs.profiles.Profiles.first_chosen.Goals as goal
 
 pub overflow_add-rows : goal.overflow_add-rows

@@ -1,5 +1,4 @@
 use Rattle.std.proofs.Common.{◌∙◌, ap}
-use Rattle.std.specs.Map.{values_of}
 use Rattle.opc_policy.proofs.ProfilesByKey.{AreByKey-insert, values-with_profile}
 use Rattle.opc_policy.specs.Profiles.{with_profile}
 use Rattle.opc_policy.proofs.profiles.Profiles.put.Goals as goal

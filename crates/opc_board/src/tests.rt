@@ -2,7 +2,6 @@
 mod consoles;
 mod days;
 mod devices;
-mod facts;
 mod replies;
 mod units;
 

@@ -8,32 +8,57 @@ use std::alloc::Global;
 use std::rt::Clock;
 use std::time::Instant;
 
-/// How often each file is read.
-const TIMES: u32 = 50;
+/// The most bytes of a policy file that the program reads.
+const LARGEST: usize = 16_777_216;
 
 pub fn run<R: Print + Clock + AllocGlobal>(rt: &R, timed: bool) -> Result<()> {
     for count in [100, 1_000, 10_000] {
-        bench(rt, count, timed)?;
+        let text = written(rt, count, timed)?;
+        bench(rt, &text, 50, timed)?;
     }
-    Ok(())
+    let text = padded(written(rt, 10_000, false)?)?;
+    bench(rt, &text, 2, timed)
 }
 
-/// Writes the file of so many rows, and reads it.
-fn bench<R: Print + Clock + AllocGlobal>(rt: &R, count: u32, timed: bool) -> Result<()> {
+/// The file of so many rows.
+fn written<R: Print + Clock + AllocGlobal>(rt: &R, count: u32, timed: bool) -> Result<String> {
     let rows = policy_rows(rt.alloc(), count)?;
     let start = Instant::now(rt)?;
     let text = write_policy(rt.alloc(), rows.as_slice())?;
-    let writing = start.elapsed(rt)?;
+    let writing = start.elapsed(rt)?.as_micros();
+    if timed {
+        println!(rt; "written in {writing} microseconds")?;
+    }
+    Ok(text)
+}
+
+/// The same rows in the largest file: with empty lines behind them.
+fn padded(text: String) -> Result<String> {
+    let mut bytes = text.into_bytes();
+    bytes.resize(LARGEST, b'\n')?;
+    match String::from_utf8(bytes) {
+        Ok(text) => Ok(text),
+        Err(_) => Err(anyhow!("no text")),
+    }
+}
+
+/// Reads a file so many times, as records alone and as rows.
+fn bench<R: Print + Clock + AllocGlobal>(
+    rt: &R,
+    text: &str,
+    times: u32,
+    timed: bool,
+) -> Result<()> {
     let mut records = 0;
     let start = Instant::now(rt)?;
-    for _ in 0..TIMES {
+    for _ in 0..times {
         records = count_records(rt.alloc(), text.as_bytes())?;
     }
     let scanning = start.elapsed(rt)?;
     let mut read = 0;
     let start = Instant::now(rt)?;
-    for _ in 0..TIMES {
-        match read_policy(rt.alloc(), text.as_str()) {
+    for _ in 0..times {
+        match read_policy(rt.alloc(), text) {
             Ok(rows) => read = rows.len(),
             Err(fault) => return Err(anyhow!("{fault:?}")),
         }
@@ -42,12 +67,9 @@ fn bench<R: Print + Clock + AllocGlobal>(rt: &R, count: u32, timed: bool) -> Res
     let bytes = text.len();
     println!(rt; "file of {bytes} bytes: {records} records, {read} rows")?;
     if timed {
-        let writing = writing.as_micros();
-        let scanning = scanning.as_micros() / u128::from(TIMES);
-        let reading = reading.as_micros() / u128::from(TIMES);
-        println!(rt;
-            "  written in {writing} microseconds, records in {scanning}, rows in {reading}"
-        )?;
+        let scanning = scanning.as_micros() / u128::from(times);
+        let reading = reading.as_micros() / u128::from(times);
+        println!(rt; "  records in {scanning} microseconds, rows in {reading}")?;
     }
     Ok(())
 }

@@ -73,7 +73,7 @@ pub fn run<R: Read, W: Write, E: Write>(
     };
     match answer(alloc, &question, input) {
         Ok(explained) => print(alloc, &explained, output, errors),
-        Err(fault) => tell(alloc, &fault, errors),
+        Err(fault) => tell(&fault, errors),
     }
 }
 
@@ -125,10 +125,10 @@ fn print<W: Write, E: Write>(
     ensures { result ≤ 3 }
 {
     let Ok(text) = format!(in alloc; "{explained}") else {
-        return tell(alloc, &Fault::NoMemory, errors);
+        return tell(&Fault::NoMemory, errors);
     };
     if output.write_all(text.as_bytes()).is_err() {
-        return tell(alloc, &Fault::Store, errors);
+        return tell(&Fault::Store, errors);
     }
     if explained.verdict == Verdict::Denied {
         REFUSED

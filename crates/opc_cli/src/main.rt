@@ -27,7 +27,7 @@ fn run(rt: &HostRuntime) -> u8 {
             &mut errors,
         ),
         Err(error) if error.kind() == ErrorKind::OutOfMemory => {
-            streams::tell(rt.alloc(), &Fault::NoMemory, &mut errors)
+            streams::tell(&Fault::NoMemory, &mut errors)
         }
         Err(_) => {
             let _ = writeln!(errors, "error: a word is not UTF-8");

@@ -2,10 +2,15 @@
 ghost use Rattle.std.specs.Prelude.{◌≡◌, ◌+◌, ◌≤◌, IfOk, IfSome, take};
 ghost use Rattle.opc_cli.specs.Statuses.{status_of};
 
+use arrayvec::ArrayString;
 use opc_policy::fault::Fault;
 use std::alloc::Global;
+use std::fmt::Write as _;
 use std::io;
 use std::io::{Read, Write};
+
+/// More bytes than the line of any fault has, which names at most one user, rule or profile.
+const FAULT_LINE: usize = 160;
 
 /// The statuses of the program.
 pub const DONE: u8 = 0;
@@ -27,13 +32,14 @@ pub fn status_of(fault: &Fault) -> u8
     }
 }
 
-/// Tells a fault, as its code and its text, and answers its status.
-pub fn tell<E: Write>(alloc: Global, fault: &Fault, errors: &mut E) -> u8
+/// Tells a fault, as its code and its text, and answers its status. Takes no memory, so that want of it can be told.
+pub fn tell<E: Write>(fault: &Fault, errors: &mut E) -> u8
     ensures { result ≡ status_of fault.now }
 {
+    let mut line = ArrayString::<FAULT_LINE>::new();
     // The status tells the fault too, where no word can be printed.
-    if let Ok(line) = format!(in alloc; "{} {fault}\n", fault.code()) {
-        let _ = errors.write_all(line.as_bytes());
+    if writeln!(line, "{} {fault}", fault.code()).is_ok() {
+        let _ = errors.write_all(line.as_str().as_bytes());
     }
     status_of(fault)
 }

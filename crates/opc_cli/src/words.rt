@@ -72,7 +72,7 @@ pub fn run_words<T: AllocGlobal, R: Read, W: Write, E: Write>(
     let alloc = rt.alloc();
     let matches = match matches_of(alloc, words) {
         Ok(matches) => matches,
-        Err(error) => return tell_words(alloc, &error, output, errors),
+        Err(error) => return tell_words(&error, output, errors),
     };
     if let Some(chosen) = matches.subcommand_matches("explain") {
         return explain::run(alloc, chosen, input, output, errors);
@@ -82,7 +82,6 @@ pub fn run_words<T: AllocGlobal, R: Read, W: Write, E: Write>(
 
 // What `clap` says: help to the output, a mistake to the errors.
 fn tell_words<W: Write, E: Write>(
-    alloc: Global,
     error: &Error,
     output: &mut W,
     errors: &mut E,
@@ -90,7 +89,7 @@ fn tell_words<W: Write, E: Write>(
     ensures { result ≤ 3 }
 {
     if error.kind() == ErrorKind::OutOfMemory {
-        return tell(alloc, &Fault::NoMemory, errors);
+        return tell(&Fault::NoMemory, errors);
     }
     if error.use_stderr() {
         let _ = write!(errors, "{error}");
@@ -98,6 +97,6 @@ fn tell_words<W: Write, E: Write>(
     }
     match write!(output, "{error}") {
         Ok(()) => DONE,
-        Err(_) => tell(alloc, &Fault::Store, errors),
+        Err(_) => tell(&Fault::Store, errors),
     }
 }

@@ -15,11 +15,12 @@ use arrayvec::ArrayVec;
 pub type SortKey = Bytes<40>;
 
 impl Pattern {
-    /// Whether the pattern covers a resource.
+    /// Whether the pattern covers a resource. Most patterns that don't are known by their heads.
     pub fn covers(&self, resource: &Resource) -> bool
         ensures { IsTrue result ↔ CoversText self.now resource.now }
     {
-        cover::covers(self.text(), resource.text())
+        let (pattern, name) = (self.text(), resource.text());
+        name.as_bytes().starts_with(self.head().as_bytes()) && cover::covers(pattern, name)
     }
 
     /// Whether the pattern comes before another one.

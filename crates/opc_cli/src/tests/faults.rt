@@ -1,6 +1,5 @@
 //! Policy files and outputs that fail: the fault that is told, and the status.
-use super::runs::{DIGEST, HEADER, POLICY, run_on};
-use crate::words::run_words;
+use super::runs::{DIGEST, HEADER, POLICY, run_on, run_to};
 use std::alloc::AllocError;
 use std::io;
 use std::io::Write;
@@ -142,13 +141,7 @@ impl Write for Closed {
 #[test]
 fn closed_output(rt: HostRuntime) -> Result<(), Fail> {
     let file = with_row(&rt, "group,,DAY,,,,,")?;
-    let mut words = Vec::new(rt.alloc());
-    words.push(String::from_str(rt.alloc(), "opcmds")?)?;
-    for word in WORDS {
-        words.push(String::from_str(rt.alloc(), word)?)?;
-    }
-    let mut errors = Vec::new(rt.alloc());
-    let status = run_words(&rt, &words, &mut file.as_bytes(), &mut Closed, &mut errors);
+    let (status, errors) = run_to(&rt, &WORDS, file.as_bytes(), &mut Closed)?;
     assert_eq!(rt; errors.as_slice(), b"E91 Store\n".as_slice());
     assert_eq!(rt; status, 3);
     Ok(())

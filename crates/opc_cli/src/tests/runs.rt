@@ -1,8 +1,8 @@
 //! One run of the program, over streams in memory.
+use crate::streams::FAILED;
 use crate::words::run_words;
 use std::alloc::AllocError;
-use std::io;
-use std::io::{Read, Write};
+use std::io::Write;
 
 /// What a run printed, and its status.
 #[derive(Drop)]
@@ -37,15 +37,30 @@ fn owned(rt: &impl AllocGlobal, words: &[&str]) -> Result<Vec<String>, AllocErro
     Ok(list)
 }
 
-pub(super) fn run_on(
+/// Runs the program on an output of the caller's, and gives its status and what it says to the errors. Where it says
+/// want of memory, that is the answer.
+pub(super) fn run_to<W: Write>(
     rt: &impl AllocGlobal,
     words: &[&str],
     mut input: &[u8],
-) -> Result<Run, AllocError> {
+    output: &mut W,
+) -> Result<(u8, Vec<u8>), AllocError> {
     let words = owned(rt, words)?;
-    let mut output = Vec::new(rt.alloc());
     let mut errors = Vec::new(rt.alloc());
-    let status = run_words(rt, &words, &mut input, &mut output, &mut errors);
+    let status = run_words(rt, &words, &mut input, output, &mut errors);
+    if status == FAILED && errors.as_slice() == b"E90 NoMemory\n".as_slice() {
+        return Err(AllocError);
+    }
+    Ok((status, errors))
+}
+
+pub(super) fn run_on(
+    rt: &impl AllocGlobal,
+    words: &[&str],
+    input: &[u8],
+) -> Result<Run, AllocError> {
+    let mut output = Vec::new(rt.alloc());
+    let (status, errors) = run_to(rt, words, input, &mut output)?;
     Ok(Run {
         status,
         output,

@@ -3,6 +3,7 @@ pub mod Copies
 pub mod CoveredSuffixes
 pub mod Faults
 pub mod FewParts
+pub mod Fronts
 pub mod Heads
 pub mod Keys
 pub mod KeysDiffer

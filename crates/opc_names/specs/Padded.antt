@@ -1,5 +1,5 @@
--- Bytes in an array, with zeros behind them. The model of `Bytes` cites this page, no contract does.
-use Rattle.std.specs.Prelude.{◌≡◌, ℕ, ◌-◌, ◌≤◌, List, ◌++◌, length, take, drop, replicate}
+-- Bytes in an array, with zeros behind them. The model of `Bytes` cites this page, and inner contracts do.
+use Rattle.std.specs.Prelude.{◌≡◌, ℕ, ◌+◌, ◌*◌, ◌-◌, ◌≤◌, ◌<◌, List, [], ◌∷◌, ◌++◌, length, take, drop, replicate}
 use Rattle.std.proofs.Common.{arith}
 use Rattle.std.proofs.lemmas.List.{take-append-drop, length-take-le}
 
@@ -18,3 +18,11 @@ length-padded n len bytes h = length-take-le len bytes (omega (arith, h.fits, h.
 
 pub padded-take : (n len : ℕ) (bytes : List ℕ) → IsPadded n len bytes → padded_to n (take len bytes) ≡ bytes
 padded-take n len bytes h = rw (length-padded n len bytes h, ← h.zeros) (take-append-drop len bytes)
+
+-- bytes as the digits of a number, behind those of n
+abbrev pub number_behind : ℕ → List ℕ → ℕ
+number_behind n [] = n
+number_behind n (b ∷ bytes) = number_behind (n * 256 + b) bytes
+
+abbrev pub IsByte : ℕ → Type 0
+IsByte b = b < 256

@@ -4,6 +4,8 @@ ghost use Rattle.std.specs.Prelude.{Some, nat_eq, refl};
 ghost use Rattle.std.specs.Cmp.{partial_equiv_from_equiv};
 ghost use Rattle.std.specs.Cmp.Lexicographic.{pointwise, slice_cmp, nat_list_eq_equiv, nat_list_cmp_total, texts_po, texts_ties};
 ghost use Rattle.std.specs.Ordering.{nat_cmp};
+ghost use Rattle.std.specs.List.{AllByRecursion};
+ghost use Rattle.opc_names.specs.Padded.{number_behind, IsByte};
 
 use std::cmp::Ordering;
 use std::marker::Model;
@@ -87,6 +89,22 @@ impl<const N: usize> Ord for Bytes<N> {
     ghost matches_eq = { texts_ties };
 
     fn cmp(&self, other: &Self) -> Ordering {
+        let (ours, theirs) = (front(&self.room), front(&other.room));
+        if ours != theirs {
+            return ours.cmp(&theirs);
+        }
         self.as_slice().cmp(other.as_slice())
+    }
+}
+
+/// The first eight bytes as a number, which is faster to compare; 0 where there are fewer.
+fn front(room: &[u8]) -> u64
+    ensures short { length room.now < 8 → result ≡ 0 }
+    ensures value { 8 ≤ length room.now → result ≡ number_behind 0 (take 8 room.now) }
+    ensures bytes { 8 ≤ length room.now → AllByRecursion IsByte (take 8 room.now) }
+{
+    match room {
+        [a, b, c, d, e, f, g, h, ..] => u64::from_be_bytes([*a, *b, *c, *d, *e, *f, *g, *h]),
+        _ => 0,
     }
 }

@@ -183,13 +183,13 @@ impl Policy {
         ensures memory { IfErr result (λ fault. fault ≡ NoMemory → IsOk (after_row (rows.Permit class pattern.now entry.id entry.level) self.old)) }
         ensures unchanged { OnErr result (self.new ≡ self.old) }
     {
-        if self.profiles.get(class, pattern).is_none() {
-            return Err(Fault::Missing(Subject::of(pattern)));
-        }
-        if !self.has_holder(&entry.id) {
+        // A row that both of them are missing for names the profile.
+        if !self.has_holder(&entry.id) && self.profiles.get(class, pattern).is_some() {
             return Err(Fault::Missing(Subject::of_entry(&entry.id)));
         }
-        self.profiles.permit(class, pattern, entry)?;
+        if !self.profiles.permit(class, pattern, entry)? {
+            return Err(Fault::Missing(Subject::of(pattern)));
+        }
         Ok(())
     }
 

@@ -1,9 +1,9 @@
 //! The profiles of a policy.
-ghost use Rattle.std.specs.Prelude.{◌≡◌, ◌<◌, ◌^◌, [], OnOk, OnErr, length};
+ghost use Rattle.std.specs.Prelude.{◌≡◌, ◌<◌, ◌^◌, [], IfOk, OnOk, OnErr, is_some, length, true};
 ghost use Rattle.std.specs.Option.{option_copied};
 ghost use Rattle.opc_names.specs.Order.{sort_key};
 ghost use Rattle.opc_policy.specs.Deciding.{AreProfiles, AreMostSpecificFirst};
-ghost use Rattle.opc_policy.specs.Profiles.{profile_of, with_profile, with_definition, with_permission};
+ghost use Rattle.opc_policy.specs.Profiles.{profile_of, with_definition, with_permission};
 
 use crate::entry::Entry;
 use crate::profile::Profile;
@@ -59,49 +59,45 @@ impl Profiles {
         self.by_key.get(&(class, pattern.sort_key()))
     }
 
-    /// One more profile, in the place of one of its class and pattern.
-    fn put(&mut self, profile: Profile) -> Result<(), AllocError>
-        ensures ok { OnOk result (self.new ≡ with_profile profile self.old) }
-        ensures err { OnErr result (self.new ≡ self.old) }
-    {
-        let key = profile.pattern.sort_key();
-        self.by_key.insert((profile.class, key), profile)?;
-        Ok(())
-    }
-
     /// One more profile. Where there is one of its class and pattern, it takes its place and keeps the access
     /// list that is there (RACF guide: RDEFINE and RALTER).
     pub fn define(&mut self, profile: Profile) -> Result<(), AllocError>
         ensures ok { OnOk result (self.new ≡ with_definition profile self.old) }
         ensures err { OnErr result (self.new ≡ self.old) }
     {
-        let key = profile.pattern.sort_key();
-        match self.by_key.get_mut(&(profile.class, key)) {
+        let key = (profile.class, profile.pattern.sort_key());
+        match self.by_key.get_mut(&key) {
             Some(stored) => {
                 stored.owner = profile.owner;
                 stored.uacc = profile.uacc;
                 stored.warning = profile.warning;
                 Ok(())
             }
-            None => self.put(profile),
+            None => {
+                self.by_key.insert(key, profile)?;
+                Ok(())
+            }
         }
     }
 
-    /// One more entry in the access list of a profile, in the place of one for its id (RACF guide: PERMIT). Where
-    /// there is no such profile nothing changes.
+    /// One more entry in the access list of a profile, in the place of one for its id (RACF guide: PERMIT), and
+    /// whether there is such a profile. Where there is none nothing changes.
     pub fn permit(
         &mut self,
         class: Class,
         pattern: &Pattern,
         entry: Entry,
-    ) -> Result<(), AllocError>
+    ) -> Result<bool, AllocError>
         ensures ok { OnOk result (self.new ≡ with_permission class pattern.now entry self.old) }
+        ensures found { IfOk result (λ found. found ≡ is_some (profile_of self.old class pattern.now)) }
         ensures err { OnErr result (self.new ≡ self.old) }
+        ensures there { OnErr result (is_some (profile_of self.old class pattern.now) ≡ true) }
     {
         let key = pattern.sort_key();
         let Some(stored) = self.by_key.get_mut(&(class, key)) else {
-            return Ok(());
+            return Ok(false);
         };
-        stored.entries.set(entry)
+        stored.entries.set(entry)?;
+        Ok(true)
     }
 }

@@ -65,3 +65,14 @@ passes-find p x (y ∷ ys) found = go (p y) refl found (passes-find p x ys)
     go : (b : Bool) → p y ≡ b → cond b (Some y) (find p ys) ≡ Some x → (find p ys ≡ Some x → p x ≡ true) → p x ≡ true
     go true at same later = let e : y ≡ x = cc in ap p (sym e) ∙ at
     go false at same later = later same
+
+-- of two that are put in one place, the second stays
+pub replaced-twice : {X : Type 0} (cmp : X → X → Ordering) (v w : X) → ((x : X) → cmp w x ≡ cmp v x) → cmp w v ≡ Equal → (xs : List X) → replace_key cmp (replace_key cmp xs v) w ≡ replace_key cmp xs w
+replaced-twice cmp v w alike tie [] = rw tie refl
+replaced-twice {X} cmp v w alike tie (x ∷ xs) = go (cmp v x) refl (replaced-twice cmp v w alike tie xs)
+  where
+    go : (o : Ordering) → cmp v x ≡ o → replace_key cmp (replace_key cmp xs v) w ≡ replace_key cmp xs w
+        → replace_key cmp (match_ordering o (v ∷ x ∷ xs) (v ∷ xs) (x ∷ replace_key cmp xs v)) w ≡ match_ordering (cmp w x) (w ∷ x ∷ xs) (w ∷ xs) (x ∷ replace_key cmp xs w)
+    go Less at later = rw (tie, alike x, at) refl
+    go Equal at later = rw (tie, alike x, at) refl
+    go Greater at later = rw (alike x, at) (ap (λ ys. x ∷ ys) later)

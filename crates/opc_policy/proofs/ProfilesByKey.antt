@@ -1,7 +1,7 @@
 -- Profiles that are kept at their classes and sort keys.
 use Rattle.std.proofs.Common.{◌≡◌, refl, sym, ap, subst, ◌∙◌, ℕ, Bool, true, false, ◌&&◌, List, Some, None}
 use Rattle.std.specs.BTreeMap.{insert_entry, is_at}
-use Rattle.std.specs.Cmp.{both_ways, IsTotalOrder, nat_cmp_total, then_total, on_total}
+use Rattle.std.specs.Cmp.{both_ways, IsTotalOrder, nat_cmp_total, then_total, on_total, tied_itself}
 use Rattle.std.specs.Cmp.Lexicographic.{slice_cmp, texts_ties, nat_list_cmp_total}
 use Rattle.std.specs.List.Sorted.{IsStrictlySortedBy}
 use Rattle.std.specs.Map.{keys_of, lookup, set_value, values_of}
@@ -17,11 +17,11 @@ use Rattle.opc_names.specs.contracts.class.ClassOrd.TheImpl.{ghosts}
 use Rattle.opc_names.specs.declared.class.Class.{Class}
 use Rattle.opc_names.specs.declared.class.Class.TheVariants.{Console, Opercmds}
 use Rattle.opc_names.proofs.KeysDiffer.{keys_differ}
-use Rattle.opc_policy.proofs.Maps.{lookup-values, values-insert, All-insert, All-weaker, passes-find, set-insert}
+use Rattle.opc_policy.proofs.Maps.{lookup-values, values-insert, All-insert, All-weaker, passes-find, set-insert, replaced-twice}
 use Rattle.opc_policy.specs.declared.entry.Entry.{Entry}
 use Rattle.opc_policy.specs.declared.profile.Profile.{Profile}
 use Rattle.opc_policy.specs.Access.{with_entry}
-use Rattle.opc_policy.specs.Profiles.{class_cmp, pattern_cmp, profile_cmp, is_of, profile_of, with_profile, with_definition, with_permission}
+use Rattle.opc_policy.specs.Profiles.{class_cmp, pattern_cmp, profile_cmp, is_of, profile_of, with_profile, with_permission}
 use Rattle.opc_policy.specs.Stored.{IsAtItsKey, AreByKey}
 
 -- keys as the map compares them
@@ -106,13 +106,6 @@ same_of class pattern profile h = go profile.class class refl refl h
 pub profile_of-is : (class : Class) (pattern : List ℕ) (profiles : List Profile) (profile : Profile) → profile_of profiles class pattern ≡ Some profile → (profile.class ≡ class) × (profile.pattern ≡ pattern)
 profile_of-is class pattern profiles profile found = same_of class pattern profile (passes-find (is_of class pattern) profile profiles found)
 
--- a profile with another owner, universal access and warning
-abbrev pub redefined : Profile → Profile → Profile
-redefined old profile = record { class = old.class; pattern = old.pattern; owner = profile.owner; uacc = profile.uacc; warning = profile.warning; entries = old.entries }
-
-pub redefined-is : (old profile : Profile) → old.class ≡ profile.class → old.pattern ≡ profile.pattern → redefined old profile ≡ record profile { entries = old.entries }
-redefined-is old profile a b = rw (a, b) refl
-
 -- a profile that is written where the one of its class and pattern is
 written : (class : Class) (pattern : List ℕ) (old new : Profile) (es : List ((Class × List ℕ) × Profile)) → IsPattern pattern → IsStrictlySortedBy key_cmp (keys_of es) → AreByKey es → profile_of (values_of es) class pattern ≡ Some old → new.class ≡ class → new.pattern ≡ pattern
     → set_value (is_at (key_cmp (class, sort_key pattern))) es new ≡ insert_entry key_cmp es (new.class, sort_key new.pattern) new
@@ -130,22 +123,14 @@ pub AreByKey-written : (class : Class) (pattern : List ℕ) (old new : Profile) 
 AreByKey-written class pattern old new es valid sorted h found a b =
     rw (written class pattern old new es valid sorted h found a b) (AreByKey-insert new es (rw b valid) h)
 
-pub values-redefined : (profile old : Profile) (es : List ((Class × List ℕ) × Profile)) → IsPattern profile.pattern → IsStrictlySortedBy key_cmp (keys_of es) → AreByKey es → profile_of (values_of es) profile.class profile.pattern ≡ Some old
-    → values_of (set_value (is_at (key_cmp (profile.class, sort_key profile.pattern))) es (redefined old profile)) ≡ with_definition profile (values_of es)
-values-redefined profile old es valid sorted h found =
-    let is = profile_of-is profile.class profile.pattern (values_of es) old found in
-    let new : Profile = record profile { entries = old.entries } in
-    rw (redefined-is old profile is.0 is.1, found) (values-written profile.class profile.pattern old new es valid sorted h found refl refl)
+class_itself : (c : Class) → class_cmp c c ≡ Equal
+class_itself Console = refl
+class_itself Opercmds = refl
 
-pub AreByKey-redefined : (profile old : Profile) (es : List ((Class × List ℕ) × Profile)) → IsPattern profile.pattern → IsStrictlySortedBy key_cmp (keys_of es) → AreByKey es → profile_of (values_of es) profile.class profile.pattern ≡ Some old
-    → AreByKey (set_value (is_at (key_cmp (profile.class, sort_key profile.pattern))) es (redefined old profile))
-AreByKey-redefined profile old es valid sorted h found =
-    let is = profile_of-is profile.class profile.pattern (values_of es) old found in
-    AreByKey-written profile.class profile.pattern old (redefined old profile) es valid sorted h found is.0 is.1
-
--- a profile that is new keeps its own access list
-pub with_new_definition : (profile : Profile) (profiles : List Profile) → profile_of profiles profile.class profile.pattern ≡ None → with_profile profile profiles ≡ with_definition profile profiles
-with_new_definition profile profiles found = rw found refl
+-- a profile that is put, and then again with another access list
+pub put-twice : (profile : Profile) (entries : List Entry) (profiles : List Profile) → with_profile (record profile { entries = entries }) (with_profile profile profiles) ≡ with_profile (record profile { entries = entries }) profiles
+put-twice profile entries profiles =
+    replaced-twice profile_cmp profile (record profile { entries = entries }) (λ x. refl) (rw (class_itself profile.class) (tied_itself nat_list_cmp_total (sort_key profile.pattern))) profiles
 
 -- a profile with one more entry
 abbrev pub permitted : Profile → List Entry → Profile

@@ -1,9 +1,9 @@
 //! The profiles of a policy.
-ghost use Rattle.std.specs.Prelude.{◌≡◌, ◌<◌, ◌^◌, [], IfOk, OnOk, OnErr, is_some, length, true};
+ghost use Rattle.std.specs.Prelude.{◌≡◌, ◌<◌, ◌^◌, [], IfOk, OnOk, OnErr, is_some, length, true, Some, None};
 ghost use Rattle.std.specs.Option.{option_copied};
 ghost use Rattle.opc_names.specs.Order.{sort_key};
 ghost use Rattle.opc_policy.specs.Deciding.{AreProfiles, AreMostSpecificFirst};
-ghost use Rattle.opc_policy.specs.Profiles.{profile_of, with_definition, with_permission};
+ghost use Rattle.opc_policy.specs.Profiles.{profile_of, with_profile, with_definition, with_permission};
 
 use crate::entry::Entry;
 use crate::profile::Profile;
@@ -59,25 +59,38 @@ impl Profiles {
         self.by_key.get(&(class, pattern.sort_key()))
     }
 
+    /// One more profile, in the place of one of its class and pattern, which is the answer.
+    fn put(&mut self, profile: Profile) -> Result<Option<Profile>, AllocError>
+        ensures ok { OnOk result (self.new ≡ with_profile profile self.old) }
+        ensures replaced { IfOk result (λ replaced. replaced ≡ profile_of self.old profile.class profile.pattern) }
+        ensures there { OnOk result (profile_of self.new profile.class profile.pattern ≡ Some profile) }
+        ensures err { OnErr result (self.new ≡ self.old) }
+        ensures absent { OnErr result (profile_of self.old profile.class profile.pattern ≡ None) }
+    {
+        let key = (profile.class, profile.pattern.sort_key());
+        let replaced = self.by_key.insert(key, profile)?;
+        Ok(replaced)
+    }
+
     /// One more profile. Where there is one of its class and pattern, it takes its place and keeps the access
     /// list that is there (RACF guide: RDEFINE and RALTER).
     pub fn define(&mut self, profile: Profile) -> Result<(), AllocError>
         ensures ok { OnOk result (self.new ≡ with_definition profile self.old) }
         ensures err { OnErr result (self.new ≡ self.old) }
     {
-        let key = (profile.class, profile.pattern.sort_key());
-        match self.by_key.get_mut(&key) {
-            Some(stored) => {
-                stored.owner = profile.owner;
-                stored.uacc = profile.uacc;
-                stored.warning = profile.warning;
-                Ok(())
-            }
-            None => {
-                self.by_key.insert(key, profile)?;
-                Ok(())
-            }
+        let (class, pattern, owner) = (profile.class, profile.pattern, profile.owner);
+        let (uacc, warning) = (profile.uacc, profile.warning);
+        if let Some(replaced) = self.put(profile)? {
+            self.put(Profile {
+                class,
+                pattern,
+                owner,
+                uacc,
+                warning,
+                entries: replaced.entries,
+            })?;
         }
+        Ok(())
     }
 
     /// One more entry in the access list of a profile, in the place of one for its id (RACF guide: PERMIT), and

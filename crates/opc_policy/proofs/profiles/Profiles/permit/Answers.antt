@@ -4,7 +4,6 @@ use Rattle.std.specs.Option.{option_copied_mut}
 use Rattle.std.proofs.lemmas.Map.Steps.{set_value_same}
 use Rattle.std.proofs.lemmas.Result.{err_from_is_err_and}
 use Rattle.opc_policy.proofs.ProfilesByKey.{lookup-profile, permitted, values-permitted, AreByKey-permitted, without_profile}
-use Rattle.opc_policy.specs.Access.{with_entry}
 use Rattle.opc_policy.specs.Profiles.{profile_of, with_permission}
 use Rattle.opc_policy.proofs.profiles.Profiles.permit.Goals as goal
 

@@ -2,6 +2,7 @@
 mod consoles;
 mod days;
 mod devices;
+mod facts;
 mod replies;
 mod units;
 
@@ -142,7 +143,11 @@ fn act(
     }
 }
 
+// Want of memory is told in no run: it ends the test by its name.
 fn tell_fault(told: &mut String, fault: BoardFault) -> Result<(), Fail> {
+    if fault == BoardFault::NoMemory {
+        return Err(Fail::from(fault));
+    }
     writeln!(told, "  {fault:?}")?;
     Ok(())
 }

@@ -1,18 +1,18 @@
 -- The facts of a board are kept.
-use Rattle.std.proofs.Common.{◌≡◌, ℕ, Some, None, Option, Bool, true, false, not, cond, List, [], ◌∷◌, refl, ap, sym, ◌∙◌, subst, filter, map, IfSome, ◌&&◌, ◌==◌, arith}
+use Rattle.std.proofs.Common.{◌≡◌, ℕ, Some, None, Option, Bool, true, false, not, cond, List, refl, ap, sym, ◌∙◌, subst, filter, ◌==◌, arith}
 use Rattle.std.specs.Option.{is_some}
-use Rattle.std.specs.List.{find, list_any, AllByRecursion}
+use Rattle.std.specs.List.{list_any}
 use Rattle.std.specs.Ordering.{nat_cmp, is_lt}
 use Rattle.std.proofs.lemmas.Bool.{false≢true}
 use Rattle.std.proofs.lemmas.Bool.Decides.{nat_tests}
-use Rattle.opc_rows.specs.Ordered.{Ascends, put, changed}
+use Rattle.opc_rows.specs.Ordered.{put, changed}
 use Rattle.opc_rows.proofs.Orders.{all_weaker, all_map, all_put, all_changed, all_found, ascends_filter, ascends_map, ascends_changed, ascends_put, find_put, find_filter, find_none, find_changed, changed_is_map, any_of_map}
 use Rattle.opc_board.specs.declared.rows.UnitRow.{UnitRow}
 use Rattle.opc_board.specs.declared.rows.DeviceRow.{DeviceRow}
 use Rattle.opc_board.specs.declared.rows.ConsoleRow.{ConsoleRow}
 use Rattle.opc_board.specs.declared.rows.ReplyRow.{ReplyRow}
 use Rattle.opc_board.specs.declared.board.BoardRows.{BoardRows}
-use Rattle.opc_board.specs.Facts.{Name, is, earlier, unit_before, device_before, console_before, reply_before, unit_in, unit_at, device_at, console_at, reply_at, IsHeld, IsHeldRightly, AreFacts, IsBoard, is_master, has_master}
+use Rattle.opc_board.specs.Facts.{Name, is, earlier, unit_before, device_before, console_before, reply_before, unit_in, unit_at, device_at, console_at, reply_at, IsHeld, IsHeldRightly, IsBoard, is_master, has_master}
 use Rattle.opc_board.specs.Units.{is_holder, freed, without_unit, at_unit}
 use Rattle.opc_board.specs.Devices.{with_device}
 use Rattle.opc_board.specs.Consoles.{replaced, with_console, at_console}

@@ -1,5 +1,5 @@
 -- What becomes of devices.
-use Rattle.std.specs.Prelude.{Bool, true, false, not, List, [], ◌∷◌, Option, Some, None}
+use Rattle.std.specs.Prelude.{Bool, true, false, not, List, [], ◌∷◌, Some, None}
 use Rattle.std.specs.Option.{is_some, is_none}
 use Rattle.opc_rows.specs.Ordered.{put, changed}
 use Rattle.opc_board.specs.declared.rows.DeviceRow.{DeviceRow}

@@ -4,11 +4,10 @@ use Rattle.std.specs.Option.{is_some}
 use Rattle.std.specs.List.{list_any}
 use Rattle.opc_rows.specs.Ordered.{put}
 use Rattle.opc_board.specs.declared.rows.UnitRow.{UnitRow}
-use Rattle.opc_board.specs.declared.rows.ReplyRow.{ReplyRow}
 use Rattle.opc_board.specs.declared.board.BoardRows.{BoardRows}
 use Rattle.opc_board.specs.declared.fault.BoardFault.{BoardFault}
 use Rattle.opc_board.specs.declared.fault.BoardFault.TheVariants.{NoReply, NoTarget, Halted, ReplyExists}
-use Rattle.opc_board.specs.Facts.{Name, is, reply_before, unit_at, reply_at}
+use Rattle.opc_board.specs.Facts.{Name, reply_before, unit_at, reply_at}
 use Rattle.opc_board.specs.Units.{is_tsu, is_holder}
 use Rattle.opc_board.specs.Outcome.{Outcome, done, done_with, faults_or, found, ◌>>=◌}
 use Rattle.opc_board.specs.Texts.{reply_line}

@@ -1,4 +1,4 @@
-use Rattle.std.proofs.Common.{sym, ap, ◌∙◌, subst}
+use Rattle.std.proofs.Common.{sym, ap, ◌∙◌}
 use Rattle.std.specs.Option.{option_copied}
 use Rattle.opc_board.proofs.Kept.{device_held}
 use Rattle.opc_board.proofs.board.Board.device.Goals as goal

@@ -1,4 +1,4 @@
-use Rattle.std.proofs.Common.{◌≡◌, Some, None, true, rules, refl}
+use Rattle.std.proofs.Common.{◌≡◌, rules, refl}
 use Rattle.opc_rows.specs.Ordered.{changed}
 use Rattle.opc_board.specs.Facts.{is}
 use Rattle.opc_board.specs.declared.rows.ConsoleRow.{ConsoleRow}

@@ -67,8 +67,8 @@ fn bench<R: Print + Clock + AllocGlobal>(
     let bytes = text.len();
     println!(rt; "file of {bytes} bytes: {records} records, {read} rows")?;
     if timed {
-        let scanning = scanning.as_micros() / u128::from(times);
-        let reading = reading.as_micros() / u128::from(times);
+        let times = u128::from(times.max(1));
+        let (scanning, reading) = (scanning.as_micros() / times, reading.as_micros() / times);
         println!(rt; "  records in {scanning} microseconds, rows in {reading}")?;
     }
     Ok(())

@@ -17,6 +17,9 @@ pub(super) const DIGEST: &str = "b5d4045c3f466fa91fe2cc6abe79232a1a57cdf104f7a26
 
 pub(super) const HEADER: &str = "kind,class,name,id,value,owner,flags,digest\n";
 
+/// More bytes than a run prints, so that what is printed needs no further memory.
+const PRINTED: usize = 4096;
+
 /// A policy with two profiles over jobs, one of which only warns.
 pub(super) const POLICY: &str = "class,OPERCMDS,,,ACTIVE,,,\n\
     group,,OPS,,,,,\n\
@@ -46,7 +49,7 @@ pub(super) fn run_to<W: Write>(
     output: &mut W,
 ) -> Result<(u8, Vec<u8>), AllocError> {
     let words = owned(rt, words)?;
-    let mut errors = Vec::new(rt.alloc());
+    let mut errors = Vec::with_capacity(rt.alloc(), PRINTED)?;
     let status = run_words(rt, &words, &mut input, output, &mut errors);
     if status == FAILED && errors.as_slice() == b"E90 NoMemory\n".as_slice() {
         return Err(AllocError);
@@ -59,7 +62,7 @@ pub(super) fn run_on(
     words: &[&str],
     input: &[u8],
 ) -> Result<Run, AllocError> {
-    let mut output = Vec::new(rt.alloc());
+    let mut output = Vec::with_capacity(rt.alloc(), PRINTED)?;
     let (status, errors) = run_to(rt, words, input, &mut output)?;
     Ok(Run {
         status,

@@ -81,11 +81,7 @@ pub fn run_words<T: AllocGlobal, R: Read, W: Write, E: Write>(
 }
 
 // What `clap` says: help to the output, a mistake to the errors.
-fn tell_words<W: Write, E: Write>(
-    error: &Error,
-    output: &mut W,
-    errors: &mut E,
-) -> u8
+fn tell_words<W: Write, E: Write>(error: &Error, output: &mut W, errors: &mut E) -> u8
     ensures { result ≤ 3 }
 {
     if error.kind() == ErrorKind::OutOfMemory {

@@ -1,5 +1,5 @@
 //! Command lines.
-ghost use Rattle.std.specs.Prelude.{◌≡◌, ◌≤◌, ◌<◌, ◌==◌, ◌↔◌, not, length, IfSome, IfNone, IfOk};
+ghost use Rattle.std.specs.Prelude.{◌≡◌, ◌≤◌, ◌<◌, ◌==◌, ◌↔◌, false, nat_lt, not, length, IfSome, IfNone, IfOk};
 ghost use Rattle.std.specs.List.{list_all, position, prefix_len, suffix_len};
 ghost use Rattle.std.specs.Str.{chars, IsAscii};
 ghost use Rattle.opc_reader.specs.declared.command.Command.{Command as TheCommand};
@@ -148,13 +148,20 @@ fn open_place(verb: Verb, s: &Piece<'_>) -> Option<usize>
     }
 }
 
+fn is_too_long(line: &str) -> bool
+    ensures value { result ≡ nat_lt 126 (length (chars line.now)) }
+    ensures short { result ≡ false → length (chars line.now) ≤ 126 }
+{
+    count_characters(line) > 126
+}
+
 fn read(line: &str) -> Result<Command<'_>, ReadFault>
     ensures { result ≡ reading line.now }
 {
     if is_blank(line.as_bytes()) {
         return Err(ReadFault::Empty);
     }
-    if count_characters(line) > 126 {
+    if is_too_long(line) {
         return Err(ReadFault::TooLong);
     }
     if let Some(at) = bad_place(line.as_bytes()) {

@@ -9,7 +9,7 @@ use std::fmt::Write as _;
 use std::io;
 use std::io::{Read, Write};
 
-/// More bytes than the line of any fault has, which names at most one user, rule or profile.
+/// More bytes than the line of any fault has: the longest name in one is a pattern of 39 characters.
 const FAULT_LINE: usize = 160;
 
 /// The statuses of the program.

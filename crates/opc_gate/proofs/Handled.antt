@@ -1,25 +1,61 @@
 -- A request handled, from the decision and what the commit promises.
-use Rattle.std.proofs.Common.{◌≡◌, ◌⊎◌, inl, inr, ℕ, true, refl, sym, ◌∙◌, rules}
+use Rattle.std.proofs.Common.{◌≡◌, ◌⊎◌, inl, inr, ℕ, true, false, ◌&&◌, List, [], ◌∷◌, ◌++◌, Option, Some, None, refl, sym, ap, ◌∙◌, rules}
+use Rattle.std.specs.Option.{is_none}
 use Rattle.opc_state.specs.State.{State, Fits}
-use Rattle.opc_state.specs.Changes.{changed_by, is_nothing}
+use Rattle.opc_state.specs.Changes.{edited, all_edited, with_account, changed_by, no_edits, is_nothing}
+use Rattle.opc_state.specs.declared.account.AccountRow.{AccountRow}
 use Rattle.opc_state.specs.declared.change.Change.{Change}
+use Rattle.opc_state.specs.declared.change.Edit.{Edit}
+use Rattle.opc_state.specs.declared.change.Edit.TheVariants.{SetHalted}
 use Rattle.opc_gate.specs.declared.request.Request.{Request}
 use Rattle.opc_gate.specs.declared.request.Answer.{Answer}
 use Rattle.opc_gate.specs.Machine.{IsGivenUp, outcome, after}
 use Rattle.opc_gate.specs.Handling.{IsDecision, IsHandled}
 
+-- a row more is another list
+one_more : {R : Type 0} (rows : List R) (row : R) → rows ++ row ∷ [] ≡ rows → ⊥
+one_more [] row h = cc
+one_more (r ∷ rows) row h =
+    let rest : rows ++ row ∷ [] ≡ rows = cc in
+    one_more rows row rest
+
+-- no edit touches the account
+account_kept : (e : Edit) (s : State) → (edited e s).account ≡ s.account
+account_kept (SetHalted halted) s = refl
+account_kept other s = refl
+
+accounts_kept : (edits : List Edit) (s : State) → (all_edited edits s).account ≡ s.account
+accounts_kept [] s = refl
+accounts_kept (e ∷ edits) s = accounts_kept edits (edited e s) ∙ account_kept e s
+
+-- a change that leaves the state as it is has nothing, where its edits have nothing then
+pub nothing_changed : (c : Change) (s : State) → (all_edited c.edits.items s ≡ s → c.edits.items ≡ []) → changed_by c s ≡ s → is_nothing c ≡ true
+nothing_changed c s idle same = go c.account same
+  where
+    go : (account : Option AccountRow) → with_account account (all_edited c.edits.items s) ≡ s → (no_edits c.edits.items && is_none account) ≡ true
+    go None h = ap (λ edits. no_edits edits && true) (idle h)
+    go (Some row) h = absurd (one_more s.account row (ap (λ rows. rows ++ row ∷ []) (sym (accounts_kept c.edits.items s)) ∙ ap (λ t. t.account) h))
+
 nothing_changes : (c : Change) (s : State) → is_nothing c ≡ true → changed_by c s ≡ s
 nothing_changes c s none = search rules
+
+-- what has something to write changes the state
+pub some_change : (s : State) (moment : ℕ) (r : Request) (answer : Answer) (c : Change) → IsDecision s moment r answer c → is_nothing c ≡ false → after s moment r (outcome s r) ≡ s → ⊥
+some_change s moment r answer c d something same =
+    let none : is_nothing c ≡ true = d.idle (d.becomes ∙ same) in
+    cc
 
 module _ {T : Type 0} (represents may_leave : T → State → Type 0) where
   pub given_up : (old new : T) (s : State) (moment : ℕ) (r : Request) (answer : Answer) → IsGivenUp answer → represents new s
       → ((left : State) → may_leave new left → may_leave old left ⊎ (left ≡ after s moment r (outcome s r)))
+      → (after s moment r (outcome s r) ≡ s → (left : State) → may_leave new left → may_leave old left)
       → IsHandled represents may_leave old new s moment r answer
-  given_up old new s moment r answer gives represented crash = record {
+  given_up old new s moment r answer gives represented crash idle = record {
     next = s;
     step = inl (record { gives_up = gives; same = refl });
     represented = represented;
     crash = crash;
+    idle = idle;
     acknowledged = λ done differs left h. absurd (differs refl);
   }
 
@@ -30,16 +66,18 @@ module _ {T : Type 0} (represents may_leave : T → State → Type 0) where
     step = inr (inr (record { answers = d.answers; becomes = sym (nothing_changes c s none) ∙ d.becomes; fits = λ h. h }));
     represented = represented;
     crash = λ left h. inl h;
+    idle = λ same left h. h;
     acknowledged = λ done differs left h. absurd (differs refl);
   }
 
-  pub written : (old new : T) (s : State) (moment : ℕ) (r : Request) (answer : Answer) (c : Change) → IsDecision s moment r answer c → represents new (changed_by c s) → (Fits s → Fits (changed_by c s))
+  pub written : (old new : T) (s : State) (moment : ℕ) (r : Request) (answer : Answer) (c : Change) → IsDecision s moment r answer c → is_nothing c ≡ false → represents new (changed_by c s) → (Fits s → Fits (changed_by c s))
       → ((left : State) → may_leave new left → may_leave old left ⊎ (left ≡ changed_by c s)) → ((left : State) → may_leave new left → left ≡ changed_by c s)
       → IsHandled represents may_leave old new s moment r answer
-  written old new s moment r answer c d represented fits crash acknowledged = record {
+  written old new s moment r answer c d something represented fits crash acknowledged = record {
     next = changed_by c s;
     step = inr (inr (record { answers = d.answers; becomes = d.becomes; fits = fits }));
     represented = represented;
     crash = λ left h. elim (crash left h) [ inl before ↦ inl before | inr is ↦ inr (is ∙ d.becomes) ];
+    idle = λ same. absurd (some_change s moment r answer c d something same);
     acknowledged = λ done differs. acknowledged;
   }

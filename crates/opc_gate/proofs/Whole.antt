@@ -81,7 +81,7 @@ pub copy_is_live : (s : State) (board old : BoardRows) → board ≡ without_his
 copy_is_live s board old same copy = copy ∙ ap without_history same
 
 pub shown_acts : (s : State) (o : BoardOutcome) (edits : List Edit) (lines : List Line) → edits ≡ [] → o ≡ done_with s.board lines → IsActed s o edits lines
-shown_acts s o edits lines none makes = record { board = s.board; makes = makes; becomes = ap (λ es. all_edited es s) none }
+shown_acts s o edits lines none makes = record { board = s.board; makes = makes; becomes = ap (λ es. all_edited es s) none; idle = λ same. none }
 
 pub changed_acts : (s : State) (o : BoardOutcome) (edits : List Edit) (lines : List Line) (new : BoardRows) → o ≡ done_with (after (history_of s.board) new) lines → all_edited edits s ≡ with_board new s → IsActed s o edits lines
 changed_acts s o edits lines new makes becomes = record { board = after (history_of s.board) new; makes = makes; becomes = becomes }

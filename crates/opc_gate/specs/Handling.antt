@@ -1,12 +1,12 @@
 -- One request handled over tables, and a run of requests.
-use Rattle.std.specs.Prelude.{◌≡◌, ◌⊎◌, List, Result, Ok, Err, ℕ}
+use Rattle.std.specs.Prelude.{◌≡◌, ◌⊎◌, true, List, [], Result, Ok, Err, ℕ}
 use Rattle.opc_board.specs.declared.board.BoardRows.{BoardRows}
 use Rattle.opc_board.specs.declared.line.Line.{Line}
 use Rattle.opc_board.specs.Outcome.{Outcome as BoardOutcome, done_with}
 use Rattle.opc_state.specs.declared.change.Change.{Change}
 use Rattle.opc_state.specs.declared.change.Edit.{Edit}
 use Rattle.opc_state.specs.State.{State}
-use Rattle.opc_state.specs.Changes.{all_edited, changed_by}
+use Rattle.opc_state.specs.Changes.{all_edited, changed_by, is_nothing}
 use Rattle.opc_gate.specs.declared.outcome.Deed as found
 use Rattle.opc_gate.specs.declared.outcome.Denial as found_denial
 use Rattle.opc_gate.specs.declared.request.Request.{Request}
@@ -19,16 +19,23 @@ pub record IsActed (s : State) (o : BoardOutcome) (edits : List Edit) (lines : L
   pub board : BoardRows
   pub makes : o ≡ done_with board lines
   pub becomes : all_edited edits s ≡ record s { board = board }
+  pub idle : all_edited edits s ≡ s → edits ≡ []
 
--- What was found out without a change is what the machine comes to: the deed's board, lines and rule, or its denial.
+-- The deed is the one that the machine comes to, and has no edits where it leaves the state as it is.
+pub record IsDeed (s : State) (o : Outcome) (deed : found.Deed) : Type 0 where
+  pub makes : o ≡ Ok (record { state = all_edited deed.edits.items s; lines = deed.lines; rule = deed.rule })
+  pub idle : all_edited deed.edits.items s ≡ s → deed.edits.items ≡ []
+
+-- What was found out without a change is what the machine comes to: the deed's state, lines and rule, or its denial.
 abbrev pub IsOutcome : State → Outcome → Result found.Deed found_denial.Denial → Type 0
-IsOutcome s o (Ok deed) = o ≡ Ok (record { state = all_edited deed.edits.items s; lines = deed.lines; rule = deed.rule })
+IsOutcome s o (Ok deed) = IsDeed s o deed
 IsOutcome s o (Err denial) = o ≡ Err (record { fault = denial.fault; rule = denial.rule })
 
--- the answer and the change are those of the machine
+-- the answer and the change are those of the machine; there is nothing to write where the state stays as it is
 pub record IsDecision (s : State) (moment : ℕ) (r : Request) (answer : Answer) (change : Change) : Type 0 where
   pub answers : answer ≡ answer_of (outcome s r)
   pub becomes : changed_by change s ≡ after s moment r (outcome s r)
+  pub idle : changed_by change s ≡ s → is_nothing change ≡ true
 
 -- One request, handled: a step of the machine, and what a crash may leave then.
 pub record IsHandled {T : Type 0} (represents may_leave : T → State → Type 0) (old new : T) (s : State) (moment : ℕ) (r : Request) (answer : Answer) : Type 0 where
@@ -37,6 +44,8 @@ pub record IsHandled {T : Type 0} (represents may_leave : T → State → Type 0
   pub represented : represents new next
   -- what it might have left before, or the state after the request, in whole
   pub crash : (left : State) → may_leave new left → may_leave old left ⊎ (left ≡ after s moment r (outcome s r))
+  -- where the request leaves the state as it is, nothing but what it might have left before
+  pub idle : after s moment r (outcome s r) ≡ s → (left : State) → may_leave new left → may_leave old left
   -- and once a change is acknowledged, the state after the request alone
   pub acknowledged : (IsGivenUp answer → ⊥) → (next ≡ s → ⊥) → (left : State) → may_leave new left → left ≡ next
 

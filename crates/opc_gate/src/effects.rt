@@ -134,7 +134,8 @@ pub(crate) fn log_on(
 ) -> Result<Vec<Edit>, AllocError>
     requires there { console_at board console.now.name ≡ Some console.now }
     requires nobody { console.now.user ≡ None }
-    ensures { IfOk result (λ edits. (s : State) → board ≡ without_history s.board → all_edited edits.items s ≡ record s { board = logged_on console.now.name user s.board }) }
+    ensures becomes { IfOk result (λ edits. (s : State) → board ≡ without_history s.board → all_edited edits.items s ≡ record s { board = logged_on console.now.name user s.board }) }
+    ensures idle { IfOk result (λ edits. (s : State) → board ≡ without_history s.board → all_edited edits.items s ≡ s → edits.items ≡ []) }
 {
     let old = copied(alloc, &board)?;
     board.log_on(&console.name, user);
@@ -150,7 +151,8 @@ pub(crate) fn log_off(
 ) -> Result<Vec<Edit>, AllocError>
     requires there { console_at board console.now.name ≡ Some console.now }
     requires somebody { console.now.user ≢ None }
-    ensures { IfOk result (λ edits. (s : State) → board ≡ without_history s.board → all_edited edits.items s ≡ record s { board = logged_off console.now.name s.board }) }
+    ensures becomes { IfOk result (λ edits. (s : State) → board ≡ without_history s.board → all_edited edits.items s ≡ record s { board = logged_off console.now.name s.board }) }
+    ensures idle { IfOk result (λ edits. (s : State) → board ≡ without_history s.board → all_edited edits.items s ≡ s → edits.items ≡ []) }
 {
     let old = copied(alloc, &board)?;
     board.log_off(&console.name);

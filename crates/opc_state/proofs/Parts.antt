@@ -154,3 +154,37 @@ no_difference old new is same =
       no_part reply_cmp reply_total reply_at same_reply reply_ties replies_same reply_itself reply_removal edit.PutReply old.replies is.replies_rise,
       not_halted old.halted,
     ) refl
+
+-- ---- what stays as it is
+
+gains_nothing : {R : Type 0} (rows more : List R) → rows ++ more ≡ rows → more ≡ []
+gains_nothing [] more h = h
+gains_nothing (r ∷ rows) more h =
+    let rest : rows ++ more ≡ rows = cc in
+    gains_nothing rows more rest
+
+-- boards with the same parts are the same
+same_parts : (b c : BoardRows) → b.units ≡ c.units → b.devices ≡ c.devices → b.consoles ≡ c.consoles → b.replies ≡ c.replies
+    → b.answered ≡ c.answered → b.log ≡ c.log → b.messages ≡ c.messages → b.halted ≡ c.halted → b ≡ c
+same_parts b c units devices consoles replies answered log messages halted =
+    ap (λ x. record b { units = x }) units
+    ∙ ap (λ x. record b { units = c.units; devices = x }) devices
+    ∙ ap (λ x. record b { units = c.units; devices = c.devices; consoles = x }) consoles
+    ∙ ap (λ x. record b { units = c.units; devices = c.devices; consoles = c.consoles; replies = x }) replies
+    ∙ ap (λ x. record c { answered = x; log = b.log; messages = b.messages; halted = b.halted }) answered
+    ∙ ap (λ x. record c { log = x; messages = b.messages; halted = b.halted }) log
+    ∙ ap (λ x. record c { messages = x; halted = b.halted }) messages
+    ∙ ap (λ x. record c { halted = x }) halted
+
+-- a state stays as it is only with its own live board
+stays_live : (s : State) (new : BoardRows) → with_board new s ≡ s → new ≡ without_history s.board
+stays_live s new h =
+    same_parts new (without_history s.board)
+    (ap (λ t. t.board.units) h) (ap (λ t. t.board.devices) h) (ap (λ t. t.board.consoles) h) (ap (λ t. t.board.replies) h)
+    (gains_nothing s.board.answered new.answered (ap (λ t. t.board.answered) h)) (gains_nothing s.board.log new.log (ap (λ t. t.board.log) h))
+    (gains_nothing s.board.messages new.messages (ap (λ t. t.board.messages) h)) (ap (λ t. t.board.halted) h)
+
+pub stays_undiffered : (s : State) (old new : BoardRows) → old ≡ without_history s.board → IsBoard old → IsBoard new → all_edited (board_difference old new) s ≡ s → board_difference old new ≡ []
+stays_undiffered s old new same was now stays =
+    let live : new ≡ without_history s.board = stays_live s new (sym (live_becomes s old new same was now) ∙ stays) in
+    no_difference old new was (live ∙ ap without_history (sym same))

@@ -148,10 +148,11 @@ fn parts(alloc: Global, old: &BoardRows, new: &BoardRows) -> Result<Vec<Edit>, A
 }
 
 /// The edits by which a live board becomes another one, whose histories are what is added to them. Members that
-/// stay as they are are not among them.
+/// stay as they are are not among them; so there are none where a state stays as it is.
 pub fn difference(alloc: Global, old: &Board, new: &Board) -> Result<Vec<Edit>, AllocError>
     ensures becomes { IfOk result (λ edits. (s : State) → old.now ≡ without_history s.board → all_edited edits.items s ≡ with_board new.now s) }
     ensures same { IfOk result (λ edits. new.now ≡ without_history old.now → edits.items ≡ []) }
+    ensures idle { IfOk result (λ edits. (s : State) → old.now ≡ without_history s.board → all_edited edits.items s ≡ s → edits.items ≡ []) }
 {
     let edits = parts(alloc, old.rows(), new.rows())?;
     Ok(edits)

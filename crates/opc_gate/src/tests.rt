@@ -54,6 +54,20 @@ fn typed(
     in_words(alloc, &gate.handle(alloc, moment, &request))
 }
 
+// What is answered to lines that are typed at consoles at these moments, an answer in each line.
+fn transcript(
+    gate: &mut Gate<Memory>,
+    alloc: Global,
+    lines: &[(u64, &str, &str)],
+) -> Result<String, Fail> {
+    let mut said = String::new(alloc);
+    for (moment, console, text) in lines {
+        said.push_str(typed(gate, alloc, *moment, console, text)?.as_str())?;
+        said.push('\n')?;
+    }
+    Ok(said)
+}
+
 // What is answered to an event.
 fn happens(gate: &mut Gate<Memory>, alloc: Global, event: Event) -> Result<String, Fail> {
     let request = Request::Event(event);

@@ -3,7 +3,7 @@ use crate::gate::Gate;
 use crate::request::Request;
 use crate::tests::base::base;
 use crate::tests::memory::Memory;
-use crate::tests::{happens, in_words, typed};
+use crate::tests::{in_words, transcript};
 use opc_board::event::Event;
 use opc_names::name::UnitName;
 use std::alloc::Global;
@@ -34,15 +34,19 @@ fn account(gate: Gate<Memory>, alloc: Global) -> Result<String, Fail> {
 fn refused_logons_are_accounted(rt: HostRuntime) -> Result<(), Fail> {
     let alloc = rt.alloc();
     let mut gate = base(alloc)?;
+    let lines = [
+        (101, "C3", "D U"),
+        (102, "C3", "LOGON ANNA,WRONG"),
+        (103, "C3", "LOGOFF"),
+    ];
+    let mut said = transcript(&mut gate, alloc, &lines)?;
+    said.push_str(account(gate, alloc)?.as_str())?;
     assert_eq!(rt;
-        typed(&mut gate, alloc, 101, "C3", "D U")?.as_str(),
-        "REFUSED E12 LogonRequired LOGONREQUIRED"
-    );
-    typed(&mut gate, alloc, 102, "C3", "LOGON ANNA,WRONG")?;
-    typed(&mut gate, alloc, 103, "C3", "LOGOFF")?;
-    assert_eq!(rt;
-        account(gate, alloc)?.as_str(),
-        "101 C3 - E12 LOGONREQUIRED | 102 C3 - E14 - | 103 C3 - E16 -"
+        said.as_str(),
+        "REFUSED E12 LogonRequired LOGONREQUIRED\n\
+         REFUSED E14 BadLogon -\n\
+         REFUSED E16 NotOn -\n\
+         101 C3 - E12 LOGONREQUIRED | 102 C3 - E14 - | 103 C3 - E16 -"
     );
     Ok(())
 }
@@ -51,15 +55,19 @@ fn refused_logons_are_accounted(rt: HostRuntime) -> Result<(), Fail> {
 fn a_warning_is_accounted(rt: HostRuntime) -> Result<(), Fail> {
     let alloc = rt.alloc();
     let mut gate = base(alloc)?;
-    typed(&mut gate, alloc, 1, "C1", "LOGON CARL,ABC")?;
-    typed(&mut gate, alloc, 200, "C1", "V 0A80,OFFLINE")?;
+    let lines = [
+        (1, "C1", "LOGON CARL,ABC"),
+        (200, "C1", "V 0A80,OFFLINE"),
+        (201, "C1", "D U"),
+    ];
+    let mut said = transcript(&mut gate, alloc, &lines)?;
+    said.push_str(account(gate, alloc)?.as_str())?;
     assert_eq!(rt;
-        typed(&mut gate, alloc, 201, "C1", "D U")?.as_str(),
-        "DONE PROFILE OPERCMDS MVS.DISPLAY.** HELD READ NEEDED READ | 0A80 OFFLINE ------ -"
-    );
-    assert_eq!(rt;
-        account(gate, alloc)?.as_str(),
-        "200 C1 CARL WARN PROFILE OPERCMDS MVS.VARY.DEV HELD NONE NEEDED UPDATE WARNED"
+        said.as_str(),
+        "DONE NOPROFILE\n\
+         DONE PROFILE OPERCMDS MVS.VARY.DEV HELD NONE NEEDED UPDATE WARNED\n\
+         DONE PROFILE OPERCMDS MVS.DISPLAY.** HELD READ NEEDED READ | 0A80 OFFLINE ------ -\n\
+         200 C1 CARL WARN PROFILE OPERCMDS MVS.VARY.DEV HELD NONE NEEDED UPDATE WARNED"
     );
     Ok(())
 }
@@ -68,9 +76,12 @@ fn a_warning_is_accounted(rt: HostRuntime) -> Result<(), Fail> {
 fn the_user_is_the_one_before_the_request(rt: HostRuntime) -> Result<(), Fail> {
     let alloc = rt.alloc();
     let mut gate = base(alloc)?;
-    typed(&mut gate, alloc, 1, "C1", "LOGON ANNA,ABC")?;
-    typed(&mut gate, alloc, 2, "C1", "LOGON BERT,ABC")?;
-    typed(&mut gate, alloc, 3, "C9", "D U")?;
+    let lines = [
+        (1, "C1", "LOGON ANNA,ABC"),
+        (2, "C1", "LOGON BERT,ABC"),
+        (3, "C9", "D U"),
+    ];
+    let _said = transcript(&mut gate, alloc, &lines)?;
     assert_eq!(rt;
         account(gate, alloc)?.as_str(),
         "2 C1 ANNA E15 - | 3 C9 - E10 -"
@@ -83,15 +94,17 @@ fn a_refused_event_is_accounted(rt: HostRuntime) -> Result<(), Fail> {
     let alloc = rt.alloc();
     let mut gate = base(alloc)?;
     let request = Request::Event(Event::JobEnd(UnitName::read("BACKUP")?));
+    let mut said = in_words(alloc, &gate.handle(alloc, 1, &request))?;
+    said.push('\n')?;
+    said.push_str(in_words(alloc, &gate.handle(alloc, 2, &request))?.as_str())?;
+    said.push('\n')?;
+    said.push_str(account(gate, alloc)?.as_str())?;
     assert_eq!(rt;
-        in_words(alloc, &gate.handle(alloc, 1, &request))?.as_str(),
-        "DONE -"
+        said.as_str(),
+        "DONE -\n\
+         REFUSED E30 NoUnit -\n\
+         2 * - E30 -"
     );
-    assert_eq!(rt;
-        in_words(alloc, &gate.handle(alloc, 2, &request))?.as_str(),
-        "REFUSED E30 NoUnit -"
-    );
-    assert_eq!(rt; account(gate, alloc)?.as_str(), "2 * - E30 -");
     Ok(())
 }
 

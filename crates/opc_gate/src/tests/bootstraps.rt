@@ -2,7 +2,7 @@
 use crate::gate::Gate;
 use crate::tests::base::{base, base_board, base_rows, user};
 use crate::tests::memory::Memory;
-use crate::tests::typed;
+use crate::tests::transcript;
 use opc_names::auth::Auth;
 use opc_names::name::{ConsoleName, GroupName, UserId};
 use opc_policy::mode::Mode;
@@ -39,19 +39,18 @@ fn a_first_policy_is_taken_once(rt: HostRuntime) -> Result<(), Fail> {
     let mut rows = base_rows(alloc)?;
     rows.push(console("C4", Auth::Info)?)?;
     assert!(rt; gate.bootstrap(alloc, rows.as_slice()).is_ok());
-    for (line, said) in [
-        ("LOGON ANNA,ABC", "DONE NOPROFILE"),
-        (
-            "C PAYROLL",
-            "REFUSED E20 DeniedProfile PROFILE OPERCMDS MVS.CANCEL.JOB.PAY* HELD NONE NEEDED UPDATE",
-        ),
-        (
-            "C BACKUP",
-            "DONE PROFILE OPERCMDS MVS.CANCEL.JOB.* HELD UPDATE NEEDED UPDATE",
-        ),
-    ] {
-        assert_eq!(rt; typed(&mut gate, alloc, 1, "C4", line)?.as_str(), said);
-    }
+    let lines = [
+        (1, "C4", "LOGON ANNA,ABC"),
+        (1, "C4", "C PAYROLL"),
+        (1, "C4", "C BACKUP"),
+    ];
+    let said = transcript(&mut gate, alloc, &lines)?;
+    assert_eq!(rt;
+        said.as_str(),
+        "DONE NOPROFILE\n\
+         REFUSED E20 DeniedProfile PROFILE OPERCMDS MVS.CANCEL.JOB.PAY* HELD NONE NEEDED UPDATE\n\
+         DONE PROFILE OPERCMDS MVS.CANCEL.JOB.* HELD UPDATE NEEDED UPDATE\n"
+    );
     assert!(rt; matches!(gate.bootstrap(alloc, &[]), Err(fault) if fault.code() == "E57"));
     let memory = gate.into_store();
     assert_eq!(rt; memory.account.len(), 1);

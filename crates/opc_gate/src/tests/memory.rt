@@ -120,7 +120,9 @@ fn edit_policy(policy: &mut Policy, edit: &Edit) -> Result<(), AllocError> {
         Edit::PutUser(user) => policy.users.insert(*user)?,
         Edit::PutConnect(connect) => policy.connects.insert(*connect)?,
         Edit::PutProfile(profile) => policy.profiles.define(profile.clone()?)?,
-        Edit::PutEntry(class, pattern, entry) => policy.profiles.permit(*class, pattern, *entry)?,
+        Edit::PutEntry(class, pattern, entry) => {
+            let _is_there = policy.profiles.permit(*class, pattern, *entry)?;
+        }
         _ => {}
     }
     Ok(())

@@ -1,0 +1,4 @@
+pub mod State
+pub mod Members
+pub mod Changes
+pub mod Difference

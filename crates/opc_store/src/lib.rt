@@ -1,0 +1,25 @@
+//! The tables of the gate, and what they keep.
+#![tactic(auto)]
+
+mod accounting;
+mod batches;
+mod board;
+mod classes;
+mod committing;
+mod connects;
+mod consoles;
+mod devices;
+mod groups;
+mod loads;
+mod making;
+mod members;
+mod names;
+pub mod opening;
+mod policy;
+mod profiles;
+mod replies;
+pub mod store;
+#[cfg(test)]
+mod tests;
+mod units;
+mod users;

@@ -19,3 +19,5 @@ pub mod Parts
 pub mod Numbered
 pub mod Looking
 pub mod Putting
+pub mod Sorting
+pub mod LastNumber

@@ -1,6 +1,8 @@
 //! What SQL statements do to tables: general lemmas, and the two calls that they are about.
 #![tactic(auto)]
 
+pub mod numbers;
+
 ghost use Rattle.std.specs.Prelude.{◌≡◌, false, IfOk};
 ghost use Rattle.sqlite.specs.Held.{state};
 ghost use Rattle.sqlite.specs.Values.{bound};

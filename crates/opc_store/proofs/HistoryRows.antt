@@ -38,15 +38,15 @@ insert_answered = codes "INSERT INTO answered VALUES (NULL, ?1, ?2)"
 abbrev answered_terms : List Term
 answered_terms = lit Null ∷ col 0 0 ∷ col 0 1 ∷ []
 
-answered_is : command_of (understood the_schema insert_answered) ≡ Insert 6 (Values (lit Null ∷ answered_terms) 4)
+pub answered_is : command_of (understood the_schema insert_answered) ≡ Insert 6 (Values (lit Null ∷ answered_terms) 4)
 unfolding understood everything
 answered_is = refl
 
-answered_plain : IsPlain (understood the_schema insert_answered)
+pub answered_plain : IsPlain (understood the_schema insert_answered)
 unfolding understood everything
 answered_plain = (refl, refl)
 
-answered_cast : (x : ReplyRow) → cast_row answered_at (Null ∷ answered_values x) ≡ Null ∷ answered_values x
+pub answered_cast : (x : ReplyRow) → cast_row answered_at (Null ∷ answered_values x) ≡ Null ∷ answered_values x
 answered_cast x = ap₂ (λ v (r : Row). v ∷ r) cast_null (ap₂ (λ v (r : Row). v ∷ r) cast_null (ap₂ (λ v (r : Row). v ∷ r) (cast_int _) (refl)))
 
 abbrev pub answered_params : ReplyRow → Row
@@ -65,15 +65,15 @@ insert_log = codes "INSERT INTO log VALUES (NULL, ?1)"
 abbrev log_terms : List Term
 log_terms = lit Null ∷ col 0 0 ∷ []
 
-log_is : command_of (understood the_schema insert_log) ≡ Insert 7 (Values (lit Null ∷ log_terms) 3)
+pub log_is : command_of (understood the_schema insert_log) ≡ Insert 7 (Values (lit Null ∷ log_terms) 3)
 unfolding understood everything
 log_is = refl
 
-log_plain : IsPlain (understood the_schema insert_log)
+pub log_plain : IsPlain (understood the_schema insert_log)
 unfolding understood everything
 log_plain = (refl, refl)
 
-log_cast : (x : List ℕ) → cast_row log_at (Null ∷ log_values x) ≡ Null ∷ log_values x
+pub log_cast : (x : List ℕ) → cast_row log_at (Null ∷ log_values x) ≡ Null ∷ log_values x
 log_cast x = ap₂ (λ v (r : Row). v ∷ r) cast_null (ap₂ (λ v (r : Row). v ∷ r) cast_null (refl))
 
 abbrev pub log_params : List ℕ → Row
@@ -92,15 +92,15 @@ insert_message = codes "INSERT INTO messages VALUES (NULL, ?1, ?2)"
 abbrev message_terms : List Term
 message_terms = lit Null ∷ col 0 0 ∷ col 0 1 ∷ []
 
-message_is : command_of (understood the_schema insert_message) ≡ Insert 8 (Values (lit Null ∷ message_terms) 4)
+pub message_is : command_of (understood the_schema insert_message) ≡ Insert 8 (Values (lit Null ∷ message_terms) 4)
 unfolding understood everything
 message_is = refl
 
-message_plain : IsPlain (understood the_schema insert_message)
+pub message_plain : IsPlain (understood the_schema insert_message)
 unfolding understood everything
 message_plain = (refl, refl)
 
-message_cast : (x : MessageRow) → cast_row messages_at (Null ∷ message_values x) ≡ Null ∷ message_values x
+pub message_cast : (x : MessageRow) → cast_row messages_at (Null ∷ message_values x) ≡ Null ∷ message_values x
 message_cast x = ap₂ (λ v (r : Row). v ∷ r) cast_null (ap₂ (λ v (r : Row). v ∷ r) cast_null (refl))
 
 abbrev pub message_params : MessageRow → Row
@@ -119,15 +119,15 @@ insert_account = codes "INSERT INTO account VALUES (NULL, ?1, ?2, ?3, ?4, ?5)"
 abbrev account_terms : List Term
 account_terms = lit Null ∷ col 0 0 ∷ col 0 1 ∷ col 0 2 ∷ col 0 3 ∷ col 0 4 ∷ []
 
-account_is : command_of (understood the_schema insert_account) ≡ Insert 10 (Values (lit Null ∷ account_terms) 7)
+pub account_is : command_of (understood the_schema insert_account) ≡ Insert 10 (Values (lit Null ∷ account_terms) 7)
 unfolding understood everything
 account_is = refl
 
-account_plain : IsPlain (understood the_schema insert_account)
+pub account_plain : IsPlain (understood the_schema insert_account)
 unfolding understood everything
 account_plain = (refl, refl)
 
-account_cast : (x : AccountRow) → cast_row account_at (Null ∷ account_values x) ≡ Null ∷ account_values x
+pub account_cast : (x : AccountRow) → cast_row account_at (Null ∷ account_values x) ≡ Null ∷ account_values x
 account_cast x = ap₂ (λ v (r : Row). v ∷ r) cast_null (ap₂ (λ v (r : Row). v ∷ r) cast_null (ap₂ (λ v (r : Row). v ∷ r) (cast_int _) (refl)))
 
 abbrev pub account_params : AccountRow → Row

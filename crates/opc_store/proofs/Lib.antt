@@ -29,3 +29,5 @@ pub mod Named
 pub mod BoardLoads
 pub mod PolicyLoads
 pub mod PolicyRead
+pub mod HistoryNumbers
+pub mod Decoded

@@ -19,10 +19,10 @@ same_itself : (class : Class) → same_class class class ≡ true
 same_itself Console = refl
 same_itself Opercmds = refl
 
-is_itself : (x : Profile) → is_of x.class x.pattern x ≡ true
+pub is_itself : (x : Profile) → is_of x.class x.pattern x ≡ true
 is_itself x = ap₂ (λ a b. a && b) (same_itself x.class) ((bytes_eq-Decides x.pattern x.pattern).1 refl)
 
-not_of : (x z : Profile) → profile_cmp z x ≡ Less → is_of x.class x.pattern z ≡ false
+pub not_of : (x z : Profile) → profile_cmp z x ≡ Less → is_of x.class x.pattern z ≡ false
 not_of x z less = go (is_of x.class x.pattern z) refl
   where
     go : (b : Bool) → is_of x.class x.pattern z ≡ b → b ≡ false

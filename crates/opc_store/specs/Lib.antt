@@ -6,3 +6,5 @@ pub mod State
 pub mod Represented
 pub mod Changes
 pub mod Ours
+pub mod Content
+pub mod Tied

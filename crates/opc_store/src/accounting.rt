@@ -7,6 +7,7 @@ ghost use Rattle.opc_store.specs.Changes.{Becomes};
 ghost use Rattle.opc_state.specs.Changes.{with_account_row, with_account};
 
 use opc_state::account::AccountRow;
+use opc_tables::numbers::last_number;
 use opc_tables::run;
 use sqlite::{Alter, Error, ErrorCode, Transaction, params};
 
@@ -29,6 +30,7 @@ fn add_row<S: Alter>(tx: &mut Transaction<'_, S>, row: &AccountRow) -> Result<()
             row.rule.as_str()
         ],
     )?;
+    let _number = last_number(tx);
     Ok(())
 }
 

@@ -7,12 +7,14 @@ ghost use Rattle.opc_state.specs.Changes.{with_batches};
 ghost use Rattle.opc_state.specs.Members.{with_batch};
 ghost use Rattle.opc_store.specs.Changes.{Becomes};
 
+use opc_import::kind::MOST_ROWS;
 use opc_import::write::write_policy;
 use opc_state::change::Batch;
 use opc_tables::run;
-use sqlite::{Alter, Error, Transaction, params};
+use sqlite::{Alter, Error, ErrorCode, Transaction, params};
 use std::alloc::Global;
 
+/// A batch of more rows than a policy file has could not be read back, and is not kept.
 pub(crate) fn put_batch<S: Alter>(
     alloc: Global,
     tx: &mut Transaction<'_, S>,
@@ -22,7 +24,11 @@ pub(crate) fn put_batch<S: Alter>(
     ensures stays { Stays S.Store tx.old.conn.now tx.new.conn.now result }
     ensures done { HasCleanDisk (state S.Store tx.new.conn.now) → OnOk result (Becomes (λ s. with_batches (with_batch batch.now s.batches) s) (state S.Store tx.old.conn.now).now (state S.Store tx.new.conn.now).now) }
 {
-    let text = write_policy(alloc, batch.rows.as_slice())?;
+    let rows = batch.rows.as_slice();
+    if rows.len() > MOST_ROWS as usize {
+        return Err(Error::SqliteFailure(ErrorCode::TooBig));
+    }
+    let text = write_policy(alloc, rows)?;
     run(
         tx,
         "DELETE FROM batches WHERE number = ?1",

@@ -9,6 +9,7 @@ ghost use Rattle.opc_store.specs.Changes.{Becomes};
 
 use opc_board::rows::{MessageRow, ReplyId, ReplyRow};
 use opc_board::text::KeptText;
+use opc_tables::numbers::last_number;
 use opc_tables::run;
 use sqlite::{Alter, Error, Transaction, params};
 
@@ -55,6 +56,7 @@ pub(crate) fn add_answered<S: Alter>(
         "INSERT INTO answered VALUES (NULL, ?1, ?2)",
         params![number_of(reply.id), reply.text.as_str()],
     )?;
+    let _number = last_number(tx);
     Ok(())
 }
 
@@ -68,6 +70,7 @@ pub(crate) fn add_log<S: Alter>(tx: &mut Transaction<'_, S>, text: &KeptText) ->
         "INSERT INTO log VALUES (NULL, ?1)",
         params![text.as_str()],
     )?;
+    let _number = last_number(tx);
     Ok(())
 }
 
@@ -84,6 +87,7 @@ pub(crate) fn add_message<S: Alter>(
         "INSERT INTO messages VALUES (NULL, ?1, ?2)",
         params![message.user.text(), message.text.as_str()],
     )?;
+    let _number = last_number(tx);
     Ok(())
 }
 

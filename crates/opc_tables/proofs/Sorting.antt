@@ -54,17 +54,19 @@ module _ {X : Type 0} (cmp : X → X → Ordering) (total : IsTotalOrder cmp) wh
   pub in_order : (xs ys : List X) → Rises cmp xs → IsPermutation xs ys → sort_by cmp ys ≡ xs
   in_order xs ys up same = sym (sorted_is-sort_by cmp total ys xs ((apart_along xs ys same).1 (no_ties xs up)) (IsPermutation-sym xs ys same) (rises_sorted xs up))
 
+  -- the rows of a table, decoded and sorted, are the members that its values tell
+  pub decoded_as : (back : Row → X) (have : List Row) (xs : List X) (rows : List Row) → Rises cmp xs → map back have ≡ xs → HasRows have rows → sort_by cmp (map (λ (r : Row). back (drop 1 r)) rows) ≡ xs
+  decoded_as back have xs rows up tells has =
+      let same : IsPermutation (map back have) (map (λ (r : Row). back (drop 1 r)) rows) = subst (IsPermutation (map back have)) (map-map back (λ (r : Row). drop 1 r) rows) (IsPermutation-map back _ _ has.each) in
+      in_order xs _ up (subst (λ (l : List X). IsPermutation l (map (λ (r : Row). back (drop 1 r)) rows)) tells same)
+
   module _ (row : X → Row) (back : Row → X) (reads : (x : X) → back (row x) ≡ x) where
     -- what a table with one row for each member holds
     abbrev pub decoded : List Row → List X
     decoded rows = sort_by cmp (map (λ (r : Row). back (drop 1 r)) rows)
 
     pub decoded_is : (xs : List X) (rows : List Row) → Rises cmp xs → HasRows (map row xs) rows → decoded rows ≡ xs
-    decoded_is xs rows up has =
-        let same = IsPermutation-map back _ _ has.each in
-        let moved : IsPermutation xs (map (λ (r : Row). back (drop 1 r)) rows) =
-        subst (λ (l : List X). IsPermutation l (map (λ (r : Row). back (drop 1 r)) rows)) (map_back row back reads xs) (subst (IsPermutation (map back (map row xs))) (map-map back (λ (r : Row). drop 1 r) rows) same) in
-        in_order xs _ up moved
+    decoded_is xs rows up has = decoded_as back (map row xs) xs rows up (map_back row back reads xs) has
 
     -- and what those of its rows that pass a test hold
     pub decoded_part : (q : Row → Bool) (have : List Row) (xs : List X) (rows : List Row) → Rises cmp xs → filter q have ≡ map row xs → HasRows have rows

@@ -49,6 +49,7 @@ use Rattle.opc_state.specs.declared.account.AccountRow.{AccountRow}
 use Rattle.opc_state.specs.declared.change.Batch.{Batch}
 use Rattle.opc_state.specs.Members.{unit_cmp, device_cmp, console_cmp}
 use Rattle.opc_state.specs.State.{State}
+use Rattle.opc_store.specs.Search.{bare}
 use Rattle.opc_store.specs.State.{IsOrdered, IsReadBack}
 use Rattle.opc_store.specs.Contents.{Holds}
 use Rattle.opc_store.specs.Content.{text_said, number_said, flag_said, text_or_none, bytes_or_none, class_said, level_of, values_of, profile_said, entry_said, is_entry_of, entries_in, profiles_in}
@@ -136,10 +137,6 @@ connect_said v = record { user = text_said (column v 0); group = text_said (colu
 connect_back : (c : Connect) → connect_said (connect_row c) ≡ c
 connect_back c = refl
 
--- a profile, but for its access list
-abbrev bare : Profile → Profile
-bare p = record p { entries = [] }
-
 profile_back : (p : Profile) → profile_said (profile_row p) ≡ bare p
 profile_back p = λ i. record { class = class_back p.class i; pattern = p.pattern; owner = p.owner; uacc = level_back p.uacc i; warning = flag_back p.warning i; entries = [] }
 
@@ -219,7 +216,7 @@ own_entries class pattern ps p up here =
     filter_on (is_entry_of class pattern) (has_profile class pattern) (flat_map entry_rows ps) agree ∙ list_hit class pattern ps p (split class pattern ps p up here)
 
 -- each profile is the one of its class and pattern
-each_found : (ps : List Profile) → Rises profile_cmp ps → AllByRecursion (λ (p : Profile). profile_of ps p.class p.pattern ≡ Some p) ps
+pub each_found : (ps : List Profile) → Rises profile_cmp ps → AllByRecursion (λ (p : Profile). profile_of ps p.class p.pattern ≡ Some p) ps
 each_found [] up = tt
 each_found (x ∷ xs) up = (
   ap (λ b. cond b (Some x) (profile_of xs x.class x.pattern)) (is_itself x),

@@ -31,3 +31,7 @@ pub mod PolicyLoads
 pub mod PolicyRead
 pub mod HistoryNumbers
 pub mod Decoded
+pub mod TiedLemmas
+pub mod SearchLoads
+pub mod FirstDeciding
+pub mod Streaming

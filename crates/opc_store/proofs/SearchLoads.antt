@@ -44,6 +44,7 @@ use Rattle.opc_policy.specs.Examined.{head_of, with_head, is_chosen}
 use Rattle.opc_policy.specs.Profiles.{class_cmp, pattern_cmp, profile_cmp}
 use Rattle.opc_policy.proofs.FirstCovering.{filter_both}
 use Rattle.opc_state.specs.State.{State}
+use Rattle.opc_store.specs.Search.{chosen}
 use Rattle.opc_store.specs.State.{IsOrdered}
 use Rattle.opc_store.specs.Tables.{the_schema}
 use Rattle.opc_store.specs.Represented.{Represents, Tabulates, profile_row}
@@ -131,37 +132,34 @@ pub chosen_by_head : (class : Class) (head : List ℕ) (ps : List Profile) → w
 chosen_by_head class head ps = filter_both (λ (p : Profile). same_class p.class class) (λ (p : Profile). bytes_eq (head_of p) head) ps
 
 module _ (class : Class) (head : List ℕ) where
-  abbrev pub chosen : State → List Profile
-  chosen s = filter (is_chosen class (Some head)) s.policy.profiles
-
-  from_answer : (old : SqlState) (s : State) → Tabulates old.now s → IsOrdered s → (rows : List Row) → Answers old.now (alone (selecting 22 of_head columns by_key)) (head_params class head) rows → rows ≡ map profile_row (chosen s)
+  from_answer : (old : SqlState) (s : State) → Tabulates old.now s → IsOrdered s → (rows : List Row) → Answers old.now (alone (selecting 22 of_head columns by_key)) (head_params class head) rows → rows ≡ map profile_row (chosen class head s)
   from_answer old s was ordered rows read =
       let lists = answered 22 of_head columns by_key old.now.trees (head_params class head) old.now.schema rows read in
       listed profile_row profile_cmp 22 of_head columns by_key (head_params class head) (has_head class head) out (is_chosen class (Some head)) old.now.trees (head_meets class head old.now.trees) (head_below class head old.now.trees)
       (head_picks class head) (λ _. refl) head_less s.policy.profiles rows ordered.profiles was.holds.profiles lists
 
-  shows_chosen : (old new : SqlState) (s : State) → Tabulates old.now s → IsOrdered s → (rows : List Row) → Shown select_by_head (head_params class head) old new rows → rows ≡ map profile_row (chosen s)
+  shows_chosen : (old new : SqlState) (s : State) → Tabulates old.now s → IsOrdered s → (rows : List Row) → Shown select_by_head (head_params class head) old new rows → rows ≡ map profile_row (chosen class head s)
   shows_chosen old new s was ordered rows h =
       from_answer old s was ordered rows (reads_as select_by_head (head_params class head) old new the_schema was.schema (Select (alone (selecting 22 of_head columns by_key)) names) head_is.0 head_plain head_is.1 rows h)
 
   -- the first rows of the answer
-  begins_chosen : (old : SqlState) (s : State) → Tabulates old.now s → IsOrdered s → (rows : List Row) → Begins select_by_head (head_params class head) old rows → (tail : List Row) × (map profile_row (chosen s) ≡ rows ++ tail)
+  begins_chosen : (old : SqlState) (s : State) → Tabulates old.now s → IsOrdered s → (rows : List Row) → Begins select_by_head (head_params class head) old rows → (tail : List Row) × (map profile_row (chosen class head s) ≡ rows ++ tail)
   begins_chosen old s was ordered rows h =
       let read = begins_as select_by_head (head_params class head) old old the_schema was.schema (Select (alone (selecting 22 of_head columns by_key)) names) head_is.0 head_plain head_is.1 rows h in
       let tail = read.1.0 in
       (tail, sym (from_answer old s was ordered (rows ++ tail) (record { typed = read.0; answer = read.1.1 })))
 
-  module _ (p : Profile → Bool) (old now : SqlState) (s : State) (was : Represents old.now s) (same : IsUnchanged old now) (given : List Row) (n : ℕ) (taken : HasTaken profile_row p (chosen s) given n) where
+  module _ (p : Profile → Bool) (old now : SqlState) (s : State) (was : Represents old.now s) (same : IsUnchanged old now) (given : List Row) (n : ℕ) (taken : HasTaken profile_row p (chosen class head s) given n) where
     still : Represents now.now s
     still = subst (λ (d : Database). Represents d s) (sym same.0.now_is) was
 
-    pub next_profile : (y : Row) → Begins select_by_head (head_params class head) now (given ++ y ∷ []) → TakesOn profile_row p (chosen s) given y n
+    pub next_profile : (y : Row) → Begins select_by_head (head_params class head) now (given ++ y ∷ []) → TakesOn profile_row p (chosen class head s) given y n
     next_profile y h =
         let b = begins_chosen now s still.rows still.ordered (given ++ y ∷ []) h in
-        takes_on profile_row p (chosen s) given b.0 y n taken (b.1 ∙ append_assoc given (y ∷ []) b.0)
+        takes_on profile_row p (chosen class head s) given b.0 y n taken (b.1 ∙ append_assoc given (y ∷ []) b.0)
 
-    pub no_profile : (new : SqlState) → Shown select_by_head (head_params class head) now new given → (None ≡ find p (chosen s)) × (n ≡ taken_for p (chosen s))
-    no_profile new h = taken_all profile_row p (chosen s) given n taken (sym (shows_chosen now new s still.rows still.ordered given h))
+    pub no_profile : (new : SqlState) → Shown select_by_head (head_params class head) now new given → (None ≡ find p (chosen class head s)) × (n ≡ taken_for p (chosen class head s))
+    no_profile new h = taken_all profile_row p (chosen class head s) given n taken (sym (shows_chosen now new s still.rows still.ordered given h))
 
 -- a query that never writes has begun
 pub begun_quiet : {S : Type 0} (g : Ghosts S) (sql : List ℕ) (params : Row) (old new : Held S) → NeverWrites sql → HasBegun g sql params old new → HasGiven g sql params new [] × IsUnchanged (state g old) (state g new)

@@ -8,3 +8,4 @@ pub mod Changes
 pub mod Ours
 pub mod Content
 pub mod Tied
+pub mod Search

@@ -18,8 +18,10 @@ pub mod opening;
 mod policy;
 mod profiles;
 mod replies;
+mod search;
 pub mod store;
 #[cfg(test)]
 mod tests;
+pub mod tied;
 mod units;
 mod users;

@@ -164,7 +164,7 @@ fn entries_in(alloc: Global, rows: &[Row]) -> Result<Entries, Error>
 }
 
 /// The access list of a profile.
-fn entries_on<S: Alter>(
+pub(crate) fn entries_on<S: Alter>(
     alloc: Global,
     conn: &mut Connection<S>,
     class: Class,
@@ -184,7 +184,7 @@ fn entries_on<S: Alter>(
 }
 
 /// A profile, but for its access list.
-fn profile_in(alloc: Global, row: &Row) -> Result<Profile, Error>
+pub(crate) fn profile_in(alloc: Global, row: &Row) -> Result<Profile, Error>
     ensures { (p : TheProfile) → row.now ≡ profile_row p → IfOk result (λ v. v ≡ record p { entries = [] }) }
 {
     Ok(Profile {

@@ -1,6 +1,10 @@
 //! The store as the tables that the machine asks for.
-ghost use Rattle.std.specs.Prelude.{◌≡◌, IfOk};
+ghost use Rattle.std.specs.Prelude.{◌≡◌, false, IfOk};
+ghost use Rattle.sqlite.specs.Held.{state};
+ghost use Rattle.sqlite.specs.State.{HasCleanDisk};
 ghost use Rattle.opc_tables.specs.Steps.{Looks};
+ghost use Rattle.opc_state.specs.State.{has_users};
+ghost use Rattle.opc_store.specs.Represented.{Represents};
 
 use crate::loads::version_on;
 use crate::store::{Store, fault};
@@ -13,8 +17,23 @@ use opc_policy::source::StoreFault;
 use opc_policy::user::User;
 use opc_state::change::Change;
 use opc_state::tables::Tables;
-use sqlite::Alter;
+use opc_tables::read;
+use sqlite::{Alter, Connection, Error};
 use std::alloc::Global;
+
+fn has_users_on<S: Alter>(conn: &mut Connection<S>) -> Result<bool, Error>
+    requires { conn.old.in_transaction ≡ false }
+    ensures mode { conn.new.in_transaction ≡ false }
+    ensures looks { Looks S.Store conn.old conn.new result }
+    ensures found { HasCleanDisk (state S.Store conn.new) → (s : _) → Represents (state S.Store conn.old).now s → IfOk result (λ v. v ≡ has_users s.policy) }
+{
+    let rows = read(
+        conn,
+        "SELECT id, special, auditor, revoked, digest FROM usr ORDER BY id",
+        &[],
+    )?;
+    Ok(!rows.is_empty())
+}
 
 impl<S: Alter> Store<S> {
     /// A store that is shut fails here, before anything is begun.
@@ -23,6 +42,17 @@ impl<S: Alter> Store<S> {
     {
         match version_on(&mut self.conn) {
             Ok(_) => Ok(()),
+            Err(error) => Err(fault(error)),
+        }
+    }
+
+    /// Whether a user is stored.
+    fn has_users(&mut self) -> Result<bool, StoreFault>
+        ensures found { HasCleanDisk (state S.Store self.new) → (s : _) → Represents (state S.Store self.old).now s → IfOk result (λ v. v ≡ has_users s.policy) }
+        ensures keeps { Looks S.Store self.old self.new result }
+    {
+        match has_users_on(&mut self.conn) {
+            Ok(some) => Ok(some),
             Err(error) => Err(fault(error)),
         }
     }

@@ -35,3 +35,4 @@ pub mod TiedLemmas
 pub mod SearchLoads
 pub mod FirstDeciding
 pub mod Streaming
+pub mod SearchFound

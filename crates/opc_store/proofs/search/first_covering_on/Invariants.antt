@@ -14,5 +14,5 @@ invariant-rows g l =
     let old = state g.S.Store l.fn.conn in
     let now = state g.S.Store l.rows.conn.now in
     (l.rows.conn.ghost_name ≡ l.initial.rows.conn.ghost_name) × (l.rows.conn.now.in_transaction ≡ false) × Survives old now (λ _. ⊥)
-    × (HasCleanDisk now → IsUnchanged old now × (given : List Row) × HasGiven g.S.Store select_by_head (head_params l.class l.head) l.rows.conn.now given
-    × ((s : _) → Represents old.now s → HasTaken profile_row (covers l.resource) (chosen l.class l.head s) given l.at))
+    × (HasCleanDisk now → IsUnchanged old now × (given : List Row) × HasGiven g.S.Store select_by_head (head_params l.fn.class l.head) l.rows.conn.now given
+    × ((s : _) → Represents old.now s → HasTaken profile_row (covers l.resource) (chosen l.fn.class l.head s) given l.at))

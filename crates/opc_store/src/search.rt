@@ -12,11 +12,12 @@ ghost use Rattle.opc_store.specs.Represented.{Represents};
 ghost use Rattle.opc_store.specs.Search.{bare, chosen, covers};
 
 use crate::policy::{entries_on, profile_in};
+use crate::store::{Store, fault};
 use opc_names::class::Class;
 use opc_names::name::Resource;
 use opc_policy::profile::Profile;
 use opc_policy::search::Found;
-use opc_policy::source::Taken;
+use opc_policy::source::{StoreFault, Taken};
 use sqlite::{Alter, Connection, Error, ErrorCode, params};
 use std::alloc::Global;
 
@@ -136,5 +137,50 @@ pub(crate) fn deciding_on<S: Alter>(
             });
         }
         length -= 1;
+    }
+}
+
+impl<S: Alter> Store<S> {
+    /// The first profile that covers a resource, in the order of the patterns, of those of a class with this very head, and
+    /// how many profiles were read for it.
+    pub fn first_in(
+        &mut self,
+        alloc: Global,
+        class: Class,
+        head: &str,
+        resource: &Resource,
+    ) -> Result<Taken, StoreFault>
+        ensures first { HasCleanDisk (state S.Store self.new) → (s : _) → Represents (state S.Store self.old).now s → IfOk result (λ taken.
+            taken.profile ≡ deciding (with_head head.now (of_class class s.policy.profiles)) resource.now) }
+        ensures rows { HasCleanDisk (state S.Store self.new) → (s : _) → Represents (state S.Store self.old).now s → IfOk result (λ taken.
+            taken.rows ≡ length (read_until taken.profile (with_head head.now (of_class class s.policy.profiles)))) }
+        ensures keeps { Looks S.Store self.old self.new result }
+    {
+        match first_in_on(alloc, &mut self.conn, class, head, resource) {
+            Ok(taken) => Ok(taken),
+            Err(error) => Err(fault(error)),
+        }
+    }
+
+    /// The profile of a class that decides a resource, how many heads the tables were asked for, and how many profiles were
+    /// read. The policy is not read as a whole.
+    pub fn deciding(
+        &mut self,
+        alloc: Global,
+        class: Class,
+        resource: &Resource,
+    ) -> Result<Found, StoreFault>
+        ensures found { HasCleanDisk (state S.Store self.new) → (s : _) → Represents (state S.Store self.old).now s → IfOk result (λ found.
+            found.profile ≡ deciding_in s.policy class resource.now) }
+        ensures ranges { HasCleanDisk (state S.Store self.new) → (s : _) → Represents (state S.Store self.old).now s → IfOk result (λ found.
+            found.ranges + head_length found.profile ≡ length resource.now + 1) }
+        ensures rows { HasCleanDisk (state S.Store self.new) → (s : _) → Represents (state S.Store self.old).now s → IfOk result (λ found.
+            found.rows ≡ length (examined found.profile resource.now (of_class class s.policy.profiles))) }
+        ensures keeps { Looks S.Store self.old self.new result }
+    {
+        match deciding_on(alloc, &mut self.conn, class, resource) {
+            Ok(found) => Ok(found),
+            Err(error) => Err(fault(error)),
+        }
     }
 }

@@ -1,10 +1,5 @@
 //! The store as the tables that the machine asks for.
-ghost use Rattle.std.specs.Prelude.{◌≡◌, false, IfOk};
-ghost use Rattle.sqlite.specs.Held.{state};
-ghost use Rattle.sqlite.specs.State.{HasCleanDisk};
 ghost use Rattle.opc_tables.specs.Steps.{Looks};
-ghost use Rattle.opc_state.specs.State.{has_users};
-ghost use Rattle.opc_store.specs.Represented.{Represents};
 
 use crate::loads::version_on;
 use crate::store::{Store, fault};
@@ -12,28 +7,13 @@ use opc_board::board::Board;
 use opc_names::class::Class;
 use opc_names::name::{GroupName, Resource, UserId};
 use opc_policy::policy::Policy;
-use opc_policy::search::{Found, search};
+use opc_policy::search::Found;
 use opc_policy::source::StoreFault;
 use opc_policy::user::User;
 use opc_state::change::Change;
 use opc_state::tables::Tables;
-use opc_tables::read;
-use sqlite::{Alter, Connection, Error};
+use sqlite::Alter;
 use std::alloc::Global;
-
-fn has_users_on<S: Alter>(conn: &mut Connection<S>) -> Result<bool, Error>
-    requires { conn.old.in_transaction ≡ false }
-    ensures mode { conn.new.in_transaction ≡ false }
-    ensures looks { Looks S.Store conn.old conn.new result }
-    ensures found { HasCleanDisk (state S.Store conn.new) → (s : _) → Represents (state S.Store conn.old).now s → IfOk result (λ v. v ≡ has_users s.policy) }
-{
-    let rows = read(
-        conn,
-        "SELECT id, special, auditor, revoked, digest FROM usr ORDER BY id",
-        &[],
-    )?;
-    Ok(!rows.is_empty())
-}
 
 impl<S: Alter> Store<S> {
     /// A store that is shut fails here, before anything is begun.
@@ -42,17 +22,6 @@ impl<S: Alter> Store<S> {
     {
         match version_on(&mut self.conn) {
             Ok(_) => Ok(()),
-            Err(error) => Err(fault(error)),
-        }
-    }
-
-    /// Whether a user is stored.
-    fn has_users(&mut self) -> Result<bool, StoreFault>
-        ensures found { HasCleanDisk (state S.Store self.new) → (s : _) → Represents (state S.Store self.old).now s → IfOk result (λ v. v ≡ has_users s.policy) }
-        ensures keeps { Looks S.Store self.old self.new result }
-    {
-        match has_users_on(&mut self.conn) {
-            Ok(some) => Ok(some),
             Err(error) => Err(fault(error)),
         }
     }
@@ -89,8 +58,7 @@ impl<S: Alter> Tables for Store<S> {
         class: Class,
         resource: &Resource,
     ) -> Result<Found, StoreFault> {
-        let mut policy = self.policy(alloc)?;
-        search(&mut policy, class, resource)
+        self.deciding(alloc, class, resource)
     }
 
     fn has_users(&mut self) -> Result<bool, StoreFault> {

@@ -36,3 +36,4 @@ pub mod SearchLoads
 pub mod FirstDeciding
 pub mod Streaming
 pub mod SearchFound
+pub mod HistoryLoads

@@ -1,11 +1,13 @@
 -- What the loads read.
-use Rattle.std.proofs.Common.{◌≡◌, ℕ, pos, List, [], ◌∷◌, map, filter, drop, codes, Bool, true, false, ◌&&◌, refl, ap, ◌∙◌, Ordering, Less, Equal, Greater, is_eq}
+use Rattle.std.proofs.Common.{◌≡◌, ℕ, pos, List, [], ◌∷◌, map, filter, drop, take, length, codes, not, ◌==◌, Bool, true, false, sym, ◌&&◌, refl, ap, ◌∙◌, arith, Ordering, Less, Equal, Greater, is_eq}
 use Rattle.std.specs.Ordering.{ordering_then, ordering_reverse}
 use Rattle.std.specs.Str.{bytes_eq}
+use Rattle.std.proofs.lemmas.List.{length-map}
+use Rattle.std.proofs.lemmas.List.Sorted.{length_permutation}
 use Rattle.std.proofs.lemmas.Map.Text.{is_eq-slice_cmp}
 use Rattle.sqlite.specs.Order.{Row, column, value_cmp}
 use Rattle.sqlite.specs.declared.types.Value.TheVariants.{Int, Text}
-use Rattle.sqlite.specs.Term.{Term, col, op2}
+use Rattle.sqlite.specs.Term.{Term, col, lit, op2}
 use Rattle.sqlite.specs.Ops.{binary, is_true}
 use Rattle.sqlite.specs.Command.TheVariants.{Select}
 use Rattle.sqlite.specs.Query.{Output, output_cmp}
@@ -22,18 +24,19 @@ use Rattle.sqlite.specs.Tree.{Trees}
 use Rattle.sqlite.proofs.Callers.{IsPlain, command_of, reads_as}
 use Rattle.opc_tables.specs.Order.{text_cmp}
 use Rattle.opc_tables.specs.Steps.{NeverWrites}
-use Rattle.opc_tables.proofs.Queries.{selecting, alone, answered, passes, shown}
+use Rattle.opc_tables.proofs.Queries.{selecting, paging, alone, answered, paged, passes, shown}
 use Rattle.opc_tables.proofs.Quiet.{ShowsNothing, understood_quiet}
 use Rattle.opc_tables.proofs.Values.{equal_texts, and_true}
 use Rattle.opc_tables.proofs.Sets.{text_total}
 use Rattle.opc_tables.proofs.Listed.{listed}
+use Rattle.sqlite_keyed.proofs.ListLemmas.{filter_all, all_of}
 use Rattle.sqlite_resolve.specs.Compile.{first}
 use Rattle.opc_policy.specs.declared.user.User.{User}
 use Rattle.opc_policy.specs.declared.connect.Connect.{Connect}
 use Rattle.opc_policy.specs.Members.{name_cmp, user_cmp, connect_cmp}
 use Rattle.opc_store.specs.Tables.{the_schema}
 use Rattle.opc_store.specs.State.{IsOrdered}
-use Rattle.opc_state.specs.State.{State}
+use Rattle.opc_state.specs.State.{State, has_users, is_some_user}
 use Rattle.opc_store.specs.Represented.{Tabulates, version_row, user_row, connect_row}
 
 eq_back : (a b : List ℕ) → is_eq (text_cmp a b) ≡ bytes_eq b a
@@ -137,6 +140,39 @@ user_meets : (id : List ℕ) (db : Trees) (r : Row) → passes 18 same_first use
 user_meets id db [] = refl
 user_meets id db (v ∷ r) = refl
 
+-- ---- whether a user is stored
+
+abbrev pub select_any_user : List ℕ
+select_any_user = codes "SELECT id FROM usr ORDER BY id LIMIT 1"
+
+abbrev only_id : List Term
+only_id = col 1 1 ∷ []
+
+abbrev one_row : Term
+one_row = lit (Int (pos 1))
+
+any_user_is : (command_of (understood the_schema select_any_user) ≡ Select (alone (paging 18 [] only_id by_first one_row)) (codes "id" ∷ [])) × (reads_listing the_schema select_any_user ≡ false)
+unfolding understood everything
+any_user_is = (refl, refl)
+
+any_user_plain : IsPlain (understood the_schema select_any_user)
+unfolding understood everything
+any_user_plain = (refl, refl)
+
+any_user_shows : ShowsNothing (first select_any_user)
+unfolding everything
+any_user_shows schema base = refl
+
+pub any_user_quiet : NeverWrites select_any_user
+any_user_quiet = understood_quiet select_any_user any_user_shows
+
+-- where there are as many rows as users
+some_user : (users : List User) (all : List Row) → length all ≡ length users → not (length (take 1 all) == 0) ≡ is_some_user users
+some_user [] [] e = refl
+some_user [] (r ∷ all) e = absurd (omega arith)
+some_user (u ∷ users) [] e = absurd (omega arith)
+some_user (u ∷ users) (r ∷ all) e = refl
+
 -- ---- the groups of a user
 
 abbrev pub select_groups : List ℕ
@@ -185,6 +221,22 @@ module _ (old new : SqlState) (s : State) (was : Tabulates old.now s) (rows : Li
       let read = reads_as select_version [] old new the_schema was.schema (Select (alone (selecting 0 [] version_columns by_first)) (codes "version" ∷ [])) version_is.0 version_plain version_is.1 rows h in
       let lists = answered 0 [] version_columns by_first old.now.trees [] old.now.schema rows read in
       listed version_row number_cmp 0 [] version_columns by_first [] (λ _. true) version_out (λ _. true) old.now.trees (λ _. refl) (version_below old.now.trees) (λ _. refl) (λ _. refl) version_less (2 ∷ []) rows (tt, tt) was.holds.meta lists
+
+  pub shows_any_user : Shown select_any_user [] old new rows → not (length rows == 0) ≡ has_users s.policy
+  shows_any_user h =
+      let db = old.now.trees in
+      let read = reads_as select_any_user [] old new the_schema was.schema (Select (alone (paging 18 [] only_id by_first one_row)) (codes "id" ∷ [])) any_user_is.0 any_user_plain any_user_is.1 rows h in
+      let pages = paged 18 [] only_id by_first db [] old.now.schema one_row rows read in
+      let many : length pages.all ≡ length s.policy.users =
+      ap length pages.lists.are
+      ∙ (length-map pages.lists.ordered (λ (o : Output). o.1)
+      ∙ (length_permutation _ _ pages.lists.same
+      ∙ (length-map (filter (passes 18 [] only_id by_first db []) (db 18)) (shown 18 [] only_id by_first db [])
+      ∙ (ap length (filter_all (passes 18 [] only_id by_first db []) (db 18) (all_of (λ (r : Row). passes 18 [] only_id by_first db [] r ≡ true) (λ _. refl) (db 18)))
+      ∙ (sym (length-map (db 18) (λ (r : Row). drop 1 r))
+      ∙ (length_permutation _ _ was.holds.usr.each
+      ∙ length-map s.policy.users user_row)))))) in
+      ap (λ (l : List Row). not (length l == 0)) pages.are ∙ some_user s.policy.users pages.all many
 
   module _ (ordered : IsOrdered s) where
     pub shows_user : (id : List ℕ) → Shown select_user (Text id ∷ []) old new rows → rows ≡ map user_row (filter (λ (u : User). bytes_eq id u.id) s.policy.users)

@@ -1,5 +1,5 @@
 -- What the queries on the policy read.
-use Rattle.std.proofs.Common.{◌≡◌, ℕ, List, [], ◌∷◌, map, drop, codes, true, false, refl, ap, ◌∙◌, Ordering, Less, Equal, Greater, Some}
+use Rattle.std.proofs.Common.{◌≡◌, ℕ, List, [], ◌∷◌, map, filter, drop, codes, true, false, refl, sym, ap, subst₂, ◌∙◌, Ordering, Less, Equal, Greater, Some}
 use Rattle.sqlite.specs.Order.{Row, column}
 use Rattle.sqlite.specs.Term.{Term, col, op2}
 use Rattle.sqlite.specs.Command.TheVariants.{Select}
@@ -35,8 +35,8 @@ use Rattle.opc_policy.specs.declared.profile.Profile.{Profile}
 use Rattle.opc_policy.specs.Access.{entry_cmp}
 use Rattle.opc_policy.specs.Members.{name_cmp, user_cmp, connect_cmp}
 use Rattle.opc_policy.specs.Profiles.{class_cmp, pattern_cmp, profile_cmp, profile_of, is_of}
-use Rattle.opc_store.proofs.ProfileTexts.{has_profile, profile_key}
-use Rattle.opc_store.proofs.AccessLists.{split, list_hit}
+use Rattle.opc_store.proofs.ProfileTexts.{has_profile, profile_key, picks_profile}
+use Rattle.opc_store.proofs.AccessLists.{split, list_hit, is_of_means}
 use Rattle.opc_tables.proofs.Listed.{listed_part}
 use Rattle.opc_tables.proofs.Parts.{found_one}
 use Rattle.opc_state.specs.State.{State}
@@ -294,3 +294,49 @@ shows_entries old new s was ordered class pattern p here rows h =
     let up = entries_rise s ordered class pattern p here in
     listed_part (entry_row p.class p.pattern) entry_cmp 26 of_profile entries_columns by_id (profile_key class pattern) (has_profile class pattern) entries_out old.now.trees (entries_meet class pattern old.now.trees) (entries_below class pattern old.now.trees)
     (λ _. refl) (λ x y less. rw (value_cmp-Text x.id y.id, less)) (flat_map entry_rows s.policy.profiles) p.entries rows up mine was.holds.entries lists
+
+-- ---- one profile
+
+abbrev pub select_profile : List ℕ
+select_profile = codes "SELECT class, pattern, owner, uacc, warning, skey, head FROM profiles WHERE class = ?1 AND pattern = ?2 ORDER BY class, skey"
+
+profile_is : (command_of (understood the_schema select_profile) ≡ Select (alone (selecting 22 of_profile profiles_columns by_key)) profiles_names) × (reads_listing the_schema select_profile ≡ false)
+unfolding understood everything
+profile_is = (refl, refl)
+
+profile_plain : IsPlain (understood the_schema select_profile)
+unfolding understood everything
+profile_plain = (refl, refl)
+
+profile_show : ShowsNothing (first select_profile)
+unfolding everything
+profile_show schema base = refl
+
+pub profile_quiet : NeverWrites select_profile
+profile_quiet = understood_quiet select_profile profile_show
+
+profile_below : (class : Class) (pattern : List ℕ) (db : Trees) (r : Row) → shown 22 of_profile profiles_columns by_key db (profile_key class pattern) r ≡ profiles_out (drop 1 r)
+profile_below class pattern db [] = refl
+profile_below class pattern db (v ∷ r) = refl
+
+profile_meets : (class : Class) (pattern : List ℕ) (db : Trees) (r : Row) → passes 22 of_profile profiles_columns by_key db (profile_key class pattern) r ≡ has_profile class pattern (drop 1 r)
+profile_meets class pattern db [] = refl
+profile_meets class pattern db (v0 ∷ []) = refl
+profile_meets class pattern db (v0 ∷ v1 ∷ r) = refl
+
+profile_less : (x y : Profile) → profile_cmp x y ≡ Less → output_cmp (selecting 22 of_profile profiles_columns by_key) (profiles_out (profile_row x)) (profiles_out (profile_row y)) ≡ Less
+profile_less x y h = rw (value_cmp-Text (class_text x.class) (class_text y.class), class_texts x.class y.class, value_cmp-Blob (sort_key x.pattern) (sort_key y.pattern)) (then_less (class_cmp x.class y.class) (pattern_cmp x.pattern y.pattern) h)
+
+pub shows_profile : (old new : SqlState) (s : State) → Tabulates old.now s → IsOrdered s → (class : Class) (pattern : List ℕ) (rows : List Row) → Shown select_profile (profile_key class pattern) old new rows → rows ≡ map profile_row (filter (is_of class pattern) s.policy.profiles)
+shows_profile old new s was ordered class pattern rows h =
+    let params = profile_key class pattern in
+    let read = reads_as select_profile params old new the_schema was.schema (Select (alone (selecting 22 of_profile profiles_columns by_key)) profiles_names) profile_is.0 profile_plain profile_is.1 rows h in
+    let lists = answered 22 of_profile profiles_columns by_key old.now.trees params old.now.schema rows read in
+    listed profile_row profile_cmp 22 of_profile profiles_columns by_key params (has_profile class pattern) profiles_out (is_of class pattern) old.now.trees (profile_meets class pattern old.now.trees) (profile_below class pattern old.now.trees)
+    (picks_profile class pattern) (λ _. refl) profile_less s.policy.profiles rows ordered.profiles was.holds.profiles lists
+
+-- the profile that is found is that of its own class and pattern
+pub own_key : (s : State) → IsOrdered s → (class : Class) (pattern : List ℕ) (p : Profile) → profile_of s.policy.profiles class pattern ≡ Some p → profile_of s.policy.profiles p.class p.pattern ≡ Some p
+own_key s ordered class pattern p here =
+    let means = is_of_means class pattern p (split class pattern s.policy.profiles p ordered.profiles here).passes in
+    subst₂ (λ (k : Class) (n : List ℕ). profile_of s.policy.profiles k n ≡ Some p) (sym means.0) (sym means.1) here

@@ -9,3 +9,4 @@ pub mod Ours
 pub mod Content
 pub mod Tied
 pub mod Search
+pub mod Loads

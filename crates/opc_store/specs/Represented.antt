@@ -142,6 +142,15 @@ reply_row r = numbered_row reply_values r.id r
 abbrev pub reply_shown : ReplyRow → Row
 reply_shown r = Int (pos r.id) ∷ Text r.text ∷ []
 
+abbrev pub log_shown : List ℕ → Row
+log_shown text = Text text ∷ []
+
+abbrev pub message_shown : MessageRow → Row
+message_shown m = Text m.user ∷ Text m.text ∷ []
+
+abbrev pub account_shown : AccountRow → Row
+account_shown a = Int (pos a.moment) ∷ Text a.console ∷ Text a.user ∷ Text a.code ∷ Text a.rule ∷ []
+
 -- with the text of a policy file of its rows
 abbrev pub batch_values : Batch → Row
 batch_values b = Null ∷ Text (policy_text b.rows) ∷ []

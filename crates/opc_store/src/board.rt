@@ -9,6 +9,7 @@ ghost use Rattle.opc_board.specs.Facts.{console_at};
 ghost use Rattle.opc_names.specs.declared.class.Class.{Class as TheClass};
 ghost use Rattle.opc_store.specs.Represented.{Represents, class_row, halted_row};
 
+use crate::history::{answered_on, log_on, messages_on};
 use crate::members::{Kept, all_in, unreadable};
 use opc_board::board::{Board, BoardRows};
 use opc_board::rows::{ConsoleRow, DeviceRow, ReplyRow, UnitRow};
@@ -135,11 +136,8 @@ pub(crate) fn console_on<S: Alter>(
     }
 }
 
-/// The board without its histories.
-pub(crate) fn live_board_on<S: Alter>(
-    alloc: Global,
-    conn: &mut Connection<S>,
-) -> Result<Board, Error>
+// The rows of the board, with empty histories.
+fn live_rows_on<S: Alter>(alloc: Global, conn: &mut Connection<S>) -> Result<BoardRows, Error>
     requires { conn.old.in_transaction ≡ false }
     ensures mode { conn.new.in_transaction ≡ false }
     ensures looks { Looks S.Store conn.old conn.new result }
@@ -150,7 +148,7 @@ pub(crate) fn live_board_on<S: Alter>(
     let consoles = consoles_on(alloc, conn)?;
     let replies = replies_on(alloc, conn)?;
     let halted = halted_on(conn)?;
-    let rows = BoardRows {
+    Ok(BoardRows {
         units,
         devices,
         consoles,
@@ -159,9 +157,44 @@ pub(crate) fn live_board_on<S: Alter>(
         log: Rows::new(alloc),
         messages: Rows::new(alloc),
         halted,
-    };
+    })
+}
+
+/// The board without its histories.
+pub(crate) fn live_board_on<S: Alter>(
+    alloc: Global,
+    conn: &mut Connection<S>,
+) -> Result<Board, Error>
+    requires { conn.old.in_transaction ≡ false }
+    ensures mode { conn.new.in_transaction ≡ false }
+    ensures looks { Looks S.Store conn.old conn.new result }
+    ensures found { HasCleanDisk (state S.Store conn.new) → (s : _) → Represents (state S.Store conn.old).now s → IfOk result (λ v. v ≡ without_history s.board) }
+{
+    let rows = live_rows_on(alloc, conn)?;
     match Board::of(rows) {
         Ok(board) => Ok(board),
         Err(_) => Err(unreadable()),
     }
+}
+
+/// All rows of the board.
+pub(crate) fn board_rows_on<S: Alter>(
+    alloc: Global,
+    conn: &mut Connection<S>,
+) -> Result<BoardRows, Error>
+    requires { conn.old.in_transaction ≡ false }
+    ensures mode { conn.new.in_transaction ≡ false }
+    ensures looks { Looks S.Store conn.old conn.new result }
+    ensures found { HasCleanDisk (state S.Store conn.new) → (s : _) → Represents (state S.Store conn.old).now s → IfOk result (λ v. v ≡ s.board) }
+{
+    let live = live_rows_on(alloc, conn)?;
+    let answered = answered_on(alloc, conn)?;
+    let log = log_on(alloc, conn)?;
+    let messages = messages_on(alloc, conn)?;
+    Ok(BoardRows {
+        answered,
+        log,
+        messages,
+        ..live
+    })
 }

@@ -10,6 +10,7 @@ mod connects;
 mod consoles;
 mod devices;
 mod groups;
+mod history;
 mod loads;
 mod making;
 mod members;

@@ -1,13 +1,17 @@
 //! What the tables keep, read back.
-ghost use Rattle.std.specs.Prelude.{◌≡◌, ℕ, false, List, [], ◌∷◌, Option, IfOk, map};
+ghost use Rattle.std.specs.Prelude.{◌≡◌, ◌⊎◌, ℕ, false, List, [], Option, IfOk, IfErr, map};
 ghost use Rattle.sqlite.specs.Held.{state};
-ghost use Rattle.sqlite.specs.State.{HasCleanDisk};
+ghost use Rattle.sqlite.specs.State.{HasCleanDisk, FailsToQuery};
+ghost use Rattle.sqlite.specs.declared.error.Error.TheVariants.{SqliteFailure};
+ghost use Rattle.sqlite.specs.declared.error.ErrorCode.TheVariants.{OutOfMemory};
 ghost use Rattle.opc_tables.specs.Steps.{Looks};
 ghost use Rattle.opc_policy.specs.Members.{user_of, groups_of};
 ghost use Rattle.sqlite.specs.Order.{column};
 ghost use Rattle.opc_policy.specs.declared.connect.Connect.{Connect as TheConnect};
 ghost use Rattle.opc_policy.specs.declared.user.User.{User as TheUser};
-ghost use Rattle.opc_store.specs.Represented.{Represents, or_null, version_row, user_row, connect_row};
+ghost use Rattle.opc_state.specs.State.{has_users};
+ghost use Rattle.opc_store.specs.Ours.{NamesVersion, version_of, version_query};
+ghost use Rattle.opc_store.specs.Represented.{Represents, or_null, user_row, connect_row};
 
 use crate::members::{name_in, unreadable};
 use opc_names::name::{GroupName, UserId};
@@ -61,6 +65,17 @@ pub(crate) fn user_on<S: Alter>(
     }
 }
 
+/// Whether a user is stored. At most one row is read.
+pub(crate) fn has_users_on<S: Alter>(conn: &mut Connection<S>) -> Result<bool, Error>
+    requires { conn.old.in_transaction ≡ false }
+    ensures mode { conn.new.in_transaction ≡ false }
+    ensures looks { Looks S.Store conn.old conn.new result }
+    ensures found { HasCleanDisk (state S.Store conn.new) → (s : _) → Represents (state S.Store conn.old).now s → IfOk result (λ v. v ≡ has_users s.policy) }
+{
+    let rows = read(conn, "SELECT id FROM usr ORDER BY id LIMIT 1", &[])?;
+    Ok(!rows.as_slice().is_empty())
+}
+
 fn groups_in(alloc: Global, rows: &[Row]) -> Result<Vec<GroupName>, Error>
     ensures { (connects : List TheConnect) → rows.now ≡ map connect_row connects → IfOk result (λ v. v.items ≡ map (λ (c : TheConnect). c.group) connects) }
 {
@@ -90,7 +105,8 @@ pub(crate) fn groups_on<S: Alter>(
 }
 
 fn version_in(rows: &[Row]) -> Result<u64, Error>
-    ensures { rows.now ≡ version_row 2 ∷ [] → IfOk result (λ v. v ≡ 2) }
+    ensures version { IfOk result (λ v. v ≡ version_of rows.now) }
+    ensures memory { IfErr result (λ e. e ≡ SqliteFailure OutOfMemory) }
 {
     if rows.len() != 1 {
         return Ok(0);
@@ -109,6 +125,8 @@ pub(crate) fn version_on<S: Alter>(conn: &mut Connection<S>) -> Result<u64, Erro
     requires { conn.old.in_transaction ≡ false }
     ensures mode { conn.new.in_transaction ≡ false }
     ensures looks { Looks S.Store conn.old conn.new result }
+    ensures names { HasCleanDisk (state S.Store conn.new) → IfOk result (λ v. NamesVersion v (state S.Store conn.old) (state S.Store conn.new)) }
+    ensures unasked { HasCleanDisk (state S.Store conn.new) → IfErr result (λ e. (e ≡ SqliteFailure OutOfMemory) ⊎ FailsToQuery version_query [] (state S.Store conn.old) (state S.Store conn.new) e) }
     ensures ours { HasCleanDisk (state S.Store conn.new) → (s : _) → Represents (state S.Store conn.old).now s → IfOk result (λ v. v ≡ 2) }
 {
     let rows = read(conn, "SELECT version FROM meta ORDER BY version", &[])?;

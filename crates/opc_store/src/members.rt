@@ -6,14 +6,15 @@ ghost use Rattle.sqlite.specs.declared.types.Value.TheVariants.{Int, Text};
 ghost use Rattle.opc_names.specs.declared.auth.Auth.{Auth as TheAuth};
 ghost use Rattle.opc_policy.specs.declared.mode.Mode.{Mode as TheMode};
 ghost use Rattle.opc_board.specs.declared.rows.UnitKind.{UnitKind as TheKind};
-ghost use Rattle.opc_store.specs.Represented.{text_or_null, auth_number, mode_letter, kind_letter, kind_member, unit_row, device_row, console_row, reply_shown};
+ghost use Rattle.opc_store.specs.Represented.{text_or_null, auth_number, mode_letter, kind_letter, kind_member, unit_row, device_row, console_row, reply_shown, log_shown, message_shown, account_shown};
 
-use opc_board::rows::{ConsoleRow, DeviceRow, ReplyRow, UnitKind, UnitRow};
+use opc_board::rows::{ConsoleRow, DeviceRow, MessageRow, ReplyRow, UnitKind, UnitRow};
 use opc_board::text::KeptText;
 use opc_names::auth::Auth;
 use opc_names::name::{Name, NameKind};
 use opc_policy::mode::Mode;
 use opc_rows::Rows;
+use opc_state::account::AccountRow;
 use sqlite::{Error, ErrorCode, Row};
 use std::alloc::Global;
 
@@ -187,6 +188,39 @@ impl Kept for ReplyRow {
         Ok(ReplyRow {
             id: reply_id_in(row)?,
             text: text_in(row, 1)?,
+        })
+    }
+}
+
+impl Kept for KeptText {
+    ghost row_of = { log_shown };
+
+    fn kept_in(row: &Row) -> Result<Self, Error> {
+        text_in(row, 0)
+    }
+}
+
+impl Kept for MessageRow {
+    ghost row_of = { message_shown };
+
+    fn kept_in(row: &Row) -> Result<Self, Error> {
+        Ok(MessageRow {
+            user: name_in(row, 0)?,
+            text: text_in(row, 1)?,
+        })
+    }
+}
+
+impl Kept for AccountRow {
+    ghost row_of = { account_shown };
+
+    fn kept_in(row: &Row) -> Result<Self, Error> {
+        Ok(AccountRow {
+            moment: row.get(0)?,
+            console: text_in(row, 1)?,
+            user: text_in(row, 2)?,
+            code: text_in(row, 3)?,
+            rule: text_in(row, 4)?,
         })
     }
 }

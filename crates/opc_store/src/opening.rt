@@ -1,20 +1,27 @@
 //! Opening and closing.
-ghost use Rattle.std.specs.Prelude.{◌≡◌, ℕ, false, true, IfOk, IfErr, IfSome, IsTrue};
+ghost use Rattle.std.specs.Prelude.{◌≡◌, ◌⊎◌, false, IfOk, IfErr, IfSome, IsTrue, IsFalse};
 ghost use Rattle.sqlite.specs.Held.{state};
 ghost use Rattle.sqlite.specs.Closing.{IsCopied};
-ghost use Rattle.sqlite.specs.Files.{file_state};
+ghost use Rattle.sqlite.specs.Files.{file_state, AreFoundIn, HoldsDatabase};
+ghost use Rattle.sqlite_catalog.specs.Listing.{Lists};
+ghost use Rattle.sqlite_trees.specs.Objects.{catalog_tree};
+ghost use Rattle.sqlite.specs.Tree.{Trees};
+ghost use Rattle.sqlite.specs.WalFiles.{image_at};
 ghost use Rattle.sqlite.specs.WalReads.{AreClean};
 ghost use Rattle.sqlite.specs.State.{HasCleanDisk, Survives};
 ghost use Rattle.opc_tables.specs.Shapes.{no_schema};
 ghost use Rattle.opc_state.specs.State.{empty};
 ghost use Rattle.opc_store.specs.Represented.{Represents, AreTablesOf};
-ghost use Rattle.opc_store.specs.Ours.{has_our_name};
+ghost use Rattle.opc_store.specs.Ours.{has_our_name, unasked, NamesVersion, IsRefused};
+ghost use Rattle.opc_store.specs.declared.opening.OpenFault.TheVariants as TheFault;
 
 use crate::loads::version_on;
 use crate::making::make_tables;
 use crate::names::has_our_name;
 use crate::store::Store;
-use sqlite::{Alter, Connection, Error, ErrorCode, FileStore, Files, Options};
+use sqlite::{
+    Alter, Connection, Error, ErrorCode, FileFrom, FileStore, Files, Options, Start, Wary,
+};
 use sqlite_disk::Disk;
 use std::alloc::Global;
 use thiserror::Error;
@@ -34,7 +41,9 @@ pub enum OpenFault {
     NotOurs(u64),
 }
 
-fn open_fault(error: Error) -> OpenFault {
+fn open_fault(error: Error) -> OpenFault
+    ensures { (result ≡ TheFault.NoMemory) ⊎ (result ≡ TheFault.Store) }
+{
     match error {
         Error::SqliteFailure(ErrorCode::OutOfMemory) => OpenFault::NoMemory,
         _ => OpenFault::Store,
@@ -42,19 +51,26 @@ fn open_fault(error: Error) -> OpenFault {
 }
 
 // A meta that cannot be asked for its version is somebody else's.
-fn version_fault(error: Error) -> OpenFault {
+fn version_fault(error: Error) -> OpenFault
+    ensures { result ≡ unasked error }
+{
     match error {
         Error::SqlInputError(_) => OpenFault::NotOurs(0),
-        other => open_fault(other),
+        Error::SqliteFailure(ErrorCode::OutOfMemory) => OpenFault::NoMemory,
+        _ => OpenFault::Store,
     }
 }
 
 impl<S: Alter> Store<S> {
-    /// Adopts a connection. A database without a table or an index of our names gets the tables, in one transaction. A fault
-    /// hands the connection back.
+    /// Adopts a connection. A database without a table or an index of our names gets the tables, in one transaction.
+    /// One with such a name is `NotOurs` but for tables of this version: with the version that it names, or with 0. A
+    /// fault hands the connection back.
     pub fn open_files(mut conn: Connection<S>) -> Result<Self, (OpenFault, Connection<S>)>
         requires { conn.in_transaction ≡ false }
         ensures found { IfOk result (λ store. HasCleanDisk (state S.Store store) → IsTrue (state S.Store conn).is_open → (s : _) → AreTablesOf (state S.Store conn).now.trees s → Represents (state S.Store store).now s) }
+        ensures ours { IfOk result (λ store. HasCleanDisk (state S.Store store) → IsTrue (has_our_name conn.schema) → NamesVersion 2 (state S.Store conn) (state S.Store store)) }
+        ensures refused { IfErr result (λ e. HasCleanDisk (state S.Store e.1) → IsTrue (has_our_name conn.schema) → IsRefused e.0 (state S.Store conn) (state S.Store e.1)) }
+        ensures unmade { IfErr result (λ e. IsFalse (has_our_name conn.schema) → (e.0 ≡ TheFault.NoMemory) ⊎ (e.0 ≡ TheFault.Store)) }
         ensures made { IfOk result (λ store. HasCleanDisk (state S.Store store) → (state S.Store conn).now.schema ≡ no_schema → Represents (state S.Store store).now empty) }
         ensures unharmed { IfErr result (λ e. HasCleanDisk (state S.Store e.1) → IsTrue (state S.Store conn).is_open → IsTrue (state S.Store e.1).is_open → (state S.Store e.1).now ≡ (state S.Store conn).now) }
         ensures crash { IfOk result (λ store. Survives (state S.Store conn) (state S.Store store) (λ db. (state S.Store conn).now.schema ≡ no_schema → AreTablesOf db empty)) }
@@ -72,6 +88,31 @@ impl<S: Alter> Store<S> {
             Ok(version) => Err((OpenFault::NotOurs(version), conn)),
             Err(error) => Err((version_fault(error), conn)),
         }
+    }
+}
+
+impl<S: Start> Store<FileStore<FileFrom<S>>> {
+    /// Opens the database file at a path, or makes it, and adopts it as `open_files` does. `start` stands for what the
+    /// files hold, and says what a torn write may leave.
+    pub fn open_at(rt: &HostRuntime, path: &str, start: S) -> Result<Self, OpenFault>
+        ensures found { IfOk result (λ store. HasCleanDisk (file_state store) → (db : Trees) → HoldsDatabase (image_at S.Start) db → (s : _) → AreTablesOf db s → Represents (file_state store).now s) }
+        ensures made { IfOk result (λ store. HasCleanDisk (file_state store) → (trees : Trees) × AreFoundIn (image_at S.Start) trees × (Lists (trees catalog_tree) no_schema → Represents (file_state store).now empty)) }
+    {
+        let conn = match Connection::open_from(rt, path, false, start) {
+            Ok(conn) => conn,
+            Err((error, _)) => return Err(open_fault(error)),
+        };
+        match Store::open_files(conn) {
+            Ok(store) => Ok(store),
+            Err((fault, _)) => Err(fault),
+        }
+    }
+}
+
+impl Store<FileStore<FileFrom<Wary>>> {
+    /// Opens the database file at a path, or makes it. A torn write may leave any bytes, so each commit syncs twice.
+    pub fn open_from(rt: &HostRuntime, path: &str) -> Result<Self, OpenFault> {
+        Store::open_at(rt, path, Wary)
     }
 }
 

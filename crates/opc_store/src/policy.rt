@@ -213,6 +213,29 @@ fn profile_on<S: Alter>(
     Ok(Profile { entries, ..profile })
 }
 
+/// The profile of a class and a pattern, with its access list.
+pub(crate) fn profile_at<S: Alter>(
+    alloc: Global,
+    conn: &mut Connection<S>,
+    class: Class,
+    pattern: &Pattern,
+) -> Result<Option<Profile>, Error>
+    requires { conn.old.in_transaction ≡ false }
+    ensures mode { conn.new.in_transaction ≡ false }
+    ensures looks { Looks S.Store conn.old conn.new result }
+    ensures found { HasCleanDisk (state S.Store conn.new) → (s : _) → Represents (state S.Store conn.old).now s → IfOk result (λ v. v ≡ profile_of s.policy.profiles class pattern.now) }
+{
+    let rows = read(
+        conn,
+        "SELECT class, pattern, owner, uacc, warning, skey, head FROM profiles WHERE class = ?1 AND pattern = ?2 ORDER BY class, skey",
+        params![class.text(), pattern.text()],
+    )?;
+    match rows.as_slice().get(0) {
+        Some(row) => Ok(Some(profile_on(alloc, conn, row)?)),
+        None => Ok(None),
+    }
+}
+
 fn profiles_in<S: Alter>(
     alloc: Global,
     conn: &mut Connection<S>,

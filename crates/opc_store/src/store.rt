@@ -1,5 +1,5 @@
 //! The store.
-ghost use Rattle.std.specs.Prelude.{◌≡◌, OnOk, OnErr, IfOk, IsTrue};
+ghost use Rattle.std.specs.Prelude.{◌≡◌, ◌<◌, ◌^◌, length, OnOk, OnErr, IfOk, IsTrue};
 ghost use Rattle.sqlite.specs.Held.{state};
 ghost use Rattle.sqlite.specs.Steps.{over_memory};
 ghost use Rattle.sqlite.specs.State.{HasCleanDisk, Survives};
@@ -8,23 +8,30 @@ ghost use Rattle.opc_board.specs.Facts.{console_at};
 ghost use Rattle.opc_board.specs.History.{without_history};
 ghost use Rattle.opc_policy.specs.Members.{user_of, groups_of};
 ghost use Rattle.opc_policy.specs.Taken.{is_active};
-ghost use Rattle.opc_state.specs.State.{empty};
+ghost use Rattle.opc_policy.specs.Profiles.{profile_of};
+ghost use Rattle.opc_state.specs.State.{empty, has_users};
+ghost use Rattle.opc_store.specs.Loads.{account_page, kept_text};
 ghost use Rattle.opc_store.specs.Represented.{Represents, AreTablesOf};
 ghost use Rattle.opc_store.specs.Changes.{Becomes, fault_of};
 ghost use Rattle.opc_state.specs.Changes.{changed_by};
 
-use crate::board::{active_on, console_on, live_board_on};
+use crate::board::{active_on, board_rows_on, console_on, live_board_on};
 use crate::committing::commit_on;
-use crate::loads::{groups_on, user_on};
+use crate::history::{account_on, batch_on};
+use crate::loads::{groups_on, has_users_on, user_on};
 use crate::making::make_tables;
-use crate::policy::policy_on;
-use opc_board::board::Board;
+use crate::policy::{policy_on, profile_at};
+use opc_board::board::{Board, BoardRows};
 use opc_board::rows::ConsoleRow;
+use opc_board::text::KeptText;
 use opc_names::class::Class;
-use opc_names::name::{ConsoleName, GroupName, UserId};
+use opc_names::name::{ConsoleName, GroupName, Pattern, UserId};
 use opc_policy::policy::Policy;
+use opc_policy::profile::Profile;
 use opc_policy::source::StoreFault;
 use opc_policy::user::User;
+use opc_rows::Rows;
+use opc_state::account::AccountRow;
 use opc_state::change::Change;
 use sqlite::{Alter, Connection, Error, ErrorCode, MemStore};
 use std::alloc::Global;
@@ -146,6 +153,72 @@ impl<S: Alter> Store<S> {
     {
         match policy_on(alloc, &mut self.conn) {
             Ok(policy) => Ok(policy),
+            Err(error) => Err(fault(error)),
+        }
+    }
+
+    /// The profile of a class and a pattern, with its access list.
+    pub fn profile(
+        &mut self,
+        alloc: Global,
+        class: Class,
+        pattern: &Pattern,
+    ) -> Result<Option<Profile>, StoreFault>
+        ensures found { HasCleanDisk (state S.Store self.new) → (s : _) → Represents (state S.Store self.old).now s → IfOk result (λ v. v ≡ profile_of s.policy.profiles class pattern.now) }
+        ensures keeps { Looks S.Store self.old self.new result }
+    {
+        match profile_at(alloc, &mut self.conn, class, pattern) {
+            Ok(profile) => Ok(profile),
+            Err(error) => Err(fault(error)),
+        }
+    }
+
+    /// Whether a user is stored.
+    pub fn has_users(&mut self) -> Result<bool, StoreFault>
+        ensures found { HasCleanDisk (state S.Store self.new) → (s : _) → Represents (state S.Store self.old).now s → IfOk result (λ v. v ≡ has_users s.policy) }
+        ensures keeps { Looks S.Store self.old self.new result }
+    {
+        match has_users_on(&mut self.conn) {
+            Ok(some) => Ok(some),
+            Err(error) => Err(fault(error)),
+        }
+    }
+
+    /// All rows of the board, with the histories.
+    pub fn board_rows(&mut self, alloc: Global) -> Result<BoardRows, StoreFault>
+        ensures found { HasCleanDisk (state S.Store self.new) → (s : _) → Represents (state S.Store self.old).now s → IfOk result (λ v. v ≡ s.board) }
+        ensures keeps { Looks S.Store self.old self.new result }
+    {
+        match board_rows_on(alloc, &mut self.conn) {
+            Ok(rows) => Ok(rows),
+            Err(error) => Err(fault(error)),
+        }
+    }
+
+    /// The rows of the account from a number on, as many as asked at most; they are numbered from 1. The others are
+    /// not read.
+    pub fn account(
+        &mut self,
+        alloc: Global,
+        from: u64,
+        count: u32,
+    ) -> Result<Rows<AccountRow>, StoreFault>
+        ensures found { HasCleanDisk (state S.Store self.new) → (s : _) → Represents (state S.Store self.old).now s → length s.account < 2 ^ 63 → IfOk result (λ v. v ≡ account_page from count s.account) }
+        ensures keeps { Looks S.Store self.old self.new result }
+    {
+        match account_on(alloc, &mut self.conn, from, count) {
+            Ok(rows) => Ok(rows),
+            Err(error) => Err(fault(error)),
+        }
+    }
+
+    /// The batch of a number, as the text of a policy file.
+    pub fn batch(&mut self, number: u32) -> Result<Option<KeptText>, StoreFault>
+        ensures found { HasCleanDisk (state S.Store self.new) → (s : _) → Represents (state S.Store self.old).now s → IfOk result (λ v. v ≡ kept_text s.batches number) }
+        ensures keeps { Looks S.Store self.old self.new result }
+    {
+        match batch_on(&mut self.conn, number) {
+            Ok(text) => Ok(text),
             Err(error) => Err(fault(error)),
         }
     }

@@ -1,5 +1,5 @@
 -- Rows that are decoded one after another.
-use Rattle.std.proofs.Common.{◌≡◌, ℕ, zero, suc, ◌+◌, ◌<◌, List, [], ◌∷◌, ◌++◌, map, take, filter, find, length, get_or, slice_get, Some, None, Bool, refl, sym, ap, ap₂, subst, ◌∙◌, arith, add-one}
+use Rattle.std.proofs.Common.{◌≡◌, ℕ, zero, suc, ◌+◌, ◌<◌, List, [], ◌∷◌, ◌++◌, map, take, filter, find, length, get_or, slice_get, option_map, Some, None, Bool, refl, sym, ap, ap₂, subst, ◌∙◌, arith, add-one}
 use Rattle.std.proofs.lemmas.List.{map-append}
 use Rattle.sqlite_keyed.proofs.ListLemmas.{slice_get-filter}
 
@@ -42,3 +42,19 @@ more_taken row xs rows vs i y v are low is decodes so_far =
     let it = at row xs i y (subst (λ (l : List _). i < length l) are low) in
     let here : y ≡ row it.x = is ∙ (ap (λ l. get_or l i y) are ∙ it.is) in
     ap₂ (λ a b. a ++ b ∷ []) so_far (decodes it.x here) ∙ (sym it.more ∙ ap (λ k. take k xs) (sym (add-one i)))
+
+module _ {X Y : Type 0} (row : X → Y) (p : X → Bool) where
+  -- the member of the first row
+  pub first_is : (xs : List X) (rows : List Y) (y : Y) → rows ≡ map row (filter p xs) → slice_get rows 0 ≡ Some y → (x : X) × (y ≡ row x) × (Some x ≡ find p xs)
+  first_is xs rows y are first = let it = go (filter p xs) (sym (ap (λ l. slice_get l 0) are) ∙ first) in (it.0, it.1, it.2 ∙ slice_get-filter p xs)
+    where
+      go : (l : List X) → slice_get (map row l) 0 ≡ Some y → (x : X) × (y ≡ row x) × (Some x ≡ slice_get l 0)
+      go [] h = absurd cc
+      go (x ∷ l) h = let same : y ≡ row x = cc in (x, same, refl)
+
+  -- what was read of it
+  pub first_told : {V : Type 0} (of : X → V) (xs : List X) (rows : List Y) (y : Y) (v : V) → rows ≡ map row (filter p xs) → slice_get rows 0 ≡ Some y → ((x : X) → y ≡ row x → v ≡ of x) → Some v ≡ option_map of (find p xs)
+  first_told of xs rows y v are first reads = let it = first_is xs rows y are first in ap (λ z. Some z) (reads it.0 it.1) ∙ ap (option_map of) it.2
+
+  pub none_told : {V : Type 0} (of : X → V) (xs : List X) (rows : List Y) → rows ≡ map row (filter p xs) → slice_get rows 0 ≡ None → None ≡ option_map of (find p xs)
+  none_told of xs rows are first = ap (option_map of) (none_found row (λ x. x) p xs rows are first)

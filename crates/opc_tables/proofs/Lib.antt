@@ -21,3 +21,4 @@ pub mod Looking
 pub mod Putting
 pub mod Sorting
 pub mod LastNumber
+pub mod Places

@@ -1,5 +1,5 @@
 -- Queries, one after another.
-use Rattle.std.proofs.Common.{◌≡◌, ◌∙◌, sym, subst, arith, Ok, Result, OnOk}
+use Rattle.std.proofs.Common.{◌∙◌, sym, subst, arith, Ok, Result}
 use Rattle.sqlite_trees.specs.declared.store.Store.{Ghosts}
 use Rattle.sqlite.specs.Effect.{Database}
 use Rattle.sqlite.specs.Held.{Held, state}

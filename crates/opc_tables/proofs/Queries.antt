@@ -6,8 +6,8 @@ use Rattle.std.specs.Cmp.{IsTotalOrder}
 use Rattle.sqlite_value.specs.declared.value.Value.TheVariants.{Null, Int}
 use Rattle.sqlite_value.specs.declared.keys.Key.{Key}
 use Rattle.sqlite_value.specs.Order.{Row}
-use Rattle.sqlite.specs.Term.{Term, Env, lit, holds}
-use Rattle.sqlite.specs.Query.{Query, inner, end, Output, output, output_cmp, IsAnswer}
+use Rattle.sqlite.specs.Term.{Term, Env, lit, eval, holds}
+use Rattle.sqlite.specs.Query.{Query, inner, end, Output, output, output_cmp, IsAnswer, as_count, limited}
 use Rattle.sqlite.specs.Program.{overlay}
 use Rattle.sqlite_schema.specs.declared.program.Program.{Program}
 use Rattle.sqlite.specs.Effect.{Answers}
@@ -28,6 +28,10 @@ selecting tree tests project order = record {
   limit = lit (Int (negsuc 0));
   offset = lit (Int (pos 0));
 }
+
+-- the same with LIMIT
+abbrev pub paging : ℕ → List Term → List Term → List (Term × Key) → Term → Query
+paging tree tests project order limit = record (selecting tree tests project order) { limit = limit }
 
 abbrev pub alone : Query → Program
 alone q = record { lets = []; body = q }
@@ -74,3 +78,21 @@ module _ (tree : ℕ) (tests project : List Term) (order : List (Term × Key)) (
       a.grouped ∙ (ap (flat_map (λ (r : Row). cond (list_all (holds (params ∷ r ∷ [])) tests) ((params ∷ r ∷ []) ∷ []) [])) (overlay_none db tree) ∙ kept_rows params tests (db tree)) in
       let kept : a.kept ≡ map shown (filter passes (db tree)) = a.distinct ∙ (ap (map (output query)) staged ∙ map-map (output query) (λ (r : Row). params ∷ r ∷ []) (filter passes (db tree))) in
       record { ordered = a.ordered; same = subst (λ (k : List Output). IsPermutation k a.ordered) kept a.same; sorted = a.sorted; are = a.shown }
+
+  -- with LIMIT, the first of the rows that it would give without
+  pub record Pages (limit : Term) (rows : List Row) : Type 0 where
+    pub all : List Row
+    pub lists : Lists all
+    pub are : rows ≡ limited (as_count (eval limit (params ∷ []))) all
+
+  pub paged : (schema : Schema) (limit : Term) (rows : List Row) → Answers (record { schema = schema; trees = db }) (alone (paging tree tests project order limit)) params rows → Pages limit rows
+  paged schema limit rows h =
+      let a : IsAnswer (paging tree tests project order limit) (overlay db []) params rows = h.answer Null in
+      let staged : a.staged ≡ map (λ (r : Row). params ∷ r ∷ []) (filter passes (db tree)) =
+      a.grouped ∙ (ap (flat_map (λ (r : Row). cond (list_all (holds (params ∷ r ∷ [])) tests) ((params ∷ r ∷ []) ∷ []) [])) (overlay_none db tree) ∙ kept_rows params tests (db tree)) in
+      let kept : a.kept ≡ map shown (filter passes (db tree)) = a.distinct ∙ (ap (map (output query)) staged ∙ map-map (output query) (λ (r : Row). params ∷ r ∷ []) (filter passes (db tree))) in
+      record {
+        all = map (λ (o : Output). o.1) a.ordered;
+        lists = record { ordered = a.ordered; same = subst (λ (k : List Output). IsPermutation k a.ordered) kept a.same; sorted = a.sorted; are = refl };
+        are = a.shown;
+      }

@@ -1,10 +1,10 @@
 -- Values of SQL, compared.
-use Rattle.std.proofs.Common.{◌≡◌, ℕ, pos, List, Bool, true, false, ◌&&◌, refl, ap, ◌∙◌, ◌==◌, is_eq, arith}
-use Rattle.std.specs.Ordering.{nat_cmp}
+use Rattle.std.proofs.Common.{◌≡◌, ℕ, pos, List, Bool, true, false, ◌&&◌, refl, ap, ◌∙◌, ◌==◌, is_eq, nat_lt, arith}
+use Rattle.std.specs.Ordering.{nat_cmp, is_gt}
 use Rattle.sqlite.specs.declared.types.Value.TheVariants.{Int, Text}
 use Rattle.sqlite.specs.Ops.{binary, is_true, from_truth}
 use Rattle.sqlite_sql.specs.declared.ops.BinaryOp.TheVariants.{Compare}
-use Rattle.sqlite_sql.specs.declared.ops.CompareOp.TheVariants.{Eq}
+use Rattle.sqlite_sql.specs.declared.ops.CompareOp.TheVariants.{Eq, Gt}
 use Rattle.sqlite_value.specs.declared.keys.Collation.TheVariants.{Binary}
 use Rattle.sqlite_value.proofs.OrderLemmas.{value_cmp-Text}
 use Rattle.sqlite.specs.Order.{value_cmp}
@@ -31,3 +31,10 @@ same_numbers a b = grind (arith, nat_tests)
 pub equal_numbers : (a b : ℕ) → is_true (binary (Compare Eq Binary) (Int (pos a)) (Int (pos b))) ≡ (a == b)
 unfolding binary
 equal_numbers a b = truth_is (is_eq (value_cmp (Int (pos a)) (Int (pos b)))) ∙ (ap is_eq (number_cmp a b) ∙ same_numbers a b)
+
+later_number : (a b : ℕ) → is_gt (nat_cmp a b) ≡ nat_lt b a
+later_number a b = grind (arith, nat_tests)
+
+pub number_past : (a b : ℕ) → is_true (binary (Compare Gt Binary) (Int (pos a)) (Int (pos b))) ≡ nat_lt b a
+unfolding binary
+number_past a b = truth_is (is_gt (value_cmp (Int (pos a)) (Int (pos b)))) ∙ (ap is_gt (number_cmp a b) ∙ later_number a b)

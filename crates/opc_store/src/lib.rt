@@ -1,0 +1,28 @@
+//! The tables of the gate, and what they keep.
+#![tactic(auto)]
+
+mod accounting;
+mod batches;
+mod board;
+mod classes;
+mod committing;
+mod connects;
+mod consoles;
+mod devices;
+mod groups;
+mod history;
+mod loads;
+mod making;
+mod members;
+mod names;
+pub mod opening;
+mod policy;
+mod profiles;
+mod replies;
+mod search;
+pub mod store;
+#[cfg(test)]
+mod tests;
+pub mod tied;
+mod units;
+mod users;

@@ -1,0 +1,186 @@
+//! The search for the profile that decides, over the tables.
+ghost use Rattle.std.specs.Prelude.{◌≡◌, ◌+◌, false, true, find, length, IfOk, MatchResult};
+ghost use Rattle.std.specs.Option.{option_map};
+ghost use Rattle.sqlite.specs.Held.{state};
+ghost use Rattle.sqlite.specs.State.{HasCleanDisk};
+ghost use Rattle.opc_tables.specs.Steps.{Looks};
+ghost use Rattle.opc_tables.specs.Taken.{taken_for};
+ghost use Rattle.opc_policy.specs.Deciding.{of_class, deciding};
+ghost use Rattle.opc_policy.specs.Examined.{examined, head_length, read_until, with_head};
+ghost use Rattle.opc_state.specs.State.{deciding_in};
+ghost use Rattle.opc_store.specs.Represented.{Represents};
+ghost use Rattle.opc_store.specs.Search.{bare, chosen, covers};
+
+use crate::policy::{entries_on, profile_in};
+use crate::store::{Store, fault};
+use opc_names::class::Class;
+use opc_names::name::Resource;
+use opc_policy::profile::Profile;
+use opc_policy::search::Found;
+use opc_policy::source::{StoreFault, Taken};
+use sqlite::{Alter, Connection, Error, ErrorCode, params};
+use std::alloc::Global;
+
+/// The first profile that covers a resource, of those of a class with this very head, but for its access list, and how
+/// many were read for it. The rows are taken one at a time, in the order of the keys, and left at the first cover.
+fn first_covering_on<S: Alter>(
+    alloc: Global,
+    conn: &mut Connection<S>,
+    class: Class,
+    head: &str,
+    resource: &Resource,
+) -> Result<Taken, Error>
+    requires { conn.old.in_transaction ≡ false }
+    ensures mode { conn.new.in_transaction ≡ false }
+    ensures looks { Looks S.Store conn.old conn.new result }
+    ensures found { HasCleanDisk (state S.Store conn.new) → (s : _) → Represents (state S.Store conn.old).now s → IfOk result (λ taken.
+        (taken.profile ≡ option_map bare (find (covers resource.now) (chosen class head.now s))) × (taken.rows ≡ taken_for (covers resource.now) (chosen class head.now s))) }
+{
+    let _settled = conn.is_autocommit();
+    let mut rows = conn.query(
+        "SELECT class, pattern, owner, uacc, warning, skey, head FROM profiles WHERE class = ?1 AND head = ?2 ORDER BY class, skey",
+        params![class.text(), head],
+    )?;
+    'rows: for at in 0..u64::MAX {
+        let Some(row) = rows.next()? else {
+            return Ok(Taken {
+                profile: None,
+                rows: at,
+            });
+        };
+        let profile = profile_in(alloc, row)?;
+        if profile.pattern.covers(resource) {
+            return Ok(Taken {
+                profile: Some(profile),
+                rows: at + 1,
+            });
+        }
+    }
+    Err(Error::SqliteFailure(ErrorCode::TooBig))
+}
+
+/// The first profile that covers a resource, in the order of the patterns, of those of a class with this very head, and how
+/// many were read for it.
+pub(crate) fn first_in_on<S: Alter>(
+    alloc: Global,
+    conn: &mut Connection<S>,
+    class: Class,
+    head: &str,
+    resource: &Resource,
+) -> Result<Taken, Error>
+    requires { conn.old.in_transaction ≡ false }
+    ensures mode { conn.new.in_transaction ≡ false }
+    ensures looks { Looks S.Store conn.old conn.new result }
+    ensures first { HasCleanDisk (state S.Store conn.new) → (s : _) → Represents (state S.Store conn.old).now s → IfOk result (λ taken.
+        taken.profile ≡ deciding (with_head head.now (of_class class s.policy.profiles)) resource.now) }
+    ensures rows { HasCleanDisk (state S.Store conn.new) → (s : _) → Represents (state S.Store conn.old).now s → IfOk result (λ taken.
+        taken.rows ≡ length (read_until taken.profile (with_head head.now (of_class class s.policy.profiles)))) }
+{
+    let taken = first_covering_on(alloc, conn, class, head, resource)?;
+    let Taken { profile, rows } = taken;
+    let Some(profile) = profile else {
+        return Ok(Taken {
+            profile: None,
+            rows,
+        });
+    };
+    let entries = entries_on(alloc, conn, profile.class, &profile.pattern)?;
+    Ok(Taken {
+        profile: Some(Profile { entries, ..profile }),
+        rows,
+    })
+}
+
+fn sum(rows: u64, read: u64) -> Result<u64, Error>
+    ensures { IfOk result (λ sum. sum ≡ rows + read) }
+{
+    match rows.checked_add(read) {
+        Some(sum) => Ok(sum),
+        None => Err(Error::SqliteFailure(ErrorCode::TooBig)),
+    }
+}
+
+/// The profile of a class that decides a resource: the tables are asked for the prefixes of the name as heads, from the
+/// whole name down to the empty one, and no more once a profile covers.
+pub(crate) fn deciding_on<S: Alter>(
+    alloc: Global,
+    conn: &mut Connection<S>,
+    class: Class,
+    resource: &Resource,
+) -> Result<Found, Error>
+    requires { conn.old.in_transaction ≡ false }
+    ensures mode { conn.new.in_transaction ≡ false }
+    ensures looks { Looks S.Store conn.old conn.new result }
+    ensures found { HasCleanDisk (state S.Store conn.new) → (s : _) → Represents (state S.Store conn.old).now s → IfOk result (λ found.
+        found.profile ≡ deciding_in s.policy class resource.now) }
+    ensures ranges { HasCleanDisk (state S.Store conn.new) → (s : _) → Represents (state S.Store conn.old).now s → IfOk result (λ found.
+        found.ranges + head_length found.profile ≡ length resource.now + 1) }
+    ensures rows { HasCleanDisk (state S.Store conn.new) → (s : _) → Represents (state S.Store conn.old).now s → IfOk result (λ found.
+        found.rows ≡ length (examined found.profile resource.now (of_class class s.policy.profiles))) }
+{
+    let name = resource.text();
+    let mut rows = 0;
+    let mut length = name.len();
+    'heads: loop {
+        let taken = first_in_on(alloc, conn, class, &name[..length], resource)?;
+        let Taken {
+            profile,
+            rows: read,
+        } = taken;
+        rows = sum(rows, read)?;
+        if profile.is_some() || length == 0 {
+            let ranges = (name.len() + 1 - length) as u32;
+            return Ok(Found {
+                profile,
+                ranges,
+                rows,
+            });
+        }
+        length -= 1;
+    }
+}
+
+impl<S: Alter> Store<S> {
+    /// The first profile that covers a resource, in the order of the patterns, of those of a class with this very head, and
+    /// how many profiles were read for it.
+    pub fn first_in(
+        &mut self,
+        alloc: Global,
+        class: Class,
+        head: &str,
+        resource: &Resource,
+    ) -> Result<Taken, StoreFault>
+        ensures first { HasCleanDisk (state S.Store self.new) → (s : _) → Represents (state S.Store self.old).now s → IfOk result (λ taken.
+            taken.profile ≡ deciding (with_head head.now (of_class class s.policy.profiles)) resource.now) }
+        ensures rows { HasCleanDisk (state S.Store self.new) → (s : _) → Represents (state S.Store self.old).now s → IfOk result (λ taken.
+            taken.rows ≡ length (read_until taken.profile (with_head head.now (of_class class s.policy.profiles)))) }
+        ensures keeps { Looks S.Store self.old self.new result }
+    {
+        match first_in_on(alloc, &mut self.conn, class, head, resource) {
+            Ok(taken) => Ok(taken),
+            Err(error) => Err(fault(error)),
+        }
+    }
+
+    /// The profile of a class that decides a resource, how many heads the tables were asked for, and how many profiles were
+    /// read. The policy is not read as a whole.
+    pub fn deciding(
+        &mut self,
+        alloc: Global,
+        class: Class,
+        resource: &Resource,
+    ) -> Result<Found, StoreFault>
+        ensures found { HasCleanDisk (state S.Store self.new) → (s : _) → Represents (state S.Store self.old).now s → IfOk result (λ found.
+            found.profile ≡ deciding_in s.policy class resource.now) }
+        ensures ranges { HasCleanDisk (state S.Store self.new) → (s : _) → Represents (state S.Store self.old).now s → IfOk result (λ found.
+            found.ranges + head_length found.profile ≡ length resource.now + 1) }
+        ensures rows { HasCleanDisk (state S.Store self.new) → (s : _) → Represents (state S.Store self.old).now s → IfOk result (λ found.
+            found.rows ≡ length (examined found.profile resource.now (of_class class s.policy.profiles))) }
+        ensures keeps { Looks S.Store self.old self.new result }
+    {
+        match deciding_on(alloc, &mut self.conn, class, resource) {
+            Ok(found) => Ok(found),
+            Err(error) => Err(fault(error)),
+        }
+    }
+}

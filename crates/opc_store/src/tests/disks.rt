@@ -1,0 +1,153 @@
+//! Stores over files: closed and opened again, and over disks that stop.
+use super::{refusal, told};
+use crate::opening::OpenFault;
+use crate::store::Store;
+use opc_names::name::GroupName;
+use opc_policy::source::StoreFault;
+use opc_state::change::{Change, Edit};
+use sqlite::{Connection, FileStore, Files, Options};
+use sqlite_disk::{Crash, Fuse, Memory};
+use std::alloc::Global;
+use std::rt::HostRuntime;
+use std::test::Fail;
+
+type Disk = Fuse<Memory>;
+
+/// A group, and a row of the account.
+fn change(alloc: Global, group: &str) -> Result<Change, Fail> {
+    let mut edits = Vec::new(alloc);
+    edits.push(Edit::PutGroup(GroupName::read(group)?))?;
+    Ok(Change {
+        edits,
+        account: Some(refusal(alloc, group)?),
+    })
+}
+
+/// Makes a store over new files that pass so many calls on, and hands the files back where that failed.
+fn made(
+    alloc: Global,
+    log_calls: u64,
+    db_calls: u64,
+) -> Result<Store<FileStore<Disk>>, Files<Disk>> {
+    let files = Files {
+        log: Fuse::new(Memory::new(alloc), log_calls),
+        db: Fuse::new(Memory::new(alloc), db_calls),
+    };
+    match Connection::open_files(alloc, files, Options::new(7)) {
+        Ok(conn) => match Store::open_files(conn) {
+            Ok(store) => Ok(store),
+            Err((_, conn)) => match conn.close_files() {
+                Ok(files) => Err(files),
+                Err((_, left)) => Err(left.close()),
+            },
+        },
+        Err((_, left)) => Err(left.into_files()),
+    }
+}
+
+fn closed(store: Store<FileStore<Disk>>) -> Files<Disk> {
+    match store.close() {
+        Ok(files) => files,
+        Err((_, left)) => left.close(),
+    }
+}
+
+/// How many changes were acknowledged before the disk stopped, and the files.
+fn stopped(alloc: Global, log_calls: u64, db_calls: u64) -> Result<(usize, Files<Disk>), Fail> {
+    let mut store = match made(alloc, log_calls, db_calls) {
+        Ok(store) => store,
+        Err(files) => return Ok((0, files)),
+    };
+    let mut done = 0;
+    for group in ["DAY", "NIGHT", "OPS"] {
+        if store.commit(alloc, &change(alloc, group)?).is_err() {
+            break;
+        }
+        done += 1;
+    }
+    Ok((done, closed(store)))
+}
+
+/// What the tables hold when the machine comes back without what was not synced: the groups, and the account.
+fn recovered(alloc: Global, mut files: Files<Disk>) -> Result<Option<String>, Fail> {
+    files.log.crash();
+    files.db.crash();
+    let Ok(conn) = Connection::open_files(alloc, files, Options::new(7)) else {
+        return Ok(None);
+    };
+    let Ok(mut store) = Store::open_files(conn) else {
+        return Ok(None);
+    };
+    let text = told(
+        alloc,
+        &mut store,
+        "SELECT name FROM grp UNION ALL SELECT code FROM account ORDER BY 1",
+    )?;
+    Ok(Some(text))
+}
+
+const AFTER: [&str; 4] = [
+    "",
+    "DAY DAY ",
+    "DAY DAY NIGHT NIGHT ",
+    "DAY DAY NIGHT NIGHT OPS OPS ",
+];
+
+/// Whether the tables hold what was acknowledged, or one change more, and how much was acknowledged.
+fn holds(alloc: Global, log_calls: u64, db_calls: u64) -> Result<(bool, usize), Fail> {
+    let (done, files) = stopped(alloc, log_calls, db_calls)?;
+    let Some(text) = recovered(alloc, files)? else {
+        return Ok((false, done));
+    };
+    let after = AFTER
+        .iter()
+        .skip(done)
+        .take(2)
+        .any(|wanted| text.as_str() == *wanted);
+    Ok((after, done))
+}
+
+#[test]
+fn a_log_that_stops_leaves_whole_changes(rt: HostRuntime) -> Result<(), Fail> {
+    let alloc = rt.alloc();
+    let mut most = 0;
+    for calls in 0..40 {
+        let (whole, done) = holds(alloc, calls, u64::MAX)?;
+        assert!(rt; whole, "after {calls} calls");
+        most = done;
+    }
+    assert_eq!(rt; most, 3);
+    Ok(())
+}
+
+#[test]
+fn a_database_file_that_stops_leaves_whole_changes(rt: HostRuntime) -> Result<(), Fail> {
+    let alloc = rt.alloc();
+    let mut most = 0;
+    for calls in 0..20 {
+        let (whole, done) = holds(alloc, u64::MAX, calls)?;
+        assert!(rt; whole, "after {calls} calls");
+        most = done;
+    }
+    assert_eq!(rt; most, 3);
+    Ok(())
+}
+
+#[test]
+fn files_that_were_closed_open_to_the_same(rt: HostRuntime) -> Result<(), Fail> {
+    let alloc = rt.alloc();
+    let (done, files) = stopped(alloc, u64::MAX, u64::MAX)?;
+    let Ok(conn) = Connection::open_files(alloc, files, Options::new(7)) else {
+        return Err("not opened")?;
+    };
+    let Ok(mut store) = Store::open_files(conn) else {
+        return Err("not ours")?;
+    };
+    let text = told(
+        alloc,
+        &mut store,
+        "SELECT code FROM account ORDER BY number",
+    )?;
+    assert_eq!(rt; (done, text.as_str()), (3, "DAY NIGHT OPS "));
+    Ok(())
+}

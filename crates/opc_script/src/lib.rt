@@ -1,5 +1,9 @@
 //! Scripts: requests as lines of a text, and the answers to them.
 #![tactic(auto)]
 
-pub mod event;
+mod event;
 pub mod laws;
+mod line;
+pub mod run;
+mod script;
+mod transcript;

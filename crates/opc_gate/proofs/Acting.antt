@@ -1,25 +1,19 @@
 -- Where a command acts.
-use Rattle.std.proofs.Common.{◌≡◌, ◌⊎◌, inl, inr, ℕ, Bool, true, false, not, if◌then◌else◌, List, Option, Some, None, Result, Ok, Err, filter, refl, sym, ap, subst, ◌∙◌, rules, codes}
+use Rattle.std.proofs.Common.{◌≡◌, inl, inr, Bool, true, false, not, if◌then◌else◌, Option, Some, None, Ok, filter, refl, sym, ap, subst, ◌∙◌, rules, codes}
 use Rattle.std.specs.List.{Contains}
 use Rattle.opc_policy.proofs.MostSpecific.{to_filter, of_filter}
-use Rattle.opc_policy.specs.declared.need.Need.{Need}
 use Rattle.opc_policy.specs.declared.fault.Fault.TheVariants as fault
-use Rattle.opc_policy.specs.declared.rule.Rule.{Rule}
-use Rattle.opc_reader.specs.declared.command.Command.{Command}
-use Rattle.opc_reader.specs.Lines.{Reads}
-use Rattle.opc_reader.specs.Reading.{reading}
 use Rattle.opc_reader.proofs.Exact.{reads_so}
-use Rattle.opc_board.specs.declared.line.Line.{Line}
 use Rattle.opc_board.specs.declared.rows.ConsoleRow.{ConsoleRow}
 use Rattle.opc_board.specs.Effect.{effect}
 use Rattle.opc_board.specs.Facts.{console_at}
 use Rattle.opc_state.specs.State.{State}
 use Rattle.opc_gate.specs.declared.request.Request.TheVariants as request
-use Rattle.opc_gate.specs.Outcome.{Deed, Outcome, ◌>>=◌, does, found, refuse_if}
+use Rattle.opc_gate.specs.Outcome.{Deed, ◌>>=◌, does, found, refuse_if}
 use Rattle.opc_gate.specs.Rulings.{ruling, shown}
 use Rattle.opc_gate.specs.Commands.{console_for, command_in, command_or, allowed, acted, need_of, typed, board_command, command_outcome}
 use Rattle.opc_gate.specs.Machine.{answer_of, after, accounted, account_row, is_warned}
-use Rattle.opc_gate.specs.Laws.{IsHeard, IsAllowed, Acts, ActsOnlyWhereAllowed, ActsWhereverAllowed, ListsExactlyWhatMayBeShown}
+use Rattle.opc_gate.specs.Laws.{ActsOnlyWhereAllowed, ActsWhereverAllowed, ListsExactlyWhatMayBeShown}
 use Rattle.opc_gate.proofs.Inversion.{bind_ok, allowed_ok, acted_ok, done_is, not_given_up, console_is}
 
 -- in each field of the state it is the same whether the request is accounted or not

@@ -10,7 +10,7 @@ use Rattle.opc_state.specs.declared.change.Edit.TheVariants.{SetHalted}
 use Rattle.opc_gate.specs.declared.request.Request.{Request}
 use Rattle.opc_gate.specs.declared.request.Answer.{Answer}
 use Rattle.opc_gate.specs.Machine.{IsGivenUp, outcome, after}
-use Rattle.opc_gate.specs.Handling.{IsDecision, IsHandled}
+use Rattle.opc_gate.specs.Handling.{IsDecision, IsHandled, IsNothingWhereSame}
 
 -- a row more is another list
 one_more : {R : Type 0} (rows : List R) (row : R) → rows ++ row ∷ [] ≡ rows → ⊥
@@ -28,21 +28,18 @@ accounts_kept : (edits : List Edit) (s : State) → (all_edited edits s).account
 accounts_kept [] s = refl
 accounts_kept (e ∷ edits) s = accounts_kept edits (edited e s) ∙ account_kept e s
 
--- a change that leaves the state as it is has nothing, where its edits have nothing then
-pub nothing_changed : (c : Change) (s : State) → (all_edited c.edits.items s ≡ s → c.edits.items ≡ []) → changed_by c s ≡ s → is_nothing c ≡ true
-nothing_changed c s idle same = go c.account same
-  where
-    go : (account : Option AccountRow) → with_account account (all_edited c.edits.items s) ≡ s → (no_edits c.edits.items && is_none account) ≡ true
-    go None h = ap (λ edits. no_edits edits && true) (idle h)
-    go (Some row) h = absurd (one_more s.account row (ap (λ rows. rows ++ row ∷ []) (sym (accounts_kept c.edits.items s)) ∙ ap (λ t. t.account) h))
+-- edits and a row that leave the state as it is are nothing, where the edits are nothing then
+pub nothing_changed : (edits : List Edit) (account : Option AccountRow) (s : State) → (all_edited edits s ≡ s → edits ≡ []) → with_account account (all_edited edits s) ≡ s → (no_edits edits && is_none account) ≡ true
+nothing_changed edits None s idle same = ap (λ es. no_edits es && true) (idle same)
+nothing_changed edits (Some row) s idle same = absurd (one_more s.account row (ap (λ rows. rows ++ row ∷ []) (sym (accounts_kept edits s)) ∙ ap (λ t. t.account) same))
 
 nothing_changes : (c : Change) (s : State) → is_nothing c ≡ true → changed_by c s ≡ s
 nothing_changes c s none = search rules
 
 -- what has something to write changes the state
-pub some_change : (s : State) (moment : ℕ) (r : Request) (answer : Answer) (c : Change) → IsDecision s moment r answer c → is_nothing c ≡ false → after s moment r (outcome s r) ≡ s → ⊥
-some_change s moment r answer c d something same =
-    let none : is_nothing c ≡ true = d.idle (d.becomes ∙ same) in
+pub some_change : (s : State) (moment : ℕ) (r : Request) (answer : Answer) (c : Change) → IsDecision s moment r answer c → IsNothingWhereSame s c → is_nothing c ≡ false → after s moment r (outcome s r) ≡ s → ⊥
+some_change s moment r answer c d idle something same =
+    let none : is_nothing c ≡ true = idle (d.becomes ∙ same) in
     cc
 
 module _ {T : Type 0} (represents may_leave : T → State → Type 0) where
@@ -70,14 +67,14 @@ module _ {T : Type 0} (represents may_leave : T → State → Type 0) where
     acknowledged = λ done differs left h. absurd (differs refl);
   }
 
-  pub written : (old new : T) (s : State) (moment : ℕ) (r : Request) (answer : Answer) (c : Change) → IsDecision s moment r answer c → is_nothing c ≡ false → represents new (changed_by c s) → (Fits s → Fits (changed_by c s))
+  pub written : (old new : T) (s : State) (moment : ℕ) (r : Request) (answer : Answer) (c : Change) → IsDecision s moment r answer c → IsNothingWhereSame s c → is_nothing c ≡ false → represents new (changed_by c s) → (Fits s → Fits (changed_by c s))
       → ((left : State) → may_leave new left → may_leave old left ⊎ (left ≡ changed_by c s)) → ((left : State) → may_leave new left → left ≡ changed_by c s)
       → IsHandled represents may_leave old new s moment r answer
-  written old new s moment r answer c d something represented fits crash acknowledged = record {
+  written old new s moment r answer c d nothing something represented fits crash acknowledged = record {
     next = changed_by c s;
     step = inr (inr (record { answers = d.answers; becomes = d.becomes; fits = fits }));
     represented = represented;
     crash = λ left h. elim (crash left h) [ inl before ↦ inl before | inr is ↦ inr (is ∙ d.becomes) ];
-    idle = λ same. absurd (some_change s moment r answer c d something same);
+    idle = λ same. absurd (some_change s moment r answer c d nothing something same);
     acknowledged = λ done differs. acknowledged;
   }

@@ -6,17 +6,15 @@ use Rattle.opc_policy.specs.declared.ruling.Ruling.{Ruling}
 use Rattle.opc_policy.specs.declared.ruling.Ruling.TheVariants.{Allowed, Denied}
 use Rattle.opc_reader.specs.declared.command.Command.{Command}
 use Rattle.opc_reader.specs.declared.line.ReadFault.{ReadFault}
-use Rattle.opc_board.specs.declared.fault.BoardFault.{BoardFault}
 use Rattle.opc_board.specs.declared.line.Line.{Line}
 use Rattle.opc_board.specs.declared.rows.ConsoleRow.{ConsoleRow}
 use Rattle.opc_board.specs.Facts.{console_at}
 use Rattle.opc_board.specs.Outcome.{Done as BoardDone, Outcome as BoardOutcome}
 use Rattle.opc_policy.specs.declared.fault.Fault.TheVariants as fault
-use Rattle.opc_reader.specs.Reading.{reading}
 use Rattle.opc_state.specs.State.{State}
 use Rattle.opc_gate.specs.declared.request.Answer.TheVariants.{Done, Refused}
 use Rattle.opc_gate.specs.Outcome.{Deed, Denial, Outcome, ◌>>=◌, found, refuse_if}
-use Rattle.opc_gate.specs.Commands.{console_for, command_or, command_in, allowed, acted}
+use Rattle.opc_gate.specs.Commands.{console_for, command_or, allowed, acted}
 use Rattle.opc_gate.specs.Machine.{answer_of, IsGivenUp}
 
 pub bind_ok : {A B : Type 0} (x : Result A Denial) (f : A → Result B Denial) (d : B) → (x >>= f) ≡ Ok d → (y : A) × (x ≡ Ok y) × (f y ≡ Ok d)

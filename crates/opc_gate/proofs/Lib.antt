@@ -1,4 +1,5 @@
 pub mod Acting
+pub mod Founding
 pub mod Handled
 pub mod Inversion
 pub mod Lines

@@ -1,5 +1,5 @@
 -- Where users are logged on and off.
-use Rattle.std.proofs.Common.{◌≡◌, inl, inr, ℕ, Bool, true, false, List, [], Option, Some, None, Result, Ok, Err, refl, sym, ap, subst, ◌∙◌, rules, codes}
+use Rattle.std.proofs.Common.{◌≡◌, inl, inr, ℕ, true, false, List, [], Option, Some, None, Ok, refl, sym, ap, subst, ◌∙◌, rules, codes}
 use Rattle.std.specs.Option.{is_none, is_some}
 use Rattle.opc_policy.specs.declared.fault.Fault.TheVariants as fault
 use Rattle.opc_policy.specs.declared.rule.Rule.{Rule}
@@ -13,11 +13,11 @@ use Rattle.opc_board.specs.Consoles.{logged_on, logged_off}
 use Rattle.opc_board.specs.Facts.{console_at}
 use Rattle.opc_state.specs.State.{State}
 use Rattle.opc_gate.specs.declared.request.Request.TheVariants as request
-use Rattle.opc_gate.specs.Outcome.{Deed, Outcome, ◌>>=◌, does, found, refuse_if}
+use Rattle.opc_gate.specs.Outcome.{Deed, ◌>>=◌, does, found, refuse_if}
 use Rattle.opc_gate.specs.Rulings.{logon_ruling}
 use Rattle.opc_gate.specs.Commands.{console_for, command_in, command_or, need_of, typed, nobody_on, known_by, let_on, logon, logoff, command_outcome}
 use Rattle.opc_gate.specs.Machine.{answer_of, after, accounted, account_row, is_warned}
-use Rattle.opc_gate.specs.Laws.{IsHeard, LogsOnOnlyWhereAllowed, LogsOnWhereverAllowed, LogsOffOnlyWhereSomebodyIsOn, LogsOffWhereverSomebodyIsOn}
+use Rattle.opc_gate.specs.Laws.{LogsOnOnlyWhereAllowed, LogsOnWhereverAllowed, LogsOffOnlyWhereSomebodyIsOn, LogsOffWhereverSomebodyIsOn}
 use Rattle.opc_gate.proofs.Inversion.{bind_ok, found_ok, refuse_if_ok, done_is, not_given_up, console_is}
 use Rattle.opc_gate.proofs.Acting.{either, console_back}
 

@@ -1,5 +1,5 @@
 -- Refusals of authority name their rule.
-use Rattle.std.proofs.Common.{◌≡◌, ◌⊎◌, inl, inr, ℕ, Bool, true, false, not, ◌||◌, ◌&&◌, if◌then◌else◌, List, [], Option, Some, None, Result, Ok, Err, filter, refl, sym, ap, subst, ◌∙◌, rules}
+use Rattle.std.proofs.Common.{◌≡◌, ◌⊎◌, inl, inr, ℕ, Bool, true, false, not, ◌||◌, ◌&&◌, if◌then◌else◌, List, [], Option, Some, None, Result, Ok, Err, filter, refl, subst, rules}
 use Rattle.std.specs.Option.{is_none}
 use Rattle.opc_names.specs.Authority.{includes, enters}
 use Rattle.opc_names.specs.declared.auth.Auth.{Auth}
@@ -38,9 +38,9 @@ use Rattle.opc_state.specs.State.{State, deciding_in}
 use Rattle.opc_gate.specs.declared.request.Answer.TheVariants.{Refused}
 use Rattle.opc_gate.specs.Faults.{line_fault, board_fault}
 use Rattle.opc_gate.specs.Outcome.{Denial, Outcome, ◌>>=◌, does, found, refuse_if}
-use Rattle.opc_gate.specs.Rulings.{acting, groups_acting, is_required, is_revoked, logon_denial, access_ruling, denied_or, ruling, console_access, logon_ruling, shown}
+use Rattle.opc_gate.specs.Rulings.{acting, groups_acting, is_required, is_revoked, access_ruling, denied_or, ruling, console_access, logon_ruling, shown}
 use Rattle.opc_gate.specs.Commands.{console_for, command_or, command_in, need_of, denial_fault, allowed, acted, board_command, nobody_on, known_by, logon_fault, let_on, logon, logoff, needless, typed, command_outcome}
-use Rattle.opc_gate.specs.Machine.{answer_of, IsGivenUp}
+use Rattle.opc_gate.specs.Machine.{IsGivenUp}
 use Rattle.opc_gate.specs.Laws.{IsHeard, IsOfAuthority, IsNamedBy, IsRuledOut, IsKeptOff, RefusalsOfAuthorityNameTheirRule}
 use Rattle.opc_gate.proofs.Inversion.{refused_is, console_is, command_is, found_ok}
 

@@ -1,5 +1,5 @@
 -- A board and its live part.
-use Rattle.std.proofs.Common.{◌≡◌, ◌≢◌, ℕ, Bool, true, false, if◌then◌else◌, List, [], ◌∷◌, Option, Some, None, Result, Ok, Err, IfOk, IfErr, OnOk, Decides, refl, sym, ap, subst, ◌∙◌, rules}
+use Rattle.std.proofs.Common.{◌≡◌, ◌≢◌, ℕ, Bool, true, false, if◌then◌else◌, List, [], ◌∷◌, Option, Some, Result, Ok, Err, IfErr, OnOk, Decides, filter, refl, sym, ap, subst, ◌∙◌, rules}
 use Rattle.std.specs.List.{find}
 use Rattle.std.specs.Str.{bytes_eq}
 use Rattle.std.proofs.lemmas.Slice.Eq.{bytes_eq-Decides}
@@ -11,25 +11,19 @@ use Rattle.opc_board.specs.Outcome.{Outcome as BoardOutcome, done_with}
 use Rattle.opc_policy.specs.declared.rule.Rule.{Rule}
 use Rattle.opc_state.specs.declared.change.Edit.{Edit}
 use Rattle.opc_state.specs.State.{State}
-use Rattle.opc_state.specs.Changes.{all_edited, with_board}
-use Rattle.opc_gate.specs.Commands.{acted, is_display}
+use Rattle.opc_state.specs.Changes.{all_edited}
+use Rattle.opc_gate.specs.Commands.{acted, allowed, board_command, is_display}
+use Rattle.opc_gate.specs.Rulings.{ruling, shown}
+use Rattle.opc_policy.specs.declared.need.Need.{Need}
+use Rattle.opc_policy.specs.declared.ruling.Ruling.TheVariants.{Allowed}
 use Rattle.opc_gate.specs.Handling.{IsActed}
 use Rattle.opc_gate.specs.Outcome.{◌>>=◌, does}
-use Rattle.std.proofs.lemmas.List.{append-nil}
 use Rattle.opc_reader.specs.declared.command.Command.{Command}
 use Rattle.opc_reader.specs.declared.command.Command.TheVariants as command
 use Rattle.opc_board.specs.declared.board.BoardRows.{BoardRows}
 use Rattle.opc_board.specs.declared.event.Event.{Event}
-use Rattle.opc_board.specs.Consoles.{logged_on, logged_off}
 use Rattle.opc_board.specs.Effect.{effect, event_effect}
 use Rattle.opc_board.specs.History.{after, history_of, outcome_after, without_history, CommandsOnlyAddToHistory, EventsOnlyAddToHistory}
-
--- a board whose histories are empty lies behind them as it is
-pub logged_on_whole : (b : BoardRows) (name user : List ℕ) → after (history_of b) (logged_on name user (without_history b)) ≡ logged_on name user b
-logged_on_whole b name user = simp append-nil
-
-pub logged_off_whole : (b : BoardRows) (name : List ℕ) → after (history_of b) (logged_off name (without_history b)) ≡ logged_off name b
-logged_off_whole b name = simp append-nil
 
 -- a command that only shows leaves the board
 pub displayed : (c : Command) → is_display c ≡ true → (b new : BoardRows) (lines : List Line) (console : List ℕ) → effect b c console ≡ done_with new lines → new ≡ b
@@ -76,19 +70,20 @@ found_by_name consoles name c h = subst (λ n. find (λ (d : ConsoleRow). bytes_
 
 -- ---- edits
 
--- the copy of a live board is the live part
-pub copy_is_live : (s : State) (board old : BoardRows) → board ≡ without_history s.board → old ≡ without_history board → old ≡ without_history s.board
-copy_is_live s board old same copy = copy ∙ ap without_history same
-
 pub shown_acts : (s : State) (o : BoardOutcome) (edits : List Edit) (lines : List Line) → edits ≡ [] → o ≡ done_with s.board lines → IsActed s o edits lines
 shown_acts s o edits lines none makes = record { board = s.board; makes = makes; becomes = ap (λ es. all_edited es s) none; idle = λ same. none }
 
-pub changed_acts : (s : State) (o : BoardOutcome) (edits : List Edit) (lines : List Line) (new : BoardRows) → o ≡ done_with (after (history_of s.board) new) lines → all_edited edits s ≡ with_board new s → IsActed s o edits lines
-changed_acts s o edits lines new makes becomes = record { board = after (history_of s.board) new; makes = makes; becomes = becomes }
-
 -- the outcome of a deed on the board, with those lines that are given
-pub acted_outcome : (s : State) (o : BoardOutcome) (edits : List Edit) (lines : List Line) (give : List Line → List Line) (rule why : Option Rule) → IsActed s o edits lines
+acted_outcome : (s : State) (o : BoardOutcome) (edits : List Edit) (lines : List Line) (give : List Line → List Line) (rule why : Option Rule) → IsActed s o edits lines
     → (acted rule o >>= λ act. does (record s { board = act.board }) (give act.lines) why) ≡ Ok (record { state = all_edited edits s; lines = give lines; rule = why })
 acted_outcome s o edits lines give rule why h =
     ap (λ x. acted rule x >>= λ act. does (record s { board = act.board }) (give act.lines) why) h.makes
     ∙ ap (λ t. does t (give lines) why) (sym h.becomes)
+
+-- a command that is allowed and acts comes to its edits, with the lines that may be shown
+pub board_deed : (s : State) (c : ConsoleRow) (command : Command) (need : Need) (rule : Rule) (edits : List Edit) (lines given : List Line) → ruling s c need ≡ Allowed rule → IsActed s (effect s.board command c.name) edits lines → given ≡ filter (shown s c) lines
+    → board_command s c command need ≡ Ok (record { state = all_edited edits s; lines = given; rule = Some rule })
+board_deed s c command need rule edits lines given allows acts shows =
+    ap (λ r. allowed r >>= λ why. acted (Some why) (effect s.board command c.name) >>= λ act. does (record s { board = act.board }) (filter (shown s c) act.lines) (Some why)) allows
+    ∙ acted_outcome s (effect s.board command c.name) edits lines (filter (shown s c)) (Some rule) (Some rule) acts
+    ∙ ap (λ ls. does (all_edited edits s) ls (Some rule)) (sym shows)

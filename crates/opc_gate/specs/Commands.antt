@@ -21,7 +21,6 @@ use Rattle.opc_reader.specs.Reading.{reading}
 use Rattle.opc_table.specs.Table.{need}
 use Rattle.opc_board.specs.declared.board.BoardRows.{BoardRows}
 use Rattle.opc_board.specs.declared.event.Event.{Event}
-use Rattle.opc_board.specs.declared.fault.BoardFault.{BoardFault}
 use Rattle.opc_board.specs.declared.rows.ConsoleRow.{ConsoleRow}
 use Rattle.opc_board.specs.Consoles.{logged_on, logged_off}
 use Rattle.opc_board.specs.Effect.{effect, event_effect}

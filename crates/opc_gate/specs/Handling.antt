@@ -31,11 +31,14 @@ abbrev pub IsOutcome : State → Outcome → Result found.Deed found_denial.Deni
 IsOutcome s o (Ok deed) = IsDeed s o deed
 IsOutcome s o (Err denial) = o ≡ Err (record { fault = denial.fault; rule = denial.rule })
 
--- the answer and the change are those of the machine; there is nothing to write where the state stays as it is
+-- the answer and the change are those of the machine
 pub record IsDecision (s : State) (moment : ℕ) (r : Request) (answer : Answer) (change : Change) : Type 0 where
   pub answers : answer ≡ answer_of (outcome s r)
   pub becomes : changed_by change s ≡ after s moment r (outcome s r)
-  pub idle : changed_by change s ≡ s → is_nothing change ≡ true
+
+-- There is nothing to write where the state stays as it is.
+abbrev pub IsNothingWhereSame : State → Change → Type 0
+IsNothingWhereSame s change = changed_by change s ≡ s → is_nothing change ≡ true
 
 -- One request, handled: a step of the machine, and what a crash may leave then.
 pub record IsHandled {T : Type 0} (represents may_leave : T → State → Type 0) (old new : T) (s : State) (moment : ℕ) (r : Request) (answer : Answer) : Type 0 where

@@ -5,3 +5,4 @@ pub mod Commands
 pub mod Machine
 pub mod Handling
 pub mod Laws
+pub mod Bootstrap

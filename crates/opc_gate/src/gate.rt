@@ -1,13 +1,16 @@
 //! The gate.
-ghost use Rattle.std.specs.Prelude.{◌≡◌, IfOk, OnErr, ℕ};
+ghost use Rattle.std.specs.Prelude.{◌≡◌, ◌≢◌, ◌⊎◌, IfErr, IfOk, OnErr, OnOk, Ok, Err, ℕ};
+ghost use Rattle.opc_policy.specs.declared.fault.Fault.TheVariants as why;
 ghost use Rattle.opc_board.specs.History.{without_history};
 ghost use Rattle.opc_board.specs.Texts.{text_or};
 ghost use Rattle.opc_state.specs.State.{State};
 ghost use Rattle.opc_state.specs.Changes.{IsKept};
 ghost use Rattle.opc_gate.specs.declared.request.Request.{Request as TheRequest};
+ghost use Rattle.opc_gate.specs.Bootstrap.{IsFounded, bootstrapped};
 ghost use Rattle.opc_gate.specs.Machine.{IsGivenUp, account_row, console_of, is_warned, outcome as outcome_of, user_acting};
-ghost use Rattle.opc_gate.specs.Handling.{IsDecision, IsHandled, IsOutcome, IsRun};
+ghost use Rattle.opc_gate.specs.Handling.{IsDecision, IsHandled, IsNothingWhereSame, IsOutcome, IsRun};
 
+use crate::bootstrap::bootstrap;
 use crate::command::{command_on, event_on};
 use crate::console::console_at;
 use crate::fault;
@@ -16,6 +19,8 @@ use crate::request::{Answer, Request};
 use opc_board::board::Board;
 use opc_board::text::KeptText;
 use opc_names::name::{ConsoleName, Name, NameKind, UserId};
+use opc_policy::fault::Fault;
+use opc_policy::row::Row;
 use opc_policy::rule::Rule;
 use opc_policy::source::StoreFault;
 use opc_state::account::AccountRow;
@@ -99,7 +104,8 @@ fn decide(
     user: Option<UserId>,
     outcome: Result<Deed, Denial>,
 ) -> Result<Decision, AllocError>
-    ensures { (s : State) → IsOutcome s (outcome_of s request.now) outcome → user ≡ user_acting s request.now → IfOk result (λ d. IsDecision s moment request.now d.answer d.change) }
+    ensures decides { (s : State) → IsOutcome s (outcome_of s request.now) outcome → user ≡ user_acting s request.now → IfOk result (λ d. IsDecision s moment request.now d.answer d.change) }
+    ensures idle { (s : State) → IsOutcome s (outcome_of s request.now) outcome → IfOk result (λ d. IsNothingWhereSame s d.change) }
 {
     match outcome {
         Ok(deed) => {
@@ -170,6 +176,7 @@ fn decision_on<T: Tables>(
 ) -> Result<Decision, StoreFault>
     ensures kept { IsKept T.is_sure T.represents T.may_leave tables.old tables.new }
     ensures decides { T.is_sure tables.new → (s : State) → T.represents tables.old s → IfOk result (λ d. IsDecision s moment request.now d.answer d.change) }
+    ensures idle { T.is_sure tables.new → (s : State) → T.represents tables.old s → IfOk result (λ d. IsNothingWhereSame s d.change) }
 {
     let board = tables.live_board(alloc)?;
     let user = user_acting(&board, request);
@@ -180,7 +187,7 @@ fn decision_on<T: Tables>(
 // Writes the change of a decision, and then answers.
 fn committed<T: Tables>(tables: &mut T, alloc: Global, decision: Decision) -> Answer
     ensures sure { T.is_sure tables.new → T.is_sure tables.old }
-    ensures handled { T.is_sure tables.new → (s : State) → T.represents tables.old s → (moment : ℕ) → (r : TheRequest) → IsDecision s moment r decision.answer decision.change
+    ensures handled { T.is_sure tables.new → (s : State) → T.represents tables.old s → (moment : ℕ) → (r : TheRequest) → IsDecision s moment r decision.answer decision.change → IsNothingWhereSame s decision.change
         → IsHandled T.represents T.may_leave tables.old tables.new s moment r result }
 {
     let Decision { answer, change } = decision;
@@ -227,6 +234,18 @@ impl<T: Tables> Gate<T> {
         ensures { result ≡ self }
     {
         self.tables
+    }
+
+    /// Takes the rows of a first policy, where no user is stored, all of them or none. A crash leaves the state before
+    /// or after it, in whole; once it is acknowledged, the state after it alone.
+    pub fn bootstrap(&mut self, alloc: Global, rows: &[Row]) -> Result<(), Fault>
+        ensures sure { T.is_sure self.new → T.is_sure self.old }
+        ensures done { T.is_sure self.new → (s : State) → T.represents self.old s → OnOk result (IsFounded T.represents T.may_leave self.new s rows.now) }
+        ensures refused { T.is_sure self.new → (s : State) → T.represents self.old s → IfErr result (λ f. f ≢ why.NoMemory → f ≢ why.Store → bootstrapped rows.now s ≡ Err f) }
+        ensures unchanged { T.is_sure self.new → (s : State) → T.represents self.old s → OnErr result (T.represents self.new s) }
+        ensures crash { T.is_sure self.new → (s : State) → T.represents self.old s → (left : State) → T.may_leave self.new left → T.may_leave self.old left ⊎ (bootstrapped rows.now s ≡ Ok left) }
+    {
+        bootstrap(&mut self.tables, alloc, rows)
     }
 
     /// Answers a request. The answer and the state that the tables represent afterwards are a step of the access

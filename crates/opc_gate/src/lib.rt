@@ -1,6 +1,7 @@
 //! The gate: commands from consoles and events, each answered and accounted for by the written policy of its moment.
 #![tactic(auto)]
 
+mod bootstrap;
 mod command;
 mod console;
 mod effects;

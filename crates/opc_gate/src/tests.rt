@@ -1,6 +1,7 @@
 //! Requests over a state in memory, and the answers as operators see them.
 mod account;
 mod base;
+mod bootstraps;
 mod commands;
 mod copies;
 mod events;

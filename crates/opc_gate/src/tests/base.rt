@@ -63,31 +63,29 @@ fn permit(pattern: &str, id: &str, level: Level) -> Result<Row, Fail> {
     })
 }
 
-fn take_members(policy: &mut Policy, alloc: Global) -> Result<(), Fail> {
+fn add_members(rows: &mut Vec<Row>) -> Result<(), Fail> {
     for class in [Class::Console, Class::Opercmds] {
-        policy.take(
-            alloc,
-            &Row::Class {
-                class,
-                active: true,
-            },
-        )?;
+        rows.push(Row::Class {
+            class,
+            active: true,
+        })?;
     }
     for name in ["NIGHT", "OPS"] {
-        let name = GroupName::read(name)?;
-        policy.take(alloc, &Row::Group { name })?;
+        rows.push(Row::Group {
+            name: GroupName::read(name)?,
+        })?;
     }
     for id in ["ANNA", "BERT", "CARL"] {
-        policy.take(alloc, &user(id, false, false)?)?;
+        rows.push(user(id, false, false)?)?;
     }
-    policy.take(alloc, &user("SECADM", true, false)?)?;
+    rows.push(user("SECADM", true, false)?)?;
     for (id, name) in [("ANNA", "OPS"), ("BERT", "NIGHT"), ("BERT", "OPS")] {
-        policy.take(alloc, &connect(id, name)?)?;
+        rows.push(connect(id, name)?)?;
     }
     Ok(())
 }
 
-fn take_profiles(policy: &mut Policy, alloc: Global) -> Result<(), Fail> {
+fn add_profiles(rows: &mut Vec<Row>) -> Result<(), Fail> {
     for (pattern, uacc, warning) in [
         ("MVS.CANCEL.JOB.PAY*", Level::None, false),
         ("MVS.CANCEL.JOB.*", Level::None, false),
@@ -96,7 +94,7 @@ fn take_profiles(policy: &mut Policy, alloc: Global) -> Result<(), Fail> {
         ("MVS.VARY.DEV", Level::None, true),
         ("MVS.**", Level::None, false),
     ] {
-        policy.take(alloc, &profile(Class::Opercmds, pattern, uacc, warning)?)?;
+        rows.push(profile(Class::Opercmds, pattern, uacc, warning)?)?;
     }
     for (pattern, id, level) in [
         ("MVS.CANCEL.JOB.PAY*", "BERT", Level::Read),
@@ -105,9 +103,17 @@ fn take_profiles(policy: &mut Policy, alloc: Global) -> Result<(), Fail> {
         ("MVS.DISPLAY.JOB.SECRET", "SECADM", Level::Read),
         ("MVS.**", "OPS", Level::Read),
     ] {
-        policy.take(alloc, &permit(pattern, id, level)?)?;
+        rows.push(permit(pattern, id, level)?)?;
     }
     Ok(())
+}
+
+/// The rows of this policy.
+pub fn base_rows(alloc: Global) -> Result<Vec<Row>, Fail> {
+    let mut rows = Vec::new(alloc);
+    add_members(&mut rows)?;
+    add_profiles(&mut rows)?;
+    Ok(rows)
 }
 
 fn empty_board(alloc: Global) -> Result<Board, Fail> {
@@ -124,7 +130,7 @@ fn empty_board(alloc: Global) -> Result<Board, Fail> {
     Ok(Board::of(rows).ok().ok_or("a board")?)
 }
 
-fn base_board(alloc: Global) -> Result<Board, Fail> {
+pub fn base_board(alloc: Global) -> Result<Board, Fail> {
     let mut board = empty_board(alloc)?;
     for (name, auth, mode) in [
         ("C1", Auth::Sys, Mode::Optional),
@@ -150,8 +156,9 @@ fn base_board(alloc: Global) -> Result<Board, Fail> {
 /// The gate over this board and this policy with further rows.
 pub fn with_rows(alloc: Global, rows: &[Row]) -> Result<Gate<Memory>, Fail> {
     let mut policy = Policy::new(alloc);
-    take_members(&mut policy, alloc)?;
-    take_profiles(&mut policy, alloc)?;
+    for row in &base_rows(alloc)? {
+        policy.take(alloc, row)?;
+    }
     for row in rows {
         policy.take(alloc, row)?;
     }

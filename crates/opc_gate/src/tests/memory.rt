@@ -195,6 +195,9 @@ impl Tables for Memory {
         for edit in &change.edits {
             edit_board(alloc, &mut rows, edit)?;
             edit_policy(&mut self.policy, edit)?;
+            if let Edit::PutUser(_) = edit {
+                self.has_users = true;
+            }
         }
         if let Some(row) = &change.account {
             let row = copy_row(alloc, row)?;

@@ -1,8 +1,6 @@
-use Rattle.std.proofs.Common.{◌≡◌, Some, IfOk, ap, sym, subst, ◌∙◌}
+use Rattle.std.proofs.Common.{◌≡◌, Some, ap, sym, ◌∙◌}
 use Rattle.opc_table.specs.Table.{need}
-use Rattle.opc_policy.specs.declared.need.Need.{Need}
-use Rattle.opc_gate.specs.Commands.{need_of, typed}
-use Rattle.opc_gate.specs.Handling.{IsOutcome}
+use Rattle.opc_gate.specs.Commands.{need_of}
 use Rattle.opc_gate.proofs.Sessions.{needs_no_session}
 use Rattle.opc_gate.proofs.command.typed.Goals as goal
 

@@ -1,4 +1,4 @@
-use Rattle.std.proofs.Common.{sym, ◌∙◌, arith, refl, rules, None, Some, ◌≡◌}
+use Rattle.std.proofs.Common.{sym, ◌∙◌, arith, refl, rules}
 use Rattle.opc_names.proofs.Resources.{name_valid}
 use Rattle.opc_names.specs.Names.{console_rule}
 use Rattle.opc_gate.proofs.ruling.resource_of.Goals as goal

@@ -1,4 +1,4 @@
-use Rattle.std.proofs.Common.{◌≡◌, List, ap, ap₂, sym, ◌∙◌}
+use Rattle.std.proofs.Common.{◌≡◌, ap, ap₂, sym, ◌∙◌}
 use Rattle.opc_state.specs.Changes.{all_edited}
 use Rattle.opc_state.specs.Difference.{board_difference}
 use Rattle.opc_state.proofs.Parts.{live_becomes, no_difference, stays_undiffered}

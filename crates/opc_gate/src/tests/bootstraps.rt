@@ -1,0 +1,91 @@
+//! The first policy.
+use crate::gate::Gate;
+use crate::tests::base::{base, base_board, base_rows, user};
+use crate::tests::memory::Memory;
+use crate::tests::typed;
+use opc_names::auth::Auth;
+use opc_names::name::{ConsoleName, GroupName, UserId};
+use opc_policy::mode::Mode;
+use opc_policy::policy::Policy;
+use opc_policy::row::Row;
+use std::alloc::Global;
+use std::test::Fail;
+
+// The gate over the board of the tests, with no policy.
+fn empty(alloc: Global) -> Result<Gate<Memory>, Fail> {
+    Ok(Gate::new(Memory {
+        policy: Policy::new(alloc),
+        rows: Vec::new(alloc),
+        has_users: false,
+        board: base_board(alloc)?,
+        account: Vec::new(alloc),
+        commits: 0,
+        edits: 0,
+    }))
+}
+
+fn console(name: &str, auth: Auth) -> Result<Row, Fail> {
+    Ok(Row::Console {
+        name: ConsoleName::read(name)?,
+        auth,
+        mode: Mode::Optional,
+    })
+}
+
+#[test]
+fn a_first_policy_is_taken_once(rt: HostRuntime) -> Result<(), Fail> {
+    let alloc = rt.alloc();
+    let mut gate = empty(alloc)?;
+    let mut rows = base_rows(alloc)?;
+    rows.push(console("C4", Auth::Info)?)?;
+    assert!(rt; gate.bootstrap(alloc, rows.as_slice()).is_ok());
+    for (line, said) in [
+        ("LOGON ANNA,ABC", "DONE NOPROFILE"),
+        (
+            "C PAYROLL",
+            "REFUSED E20 DeniedProfile PROFILE OPERCMDS MVS.CANCEL.JOB.PAY* HELD NONE NEEDED UPDATE",
+        ),
+        (
+            "C BACKUP",
+            "DONE PROFILE OPERCMDS MVS.CANCEL.JOB.* HELD UPDATE NEEDED UPDATE",
+        ),
+    ] {
+        assert_eq!(rt; typed(&mut gate, alloc, 1, "C4", line)?.as_str(), said);
+    }
+    assert!(rt; matches!(gate.bootstrap(alloc, &[]), Err(fault) if fault.code() == "E57"));
+    let memory = gate.into_store();
+    assert_eq!(rt; memory.account.len(), 1);
+    Ok(())
+}
+
+#[test]
+fn a_first_policy_with_a_fault_is_not_taken(rt: HostRuntime) -> Result<(), Fail> {
+    let alloc = rt.alloc();
+    let mut gate = empty(alloc)?;
+    let group = Row::Group {
+        name: GroupName::read("OPS")?,
+    };
+    let connect = Row::Connect {
+        user: UserId::read("ANNA")?,
+        group: GroupName::read("OPS")?,
+    };
+    for (rows, code) in [
+        ([group, user("OPS", false, false)?], "E52"),
+        ([group, connect], "E53"),
+        ([console("C2", Auth::All)?, group], "E41"),
+    ] {
+        assert!(rt; matches!(gate.bootstrap(alloc, &rows), Err(fault) if fault.code() == code));
+    }
+    let memory = gate.into_store();
+    assert_eq!(rt; memory.commits, 0);
+    assert_eq!(rt; memory.account.len(), 0);
+    Ok(())
+}
+
+#[test]
+fn a_stored_user_keeps_a_first_policy_out(rt: HostRuntime) -> Result<(), Fail> {
+    let alloc = rt.alloc();
+    let mut gate = base(alloc)?;
+    assert!(rt; matches!(gate.bootstrap(alloc, &[]), Err(fault) if fault.code() == "E57"));
+    Ok(())
+}

@@ -5,3 +5,4 @@ pub mod ReadBack
 pub mod Written
 pub mod Running
 pub mod Lines
+pub mod Moments

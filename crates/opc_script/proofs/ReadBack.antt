@@ -1,21 +1,19 @@
 -- An event reads back from its text.
-use Rattle.std.proofs.Common.{◌≡◌, ◌<◌, ◌≤◌, ◌==◌, ◌&&◌, ◌++◌, ◌+◌, ℕ, suc, inl, inr, cond, Bool, true, false, not, List, [], ◌∷◌, Option, Some, None, if◌then◌else◌, length, codes, refl, sym, ap, subst, ◌∙◌, rules, arith}
+use Rattle.std.proofs.Common.{◌≡◌, ◌<◌, ◌≤◌, ◌++◌, ◌+◌, ℕ, suc, inl, inr, cond, Bool, true, false, not, List, [], ◌∷◌, Some, None, length, codes, refl, sym, ap, ◌∙◌, arith}
 use Rattle.std.proofs.lemmas.Bool.Decides.{nat_tests, eqb_tells}
-use Rattle.std.specs.List.{list_all, position, position_or_len}
+use Rattle.std.specs.List.{position, position_or_len}
 use Rattle.std.specs.Option.{option_map}
-use Rattle.std.specs.Str.{bytes_eq}
 use Rattle.opc_names.specs.declared.rule.NameRule.{NameRule}
 use Rattle.opc_names.specs.declared.rule.Alphabet.{Alphabet}
 use Rattle.opc_names.specs.declared.rule.Alphabet.TheVariants.{NameCharacters, NoDigitFirst, Hexadecimal, Qualified, Generic}
-use Rattle.opc_names.specs.Names.{name_fault, may_begin, may_follow, bad_character, unit_rule, device_rule}
-use Rattle.opc_names.specs.Spellings.{lookup}
+use Rattle.opc_names.specs.Names.{may_begin, may_follow, bad_character, unit_rule, device_rule}
 use Rattle.opc_board.specs.declared.event.Event.{Event}
 use Rattle.opc_board.specs.declared.event.Event.TheVariants as event
 use Rattle.opc_board.specs.declared.rows.UnitKind.{UnitKind}
 use Rattle.opc_board.specs.declared.rows.UnitKind.TheVariants.{Job, Stc, Tsu}
 use Rattle.opc_board.specs.Texts.{columns, two_digits}
-use Rattle.opc_script.specs.Events.{IsName, IsKind, IsEvent, kind_words, cancelable_words, event_words, event_text}
-use Rattle.opc_script.specs.Reading.{◌>>=◌, is_space, parted, name_in, id_in, flag_of, flagged, kinds, plain_kind, started_kind, kind_of, kind_in, job_in, allocate, not_empty, asked, ask, verbs, event_by, event_of, event_in}
+use Rattle.opc_script.specs.Events.{IsName, IsKind, kind_words, cancelable_words, event_text}
+use Rattle.opc_script.specs.Reading.{is_space, parted, name_in, plain_kind, started_kind, kind_of, kind_in, job_in, allocate, not_empty, asked, ask, event_of, event_in}
 use Rattle.opc_script.specs.Laws.{EventsReadBack}
 use Rattle.opc_names.proofs.Faults.{begin_follows, name_passes, none_of_map}
 use Rattle.opc_script.proofs.Words.{IsWord, parted_back, parted_none}

@@ -1,6 +1,5 @@
 -- A text tells an event only where it is that event's text.
-use Rattle.std.proofs.Common.{◌≡◌, ◌<◌, ◌==◌, ◌++◌, ℕ, Bool, true, false, List, [], ◌∷◌, Option, Some, None, if◌then◌else◌, length, drop, codes, refl, sym, ap, subst, ◌∙◌, rules, arith}
-use Rattle.std.proofs.lemmas.Bool.Decides.{nat_tests}
+use Rattle.std.proofs.Common.{◌≡◌, ◌<◌, ◌++◌, ℕ, Bool, true, false, List, [], ◌∷◌, Option, Some, None, if◌then◌else◌, length, drop, codes, refl, sym, ap, subst, ◌∙◌, rules, arith}
 use Rattle.std.specs.Option.{option_map}
 use Rattle.std.specs.Str.{bytes_eq}
 use Rattle.opc_names.specs.Names.{unit_rule, device_rule}
@@ -10,8 +9,8 @@ use Rattle.opc_board.specs.declared.event.Event.TheVariants as event
 use Rattle.opc_board.specs.declared.rows.UnitKind.{UnitKind}
 use Rattle.opc_board.specs.declared.rows.UnitKind.TheVariants.{Job, Stc, Tsu}
 use Rattle.opc_board.specs.Texts.{columns, two_digits}
-use Rattle.opc_script.specs.Events.{IsName, IsKind, IsEvent, kind_words, cancelable_words, event_words, event_text}
-use Rattle.opc_script.specs.Reading.{◌>>=◌, parted, name_in, id_in, flag_of, flagged, kinds, plain_kind, started_kind, kind_of, kind_in, job_in, allocate, not_empty, asked, ask, verbs, event_by, event_of, event_in}
+use Rattle.opc_script.specs.Events.{IsKind, IsEvent, kind_words, cancelable_words, event_text}
+use Rattle.opc_script.specs.Reading.{◌>>=◌, parted, name_in, id_in, flag_of, flagged, kinds, plain_kind, started_kind, kind_of, kind_in, job_in, allocate, not_empty, asked, ask, verbs, event_by, event_of}
 use Rattle.opc_script.specs.Laws.{EventsAreSpelled}
 use Rattle.opc_script.proofs.Words.{bytes_same, bind_some, mapped, name_is, parted_is}
 use Rattle.opc_script.proofs.Numbers.{id_is}
@@ -65,7 +64,7 @@ started_is text kind h =
     let n = name_is unit_rule w.0.0 m.0 m.1 in
     let same : (Stc m.0, w.0.1) ≡ kind = search (rules, m.2) in
     subst (λ q. IsKind q.0 × (codes "STC" ++ 32 ∷ text ≡ columns (kind_words q.0 ++ cancelable_words q.1))) same
-      (n.0, ap (λ t. codes "STC" ++ 32 ∷ t) (flagged_is text w.0 w.1 ∙ ap (λ member. columns (member ∷ cancelable_words w.0.1)) n.1))
+    (n.0, ap (λ t. codes "STC" ++ 32 ∷ t) (flagged_is text w.0 w.1 ∙ ap (λ member. columns (member ∷ cancelable_words w.0.1)) n.1))
 
 kind_is : (text : List ℕ) (kind : UnitKind × Bool) → kind_in text ≡ Some kind → Kinded text kind
 kind_is text kind h = go (parted text) refl h

@@ -1,5 +1,5 @@
 -- A script's run over tables.
-use Rattle.std.specs.Prelude.{◌≡◌, ◌≤◌, ◌⊎◌, ℕ, List, Option, Some, None, length, take}
+use Rattle.std.specs.Prelude.{◌≡◌, ◌≤◌, ◌⊎◌, ℕ, List, Option, length, take}
 use Rattle.std.specs.Io.KnownBytes.{Appends}
 use Rattle.opc_state.specs.State.{State}
 use Rattle.opc_gate.specs.declared.request.Request.{Request}
@@ -24,7 +24,7 @@ pub record IsRunOf {T : Type 0} (represents : T → State → Type 0) (new : T) 
 pub record IsWhole {T : Type 0} (represents : T → State → Type 0) (new : T) (s : State) (requests : List (ℕ × Request)) (before written : Option (List ℕ)) (status : ℕ) : Type 0 where
   pub run : IsRunOf represents new s requests (length requests)
   pub text : Appends before written (transcript requests run.answers)
-  pub status : status ≡ status_of run.answers
+  pub ends : status ≡ status_of run.answers
 
 -- The writer failed, or there was no memory for a text: some first requests were handled, and what was written is a front of the
 -- transcript of their answers.
@@ -32,7 +32,7 @@ pub record IsCut {T : Type 0} (represents : T → State → Type 0) (new : T) (s
   pub handled : ℕ
   pub run : IsRunOf represents new s requests handled
   pub text : AppendsFront before written (transcript (take handled requests) run.answers)
-  pub status : status ≡ 3
+  pub ends : status ≡ 3
 
 abbrev pub IsScriptRun : {T : Type 0} → (T → State → Type 0) → T → State → List (ℕ × Request) → Option (List ℕ) → Option (List ℕ) → ℕ → Type 0
 IsScriptRun represents new s requests before written status =

@@ -1,5 +1,5 @@
 -- Scripts: requests with their moments, a line each.
-use Rattle.std.specs.Prelude.{◌==◌, ◌&&◌, ◌+◌, ℕ, Bool, not, if◌then◌else◌, List, [], ◌∷◌, Option, Some, None, codes, length, nat_le}
+use Rattle.std.specs.Prelude.{◌==◌, ◌&&◌, ◌+◌, ℕ, Bool, not, if◌then◌else◌, List, Option, Some, None, codes, length, nat_le}
 use Rattle.std.specs.Char.{is_ascii_digit}
 use Rattle.std.specs.List.{flat_map, list_all, position}
 use Rattle.std.specs.Option.{is_none, option_map, option_to_list}

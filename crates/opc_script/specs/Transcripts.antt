@@ -1,9 +1,9 @@
 -- What a script's run prints.
-use Rattle.std.specs.Prelude.{◌∷◌, ◌++◌, ℕ, Bool, true, false, ◌||◌, if◌then◌else◌, List, [], codes}
+use Rattle.std.specs.Prelude.{◌∷◌, ◌++◌, ℕ, Bool, true, false, if◌then◌else◌, List, [], codes}
 use Rattle.std.specs.Fmt.{decimal}
 use Rattle.std.specs.List.{flat_map, list_any}
 use Rattle.opc_board.specs.declared.line.Line.{Line}
-use Rattle.opc_policy.specs.declared.fault.Fault.{Fault}
+use Rattle.opc_board.specs.Texts.{columns}
 use Rattle.opc_policy.specs.declared.fault.Fault.TheVariants as fault
 use Rattle.opc_policy.specs.Faults.{fault_code, fault_text}
 use Rattle.opc_policy.specs.Rules.{rule_text_or_none}
@@ -21,9 +21,8 @@ shown_line line = ended (codes "  " ++ line.text)
 
 -- The text of an answer: moment, what became of the request and its rule, and then the lines.
 abbrev pub answer_text : ℕ → Answer → List ℕ
-answer_text moment (Done lines rule) = ended (decimal moment ++ codes " DONE " ++ rule_text_or_none rule) ++ flat_map shown_line lines
-answer_text moment (Refused fault rule) =
-    ended (decimal moment ++ codes " REFUSED " ++ fault_code fault ++ codes " " ++ fault_text fault ++ codes " " ++ rule_text_or_none rule)
+answer_text moment (Done lines rule) = ended (columns (decimal moment ∷ codes "DONE" ∷ rule_text_or_none rule ∷ [])) ++ flat_map shown_line lines
+answer_text moment (Refused fault rule) = ended (columns (decimal moment ∷ codes "REFUSED" ∷ fault_code fault ∷ fault_text fault ∷ rule_text_or_none rule ∷ []))
 
 abbrev pub transcript : List (ℕ × Request) → List Answer → List ℕ
 transcript (r ∷ requests) (answer ∷ answers) = answer_text r.0 answer ++ transcript requests answers
@@ -43,4 +42,4 @@ abbrev pub status_of : List Answer → ℕ
 status_of answers = if list_any is_given_up answers then 3 else (if list_any is_refused answers then 1 else 0)
 
 abbrev pub bad_line_text : ℕ → List ℕ
-bad_line_text number = ended (codes "BAD LINE " ++ decimal number)
+bad_line_text number = ended (columns (codes "BAD LINE" ∷ decimal number ∷ []))

@@ -1,5 +1,7 @@
 //! Lines of scripts.
 ghost use Rattle.std.specs.Prelude.{◌≡◌, IfOk, MatchOption, None, Some};
+ghost use Rattle.std.specs.Char.{is_ascii_digit};
+ghost use Rattle.std.specs.List.{list_all};
 ghost use Rattle.opc_script.specs.Scripts.{is_number, moment_in, parts_in, request_in, request_of};
 
 use crate::event::{event_in, name_in, parted};
@@ -10,10 +12,16 @@ use std::alloc::{AllocError, Global};
 /// The last moment: what a script may name.
 const LAST_MOMENT: u64 = 9_999_999_999_999;
 
+fn are_digits(bytes: &[u8]) -> bool
+    ensures { result ≡ list_all is_ascii_digit bytes.now }
+{
+    bytes.iter().all(|c| c.is_ascii_digit())
+}
+
 fn is_number(text: &str) -> bool
     ensures { result ≡ is_number text.now }
 {
-    !text.is_empty() && text.as_bytes().iter().all(u8::is_ascii_digit)
+    !text.is_empty() && are_digits(text.as_bytes())
 }
 
 fn moment_in(text: &str) -> Option<u64>
@@ -22,9 +30,11 @@ fn moment_in(text: &str) -> Option<u64>
     if !is_number(text) {
         return None;
     }
-    match text.parse::<u64>() {
-        Ok(moment) if moment <= LAST_MOMENT => Some(moment),
-        _ => None,
+    let moment = text.parse::<u64>().ok()?;
+    if moment <= LAST_MOMENT {
+        Some(moment)
+    } else {
+        None
     }
 }
 

@@ -28,7 +28,8 @@ fn done_text(
     ensures { IfOk result (λ text. string_bytes text ≡ answer_text moment (TheAnswer.Done lines.now rule.now)) }
 {
     let rule = Rule::text_or_none(alloc, rule.as_ref())?;
-    let mut text = format!(in alloc; "{moment} DONE {rule}\n")?;
+    let mut text = format!(in alloc; "{moment} DONE {rule}")?;
+    text.push_str("\n")?;
     for line in lines {
         text.push_str("  ")?;
         text.push_str(line.text.as_str())?;
@@ -37,27 +38,36 @@ fn done_text(
     Ok(text)
 }
 
-/// The text of an answer, which ends in a line feed.
-pub(crate) fn answer_text(
+fn refused_text(
     alloc: Global,
     moment: u64,
-    answer: &Answer,
+    fault: &Fault,
+    rule: &Option<Rule>,
 ) -> Result<String, AllocError>
+    ensures { IfOk result (λ text. string_bytes text ≡ answer_text moment (TheAnswer.Refused fault.now rule.now)) }
+{
+    let rule = Rule::text_or_none(alloc, rule.as_ref())?;
+    let mut text = format!(in alloc; "{moment} REFUSED {} {fault} {rule}", fault.code())?;
+    text.push_str("\n")?;
+    Ok(text)
+}
+
+/// The text of an answer, which ends in a line feed.
+pub(crate) fn answer_text(alloc: Global, moment: u64, answer: &Answer) -> Result<String, AllocError>
     ensures { IfOk result (λ text. string_bytes text ≡ answer_text moment answer.now) }
 {
     match answer {
         Answer::Done { lines, rule } => done_text(alloc, moment, lines.as_slice(), rule),
-        Answer::Refused { fault, rule } => {
-            let rule = Rule::text_or_none(alloc, rule.as_ref())?;
-            format!(in alloc; "{moment} REFUSED {} {fault} {rule}\n", fault.code())
-        }
+        Answer::Refused { fault, rule } => refused_text(alloc, moment, fault, rule),
     }
 }
 
 pub(crate) fn bad_line_text(alloc: Global, number: usize) -> Result<String, AllocError>
     ensures { IfOk result (λ text. string_bytes text ≡ bad_line_text number) }
 {
-    format!(in alloc; "BAD LINE {number}\n")
+    let mut text = format!(in alloc; "BAD LINE {number}")?;
+    text.push_str("\n")?;
+    Ok(text)
 }
 
 /// The status after one more answer.

@@ -7,7 +7,7 @@ use opc_policy::fault::Fault;
 use std::alloc::Global;
 use std::fmt::Write as _;
 use std::io;
-use std::io::{Read, Write};
+use std::io::{ErrorKind, Read, Write};
 
 /// More bytes than the line of any fault has: the longest name in one is a pattern of 39 characters.
 const FAULT_LINE: usize = 160;
@@ -42,6 +42,14 @@ pub fn tell<E: Write>(fault: &Fault, errors: &mut E) -> u8
         let _ = errors.write_all(line.as_str().as_bytes());
     }
     status_of(fault)
+}
+
+/// A read that found no memory, or a device that failed.
+pub fn fault_of(error: &io::Error) -> Fault {
+    match error.kind() {
+        ErrorKind::OutOfMemory => Fault::NoMemory,
+        _ => Fault::Store,
+    }
 }
 
 /// The bytes of a reader, one more than the limit at most.

@@ -6,4 +6,6 @@ pub mod laws;
 mod line;
 pub mod run;
 mod script;
+#[cfg(test)]
+mod tests;
 mod transcript;

@@ -1,5 +1,5 @@
 //! The search for the profile that decides, over the tables.
-ghost use Rattle.std.specs.Prelude.{◌≡◌, ◌+◌, false, find, length, List, IfOk};
+ghost use Rattle.std.specs.Prelude.{◌≡◌, ◌+◌, false, find, length, map, List, IfOk, IsTrue};
 ghost use Rattle.std.specs.Option.{option_map};
 ghost use Rattle.sqlite.specs.Held.{state};
 ghost use Rattle.sqlite.specs.State.{HasCleanDisk};
@@ -10,18 +10,19 @@ ghost use Rattle.opc_policy.specs.Deciding.{of_class, deciding};
 ghost use Rattle.opc_policy.specs.Examined.{examined, head_length, read_until, with_head};
 ghost use Rattle.opc_policy.specs.declared.profile.Profile.{Profile as TheProfile};
 ghost use Rattle.opc_state.specs.State.{State, deciding_in};
-ghost use Rattle.opc_store.specs.Represented.{Represents};
-ghost use Rattle.opc_store.specs.Search.{Selects, bare, covers};
+ghost use Rattle.opc_store.specs.Represented.{Represents, profile_row};
+ghost use Rattle.opc_store.specs.Search.{AreAmong, Selects, bare, covers};
 
-use crate::policy::{entries_on, profile_in};
+use crate::policy::{entries_on, profile_in, profile_on};
 use crate::store::{Store, fault};
 use opc_names::class::Class;
 use opc_names::name::Resource;
 use opc_policy::profile::Profile;
 use opc_policy::search::Found;
 use opc_policy::source::{StoreFault, Taken};
+use opc_tables::read;
 use sqlite::types::ValueRef;
-use sqlite::{Alter, Connection, Error, ErrorCode, params};
+use sqlite::{Alter, Connection, Error, ErrorCode, Row, params};
 use std::alloc::Global;
 
 /// The first profile that covers a resource, of those that a query selects, but for its access list, and how many were
@@ -134,6 +135,43 @@ pub(crate) fn first_on<S: Alter>(
     })
 }
 
+/// The profiles of some rows, each with its access list.
+fn whole_in<S: Alter>(
+    alloc: Global,
+    conn: &mut Connection<S>,
+    rows: &[Row],
+) -> Result<Vec<Profile>, Error>
+    requires { conn.old.in_transaction ≡ false }
+    ensures mode { conn.new.in_transaction ≡ false }
+    ensures looks { (HasCleanDisk (state S.Store conn.old) → IsTrue (state S.Store conn.old).is_open) → Looks S.Store conn.old conn.new result }
+    ensures found { HasCleanDisk (state S.Store conn.new) → (s : _) → Represents (state S.Store conn.old).now s → (profiles : List TheProfile) → AreAmong s.policy.profiles profiles → rows.now ≡ map profile_row profiles → IfOk result (λ v. v.items ≡ profiles) }
+{
+    let mut profiles = Vec::new(alloc);
+    for row in rows {
+        profiles.push(profile_on(alloc, conn, row)?)?;
+    }
+    Ok(profiles)
+}
+
+/// The profiles of a class, in the order of their patterns.
+pub(crate) fn all_on<S: Alter>(
+    alloc: Global,
+    conn: &mut Connection<S>,
+    class: Class,
+) -> Result<Vec<Profile>, Error>
+    requires { conn.old.in_transaction ≡ false }
+    ensures mode { conn.new.in_transaction ≡ false }
+    ensures looks { Looks S.Store conn.old conn.new result }
+    ensures found { HasCleanDisk (state S.Store conn.new) → (s : _) → Represents (state S.Store conn.old).now s → IfOk result (λ v. v.items ≡ of_class class s.policy.profiles) }
+{
+    let rows = read(
+        conn,
+        "SELECT class, pattern, owner, uacc, warning, skey, head FROM profiles WHERE class = ?1 ORDER BY class, skey",
+        params![class.text()],
+    )?;
+    whole_in(alloc, conn, rows.as_slice())
+}
+
 fn sum(rows: u64, read: u64) -> Result<u64, Error>
     ensures { IfOk result (λ sum. sum ≡ rows + read) }
 {
@@ -201,6 +239,17 @@ impl<S: Alter> Store<S> {
     {
         match first_in_on(alloc, &mut self.conn, class, head, resource) {
             Ok(taken) => Ok(taken),
+            Err(error) => Err(fault(error)),
+        }
+    }
+
+    /// The profiles of a class, in the order of their patterns.
+    pub fn all(&mut self, alloc: Global, class: Class) -> Result<Vec<Profile>, StoreFault>
+        ensures found { HasCleanDisk (state S.Store self.new) → (s : _) → Represents (state S.Store self.old).now s → IfOk result (λ v. v.items ≡ of_class class s.policy.profiles) }
+        ensures keeps { Looks S.Store self.old self.new result }
+    {
+        match all_on(alloc, &mut self.conn, class) {
+            Ok(profiles) => Ok(profiles),
             Err(error) => Err(fault(error)),
         }
     }

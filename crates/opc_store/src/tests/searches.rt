@@ -71,6 +71,33 @@ fn each_head_gives_its_first_cover(rt: HostRuntime) -> Result<(), Fail> {
     Ok(())
 }
 
+#[test]
+fn the_counts_in_the_order_of_the_keys_are_those_in_memory(rt: HostRuntime) -> Result<(), Fail> {
+    let alloc = rt.alloc();
+    let mut store = with_base(alloc)?;
+    let policy = taken(alloc)?;
+    for name in NAMES {
+        let resource = Resource::read(name)?;
+        let here = store.first(alloc, Class::Opercmds, &resource)?;
+        let there = policy.first(Class::Opercmds, &resource)?;
+        assert_eq!(rt; taken_text(alloc, &here)?.as_str(), taken_text(alloc, &there)?.as_str());
+    }
+    Ok(())
+}
+
+#[test]
+fn the_profiles_of_a_class_are_those_in_memory(rt: HostRuntime) -> Result<(), Fail> {
+    let alloc = rt.alloc();
+    let mut store = with_base(alloc)?;
+    let policy = taken(alloc)?;
+    for class in [Class::Opercmds, Class::Console] {
+        let here = format!(in alloc; "{:?}", store.all(alloc, class)?)?;
+        let there = format!(in alloc; "{:?}", policy.all(alloc, class)?)?;
+        assert_eq!(rt; here.as_str(), there.as_str());
+    }
+    Ok(())
+}
+
 /// The pattern that decides, through the tables that the machine asks for.
 fn decided<T: Tables>(
     alloc: Global,

@@ -37,3 +37,4 @@ pub mod FirstDeciding
 pub mod Streaming
 pub mod SearchFound
 pub mod HistoryLoads
+pub mod WholeRows

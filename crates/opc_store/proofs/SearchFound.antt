@@ -6,37 +6,37 @@ use Rattle.opc_tables.proofs.Parts.{found_one}
 use Rattle.opc_names.specs.declared.class.Class.{Class}
 use Rattle.opc_policy.specs.declared.entry.Entry.{Entry}
 use Rattle.opc_policy.specs.declared.profile.Profile.{Profile}
-use Rattle.opc_policy.specs.Deciding.{of_class, deciding}
-use Rattle.opc_policy.specs.Examined.{is_chosen, read_until, with_head}
+use Rattle.opc_policy.specs.Deciding.{deciding}
+use Rattle.opc_policy.specs.Examined.{is_chosen, read_until}
 use Rattle.opc_policy.specs.Profiles.{profile_of}
 use Rattle.opc_policy.proofs.FirstCovering.{chosen_order}
 use Rattle.opc_state.specs.State.{State}
-use Rattle.opc_store.specs.Search.{bare, chosen, covers}
+use Rattle.opc_store.specs.Search.{bare, covers}
 use Rattle.opc_store.specs.State.{IsOrdered}
 use Rattle.opc_store.proofs.Decoded.{each_found}
 use Rattle.opc_store.proofs.FirstDeciding.{Decides, first_decides, most_specific_first}
-use Rattle.opc_store.proofs.SearchLoads.{chosen_by_head}
 
-module _ (s : State) (ordered : IsOrdered s) (class : Class) (head resource : List ℕ) where
+-- the profiles of a class, of all heads or with one
+module _ (s : State) (ordered : IsOrdered s) (class : Class) (head : Option (List ℕ)) (resource : List ℕ) where
   abbrev ps : List Profile
   ps = s.policy.profiles
 
   abbrev asked : List Profile
-  asked = with_head head (of_class class ps)
+  asked = filter (is_chosen class head) ps
 
   abbrev first : Option Profile
-  first = find (covers resource) (chosen class head s)
+  first = find (covers resource) asked
 
-  decided : Decides resource (chosen class head s)
-  decided = first_decides resource (chosen class head s) (chosen_order class (Some head) ps (most_specific_first ps ordered.profiles))
+  decided : Decides resource asked
+  decided = first_decides resource asked (chosen_order class head ps (most_specific_first ps ordered.profiles))
 
   decides : first ≡ deciding asked resource
-  decides = decided.decides ∙ ap (λ (l : List Profile). deciding l resource) (sym (chosen_by_head class head ps))
+  decides = decided.decides
 
-  reads : (n : ℕ) → n ≡ taken_for (covers resource) (chosen class head s) → n ≡ length (read_until first asked)
-  reads n is = is ∙ (decided.reads ∙ ap (λ (l : List Profile). length (read_until first l)) (sym (chosen_by_head class head ps)))
+  reads : (n : ℕ) → n ≡ taken_for (covers resource) asked → n ≡ length (read_until first asked)
+  reads n is = is ∙ decided.reads
 
-  module _ (n : ℕ) (many : n ≡ taken_for (covers resource) (chosen class head s)) where
+  module _ (n : ℕ) (many : n ≡ taken_for (covers resource) asked) where
     -- none was found
     pub found_none : None ≡ option_map bare first → (None ≡ deciding asked resource) × (n ≡ length (read_until None asked))
     found_none is = go first refl is
@@ -61,7 +61,7 @@ module _ (s : State) (ordered : IsOrdered s) (class : Class) (head resource : Li
         go (Some d) e h =
             let same : q ≡ bare d = cc in
             let mine : profile_of ps d.class d.pattern ≡ Some d =
-            found_one (λ (p : Profile). profile_of ps p.class p.pattern ≡ Some p) (covers resource) (chosen class head s) d (all-filter (λ (p : Profile). profile_of ps p.class p.pattern ≡ Some p) (is_chosen class (Some head)) ps (each_found ps ordered.profiles)) e in
+            found_one (λ (p : Profile). profile_of ps p.class p.pattern ≡ Some p) (covers resource) asked d (all-filter (λ (p : Profile). profile_of ps p.class p.pattern ≡ Some p) (is_chosen class head) ps (each_found ps ordered.profiles)) e in
             record {
               d = d;
               is = same;

@@ -44,7 +44,7 @@ use Rattle.opc_policy.specs.Examined.{head_of, with_head, is_chosen}
 use Rattle.opc_policy.specs.Profiles.{class_cmp, pattern_cmp, profile_cmp}
 use Rattle.opc_policy.proofs.FirstCovering.{filter_both}
 use Rattle.opc_state.specs.State.{State}
-use Rattle.opc_store.specs.Search.{chosen}
+use Rattle.opc_store.specs.Search.{chosen, Selects}
 use Rattle.opc_store.specs.State.{IsOrdered}
 use Rattle.opc_store.specs.Tables.{the_schema}
 use Rattle.opc_store.specs.Represented.{Represents, Tabulates, profile_row}
@@ -149,17 +149,94 @@ module _ (class : Class) (head : List ℕ) where
       let tail = read.1.0 in
       (tail, sym (from_answer old s was ordered (rows ++ tail) (record { typed = read.0; answer = read.1.1 })))
 
-  module _ (p : Profile → Bool) (old now : SqlState) (s : State) (was : Represents old.now s) (same : IsUnchanged old now) (given : List Row) (n : ℕ) (taken : HasTaken profile_row p (chosen class head s) given n) where
-    still : Represents now.now s
-    still = subst (λ (d : Database). Represents d s) (sym same.0.now_is) was
+  -- the query selects the profiles of the class and with the head
+  pub selects_chosen : {S : Type 0} (g : Ghosts S) → Selects g select_by_head (head_params class head) (chosen class head)
+  selects_chosen g = record {
+    begins = λ h s was. begins_chosen (state g h) s was.rows was.ordered;
+    shows = λ h k s was. shows_chosen (state g h) (state g k) s was.rows was.ordered;
+  }
 
-    pub next_profile : (y : Row) → Begins select_by_head (head_params class head) now (given ++ y ∷ []) → TakesOn profile_row p (chosen class head s) given y n
-    next_profile y h =
-        let b = begins_chosen now s still.rows still.ordered (given ++ y ∷ []) h in
-        takes_on profile_row p (chosen class head s) given b.0 y n taken (b.1 ∙ append_assoc given (y ∷ []) b.0)
+-- ---- of a class
 
-    pub no_profile : (new : SqlState) → Shown select_by_head (head_params class head) now new given → (None ≡ find p (chosen class head s)) × (n ≡ taken_for p (chosen class head s))
-    no_profile new h = taken_all profile_row p (chosen class head s) given n taken (sym (shows_chosen now new s still.rows still.ordered given h))
+abbrev pub select_by_class : List ℕ
+select_by_class = codes "SELECT class, pattern, owner, uacc, warning, skey, head FROM profiles WHERE class = ?1 ORDER BY class, skey"
+
+abbrev in_class : List Term
+in_class = op2 (Compare Eq Binary) (col 1 1) (col 0 0) ∷ []
+
+class_query_is : (command_of (understood the_schema select_by_class) ≡ Select (alone (selecting 22 in_class columns by_key)) names) × (reads_listing the_schema select_by_class ≡ false)
+unfolding understood everything
+class_query_is = (refl, refl)
+
+class_plain : IsPlain (understood the_schema select_by_class)
+unfolding understood everything
+class_plain = (refl, refl)
+
+class_shows : ShowsNothing (first select_by_class)
+unfolding everything
+class_shows schema base = refl
+
+pub class_quiet : NeverWrites select_by_class
+class_quiet = understood_quiet select_by_class class_shows
+
+abbrev pub class_params : Class → Row
+class_params class = Text (class_text class) ∷ []
+
+abbrev has_class : Class → Row → Bool
+has_class class v = is_true (binary (Compare Eq Binary) (column v 0) (Text (class_text class))) && true
+
+class_meets : (class : Class) (db : Trees) (r : Row) → passes 22 in_class columns by_key db (class_params class) r ≡ has_class class (drop 1 r)
+class_meets class db [] = refl
+class_meets class db (v ∷ r) = refl
+
+class_below : (class : Class) (db : Trees) (r : Row) → shown 22 in_class columns by_key db (class_params class) r ≡ out (drop 1 r)
+class_below class db [] = refl
+class_below class db (v ∷ r) = refl
+
+class_less : (x y : Profile) → profile_cmp x y ≡ Less → output_cmp (selecting 22 in_class columns by_key) (out (profile_row x)) (out (profile_row y)) ≡ Less
+class_less x y h = rw (value_cmp-Text (class_text x.class) (class_text y.class), class_texts x.class y.class, value_cmp-Blob (sort_key x.pattern) (sort_key y.pattern)) (then_less (class_cmp x.class y.class) (pattern_cmp x.pattern y.pattern) h)
+
+class_picks : (class : Class) (p : Profile) → has_class class (profile_row p) ≡ same_class p.class class
+class_picks class p = and_true _ ∙ (equal_texts (class_text p.class) (class_text class) ∙ class_is p.class class)
+
+module _ (class : Class) where
+  class_answer : (old : SqlState) (s : State) → Tabulates old.now s → IsOrdered s → (rows : List Row) → Answers old.now (alone (selecting 22 in_class columns by_key)) (class_params class) rows → rows ≡ map profile_row (of_class class s.policy.profiles)
+  class_answer old s was ordered rows read =
+      let lists = answered 22 in_class columns by_key old.now.trees (class_params class) old.now.schema rows read in
+      listed profile_row profile_cmp 22 in_class columns by_key (class_params class) (has_class class) out (λ (p : Profile). same_class p.class class) old.now.trees (class_meets class old.now.trees) (class_below class old.now.trees)
+      (class_picks class) (λ _. refl) class_less s.policy.profiles rows ordered.profiles was.holds.profiles lists
+
+  pub shows_class : (old new : SqlState) (s : State) → Tabulates old.now s → IsOrdered s → (rows : List Row) → Shown select_by_class (class_params class) old new rows → rows ≡ map profile_row (of_class class s.policy.profiles)
+  shows_class old new s was ordered rows h =
+      class_answer old s was ordered rows (reads_as select_by_class (class_params class) old new the_schema was.schema (Select (alone (selecting 22 in_class columns by_key)) names) class_query_is.0 class_plain class_query_is.1 rows h)
+
+  begins_class : (old : SqlState) (s : State) → Tabulates old.now s → IsOrdered s → (rows : List Row) → Begins select_by_class (class_params class) old rows → (tail : List Row) × (map profile_row (of_class class s.policy.profiles) ≡ rows ++ tail)
+  begins_class old s was ordered rows h =
+      let read = begins_as select_by_class (class_params class) old old the_schema was.schema (Select (alone (selecting 22 in_class columns by_key)) names) class_query_is.0 class_plain class_query_is.1 rows h in
+      let tail = read.1.0 in
+      (tail, sym (class_answer old s was ordered (rows ++ tail) (record { typed = read.0; answer = read.1.1 })))
+
+  -- the query selects the profiles of the class
+  pub selects_class : {S : Type 0} (g : Ghosts S) → Selects g select_by_class (class_params class) (λ s. of_class class s.policy.profiles)
+  selects_class g = record {
+    begins = λ h s was. begins_class (state g h) s was.rows was.ordered;
+    shows = λ h k s was. shows_class (state g h) (state g k) s was.rows was.ordered;
+  }
+
+-- ---- rows that are taken one at a time
+
+module _ {S : Type 0} (g : Ghosts S) (sql : List ℕ) (params : Row) (select : State → List Profile) (selects : Selects g sql params select) (p : Profile → Bool)
+    (old now : Held S) (s : State) (was : Represents (state g old).now s) (same : IsUnchanged (state g old) (state g now)) (given : List Row) (n : ℕ) (taken : HasTaken profile_row p (select s) given n) where
+  still : Represents (state g now).now s
+  still = subst (λ (d : Database). Represents d s) (sym same.0.now_is) was
+
+  pub next_profile : (y : Row) → Begins sql params (state g now) (given ++ y ∷ []) → TakesOn profile_row p (select s) given y n
+  next_profile y h =
+      let b = selects.begins now s still (given ++ y ∷ []) h in
+      takes_on profile_row p (select s) given b.0 y n taken (b.1 ∙ append_assoc given (y ∷ []) b.0)
+
+  pub no_profile : (new : Held S) → Shown sql params (state g now) (state g new) given → (None ≡ find p (select s)) × (n ≡ taken_for p (select s))
+  no_profile new h = taken_all profile_row p (select s) given n taken (sym (selects.shows now new s still given h))
 
 -- a query that never writes has begun
 pub begun_quiet : {S : Type 0} (g : Ghosts S) (sql : List ℕ) (params : Row) (old new : Held S) → NeverWrites sql → HasBegun g sql params old new → HasGiven g sql params new [] × IsUnchanged (state g old) (state g new)

@@ -198,7 +198,7 @@ pub(crate) fn profile_in(alloc: Global, row: &Row) -> Result<Profile, Error>
 }
 
 /// The profile of a row, with its access list.
-fn profile_on<S: Alter>(
+pub(crate) fn profile_on<S: Alter>(
     alloc: Global,
     conn: &mut Connection<S>,
     row: &Row,

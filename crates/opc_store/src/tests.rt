@@ -2,6 +2,7 @@
 mod board;
 mod disks;
 mod policy;
+mod searches;
 mod strange;
 
 use crate::store::Store;

@@ -90,14 +90,14 @@ fn base(alloc: Global) -> Result<Change, Fail> {
     })
 }
 
-fn with_base(alloc: Global) -> Result<Store<MemStore>, Fail> {
+pub(super) fn with_base(alloc: Global) -> Result<Store<MemStore>, Fail> {
     let mut store = Store::in_memory(alloc)?;
     store.commit(alloc, &base(alloc)?)?;
     Ok(store)
 }
 
 /// The policy of the rows, taken one after another with no table between.
-fn taken(alloc: Global) -> Result<Policy, Fail> {
+pub(super) fn taken(alloc: Global) -> Result<Policy, Fail> {
     let mut policy = Policy::new(alloc);
     for row in read_policy(alloc, BASE)?.as_slice() {
         policy.take(alloc, row)?;

@@ -3,7 +3,7 @@ ghost use Rattle.std.specs.Prelude.{◌≤◌};
 
 use crate::machine::{FileTables, Machine};
 use crate::policy_file::read_rows;
-use crate::streams::{BAD_WORDS, fault_of, read_up_to, tell};
+use crate::streams::{BAD_WORDS, Watched, fault_of, read_up_to, tell};
 use clap::ArgMatches;
 use opc_gate::gate::Gate;
 use opc_policy::fault::Fault;
@@ -77,27 +77,65 @@ fn run_over<M: Machine, T: Tables, R: Read, W: Write, E: Write>(
     ensures { result.0 ≤ 3 }
 {
     let mut gate = Gate::new(tables);
-    if let Some(path) = policy {
-        if let Err(fault) = found(rt, &mut gate, path) {
-            return (tell(&fault, errors), gate.into_store());
-        }
-    }
-    let status = match read_script(rt, input) {
-        Ok(Some(script)) => run_script(&mut gate, rt.alloc(), &script, output),
-        Ok(None) => tell_no_script(output, errors),
-        Err(error) => tell(&fault_of(&error), errors),
+    let status = match found(rt, &mut gate, policy) {
+        Ok(()) => answer_script(rt, &mut gate, input, output, errors),
+        Err(fault) => tell(&fault, errors),
     };
     (status, gate.into_store())
 }
 
-/// The first policy, from a file.
-fn found<M: Machine, T: Tables>(rt: &M, gate: &mut Gate<T>, path: &str) -> Result<(), Fault> {
+/// The first policy, from a file if one is named.
+fn found<M: Machine, T: Tables>(
+    rt: &M,
+    gate: &mut Gate<T>,
+    policy: Option<&str>,
+) -> Result<(), Fault> {
+    let Some(path) = policy else {
+        return Ok(());
+    };
     let mut file = match File::open(rt, path) {
         Ok(file) => file,
         Err(error) => return Err(fault_of(&error)),
     };
     let rows = read_rows(rt.alloc(), &mut file)?;
     gate.bootstrap(rt.alloc(), &rows)
+}
+
+fn answer_script<M: Machine, T: Tables, R: Read, W: Write, E: Write>(
+    rt: &M,
+    gate: &mut Gate<T>,
+    input: &mut R,
+    output: &mut W,
+    errors: &mut E,
+) -> u8
+    ensures { result ≤ 3 }
+{
+    match read_script(rt, input) {
+        Ok(Some(script)) => print_answers(rt, gate, &script, output, errors),
+        Ok(None) => tell_no_script(output, errors),
+        Err(error) => tell(&fault_of(&error), errors),
+    }
+}
+
+fn print_answers<M: Machine, T: Tables, W: Write, E: Write>(
+    rt: &M,
+    gate: &mut Gate<T>,
+    script: &str,
+    output: &mut W,
+    errors: &mut E,
+) -> u8
+    ensures { result ≤ 3 }
+{
+    let mut watched = Watched {
+        output,
+        has_failed: false,
+    };
+    let status = run_script(gate, rt.alloc(), script, &mut watched);
+    if watched.has_failed {
+        tell(&Fault::Store, errors)
+    } else {
+        status
+    }
 }
 
 /// The text of a script, or none where it has too many bytes or is not UTF-8.

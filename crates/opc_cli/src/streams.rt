@@ -12,6 +12,26 @@ use std::io::{ErrorKind, Read, Write};
 /// More bytes than the line of any fault has: the longest name in one is a pattern of 39 characters.
 const FAULT_LINE: usize = 160;
 
+/// A writer that remembers whether it failed; one that takes no byte has failed, too.
+pub struct Watched<'a, W: Write> {
+    pub output: &'a mut W,
+    pub has_failed: bool,
+}
+
+impl<W: Write> Write for Watched<'_, W> {
+    fn write(&mut self, buf: &[u8]) -> io::Result<usize> {
+        let written = self.output.write(buf);
+        if !matches!(written, Ok(count) if count > 0) {
+            self.has_failed = true;
+        }
+        written
+    }
+
+    fn flush(&mut self) -> io::Result<()> {
+        self.output.flush()
+    }
+}
+
 /// The statuses of the program.
 pub const DONE: u8 = 0;
 

@@ -49,7 +49,9 @@ fn explain_command<'a>(alloc: Global) -> Result<Command<'a>, AllocError> {
 
 fn run_command<'a>(alloc: Global) -> Result<Command<'a>, AllocError> {
     Command::new(alloc, "run")
-        .about("Answers the commands and events of the script on standard input (1,048,576 bytes at most), one a line")
+        .about(
+            "Answers the commands and events of the script on standard input (1,048,576 bytes at most), one a line",
+        )
         .after_help(
             "A line: MOMENT CONSOLE COMMAND, or MOMENT * EVENT; the moment is a number up to 9,999,999,999,999.\n\
              Example: echo '1 C1 S MONPL' | opcmds run --policy policy.csv\n\

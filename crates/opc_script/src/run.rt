@@ -1,5 +1,5 @@
 //! `opcmds run`: a script's requests, handled one after another.
-ghost use Rattle.std.specs.Prelude.{◌≡◌, IfSome, MatchBool, None};
+ghost use Rattle.std.specs.Prelude.{◌≡◌, ◌≤◌, IfSome, MatchBool, None};
 ghost use Rattle.std.specs.Io.KnownBytes.{Appends};
 ghost use Rattle.opc_state.specs.State.{State};
 ghost use Rattle.opc_script.specs.Running.{AppendsFront, IsBadRun, IsScriptRun};
@@ -29,7 +29,8 @@ fn write_text<W: Write>(output: &mut W, text: &str) -> bool
 }
 
 fn tell_bad_line<W: Write>(alloc: Global, number: usize, output: &mut W) -> u8
-    ensures { IsBadRun number (W.contents output.old) (W.contents output.new) result }
+    ensures told { IsBadRun number (W.contents output.old) (W.contents output.new) result }
+    ensures status { result ≤ 3 }
 {
     let Ok(text) = bad_line_text(alloc, number) else {
         return FAILED;
@@ -48,6 +49,7 @@ fn run_all<T: Tables, W: Write>(
     output: &mut W,
 ) -> u8
     ensures sure { T.is_sure gate.new → T.is_sure gate.old }
+    ensures status { result ≤ 3 }
     ensures runs { T.is_sure gate.new → (s : State) → T.represents gate.old s → IsScriptRun T.represents gate.new s requests.now (W.contents output.old) (W.contents output.new) result }
 {
     let mut status = DONE;
@@ -74,6 +76,7 @@ pub fn run_script<T: Tables, W: Write>(
     output: &mut W,
 ) -> u8
     ensures sure { T.is_sure gate.new → T.is_sure gate.old }
+    ensures status { result ≤ 3 }
     ensures bad { IfSome (bad_line script.now) (λ number. (gate.new ≡ gate.old) × IsBadRun number (W.contents output.old) (W.contents output.new) result) }
     ensures runs { bad_line script.now ≡ None → T.is_sure gate.new → (s : State) → T.represents gate.old s
         → IsScriptRun T.represents gate.new s (requests_in script.now) (W.contents output.old) (W.contents output.new) result }

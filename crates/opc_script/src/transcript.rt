@@ -1,5 +1,5 @@
 //! What a script's run prints.
-ghost use Rattle.std.specs.Prelude.{◌≡◌, ◌∷◌, ◌++◌, [], IfOk, List, string_bytes};
+ghost use Rattle.std.specs.Prelude.{◌≡◌, ◌≤◌, ◌∷◌, ◌++◌, [], IfOk, List, string_bytes};
 ghost use Rattle.opc_gate.specs.declared.request.Answer.{Answer as TheAnswer};
 ghost use Rattle.opc_script.specs.Transcripts.{answer_text, bad_line_text, is_given_up, is_refused, status_of};
 
@@ -72,7 +72,8 @@ pub(crate) fn bad_line_text(alloc: Global, number: usize) -> Result<String, Allo
 
 /// The status after one more answer.
 pub(crate) fn status_after(status: u8, answer: &Answer) -> u8
-    ensures { (answers : List TheAnswer) → status ≡ status_of answers → result ≡ status_of (answers ++ answer.now ∷ []) }
+    ensures bound { status ≤ 3 → result ≤ 3 }
+    ensures status { (answers : List TheAnswer) → status ≡ status_of answers → result ≡ status_of (answers ++ answer.now ∷ []) }
 {
     match answer {
         Answer::Refused {

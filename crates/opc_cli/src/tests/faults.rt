@@ -1,6 +1,6 @@
 //! Policy files and outputs that fail: the fault that is told, and the status.
-use crate::machine::Machine;
 use super::runs::{DIGEST, HEADER, POLICY, run_on, run_to};
+use crate::machine::Machine;
 use std::alloc::AllocError;
 use std::io;
 use std::io::Write;

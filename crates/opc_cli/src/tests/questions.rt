@@ -1,6 +1,6 @@
 //! Questions to a policy: what is printed, and the status.
-use crate::machine::Machine;
 use super::runs::{HEADER, POLICY, run_on};
+use crate::machine::Machine;
 use std::process::Abort;
 use std::test::Fail;
 

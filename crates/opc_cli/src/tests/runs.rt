@@ -58,11 +58,7 @@ pub(super) fn run_to<W: Write>(
     Ok((status, errors))
 }
 
-pub(super) fn run_on(
-    rt: &impl Machine,
-    words: &[&str],
-    input: &[u8],
-) -> Result<Run, AllocError> {
+pub(super) fn run_on(rt: &impl Machine, words: &[&str], input: &[u8]) -> Result<Run, AllocError> {
     let mut output = Vec::with_capacity(rt.alloc(), PRINTED)?;
     let (status, errors) = run_to(rt, words, input, &mut output)?;
     Ok(Run {

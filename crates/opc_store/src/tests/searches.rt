@@ -1,5 +1,6 @@
 //! Searches over the tables find and count what searches over the policy in memory do.
 use super::policy::{taken, with_base};
+use crate::source::StoredProfiles;
 use crate::store::Store;
 use opc_names::class::Class;
 use opc_names::name::Resource;
@@ -94,6 +95,23 @@ fn the_profiles_of_a_class_are_those_in_memory(rt: HostRuntime) -> Result<(), Fa
         let here = format!(in alloc; "{:?}", store.all(alloc, class)?)?;
         let there = format!(in alloc; "{:?}", policy.all(alloc, class)?)?;
         assert_eq!(rt; here.as_str(), there.as_str());
+    }
+    Ok(())
+}
+
+#[test]
+fn the_search_of_policies_asks_the_tables(rt: HostRuntime) -> Result<(), Fail> {
+    let alloc = rt.alloc();
+    let mut source = StoredProfiles {
+        store: with_base(alloc)?,
+        alloc,
+    };
+    let mut policy = taken(alloc)?;
+    for name in NAMES {
+        let resource = Resource::read(name)?;
+        let here = search(&mut source, Class::Opercmds, &resource)?;
+        let there = search(&mut policy, Class::Opercmds, &resource)?;
+        assert_eq!(rt; told(alloc, &here)?.as_str(), told(alloc, &there)?.as_str());
     }
     Ok(())
 }

@@ -67,7 +67,10 @@ fn each_head_gives_its_first_cover(rt: HostRuntime) -> Result<(), Fail> {
     for head in ["MVS", "MVS.CANCEL.JOB.", "MVS.CANCEL.JOB.PAY", "M", ""] {
         let here = store.first_in(alloc, Class::Opercmds, head, &resource)?;
         let there = policy.first_in(Class::Opercmds, head, &resource)?;
-        assert_eq!(rt; taken_text(alloc, &here)?.as_str(), taken_text(alloc, &there)?.as_str());
+        assert_eq!(rt;
+            taken_text(alloc, &here)?.as_str(),
+            taken_text(alloc, &there)?.as_str()
+        );
     }
     Ok(())
 }
@@ -81,7 +84,10 @@ fn the_counts_in_the_order_of_the_keys_are_those_in_memory(rt: HostRuntime) -> R
         let resource = Resource::read(name)?;
         let here = store.first(alloc, Class::Opercmds, &resource)?;
         let there = policy.first(Class::Opercmds, &resource)?;
-        assert_eq!(rt; taken_text(alloc, &here)?.as_str(), taken_text(alloc, &there)?.as_str());
+        assert_eq!(rt;
+            taken_text(alloc, &here)?.as_str(),
+            taken_text(alloc, &there)?.as_str()
+        );
     }
     Ok(())
 }
@@ -124,7 +130,12 @@ fn decided<T: Tables>(
     resource: &Resource,
 ) -> Result<String, Fail> {
     let found = tables.deciding(alloc, class, resource)?;
-    Ok(format!(in alloc; "{:?} {} {}", found.profile.map(|profile| profile.pattern), found.ranges, found.rows)?)
+    Ok(format!(in alloc;
+        "{:?} {} {}",
+        found.profile.map(|profile| profile.pattern),
+        found.ranges,
+        found.rows
+    )?)
 }
 
 #[test]

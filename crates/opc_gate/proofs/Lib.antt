@@ -1,0 +1,9 @@
+pub mod Acting
+pub mod Handled
+pub mod Inversion
+pub mod Lines
+pub mod Logging
+pub mod Naming
+pub mod Running
+pub mod Sessions
+pub mod Whole

@@ -221,7 +221,7 @@ each_found [] up = tt
 each_found (x ∷ xs) up = (
   ap (λ b. cond b (Some x) (profile_of xs x.class x.pattern)) (is_itself x),
   all_both (λ (p : Profile). profile_cmp x p ≡ Less) (λ (p : Profile). profile_of xs p.class p.pattern ≡ Some p) (λ (p : Profile). profile_of (x ∷ xs) p.class p.pattern ≡ Some p)
-  (λ p less here. ap (λ b. cond b (Some x) (profile_of xs p.class p.pattern)) (not_of p x less) ∙ here) xs up.0 (each_found xs up.1),
+      (λ p less here. ap (λ b. cond b (Some x) (profile_of xs p.class p.pattern)) (not_of p x less) ∙ here) xs up.0 (each_found xs up.1),
 )
 
 module _ (trees : Trees) (s : State) (ordered : IsOrdered s) (holds : Holds trees (contents_of s)) where

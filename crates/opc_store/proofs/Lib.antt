@@ -38,3 +38,4 @@ pub mod Streaming
 pub mod SearchFound
 pub mod HistoryLoads
 pub mod WholeRows
+pub mod FaithfulLemmas

@@ -10,3 +10,4 @@ pub mod Content
 pub mod Tied
 pub mod Search
 pub mod Loads
+pub mod Faithful

@@ -74,7 +74,7 @@ pub(crate) fn account_on<S: Alter>(
     requires { conn.old.in_transaction ≡ false }
     ensures mode { conn.new.in_transaction ≡ false }
     ensures looks { Looks S.Store conn.old conn.new result }
-    ensures found { HasCleanDisk (state S.Store conn.new) → (s : _) → Represents (state S.Store conn.old).now s → length s.account < 2 ^ 63 → IfOk result (λ v. v ≡ account_page from count s.account) }
+    ensures found { HasCleanDisk (state S.Store conn.new) → (s : _) → Represents (state S.Store conn.old).now s → IfOk result (λ v. v ≡ account_page from count s.account) }
 {
     let last = last_before(from);
     let rows = read(

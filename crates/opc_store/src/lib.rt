@@ -20,6 +20,7 @@ mod policy;
 mod profiles;
 mod replies;
 mod search;
+pub mod source;
 pub mod store;
 #[cfg(test)]
 mod tests;

@@ -203,7 +203,7 @@ impl<S: Alter> Store<S> {
         from: u64,
         count: u32,
     ) -> Result<Rows<AccountRow>, StoreFault>
-        ensures found { HasCleanDisk (state S.Store self.new) → (s : _) → Represents (state S.Store self.old).now s → length s.account < 2 ^ 63 → IfOk result (λ v. v ≡ account_page from count s.account) }
+        ensures found { HasCleanDisk (state S.Store self.new) → (s : _) → Represents (state S.Store self.old).now s → IfOk result (λ v. v ≡ account_page from count s.account) }
         ensures keeps { Looks S.Store self.old self.new result }
     {
         match account_on(alloc, &mut self.conn, from, count) {

@@ -1,5 +1,6 @@
 //! Searches over the tables find and count what searches over the policy in memory do.
 use super::policy::{taken, with_base};
+use crate::source::StoredProfiles;
 use crate::store::Store;
 use opc_names::class::Class;
 use opc_names::name::Resource;
@@ -66,7 +67,10 @@ fn each_head_gives_its_first_cover(rt: HostRuntime) -> Result<(), Fail> {
     for head in ["MVS", "MVS.CANCEL.JOB.", "MVS.CANCEL.JOB.PAY", "M", ""] {
         let here = store.first_in(alloc, Class::Opercmds, head, &resource)?;
         let there = policy.first_in(Class::Opercmds, head, &resource)?;
-        assert_eq!(rt; taken_text(alloc, &here)?.as_str(), taken_text(alloc, &there)?.as_str());
+        assert_eq!(rt;
+            taken_text(alloc, &here)?.as_str(),
+            taken_text(alloc, &there)?.as_str()
+        );
     }
     Ok(())
 }
@@ -80,7 +84,10 @@ fn the_counts_in_the_order_of_the_keys_are_those_in_memory(rt: HostRuntime) -> R
         let resource = Resource::read(name)?;
         let here = store.first(alloc, Class::Opercmds, &resource)?;
         let there = policy.first(Class::Opercmds, &resource)?;
-        assert_eq!(rt; taken_text(alloc, &here)?.as_str(), taken_text(alloc, &there)?.as_str());
+        assert_eq!(rt;
+            taken_text(alloc, &here)?.as_str(),
+            taken_text(alloc, &there)?.as_str()
+        );
     }
     Ok(())
 }
@@ -98,6 +105,23 @@ fn the_profiles_of_a_class_are_those_in_memory(rt: HostRuntime) -> Result<(), Fa
     Ok(())
 }
 
+#[test]
+fn the_search_of_policies_asks_the_tables(rt: HostRuntime) -> Result<(), Fail> {
+    let alloc = rt.alloc();
+    let mut source = StoredProfiles {
+        store: with_base(alloc)?,
+        alloc,
+    };
+    let mut policy = taken(alloc)?;
+    for name in NAMES {
+        let resource = Resource::read(name)?;
+        let here = search(&mut source, Class::Opercmds, &resource)?;
+        let there = search(&mut policy, Class::Opercmds, &resource)?;
+        assert_eq!(rt; told(alloc, &here)?.as_str(), told(alloc, &there)?.as_str());
+    }
+    Ok(())
+}
+
 /// The pattern that decides, through the tables that the machine asks for.
 fn decided<T: Tables>(
     alloc: Global,
@@ -106,7 +130,12 @@ fn decided<T: Tables>(
     resource: &Resource,
 ) -> Result<String, Fail> {
     let found = tables.deciding(alloc, class, resource)?;
-    Ok(format!(in alloc; "{:?} {} {}", found.profile.map(|profile| profile.pattern), found.ranges, found.rows)?)
+    Ok(format!(in alloc;
+        "{:?} {} {}",
+        found.profile.map(|profile| profile.pattern),
+        found.ranges,
+        found.rows
+    )?)
 }
 
 #[test]

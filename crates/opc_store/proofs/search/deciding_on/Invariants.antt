@@ -17,7 +17,7 @@ invariant-heads g l = record {
   within : l.length ≤ length l.name;
   mode : l.conn.in_transaction ≡ false;
   looks : Looks g.S.Store l.fn.conn l.conn nothing;
-  asked : HasCleanDisk (state g.S.Store l.conn) → (s : State) → Represents (state g.S.Store l.fn.conn).now s → Asked (of_class l.class s.policy.profiles) l.name l.length l.rows;
+  asked : HasCleanDisk (state g.S.Store l.conn) → (s : State) → Represents (state g.S.Store l.fn.conn).now s → Asked (of_class l.fn.class s.policy.profiles) l.name l.length l.rows;
 }
 
 abbrev pub decreases-heads : goal.decreases-heads

@@ -13,6 +13,7 @@ use std::io::{ErrorKind, Read, Write};
 const FAULT_LINE: usize = 160;
 
 /// A writer that remembers whether it failed; one that takes no byte has failed, too.
+#[derive(Drop)]
 pub struct Watched<'a, W: Write> {
     pub output: &'a mut W,
     pub has_failed: bool,

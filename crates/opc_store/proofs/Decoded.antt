@@ -1,5 +1,5 @@
 -- Tables represent one state alone: it can be told from their rows.
-use Rattle.std.proofs.Common.{◌≡◌, ℕ, ◌==◌, pos, Bool, true, false, ◌&&◌, cond, List, [], ◌∷◌, map, filter, drop, codes, Option, Some, None, Ok, Err, Result, refl, sym, ap, ap₂, subst, ◌∙◌, Ordering, Less, Equal, Greater}
+use Rattle.std.proofs.Common.{◌≡◌, ℕ, ◌==◌, Bool, true, false, ◌&&◌, cond, List, [], ◌∷◌, map, filter, drop, codes, Option, Some, None, Ok, Err, Result, refl, sym, ap, ap₂, ◌∙◌, Ordering, Less}
 use Rattle.std.specs.List.{AllByRecursion, flat_map}
 use Rattle.std.specs.Cmp.{IsTotalOrder}
 use Rattle.std.specs.Ordering.{nat_cmp}
@@ -7,11 +7,9 @@ use Rattle.std.specs.Str.{bytes_eq}
 use Rattle.std.proofs.lemmas.Cmp.{on_total, nat_cmp_total}
 use Rattle.sqlite.specs.Order.{Row, column}
 use Rattle.sqlite.specs.Tree.{Trees}
-use Rattle.sqlite.specs.declared.types.Value.{Value}
 use Rattle.sqlite_keyed.specs.Lists.{sort_by}
 use Rattle.sqlite_keyed.proofs.ListLemmas.{map_back, map-map, map_same, all-map, all-flat_map, all_of, all_both, ascending-map}
 use Rattle.opc_tables.specs.Order.{Rises}
-use Rattle.opc_tables.specs.Rows.{HasRows}
 use Rattle.opc_tables.proofs.Sorting.{decoded_as, decoded_is, decoded_part, places_back}
 use Rattle.opc_names.specs.declared.auth.Auth.{Auth}
 use Rattle.opc_names.specs.declared.auth.Auth.TheVariants as auth
@@ -23,18 +21,15 @@ use Rattle.opc_names.specs.Authority.{same_class, level_rank}
 use Rattle.opc_names.specs.Spellings.{class_text}
 use Rattle.opc_policy.specs.declared.connect.Connect.{Connect}
 use Rattle.opc_policy.specs.declared.entry.Entry.{Entry}
-use Rattle.opc_policy.specs.declared.fault.Fault.{Fault}
 use Rattle.opc_policy.specs.declared.mode.Mode.{Mode}
 use Rattle.opc_policy.specs.declared.mode.Mode.TheVariants.{Optional, Required}
 use Rattle.opc_policy.specs.declared.policy.ActiveClasses.{ActiveClasses}
-use Rattle.opc_policy.specs.declared.policy.Policy.{Policy}
 use Rattle.opc_policy.specs.declared.profile.Profile.{Profile}
 use Rattle.opc_policy.specs.declared.row.Row.{Row as PolicyRow}
 use Rattle.opc_policy.specs.declared.user.User.{User}
 use Rattle.opc_policy.specs.Access.{entry_cmp}
 use Rattle.opc_policy.specs.Members.{name_cmp, user_cmp, connect_cmp}
-use Rattle.opc_policy.specs.Profiles.{class_cmp, profile_cmp, profile_of, is_of}
-use Rattle.opc_board.specs.declared.board.BoardRows.{BoardRows}
+use Rattle.opc_policy.specs.Profiles.{class_cmp, profile_cmp, profile_of}
 use Rattle.opc_board.specs.declared.rows.ConsoleRow.{ConsoleRow}
 use Rattle.opc_board.specs.declared.rows.DeviceRow.{DeviceRow}
 use Rattle.opc_board.specs.declared.rows.MessageRow.{MessageRow}
@@ -43,7 +38,6 @@ use Rattle.opc_board.specs.declared.rows.UnitKind.{UnitKind}
 use Rattle.opc_board.specs.declared.rows.UnitKind.TheVariants.{Job, Stc, Tsu}
 use Rattle.opc_board.specs.declared.rows.UnitRow.{UnitRow}
 use Rattle.opc_import.specs.Files.{policy_of}
-use Rattle.opc_import.specs.Lines.{policy_text}
 use Rattle.opc_import.specs.declared.fault.ImportFault.{ImportFault}
 use Rattle.opc_state.specs.declared.account.AccountRow.{AccountRow}
 use Rattle.opc_state.specs.declared.change.Batch.{Batch}
@@ -52,7 +46,7 @@ use Rattle.opc_state.specs.State.{State}
 use Rattle.opc_store.specs.Search.{bare}
 use Rattle.opc_store.specs.State.{IsOrdered, IsReadBack}
 use Rattle.opc_store.specs.Contents.{Holds}
-use Rattle.opc_store.specs.Content.{text_said, number_said, flag_said, text_or_none, bytes_or_none, class_said, level_of, values_of, profile_said, entry_said, is_entry_of, entries_in, profiles_in}
+use Rattle.opc_store.specs.Content.{text_said, number_said, flag_said, text_or_none, bytes_or_none, class_said, level_of, profile_said, entry_said, is_entry_of, entries_in, profiles_in}
 use Rattle.opc_store.specs.Represented.{contents_of, AreTablesOf, flag, or_null, text_or_null, class_row, halted_row, group_row, user_row, connect_row, profile_row, entry_row, entry_rows, auth_number, mode_letter, console_row, kind_letter, kind_member, unit_row, device_row, answered_values, log_values, message_values, account_values, reply_row, batch_row}
 use Rattle.opc_store.proofs.AccessLists.{split, list_hit}
 use Rattle.opc_store.proofs.Keys.{group_total, user_total, connect_total, profile_total, entry_total, unit_total, device_total, console_total, class_total}

@@ -1,13 +1,12 @@
 -- A store that answers the search of policies keeps its profiles.
-use Rattle.std.proofs.Common.{◌≡◌, ◌⊎◌, inl, inr, ℕ, ◌+◌, ◌≤◌, Ok, Err, Result, IfOk, IsTrue, sym, ap, subst, arith}
+use Rattle.std.proofs.Common.{◌≡◌, ◌⊎◌, inl, inr, ℕ, ◌≤◌, Ok, Err, Result, IfOk, IsTrue, sym, ap, subst, arith}
 use Rattle.sqlite_disk.specs.Disk.{MoreFaults}
 use Rattle.sqlite_trees.specs.declared.store.Store.{Ghosts}
 use Rattle.sqlite.specs.Effect.{Database}
 use Rattle.sqlite.specs.Held.{Held, state}
-use Rattle.sqlite.specs.State.{HasCleanDisk, Survives}
+use Rattle.sqlite.specs.State.{HasCleanDisk}
 use Rattle.sqlite.proofs.StateLemmas.{survives_then}
 use Rattle.opc_tables.specs.Steps.{Looks}
-use Rattle.opc_policy.specs.declared.profile.Profile.{Profile}
 use Rattle.opc_policy.specs.Deciding.{AreProfiles}
 use Rattle.opc_store.specs.Content.{profiles_in}
 use Rattle.opc_store.specs.Faithful.{IsFaithful}

@@ -1,18 +1,17 @@
 -- The first profile that covers, of those of a class in their order, is the most specific one.
-use Rattle.std.proofs.Common.{◌≡◌, ◌⊎◌, inl, inr, ℕ, ◌+◌, ◌<◌, List, [], ◌∷◌, ◌++◌, find, filter, length, Bool, true, false, cond, Option, Some, None, refl, sym, ap, ◌∙◌, subst, arith, Ordering, Less, Equal, Greater}
-use Rattle.std.specs.List.{AllByRecursion, AllPairs, All, slice_index_or}
+use Rattle.std.proofs.Common.{◌≡◌, ◌⊎◌, inl, inr, ℕ, ◌+◌, List, [], ◌∷◌, ◌++◌, find, length, Bool, true, false, cond, Some, None, refl, sym, ap, ◌∙◌, subst, arith, Ordering, Less, Equal}
+use Rattle.std.specs.List.{AllPairs, slice_index_or}
 use Rattle.std.specs.Ordering.{ordering_then, is_lt}
 use Rattle.std.proofs.lemmas.Cmp.{tied_itself, nat_list_cmp_total}
-use Rattle.std.proofs.lemmas.List.Elements.{All-from_recursion, All-cons, All-weaker}
+use Rattle.std.proofs.lemmas.List.Elements.{All-from_recursion, All-cons}
 use Rattle.std.proofs.lemmas.List.Kept.{AllPairs-cons}
 use Rattle.sqlite_trees.specs.Tree.{IsAscending}
 use Rattle.opc_tables.specs.Order.{Rises}
 use Rattle.opc_tables.specs.Taken.{taken_for}
-use Rattle.opc_names.specs.declared.class.Class.{Class}
 use Rattle.opc_names.specs.Order.{sort_key}
 use Rattle.opc_names.specs.Names.{IsPattern}
 use Rattle.opc_policy.specs.declared.profile.Profile.{Profile}
-use Rattle.opc_policy.specs.Deciding.{AreProfiles, AreMostSpecificFirst, is_before, deciding}
+use Rattle.opc_policy.specs.Deciding.{AreProfiles, AreMostSpecificFirst, deciding}
 use Rattle.opc_policy.specs.Examined.{read_until}
 use Rattle.opc_policy.specs.Profiles.{class_cmp, pattern_cmp, profile_cmp}
 use Rattle.opc_policy.proofs.FirstCovering.{AreBefore, NoneCovers, found_first, read_first, none_found}

@@ -1,7 +1,7 @@
 -- The number of the row that comes last to the account, or to what a board keeps of the past.
-use Rattle.std.proofs.Common.{◌≡◌, ℕ, ◌+◌, ◌<◌, ◌^◌, ℤ, pos, List, [], ◌∷◌, ◌++◌, length, Ok, refl, subst, arith, length-append}
+use Rattle.std.proofs.Common.{◌≡◌, ℕ, ◌+◌, ◌<◌, ◌^◌, ℤ, pos, List, [], ◌∷◌, ◌++◌, length, Ok, refl, arith, length-append}
 use Rattle.sqlite.specs.declared.types.Value.TheVariants.{Null}
-use Rattle.sqlite.specs.Term.{Term, lit, col}
+use Rattle.sqlite.specs.Term.{lit, col}
 use Rattle.sqlite.specs.State.{State as SqlState, Executes}
 use Rattle.opc_tables.proofs.LastNumber.{number_is}
 use Rattle.opc_board.specs.declared.rows.ReplyRow.{ReplyRow}

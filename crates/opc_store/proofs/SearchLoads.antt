@@ -1,5 +1,5 @@
 -- What the queries of the search read: the profiles of a class, of all heads or of one, in the order of their keys.
-use Rattle.std.proofs.Common.{◌≡◌, ◌⊎◌, inl, inr, ℕ, ◌+◌, List, [], ◌∷◌, ◌++◌, map, filter, drop, find, codes, Bool, true, false, ◌&&◌, refl, sym, ap, ap₂, subst, ◌∙◌, append_assoc, Ordering, Less, Equal, Greater, Some, None, is_eq}
+use Rattle.std.proofs.Common.{◌≡◌, inl, inr, ℕ, List, [], ◌∷◌, ◌++◌, map, filter, drop, find, codes, Bool, true, false, ◌&&◌, refl, sym, ap₂, subst, ◌∙◌, append_assoc, Ordering, Less, Equal, Greater, Some, None, is_eq}
 use Rattle.std.specs.Str.{bytes_eq}
 use Rattle.std.specs.Ordering.{ordering_then}
 use Rattle.std.proofs.lemmas.Map.Text.{is_eq-slice_cmp}

@@ -1,5 +1,5 @@
 -- The number of the row that an INSERT added last.
-use Rattle.std.proofs.Common.{◌≡◌, ℕ, ◌+◌, ◌/◌, pos, List, [], ◌∷◌, length, slice_get, Bool, false, cond, Some, None, unwrap_or, Ok, sym, ap, subst, ◌∙◌, append-nil}
+use Rattle.std.proofs.Common.{◌≡◌, ℕ, ◌+◌, ◌/◌, pos, List, [], ◌∷◌, length, slice_get, false, cond, Some, None, unwrap_or, Ok, ap, subst, ◌∙◌, append-nil}
 use Rattle.sqlite.specs.declared.types.Value.TheVariants.{Null}
 use Rattle.sqlite.specs.Order.{Row}
 use Rattle.sqlite.specs.Term.{Term}

@@ -1,12 +1,11 @@
 -- What the rows of a table tell of the members that they stand for: decoded, and sorted by their keys, they are the list.
-use Rattle.std.proofs.Common.{◌≡◌, ℕ, ◌+◌, List, [], ◌∷◌, map, filter, drop, Bool, true, false, refl, sym, ap, ap₂, subst, ◌∙◌, IsPermutation, IsSorted, Ordering, Less, Equal, Greater, is_eq, is_lt, zero, suc, arith, add-one}
-use Rattle.std.specs.List.{AllByRecursion}
+use Rattle.std.proofs.Common.{◌≡◌, ℕ, ◌+◌, List, [], ◌∷◌, map, filter, drop, Bool, false, refl, sym, ap, ap₂, subst, ◌∙◌, IsPermutation, IsSorted, Ordering, Less, Equal, Greater, is_eq, is_lt, zero, suc, arith, add-one}
 use Rattle.std.specs.Cmp.{IsTotalOrder}
 use Rattle.std.specs.Ordering.{ordering_reverse}
 use Rattle.std.proofs.lemmas.List.Sorted.{IsPermutation-sym, IsPermutation-trans, IsPermutation-map, IsPermutation-refl, IsPermutation-cons, IsPermutation-middle}
 use Rattle.sqlite.specs.Order.{Row}
 use Rattle.sqlite_keyed.specs.Lists.{sort_by}
-use Rattle.sqlite_keyed.proofs.ListLemmas.{along_permutation, all_weaker, map-map, map_back, filter-map, IsPermutation-filter}
+use Rattle.sqlite_keyed.proofs.ListLemmas.{along_permutation, all_weaker, map-map, map_back, IsPermutation-filter}
 use Rattle.sqlite_keyed.proofs.SortLemmas.{HasNoTies, sorted_is-sort_by}
 use Rattle.opc_tables.specs.Order.{Rises}
 use Rattle.opc_tables.specs.Rows.{HasRows, numbered_row, numbered_rows}

@@ -1,7 +1,5 @@
 use Rattle.std.proofs.Common.{◌≡◌, ◌-◌, ◌+◌, ◌∙◌, take, refl, sym, arith}
 use Rattle.sqlite.specs.Effect.{Database}
-use Rattle.sqlite.specs.Held.{state}
-use Rattle.sqlite.specs.State.{HasCleanDisk}
 use Rattle.opc_policy.proofs.ByHeads.{asked_start, asked_last, asked_next}
 use Rattle.opc_store.specs.Represented.{Represents}
 use Rattle.opc_store.proofs.FirstDeciding.{are_profiles}

@@ -9,7 +9,7 @@ use Rattle.opc_policy.specs.Examined.{read_until, with_head}
 use Rattle.opc_store.specs.Represented.{Represents}
 use Rattle.opc_store.specs.Search.{chosen}
 use Rattle.opc_store.proofs.SearchFound.{found_none, found_some, whole}
-use Rattle.opc_store.proofs.SearchLoads.{head_params, head_quiet, chosen_by_head, selects_chosen}
+use Rattle.opc_store.proofs.SearchLoads.{head_quiet, chosen_by_head, selects_chosen}
 use Rattle.opc_store.proofs.search.first_in_on.Goals as goal
 
 pub first_covering_on-requires-clause-quiet : goal.first_covering_on-requires-clause-quiet

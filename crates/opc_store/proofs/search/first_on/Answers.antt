@@ -1,15 +1,15 @@
-use Rattle.std.proofs.Common.{◌≡◌, ◌∙◌, List, Some, None, length, sym, ap, subst, arith}
+use Rattle.std.proofs.Common.{◌≡◌, ◌∙◌, Some, None, length, sym, ap, subst, arith}
 use Rattle.sqlite.specs.Held.{state}
 use Rattle.sqlite.specs.State.{HasCleanDisk}
 use Rattle.sqlite.specs.Effect.{Database}
 use Rattle.opc_tables.proofs.Looking.{looked}
 use Rattle.opc_policy.specs.declared.profile.Profile.{Profile}
-use Rattle.opc_policy.specs.Deciding.{of_class, deciding}
+use Rattle.opc_policy.specs.Deciding.{of_class}
 use Rattle.opc_policy.specs.Examined.{read_until}
 use Rattle.opc_state.specs.State.{State}
 use Rattle.opc_store.specs.Represented.{Represents}
 use Rattle.opc_store.proofs.SearchFound.{found_none, found_some, whole}
-use Rattle.opc_store.proofs.SearchLoads.{class_params, class_quiet, selects_class}
+use Rattle.opc_store.proofs.SearchLoads.{class_quiet, selects_class}
 use Rattle.opc_store.proofs.search.first_on.Goals as goal
 
 pub first_covering_on-requires-clause-quiet : goal.first_covering_on-requires-clause-quiet

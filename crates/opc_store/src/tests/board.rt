@@ -169,14 +169,13 @@ fn one_console_is_loaded(rt: HostRuntime) -> Result<(), Fail> {
     )?;
     let text = format!(in alloc;
         "{:?} {:?}",
-        store
-            .console(&ConsoleName::read("C1")?)?
-            .map(|console| console.auth),
-        store
-            .console(&ConsoleName::read("C2")?)?
-            .map(|console| console.auth)
+        store.console(&ConsoleName::read("C1")?)?,
+        store.console(&ConsoleName::read("C2")?)?
     )?;
-    assert_eq!(rt; text.as_str(), "Some(SysCons) None");
+    assert_eq!(rt;
+        text.as_str(),
+        "Some(ConsoleRow { name: \"C1\", auth: SysCons, mode: Required, online: true, user: Some(\"ANNA\"), monitor: false }) None"
+    );
     Ok(())
 }
 

@@ -36,7 +36,7 @@ pub fn user(id: &str, special: bool, revoked: bool) -> Result<Row, Fail> {
     }))
 }
 
-fn connect(user: &str, group: &str) -> Result<Row, Fail> {
+pub fn connect(user: &str, group: &str) -> Result<Row, Fail> {
     Ok(Row::Connect {
         user: UserId::read(user)?,
         group: GroupName::read(group)?,

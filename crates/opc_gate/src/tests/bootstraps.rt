@@ -1,6 +1,6 @@
 //! The first policy.
 use crate::gate::Gate;
-use crate::tests::base::{base, base_board, base_rows, user};
+use crate::tests::base::{base, base_board, base_rows, connect, user};
 use crate::tests::memory::Memory;
 use crate::tests::transcript;
 use opc_names::auth::Auth;
@@ -57,23 +57,23 @@ fn a_first_policy_is_taken_once(rt: HostRuntime) -> Result<(), Fail> {
     Ok(())
 }
 
+fn group(name: &str) -> Result<Row, Fail> {
+    Ok(Row::Group {
+        name: GroupName::read(name)?,
+    })
+}
+
 #[test]
 fn a_first_policy_with_a_fault_is_not_taken(rt: HostRuntime) -> Result<(), Fail> {
     let alloc = rt.alloc();
     let mut gate = empty(alloc)?;
-    let group = Row::Group {
-        name: GroupName::read("OPS")?,
-    };
-    let connect = Row::Connect {
-        user: UserId::read("ANNA")?,
-        group: GroupName::read("OPS")?,
-    };
-    for (rows, code) in [
-        ([group, user("OPS", false, false)?], "E52"),
-        ([group, connect], "E53"),
-        ([console("C2", Auth::All)?, group], "E41"),
+    for (first, second, code) in [
+        (group("OPS")?, user("OPS", false, false)?, "E52"),
+        (group("OPS")?, connect("ANNA", "OPS")?, "E53"),
+        (console("C2", Auth::All)?, group("OPS")?, "E41"),
     ] {
-        assert!(rt; matches!(gate.bootstrap(alloc, &rows), Err(fault) if fault.code() == code));
+        let answer = gate.bootstrap(alloc, &[first, second]);
+        assert!(rt; matches!(answer, Err(fault) if fault.code() == code));
     }
     let memory = gate.into_store();
     assert_eq!(rt; memory.commits, 0);

@@ -4,7 +4,7 @@ use crate::tests::base::{base, base_board, base_rows, connect, user};
 use crate::tests::memory::Memory;
 use crate::tests::transcript;
 use opc_names::auth::Auth;
-use opc_names::name::{ConsoleName, GroupName, UserId};
+use opc_names::name::{ConsoleName, GroupName};
 use opc_policy::mode::Mode;
 use opc_policy::policy::Policy;
 use opc_policy::row::Row;

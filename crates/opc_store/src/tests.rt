@@ -1,5 +1,6 @@
 //! Changes are put into the tables and read back, databases that are not ours are refused, and disks stop.
 mod board;
+mod costs;
 mod disks;
 mod policy;
 mod searches;

@@ -9,6 +9,7 @@ use opc_policy::mode::Mode;
 use opc_policy::row::Row;
 use opc_rows::Rows;
 use opc_state::change::{Batch, Change, Edit};
+use sqlite::MemStore;
 use std::alloc::Global;
 use std::rt::HostRuntime;
 use std::test::Fail;
@@ -155,6 +156,13 @@ fn a_live_board_has_no_histories(rt: HostRuntime) -> Result<(), Fail> {
     Ok(())
 }
 
+fn auth_of(store: &mut Store<MemStore>, name: &str) -> Result<Option<Auth>, Fail> {
+    match store.console(&ConsoleName::read(name)?)? {
+        Some(console) => Ok(Some(console.auth)),
+        None => Ok(None),
+    }
+}
+
 #[test]
 fn one_console_is_loaded(rt: HostRuntime) -> Result<(), Fail> {
     let alloc = rt.alloc();
@@ -167,16 +175,8 @@ fn one_console_is_loaded(rt: HostRuntime) -> Result<(), Fail> {
             account: None,
         },
     )?;
-    let text = format!(in alloc;
-        "{:?} {:?}",
-        store
-            .console(&ConsoleName::read("C1")?)?
-            .map(|console| console.auth),
-        store
-            .console(&ConsoleName::read("C2")?)?
-            .map(|console| console.auth)
-    )?;
-    assert_eq!(rt; text.as_str(), "Some(SysCons) None");
+    assert_eq!(rt; auth_of(&mut store, "C1")?, Some(Auth::SysCons));
+    assert_eq!(rt; auth_of(&mut store, "C2")?, None);
     Ok(())
 }
 

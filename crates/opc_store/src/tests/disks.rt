@@ -8,6 +8,7 @@ use opc_state::change::{Change, Edit};
 use sqlite::{Connection, FileStore, Files, Options};
 use sqlite_disk::{Crash, Fuse, Memory};
 use std::alloc::Global;
+use std::fs;
 use std::rt::HostRuntime;
 use std::test::Fail;
 
@@ -59,11 +60,11 @@ fn stopped(alloc: Global, log_calls: u64, db_calls: u64) -> Result<(usize, Files
         Err(files) => return Ok((0, files)),
     };
     let mut done = 0;
-    for group in ["DAY", "NIGHT", "OPS"] {
+    for (number, group) in [(1, "DAY"), (2, "NIGHT"), (3, "OPS")] {
         if store.commit(alloc, &change(alloc, group)?).is_err() {
             break;
         }
-        done += 1;
+        done = number;
     }
     Ok((done, closed(store)))
 }
@@ -149,5 +150,27 @@ fn files_that_were_closed_open_to_the_same(rt: HostRuntime) -> Result<(), Fail> 
         "SELECT code FROM account ORDER BY number",
     )?;
     assert_eq!(rt; (done, text.as_str()), (3, "DAY NIGHT OPS "));
+    Ok(())
+}
+
+const NAME: &str = "opc_store_test.db";
+
+/// Takes the file away, if it is there, and its log.
+fn remove(rt: &HostRuntime) {
+    drop(fs::remove_file(rt, NAME));
+    drop(fs::remove_file(rt, "opc_store_test.db-wal"));
+}
+
+#[test]
+fn a_file_opens_again(rt: HostRuntime) -> Result<(), Fail> {
+    let alloc = rt.alloc();
+    remove(&rt);
+    let mut store = Store::open_from(&rt, NAME)?;
+    store.commit(alloc, &change(alloc, "DAY")?)?;
+    assert!(rt; store.close().is_ok());
+    let mut again = Store::open_from(&rt, NAME)?;
+    let text = told(alloc, &mut again, "SELECT code FROM account")?;
+    remove(&rt);
+    assert_eq!(rt; text.as_str(), "DAY ");
     Ok(())
 }

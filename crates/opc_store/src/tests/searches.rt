@@ -3,10 +3,14 @@ use super::policy::{taken, with_base};
 use crate::source::StoredProfiles;
 use crate::store::Store;
 use opc_names::class::Class;
-use opc_names::name::Resource;
+use opc_names::level::Level;
+use opc_names::name::{Pattern, Resource, UserId};
+use opc_policy::entries::Entries;
 use opc_policy::policy::Policy;
+use opc_policy::profile::Profile;
 use opc_policy::search::{Found, search};
 use opc_policy::source::{ProfileSource, Taken};
+use opc_state::change::{Change, Edit};
 use opc_state::tables::Tables;
 use sqlite::MemStore;
 use std::alloc::Global;
@@ -119,6 +123,34 @@ fn the_search_of_policies_asks_the_tables(rt: HostRuntime) -> Result<(), Fail> {
         let there = search(&mut policy, Class::Opercmds, &resource)?;
         assert_eq!(rt; told(alloc, &here)?.as_str(), told(alloc, &there)?.as_str());
     }
+    Ok(())
+}
+
+fn profile(alloc: Global, pattern: &str) -> Result<Edit, Fail> {
+    Ok(Edit::PutProfile(Profile {
+        class: Class::Opercmds,
+        pattern: Pattern::read(pattern)?,
+        owner: UserId::read("SECADM")?,
+        uacc: Level::None,
+        warning: false,
+        entries: Entries::new(alloc),
+    }))
+}
+
+#[test]
+fn a_search_visits_few_rows(rt: HostRuntime) -> Result<(), Fail> {
+    let alloc = rt.alloc();
+    let mut store = with_base(alloc)?;
+    let mut edits = Vec::new(alloc);
+    for number in 10..60u32 {
+        edits.push(profile(alloc, format!(in alloc; "P{number}.**")?.as_str())?)?;
+    }
+    let account = None;
+    store.commit(alloc, &Change { edits, account })?;
+    store.conn.set_step_limit(Some(6));
+    let resource = Resource::read("MVS.CANCEL.JOB.PAYROLL")?;
+    let found = store.deciding(alloc, Class::Opercmds, &resource)?;
+    assert_eq!(rt; found.rows, 1);
     Ok(())
 }
 

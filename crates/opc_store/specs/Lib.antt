@@ -11,3 +11,4 @@ pub mod Tied
 pub mod Search
 pub mod Loads
 pub mod Faithful
+pub mod Laws

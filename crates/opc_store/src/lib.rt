@@ -11,6 +11,7 @@ mod consoles;
 mod devices;
 mod groups;
 mod history;
+pub mod laws;
 mod loads;
 mod making;
 mod members;

@@ -49,6 +49,11 @@ unasked (SqlInputError error) = fault.NotOurs 0
 unasked (SqliteFailure OutOfMemory) = fault.NoMemory
 unasked _ = fault.Store
 
+-- want of memory is told apart from every other cause
+abbrev pub open_fault : Error → OpenFault
+open_fault (SqliteFailure OutOfMemory) = fault.NoMemory
+open_fault _ = fault.Store
+
 -- Why a database with names of ours is not opened: its version is another, or it cannot be asked for it, or memory is out.
 abbrev pub IsRefused : OpenFault → State → State → Type 0
 IsRefused told old new =

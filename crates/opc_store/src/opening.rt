@@ -12,7 +12,7 @@ ghost use Rattle.sqlite.specs.State.{HasCleanDisk, Survives};
 ghost use Rattle.opc_tables.specs.Shapes.{no_schema};
 ghost use Rattle.opc_state.specs.State.{empty};
 ghost use Rattle.opc_store.specs.Represented.{Represents, AreTablesOf};
-ghost use Rattle.opc_store.specs.Ours.{has_our_name, unasked, NamesVersion, IsRefused};
+ghost use Rattle.opc_store.specs.Ours.{has_our_name, open_fault, unasked, NamesVersion, IsRefused};
 ghost use Rattle.opc_store.specs.declared.opening.OpenFault.TheVariants as TheFault;
 
 use crate::loads::version_on;
@@ -42,7 +42,8 @@ pub enum OpenFault {
 }
 
 fn open_fault(error: Error) -> OpenFault
-    ensures { (result ≡ TheFault.NoMemory) ⊎ (result ≡ TheFault.Store) }
+    ensures exact { result ≡ open_fault error }
+    ensures either { (result ≡ TheFault.NoMemory) ⊎ (result ≡ TheFault.Store) }
 {
     match error {
         Error::SqliteFailure(ErrorCode::OutOfMemory) => OpenFault::NoMemory,

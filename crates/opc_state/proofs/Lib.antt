@@ -1,4 +1,0 @@
-pub mod Listed
-pub mod Parts
-pub mod Replacing
-pub mod SameRows

@@ -1,4 +1,0 @@
-pub mod State
-pub mod Members
-pub mod Changes
-pub mod Difference

@@ -1,5 +1,5 @@
 -- What a text without fault has passed: it is a short ASCII text.
-use Rattle.std.proofs.Common.{◌≡◌, ℕ, ◌≤◌, ◌<◌, ◌+◌, Bool, true, false, not, cond, nat_lt, ◌==◌, ◌||◌, List, [], ◌∷◌, length, suc, get_or, drop, Option, Some, None, refl, arith, ◌⊎◌, inl, inr}
+use Rattle.std.proofs.Common.{◌≡◌, ℕ, ◌≤◌, ◌<◌, ◌+◌, Bool, true, false, not, cond, nat_lt, ◌==◌, ◌||◌, List, [], ◌∷◌, length, suc, get_or, drop, Option, Some, None, refl, ap, arith, ◌⊎◌, inl, inr}
 use Rattle.std.specs.List.{position, position_or_len, AllByRecursion}
 use Rattle.std.specs.Option.{option_map, option_or}
 use Rattle.std.specs.Str.{IsAscii, chars, bytes_eq}
@@ -56,6 +56,10 @@ good_characters_ascii a (c ∷ cs) h =
       | true ↦ (λ e k. let n = none_of_map (λ i. i + 1) (position (λ d. not (may_follow a d)) cs) k in IsAscii-cons c cs (follow_ascii a c (begin_follows a c e)) (all_pass (may_follow a) cs (follow_ascii a) (grind (arith, nat_tests, n))))
       | false ↦ (λ e k. cc)
     ] refl h
+
+-- good characters take a byte each
+pub good_count : (a : Alphabet) (text : List ℕ) → bad_character a text ≡ None → length (chars text) ≡ length text
+good_count a text h = ap length (chars-IsAscii text (good_characters_ascii a text h))
 
 -- what a text without fault has passed
 pub record Passes (rule : NameRule) (text : List ℕ) : Type 0 where

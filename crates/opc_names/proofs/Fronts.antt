@@ -1,5 +1,5 @@
 -- The order of bytes with zeros behind them, by the numbers that their first bytes make.
-use Rattle.std.proofs.Common.{◌≡◌, ◌≢◌, ℕ, zero, ◌+◌, ◌*◌, ◌<◌, ◌≤◌, List, [], ◌∷◌, ◌++◌, suc, ◌-◌, length, take, replicate, refl, sym, ◌∙◌, arith, length-append}
+use Rattle.std.proofs.Common.{◌≡◌, ◌≢◌, ℕ, zero, ◌+◌, ◌*◌, ◌<◌, ◌≤◌, List, [], ◌∷◌, ◌++◌, suc, ◌-◌, length, take, drop, replicate, refl, sym, ◌∙◌, arith, length-append}
 use Rattle.std.proofs.lemmas.List.{take-append-drop, length-take-le, length-replicate}
 use Rattle.std.specs.List.{AllByRecursion}
 use Rattle.std.specs.Cmp.{nat_cmp_is, ranks}
@@ -81,7 +81,7 @@ texts (x ∷ xs) [] k j e h = sym (zeros_come_last j (x ∷ xs ++ replicate k 0)
 texts (x ∷ xs) (y ∷ ys) k j e h = carried (nat_cmp x y) _ _ (texts xs ys k j (omega (arith, e))) h
 
 -- what bytes with zeros behind them decide, the bytes alone decide
-padded : (n a b : ℕ) (us vs : List ℕ) → IsPadded n a us → IsPadded n b vs → order us vs ≢ Equal → order (take a us) (take b vs) ≡ order us vs
+pub padded : (n a b : ℕ) (us vs : List ℕ) → IsPadded n a us → IsPadded n b vs → order us vs ≢ Equal → order (take a us) (take b vs) ≡ order us vs
 padded n a b us vs h k m = texts (take a us) (take b vs) (n - a) (n - b) lengths (λ z. m (sym both ∙ z)) ∙ both
   where
     ours : take a us ++ replicate (n - a) 0 ≡ us
@@ -99,13 +99,38 @@ padded n a b us vs h k m = texts (take a us) (take b vs) (n - a) (n - b) lengths
 same_number : (x y : ℕ) → nat_cmp x y ≡ Equal → x ≡ y
 same_number x y e = ranked x y Equal (sym e)
 
--- where the first eight bytes make two numbers, these decide the order
-pub fronts_decide : (n a b x y : ℕ) (us vs : List ℕ) → IsPadded n a us → IsPadded n b vs → 8 ≤ n → AllByRecursion IsByte (take 8 us) → AllByRecursion IsByte (take 8 vs) → x ≡ number_behind 0 (take 8 us) → y ≡ number_behind 0 (take 8 vs) → x ≢ y → nat_cmp x y ≡ order (take a us) (take b vs)
-fronts_decide n a b x y us vs h k fits p q e f m =
-    let told : nat_cmp x y ≡ order (take 8 us) (take 8 vs) = rw (e, f) (numbers_are_in_order 0 (take 8 us) (take 8 vs) (omega (arith, length-take-le 8 us (omega (arith, h.full, fits)), length-take-le 8 vs (omega (arith, k.full, fits)))) p q) in
-    let unequal : order (take 8 us) (take 8 vs) ≢ Equal = (λ z. m (same_number x y (told ∙ z))) in
-    let whole : order us vs ≡ order (take 8 us) (take 8 vs) = fronts 8 us vs (h.full ∙ sym k.full) unequal in
-    told ∙ sym whole ∙ sym (padded n a b us vs h k (λ z. unequal (sym whole ∙ z)))
+-- what begins alike is decided behind it
+passed : (r o p q : Ordering) → (p ≡ Equal → o ≡ q) → ordering_then r p ≡ Equal → ordering_then r o ≡ q
+passed Less o p q rest h = cc
+passed Equal o p q rest h = rest h
+passed Greater o p q rest h = cc
 
-pub is_long : (n : ℕ) → (n < 8 → ⊥) → 8 ≤ n
-is_long n h = omega (arith, h)
+behind : (n : ℕ) (us vs : List ℕ) → length us ≡ length vs → order (take n us) (take n vs) ≡ Equal → order us vs ≡ order (drop n us) (drop n vs)
+behind zero us vs e h = refl
+behind (suc n) [] [] e h = refl
+behind (suc n) [] (v ∷ vs) e h = absurd (omega (arith, e))
+behind (suc n) (u ∷ us) [] e h = absurd (omega (arith, e))
+behind (suc n) (u ∷ us) (v ∷ vs) e h = passed (nat_cmp u v) _ _ _ (behind n us vs (omega (arith, e))) h
+
+-- two lists of at least eight bytes, and the numbers that their first eight make
+pub record AreFronts (x y : ℕ) (us vs : List ℕ) : Type 0 where
+  pub lengths : length us ≡ length vs
+  pub long : 8 ≤ length us
+  pub ours : AllByRecursion IsByte (take 8 us)
+  pub theirs : AllByRecursion IsByte (take 8 vs)
+  pub x_is : x ≡ number_behind 0 (take 8 us)
+  pub y_is : y ≡ number_behind 0 (take 8 vs)
+
+numbers_tell : (x y : ℕ) (us vs : List ℕ) → AreFronts x y us vs → nat_cmp x y ≡ order (take 8 us) (take 8 vs)
+numbers_tell x y us vs h = rw (h.x_is, h.y_is) (numbers_are_in_order 0 (take 8 us) (take 8 vs) (omega (arith, length-take-le 8 us h.long, length-take-le 8 vs (omega (arith, h.long, h.lengths)))) h.ours h.theirs)
+
+-- where these differ they decide the order
+pub fronts_decide : (x y : ℕ) (us vs : List ℕ) → AreFronts x y us vs → x ≢ y → (nat_cmp x y ≡ order us vs) × (nat_cmp x y ≢ Equal)
+fronts_decide x y us vs h differ =
+    let told = numbers_tell x y us vs h in
+    let unequal : order (take 8 us) (take 8 vs) ≢ Equal = (λ z. differ (same_number x y (told ∙ z))) in
+    (told ∙ sym (fronts 8 us vs h.lengths unequal), λ z. differ (same_number x y z))
+
+-- and else it is that of the rest
+pub fronts_pass : (x y : ℕ) (us vs : List ℕ) → AreFronts x y us vs → x ≡ y → order us vs ≡ order (drop 8 us) (drop 8 vs)
+fronts_pass x y us vs h same = behind 8 us vs h.lengths (sym (numbers_tell x y us vs h) ∙ sym (nat_cmp_is x y Equal same))

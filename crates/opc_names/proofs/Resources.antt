@@ -160,6 +160,23 @@ name_fine rule b p h few =
     let all = follow_all rule.alphabet b p (all_follow rule.alphabet b (name_passes rule b h).characters) in
     record { short = few; stands = all.0; parts = one_fine b (name_long rule b h) (qualifiers_one b (no_period b all.1)) }
 
+plain_qualifier : (a : Alphabet) (c : ℕ) (cs : List ℕ) → is_plain a ≡ true → is_qualifier a (c ∷ cs) ≡ true
+plain_qualifier NameCharacters c cs p = refl
+plain_qualifier NoDigitFirst c cs p = refl
+plain_qualifier Hexadecimal c cs p = refl
+plain_qualifier Qualified c cs p = cc
+plain_qualifier Generic c cs p = cc
+
+one_part : (a : Alphabet) (text : List ℕ) → is_plain a ≡ true → 0 < length text → qualifiers text ≡ text ∷ [] → bad_part a 0 (qualifiers text) ≡ None
+one_part a [] p h e = absurd (omega arith)
+one_part a (c ∷ cs) p h e = rw (e, plain_qualifier a c cs p) refl
+
+-- a plain text of good characters is one qualifier
+pub plain_parts : (a : Alphabet) (text : List ℕ) → is_plain a ≡ true → 0 < length text → bad_character a text ≡ None → bad_part a 0 (qualifiers text) ≡ None
+plain_parts a text p some h =
+    let all = follow_all a text p (all_follow a text h) in
+    one_part a text p some (qualifiers_one text (no_period text all.1))
+
 pub words_valid : (text : List ℕ) → is_resource text ≡ true → IsResource text
 words_valid text h = no_fault text (fine text h)
 

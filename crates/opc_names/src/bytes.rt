@@ -1,9 +1,10 @@
 //! Short lists of bytes that lie in the value itself.
 ghost use Rattle.std.specs.Prelude.{◌≡◌, ℕ, ◌+◌, ◌-◌, ◌≤◌, ◌<◌, List, length, take};
-ghost use Rattle.std.specs.Prelude.{Some, nat_eq, refl};
+ghost use Rattle.std.specs.Prelude.{◌≢◌, Some, IfSome, nat_eq, refl};
 ghost use Rattle.std.specs.Cmp.{partial_equiv_from_equiv};
 ghost use Rattle.std.specs.Cmp.Lexicographic.{pointwise, slice_cmp, nat_list_eq_equiv, nat_list_cmp_total, texts_po, texts_ties};
 ghost use Rattle.std.specs.Ordering.{nat_cmp};
+ghost use Rattle.std.specs.declared.cmp.Ordering.TheVariants.{Equal};
 ghost use Rattle.std.specs.List.{AllByRecursion};
 ghost use Rattle.opc_names.specs.Padded.{number_behind, IsByte};
 
@@ -89,12 +90,28 @@ impl<const N: usize> Ord for Bytes<N> {
     ghost matches_eq = { texts_ties };
 
     fn cmp(&self, other: &Self) -> Ordering {
-        let (ours, theirs) = (front(&self.room), front(&other.room));
-        if ours != theirs {
-            return ours.cmp(&theirs);
+        match order_of_words(&self.room, &other.room) {
+            Some(order) => order,
+            None => self.as_slice().cmp(other.as_slice()),
         }
-        self.as_slice().cmp(other.as_slice())
     }
+}
+
+/// The order of as many bytes as theirs, where it shows in words of eight of them, which are faster to compare.
+fn order_of_words(ours: &[u8], theirs: &[u8]) -> Option<Ordering>
+    requires { length ours.now ≡ length theirs.now }
+    ensures { IfSome result (λ order. (order ≡ slice_cmp nat_cmp ours.now theirs.now) × (order ≢ Equal)) }
+{
+    let (mut left, mut right) = (ours, theirs);
+    while left.len() >= 8 {
+        let (word, other) = (front(left), front(right));
+        if word != other {
+            return Some(word.cmp(&other));
+        }
+        left = left.split_at(8).1;
+        right = right.split_at(8).1;
+    }
+    None
 }
 
 /// The first eight bytes as a number, which is faster to compare; 0 where there are fewer.

@@ -1,8 +1,8 @@
 //! What a kind of name asks of a text, and why a text is no such name.
-ghost use Rattle.std.specs.Prelude.{◌≡◌, ◌+◌, not, length};
+ghost use Rattle.std.specs.Prelude.{◌≡◌, ◌+◌, ◌<◌, not, length, None};
 ghost use Rattle.std.specs.List.{position};
 ghost use Rattle.std.specs.Str.{chars};
-ghost use Rattle.opc_names.specs.Names.{is_name_character, may_begin, may_follow, bad_character, name_fault, star_only_last, is_qualifier, bad_qualifier};
+ghost use Rattle.opc_names.specs.Names.{is_name_character, may_begin, may_follow, bad_character, name_fault, star_only_last, is_plain, is_qualifier, bad_qualifier};
 
 use crate::qualifier::{is_stars, split_qualifier};
 use std::error::Error;
@@ -122,6 +122,35 @@ impl Alphabet {
         self.first_that_may_not_follow(rest).map(|at| at + 1)
     }
 
+    fn is_plain(self) -> bool
+        ensures { result ≡ is_plain self }
+    {
+        !matches!(self, Alphabet::Qualified | Alphabet::Generic)
+    }
+
+    // How many characters a text has whose first bad one is known: good ones take a byte each.
+    fn count(self, text: &str, bad: Option<usize>) -> usize
+        requires { bad ≡ bad_character self text.now }
+        ensures { result ≡ length (chars text.now) }
+    {
+        match bad {
+            None => text.len(),
+            Some(_) => count_characters(text),
+        }
+    }
+
+    // Where the first bad qualifier begins of a text without bad characters: a plain one is a qualifier.
+    fn bad_part(self, text: &[u8]) -> Option<usize>
+        requires some { 0 < length (chars text.now) }
+        requires good { bad_character self text.now ≡ None }
+        ensures { result ≡ bad_qualifier self text.now }
+    {
+        if self.is_plain() {
+            return None;
+        }
+        self.bad_qualifier(text)
+    }
+
     fn is_qualifier(self, part: &[u8]) -> bool
         ensures { result ≡ is_qualifier self part.now }
     {
@@ -155,7 +184,8 @@ impl NameRule {
     pub(crate) fn fault(self, text: &str) -> Option<NameFault>
         ensures { result ≡ name_fault self text.now }
     {
-        let count = count_characters(text);
+        let bad = self.alphabet.bad_character(text.as_bytes());
+        let count = self.alphabet.count(text, bad);
         if count == 0 {
             return Some(NameFault::Empty);
         }
@@ -165,11 +195,11 @@ impl NameRule {
         if count > self.most {
             return Some(NameFault::TooLong);
         }
-        if let Some(at) = self.alphabet.bad_character(text.as_bytes()) {
+        if let Some(at) = bad {
             return Some(NameFault::BadCharacter(at));
         }
         self.alphabet
-            .bad_qualifier(text.as_bytes())
+            .bad_part(text.as_bytes())
             .map(NameFault::BadQualifier)
     }
 }

@@ -1,0 +1,5 @@
+pub mod State
+pub mod Members
+pub mod Changes
+pub mod Difference
+pub mod Facts

@@ -1,0 +1,8 @@
+//! The state of the access machine, and what the machine asks of the tables that keep it.
+#![tactic(auto)]
+
+pub mod account;
+pub mod change;
+pub mod difference;
+mod member;
+pub mod tables;

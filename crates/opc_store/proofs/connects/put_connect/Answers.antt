@@ -1,0 +1,17 @@
+use Rattle.std.proofs.Common.{arith}
+use Rattle.sqlite.specs.Held.{state}
+use Rattle.sqlite.specs.State.{HasCleanDisk}
+use Rattle.opc_store.proofs.Answering.{connect_updated, connect_missed, connect_inserted}
+use Rattle.opc_store.proofs.connects.put_connect.Goals as goal
+
+pub returns-in_ok-run-clause-done : goal.returns-in_ok-run-clause-done
+returns-in_ok-run-clause-done g c clean s was =
+    let early : HasCleanDisk (state g.S.Store c.run.new.tx.conn.now) = omega (arith, c.in_ok-run.ensures.stays.survives.clean) in
+    let h = rw (c.params-to_sql.ensures, c.params-to_sql-2.ensures) at (c.in_ok-found.ensures.ran early).executes in
+    let missed = connect_missed _ _ _ s was _ _ _ c.text.ensures.text c.text-2.ensures.text h c.if-found-eq0.true in
+    connect_inserted _ _ _ s was.ordered _ _ _ c.text-then-found-eq0.ensures.text c.text-then-found-eq0-2.ensures.text missed (rw (c.params-to_sql-then-found-eq0.ensures, c.params-to_sql-then-found-eq0-2.ensures) at (c.in_ok-run.ensures.ran clean).executes)
+
+pub returns-else-found-eq0-clause-done : goal.returns-else-found-eq0-clause-done
+returns-else-found-eq0-clause-done g c clean s was =
+    let h = rw (c.params-to_sql.ensures, c.params-to_sql-2.ensures) at (c.in_ok-found.ensures.ran clean).executes in
+    connect_updated _ _ _ s was _ _ _ c.text.ensures.text c.text-2.ensures.text h c.if-found-eq0.false

@@ -1,0 +1,112 @@
+-- The tables, as the statements that make them define them, version 2.
+use Rattle.std.specs.Prelude.{true, false, [], ◌∷◌, Some, None, codes}
+use Rattle.sqlite_schema.specs.declared.schema.Action.TheVariants.{NoAction, Cascade}
+use Rattle.sqlite.specs.Table.{Table}
+use Rattle.sqlite.specs.Schema.{Schema}
+use Rattle.sqlite.specs.Kind.TheVariants.{Integer, Text, Blob}
+use Rattle.sqlite_catalog.specs.Change.{created}
+use Rattle.opc_tables.specs.Shapes.{column_of, reference_to, table_of, no_schema}
+
+abbrev pub meta_table : Table
+meta_table = table_of (codes "meta") (column_of Integer true (codes "version") ∷ []) None ([]) ([]) ([])
+
+abbrev pub classes_table : Table
+classes_table = table_of (codes "classes") (column_of Text true (codes "class") ∷ column_of Integer true (codes "active") ∷ []) None (1 ∷ []) ((1 ∷ []) ∷ []) ([])
+
+abbrev pub consoles_table : Table
+consoles_table = table_of (codes "consoles") (column_of Text true (codes "name") ∷ column_of Integer true (codes "auth") ∷ column_of Text true (codes "mode") ∷ column_of Integer true (codes "online") ∷ column_of Text false (codes "usr") ∷ column_of Integer true (codes "monitor") ∷ []) None (1 ∷ []) ((1 ∷ []) ∷ []) ([])
+
+abbrev pub units_table : Table
+units_table = table_of (codes "units") (column_of Text true (codes "name") ∷ column_of Text true (codes "kind") ∷ column_of Text false (codes "member") ∷ column_of Integer true (codes "cancelable") ∷ column_of Integer true (codes "stopping") ∷ column_of Text false (codes "last") ∷ []) None (1 ∷ []) ((1 ∷ []) ∷ []) ([])
+
+abbrev pub devices_table : Table
+devices_table = table_of (codes "devices") (column_of Text true (codes "number") ∷ column_of Integer true (codes "online") ∷ column_of Text false (codes "volume") ∷ column_of Text false (codes "unit") ∷ []) None (1 ∷ []) ((1 ∷ []) ∷ []) ([])
+
+abbrev pub replies_table : Table
+replies_table = table_of (codes "replies") (column_of Integer false (codes "id") ∷ column_of Text true (codes "text") ∷ []) (Some 0) (0 ∷ []) [] []
+
+abbrev pub answered_table : Table
+answered_table = table_of (codes "answered") (column_of Integer false (codes "number") ∷ column_of Integer true (codes "id") ∷ column_of Text true (codes "text") ∷ []) (Some 0) (0 ∷ []) [] []
+
+abbrev pub log_table : Table
+log_table = table_of (codes "log") (column_of Integer false (codes "number") ∷ column_of Text true (codes "text") ∷ []) (Some 0) (0 ∷ []) [] []
+
+abbrev pub messages_table : Table
+messages_table = table_of (codes "messages") (column_of Integer false (codes "number") ∷ column_of Text true (codes "usr") ∷ column_of Text true (codes "text") ∷ []) (Some 0) (0 ∷ []) [] []
+
+abbrev pub board_table : Table
+board_table = table_of (codes "board") (column_of Integer true (codes "halted") ∷ []) None ([]) ([]) ([])
+
+abbrev pub account_table : Table
+account_table = table_of (codes "account") (column_of Integer false (codes "number") ∷ column_of Integer true (codes "moment") ∷ column_of Text true (codes "console") ∷ column_of Text true (codes "usr") ∷ column_of Text true (codes "code") ∷ column_of Text true (codes "rule") ∷ []) (Some 0) (0 ∷ []) [] []
+
+abbrev pub batches_table : Table
+batches_table = table_of (codes "batches") (column_of Integer false (codes "number") ∷ column_of Text true (codes "rows") ∷ []) (Some 0) (0 ∷ []) [] []
+
+abbrev pub grp_table : Table
+grp_table = table_of (codes "grp") (column_of Text true (codes "name") ∷ []) None (1 ∷ []) ((1 ∷ []) ∷ []) ([])
+
+abbrev pub usr_table : Table
+usr_table = table_of (codes "usr") (column_of Text true (codes "id") ∷ column_of Integer true (codes "special") ∷ column_of Integer true (codes "auditor") ∷ column_of Integer true (codes "revoked") ∷ column_of Blob false (codes "digest") ∷ []) None (1 ∷ []) ((1 ∷ []) ∷ []) ([])
+
+abbrev pub connects_table : Table
+connects_table = table_of (codes "connects") (column_of Text true (codes "usr") ∷ column_of Text true (codes "grp") ∷ []) None (1 ∷ 2 ∷ []) ((1 ∷ 2 ∷ []) ∷ []) (reference_to (1 ∷ []) (codes "usr") NoAction ∷ reference_to (2 ∷ []) (codes "grp") NoAction ∷ [])
+
+abbrev pub profiles_table : Table
+profiles_table = table_of (codes "profiles") (column_of Text true (codes "class") ∷ column_of Text true (codes "pattern") ∷ column_of Text true (codes "owner") ∷ column_of Integer true (codes "uacc") ∷ column_of Integer true (codes "warning") ∷ column_of Blob true (codes "skey") ∷ column_of Text true (codes "head") ∷ []) None (1 ∷ 2 ∷ []) ((1 ∷ 2 ∷ []) ∷ (1 ∷ 6 ∷ []) ∷ (1 ∷ 7 ∷ 6 ∷ []) ∷ []) (reference_to (3 ∷ []) (codes "usr") NoAction ∷ [])
+
+abbrev pub entries_table : Table
+entries_table = table_of (codes "entries") (column_of Text true (codes "class") ∷ column_of Text true (codes "pattern") ∷ column_of Text true (codes "id") ∷ column_of Integer true (codes "level") ∷ []) None (1 ∷ 2 ∷ 3 ∷ []) ((1 ∷ 2 ∷ 3 ∷ []) ∷ []) (reference_to (1 ∷ 2 ∷ []) (codes "profiles") Cascade ∷ [])
+
+-- A table is at the tree after those of the tables before it, each of which has one for itself and one for each key that is not its
+-- rowid. Those that a later version makes anew stand last.
+abbrev pub schema_1 : Schema
+schema_1 = created no_schema meta_table
+
+abbrev pub schema_2 : Schema
+schema_2 = created schema_1 classes_table
+
+abbrev pub schema_3 : Schema
+schema_3 = created schema_2 consoles_table
+
+abbrev pub schema_4 : Schema
+schema_4 = created schema_3 units_table
+
+abbrev pub schema_5 : Schema
+schema_5 = created schema_4 devices_table
+
+abbrev pub schema_6 : Schema
+schema_6 = created schema_5 replies_table
+
+abbrev pub schema_7 : Schema
+schema_7 = created schema_6 answered_table
+
+abbrev pub schema_8 : Schema
+schema_8 = created schema_7 log_table
+
+abbrev pub schema_9 : Schema
+schema_9 = created schema_8 messages_table
+
+abbrev pub schema_10 : Schema
+schema_10 = created schema_9 board_table
+
+abbrev pub schema_11 : Schema
+schema_11 = created schema_10 account_table
+
+abbrev pub schema_12 : Schema
+schema_12 = created schema_11 batches_table
+
+abbrev pub schema_13 : Schema
+schema_13 = created schema_12 grp_table
+
+abbrev pub schema_14 : Schema
+schema_14 = created schema_13 usr_table
+
+abbrev pub schema_15 : Schema
+schema_15 = created schema_14 connects_table
+
+abbrev pub schema_16 : Schema
+schema_16 = created schema_15 profiles_table
+
+abbrev pub the_schema : Schema
+the_schema = created schema_16 entries_table

@@ -1,0 +1,148 @@
+//! Opening and closing.
+ghost use Rattle.std.specs.Prelude.{◌≡◌, ◌⊎◌, false, IfOk, IfErr, IfSome, IsTrue, IsFalse};
+ghost use Rattle.sqlite.specs.Held.{state};
+ghost use Rattle.sqlite.specs.Closing.{IsCopied};
+ghost use Rattle.sqlite.specs.Files.{file_state, AreFoundIn, HoldsDatabase};
+ghost use Rattle.sqlite_catalog.specs.Listing.{Lists};
+ghost use Rattle.sqlite_trees.specs.Objects.{catalog_tree};
+ghost use Rattle.sqlite.specs.Tree.{Trees};
+ghost use Rattle.sqlite.specs.WalFiles.{image_at};
+ghost use Rattle.sqlite.specs.WalReads.{AreClean};
+ghost use Rattle.sqlite.specs.State.{HasCleanDisk, Survives};
+ghost use Rattle.opc_tables.specs.Shapes.{no_schema};
+ghost use Rattle.opc_state.specs.State.{empty};
+ghost use Rattle.opc_store.specs.Represented.{Represents, AreTablesOf};
+ghost use Rattle.opc_store.specs.Ours.{has_our_name, open_fault, unasked, NamesVersion, IsRefused};
+ghost use Rattle.opc_store.specs.declared.opening.OpenFault.TheVariants as TheFault;
+
+use crate::loads::version_on;
+use crate::making::make_tables;
+use crate::names::has_our_name;
+use crate::store::Store;
+use sqlite::{
+    Alter, Connection, Error, ErrorCode, FileFrom, FileStore, Files, Options, Start, Wary,
+};
+use sqlite_disk::Disk;
+use std::alloc::Global;
+use thiserror::Error;
+
+/// The version of the tables.
+const VERSION: u64 = 2;
+
+/// Why a database is not opened.
+#[derive(Clone, Copy, Debug, PartialEq, Eq, Error)]
+pub enum OpenFault {
+    #[error("no memory")]
+    NoMemory,
+    #[error("the store failed")]
+    Store,
+    /// The tables are of this version, or have no version and are somebody else's: then it is 0.
+    #[error("tables of version {0}")]
+    NotOurs(u64),
+}
+
+fn open_fault(error: Error) -> OpenFault
+    ensures exact { result ≡ open_fault error }
+    ensures either { (result ≡ TheFault.NoMemory) ⊎ (result ≡ TheFault.Store) }
+{
+    match error {
+        Error::SqliteFailure(ErrorCode::OutOfMemory) => OpenFault::NoMemory,
+        _ => OpenFault::Store,
+    }
+}
+
+// A meta that cannot be asked for its version is somebody else's.
+fn version_fault(error: Error) -> OpenFault
+    ensures { result ≡ unasked error }
+{
+    match error {
+        Error::SqlInputError(_) => OpenFault::NotOurs(0),
+        Error::SqliteFailure(ErrorCode::OutOfMemory) => OpenFault::NoMemory,
+        _ => OpenFault::Store,
+    }
+}
+
+impl<S: Alter> Store<S> {
+    /// Adopts a connection. A database without a table or an index of our names gets the tables, in one transaction.
+    /// One with such a name is `NotOurs` but for tables of this version: with the version that it names, or with 0. A
+    /// fault hands the connection back.
+    pub fn open_files(mut conn: Connection<S>) -> Result<Self, (OpenFault, Connection<S>)>
+        requires { conn.in_transaction ≡ false }
+        ensures found { IfOk result (λ store. HasCleanDisk (state S.Store store) → IsTrue (state S.Store conn).is_open → (s : _) → AreTablesOf (state S.Store conn).now.trees s → Represents (state S.Store store).now s) }
+        ensures ours { IfOk result (λ store. HasCleanDisk (state S.Store store) → IsTrue (has_our_name conn.schema) → NamesVersion 2 (state S.Store conn) (state S.Store store)) }
+        ensures refused { IfErr result (λ e. HasCleanDisk (state S.Store e.1) → IsTrue (has_our_name conn.schema) → IsRefused e.0 (state S.Store conn) (state S.Store e.1)) }
+        ensures unmade { IfErr result (λ e. IsFalse (has_our_name conn.schema) → (e.0 ≡ TheFault.NoMemory) ⊎ (e.0 ≡ TheFault.Store)) }
+        ensures made { IfOk result (λ store. HasCleanDisk (state S.Store store) → (state S.Store conn).now.schema ≡ no_schema → Represents (state S.Store store).now empty) }
+        ensures unharmed { IfErr result (λ e. HasCleanDisk (state S.Store e.1) → IsTrue (state S.Store conn).is_open → IsTrue (state S.Store e.1).is_open → (state S.Store e.1).now ≡ (state S.Store conn).now) }
+        ensures crash { IfOk result (λ store. Survives (state S.Store conn) (state S.Store store) (λ db. (state S.Store conn).now.schema ≡ no_schema → AreTablesOf db empty)) }
+        ensures crash_at_fault { IfErr result (λ e. Survives (state S.Store conn) (state S.Store e.1) (λ db. (state S.Store conn).now.schema ≡ no_schema → AreTablesOf db empty)) }
+    {
+        let _settled = conn.is_autocommit();
+        if !has_our_name(conn.schema()) {
+            return match make_tables(&mut conn) {
+                Ok(()) => Ok(Store { conn }),
+                Err(error) => Err((open_fault(error), conn)),
+            };
+        }
+        match version_on(&mut conn) {
+            Ok(VERSION) => Ok(Store { conn }),
+            Ok(version) => Err((OpenFault::NotOurs(version), conn)),
+            Err(error) => Err((version_fault(error), conn)),
+        }
+    }
+}
+
+impl<S: Start> Store<FileStore<FileFrom<S>>> {
+    /// Opens the database file at a path, or makes it, and adopts it as `open_files` does. `start` stands for what the
+    /// files hold, and says what a torn write may leave.
+    pub fn open_at(rt: &HostRuntime, path: &str, start: S) -> Result<Self, OpenFault>
+        ensures found { IfOk result (λ store. HasCleanDisk (file_state store) → (db : Trees) → HoldsDatabase (image_at S.Start) db → (s : _) → AreTablesOf db s → Represents (file_state store).now s) }
+        ensures made { IfOk result (λ store. HasCleanDisk (file_state store) → (trees : Trees) × AreFoundIn (image_at S.Start) trees × (Lists (trees catalog_tree) no_schema → Represents (file_state store).now empty)) }
+    {
+        let conn = match Connection::open_from(rt, path, false, start) {
+            Ok(conn) => conn,
+            Err((error, _)) => return Err(open_fault(error)),
+        };
+        match Store::open_files(conn) {
+            Ok(store) => Ok(store),
+            Err((fault, _)) => Err(fault),
+        }
+    }
+}
+
+impl Store<FileStore<FileFrom<Wary>>> {
+    /// Opens the database file at a path, or makes it. A torn write may leave any bytes, so each commit syncs twice.
+    pub fn open_from(rt: &HostRuntime, path: &str) -> Result<Self, OpenFault> {
+        Store::open_at(rt, path, Wary)
+    }
+}
+
+impl<D: Disk + Drop> Store<FileStore<D>> {
+    /// Gives the two files back, with the last commit in the database file.
+    pub fn close(self) -> Result<Files<D>, (Error, FileStore<D>)>
+        ensures copied { IfOk result (λ files. AreClean D.Disk files.log files.db → IsCopied self files) }
+        ensures usable { IfOk result (λ files. IsTrue (D.Disk.is_usable files.log) × IsTrue (D.Disk.is_usable files.db)) }
+    {
+        let Store { conn } = self;
+        match conn.close_files() {
+            Ok(files) => Ok(files),
+            Err(error) => Err(error),
+        }
+    }
+
+    /// Closes the store and opens its files again: they represent the state that was committed last.
+    pub fn reopen(self, alloc: Global, options: Options) -> Option<Self>
+        ensures { IfSome result (λ again. HasCleanDisk (file_state again) → (s : _) → Represents (file_state self).committed s → Represents (file_state again).now s) }
+    {
+        let Ok(files) = self.close() else {
+            return None;
+        };
+        let Ok(conn) = Connection::open_files(alloc, files, options) else {
+            return None;
+        };
+        match Store::open_files(conn) {
+            Ok(again) => Some(again),
+            Err(_) => None,
+        }
+    }
+}

@@ -1,0 +1,26 @@
+-- When a table has one row for each of some values, and no other.
+use Rattle.std.specs.Prelude.{ℕ, ◌+◌, pos, List, [], ◌∷◌, map, drop, IsTrue, IsPermutation}
+use Rattle.sqlite_value.specs.declared.value.Value.TheVariants.{Int}
+use Rattle.std.specs.List.{AllByRecursion}
+use Rattle.sqlite_value.specs.Order.{Row}
+use Rattle.sqlite_trees.specs.Tree.{IsTable, rowid}
+use Rattle.sqlite_trees.specs.View.{is_int}
+
+-- the rows have rowids of their own
+pub record IsKept (rows : List Row) : Type 0 where
+  pub apart : IsTable rows
+  pub keyed : AllByRecursion (λ r. IsTrue (is_int (rowid r))) rows
+
+-- one row for each of these, whatever its rowid is, and no other
+pub record HasRows (values rows : List Row) : Type 0 where
+  pub each : IsPermutation values (map (drop 1) rows)
+  pub kept : IsKept rows
+
+-- a row whose key is its number: the rowid, and then its columns, of which that of the key is NULL
+abbrev pub numbered_row : {X : Type 0} → (X → Row) → ℕ → X → Row
+numbered_row values number x = Int (pos number) ∷ values x
+
+-- rows that are numbered by their places, from this number on
+abbrev pub numbered_rows : {X : Type 0} → (X → Row) → ℕ → List X → List Row
+numbered_rows values number [] = []
+numbered_rows values number (x ∷ xs) = numbered_row values number x ∷ numbered_rows values (number + 1) xs

@@ -1,0 +1,13 @@
+//! The numbers of rows.
+ghost use Rattle.std.specs.Prelude.{◌≡◌, ◌^◌, ◌<◌, ℕ, pos};
+ghost use Rattle.sqlite.specs.Held.{state};
+
+use sqlite::{Alter, Transaction};
+
+/// The number of the row that was inserted last. SQLite gave it, so it is one that a table can hold.
+pub fn last_number<S: Alter>(tx: &Transaction<'_, S>) -> i64
+    ensures number { result ≡ (state S.Store tx.now.conn.now).last_rowid }
+    ensures fits { (n : ℕ) → (state S.Store tx.now.conn.now).last_rowid ≡ pos n → n < 2 ^ 63 }
+{
+    tx.last_insert_rowid()
+}

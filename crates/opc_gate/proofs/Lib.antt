@@ -1,0 +1,17 @@
+pub mod Acting
+pub mod Boards
+pub mod Changing
+pub mod Denying
+pub mod Founding
+pub mod Handled
+pub mod Inversion
+pub mod Keeping
+pub mod Lines
+pub mod Logging
+pub mod Naming
+pub mod Policies
+pub mod Running
+pub mod SameBatches
+pub mod Sessions
+pub mod Whole
+pub mod Worked

@@ -1,0 +1,16 @@
+pub mod Operations
+pub mod Inputs
+pub mod Outcome
+pub mod Faults
+pub mod Rulings
+pub mod Commands
+pub mod Bootstrap
+pub mod Rights
+pub mod Administration
+pub mod Listings
+pub mod Imports
+pub mod Machine
+pub mod Handling
+pub mod Laws
+pub mod ChangingLaws
+pub mod KeptFacts

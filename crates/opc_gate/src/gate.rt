@@ -1,0 +1,296 @@
+//! The gate.
+ghost use Rattle.std.specs.Prelude.{◌≡◌, ◌≢◌, ◌⊎◌, IfErr, IfOk, OnErr, OnOk, Ok, Err, ℕ};
+ghost use Rattle.opc_policy.specs.declared.fault.Fault.TheVariants as why;
+ghost use Rattle.opc_board.specs.History.{without_history};
+ghost use Rattle.opc_board.specs.Texts.{text_or};
+ghost use Rattle.opc_state.specs.State.{State};
+ghost use Rattle.opc_state.specs.Changes.{IsKept};
+ghost use Rattle.opc_gate.specs.Bootstrap.{IsFounded, bootstrapped};
+ghost use Rattle.opc_gate.specs.Inputs.{Input, console_of, input_of};
+ghost use Rattle.opc_gate.specs.Machine.{IsGivenUp, account_row, is_warned, outcome as outcome_of, user_acting};
+ghost use Rattle.opc_gate.specs.Handling.{IsDecision, IsHandled, IsNothingWhereSame, IsOutcome, IsRun};
+
+use crate::bootstrap::bootstrap;
+use crate::command::{command_on, event_on};
+use crate::console::console_at;
+use crate::fault;
+use crate::outcome::{Deed, Denial, Found};
+use crate::request::{Answer, Request};
+use opc_board::board::Board;
+use opc_board::text::KeptText;
+use opc_names::name::{ConsoleName, Name, NameKind, UserId};
+use opc_policy::fault::Fault;
+use opc_policy::row::Row;
+use opc_policy::rule::Rule;
+use opc_policy::source::StoreFault;
+use opc_state::account::AccountRow;
+use opc_state::change::Change;
+use opc_state::tables::Tables;
+use std::alloc::{AllocError, Global};
+use std::marker::Model;
+
+/// An answer, and what has to be written before it is given.
+#[derive(Drop)]
+struct Decision {
+    answer: Answer,
+    change: Change,
+}
+
+fn is_warned(rule: &Option<Rule>) -> bool
+    ensures { result ≡ is_warned rule.now }
+{
+    match rule {
+        Some(Rule::Profile { warned, .. }) => *warned,
+        _ => false,
+    }
+}
+
+fn console_of(request: &Request) -> Option<ConsoleName>
+    ensures { result ≡ console_of (input_of request.now) }
+{
+    match request {
+        Request::Command { console, .. } => Some(*console),
+        Request::Event(_) => None,
+    }
+}
+
+// Who acts at the console of a request.
+fn user_acting(board: &Board, request: &Request) -> Option<UserId>
+    ensures { (s : State) → board.now ≡ without_history s.board → result ≡ user_acting s (input_of request.now) }
+{
+    let console = console_of(request)?;
+    console_at(board, &console)?.user
+}
+
+// The text of a name, or what stands for none.
+fn name_or<K: NameKind<8>>(
+    alloc: Global,
+    none: &str,
+    name: &Option<Name<K, 8>>,
+) -> Result<KeptText, AllocError>
+    ensures { IfOk result (λ text. text ≡ text_or none.now name.now) }
+{
+    match name {
+        Some(name) => KeptText::new(alloc, name.text()),
+        None => KeptText::new(alloc, none),
+    }
+}
+
+// A row of the account for a request.
+fn account_row(
+    alloc: Global,
+    moment: u64,
+    request: &Request,
+    user: Option<UserId>,
+    code: &str,
+    rule: &Option<Rule>,
+) -> Result<AccountRow, AllocError>
+    ensures { IfOk result (λ row. (s : State) → user ≡ user_acting s (input_of request.now) → row ≡ account_row s moment (input_of request.now) code.now rule.now) }
+{
+    Ok(AccountRow {
+        moment,
+        console: name_or(alloc, "*", &console_of(request))?,
+        user: name_or(alloc, "-", &user)?,
+        code: KeptText::new(alloc, code)?,
+        rule: KeptText::from(Rule::text_or_none(alloc, rule.as_ref())?),
+    })
+}
+
+// The answer and the change, by what a request comes to.
+fn decide(
+    alloc: Global,
+    moment: u64,
+    request: &Request,
+    user: Option<UserId>,
+    outcome: Result<Deed, Denial>,
+) -> Result<Decision, AllocError>
+    ensures decides { (s : State) → IsOutcome s (outcome_of s (input_of request.now)) outcome → user ≡ user_acting s (input_of request.now) → IfOk result (λ d. IsDecision s moment (input_of request.now) d.answer d.change) }
+    ensures idle { (s : State) → IsOutcome s (outcome_of s (input_of request.now)) outcome → IfOk result (λ d. IsNothingWhereSame s d.change) }
+{
+    match outcome {
+        Ok(deed) => {
+            let account = if is_warned(&deed.rule) {
+                Some(account_row(alloc, moment, request, user, "WARN", &deed.rule)?)
+            } else {
+                None
+            };
+            Ok(Decision {
+                answer: Answer::Done {
+                    lines: deed.lines,
+                    rule: deed.rule,
+                },
+                change: Change {
+                    edits: deed.edits,
+                    account,
+                },
+            })
+        }
+        Err(denial) => Ok(Decision {
+            answer: Answer::Refused {
+                fault: denial.fault,
+                rule: denial.rule,
+            },
+            change: Change {
+                edits: Vec::new(alloc),
+                account: Some(account_row(
+                    alloc,
+                    moment,
+                    request,
+                    user,
+                    denial.fault.code(),
+                    &denial.rule,
+                )?),
+            },
+        }),
+    }
+}
+
+fn given_up(fault: StoreFault) -> Answer
+    ensures { IsGivenUp result }
+{
+    Answer::Refused {
+        fault: fault::of_store(fault),
+        rule: None,
+    }
+}
+
+// What a request comes to, on the live board; writes nothing.
+fn outcome_on<T: Tables>(tables: &mut T, alloc: Global, board: Board, request: &Request) -> Found
+    ensures kept { IsKept T.is_sure T.represents T.may_leave tables.old tables.new }
+    ensures outcome { T.is_sure tables.new → (s : State) → T.represents tables.old s → board ≡ without_history s.board → IfOk result (λ o. IsOutcome s (outcome_of s (input_of request.now)) o) }
+{
+    match request {
+        Request::Command { console, text } => {
+            command_on(tables, alloc, board, console, text.as_str())
+        }
+        Request::Event(event) => event_on(alloc, board, event),
+    }
+}
+
+// Loads what a request needs, and decides; writes nothing.
+fn decision_on<T: Tables>(
+    tables: &mut T,
+    alloc: Global,
+    moment: u64,
+    request: &Request,
+) -> Result<Decision, StoreFault>
+    ensures kept { IsKept T.is_sure T.represents T.may_leave tables.old tables.new }
+    ensures decides { T.is_sure tables.new → (s : State) → T.represents tables.old s → IfOk result (λ d. IsDecision s moment (input_of request.now) d.answer d.change) }
+    ensures idle { T.is_sure tables.new → (s : State) → T.represents tables.old s → IfOk result (λ d. IsNothingWhereSame s d.change) }
+{
+    let board = tables.live_board(alloc)?;
+    let user = user_acting(&board, request);
+    let outcome = outcome_on(tables, alloc, board, request)?;
+    Ok(decide(alloc, moment, request, user, outcome)?)
+}
+
+// Writes the change of a decision, and then answers.
+fn committed<T: Tables>(tables: &mut T, alloc: Global, decision: Decision) -> Answer
+    ensures sure { T.is_sure tables.new → T.is_sure tables.old }
+    ensures handled { T.is_sure tables.new → (s : State) → T.represents tables.old s → (moment : ℕ) → (r : Input) → IsDecision s moment r decision.answer decision.change → IsNothingWhereSame s decision.change
+        → IsHandled T.represents T.may_leave tables.old tables.new s moment r result }
+{
+    let Decision { answer, change } = decision;
+    if change.is_nothing() {
+        return answer;
+    }
+    match tables.commit(alloc, &change) {
+        Ok(()) => answer,
+        Err(fault) => given_up(fault),
+    }
+}
+
+fn handle<T: Tables>(tables: &mut T, alloc: Global, moment: u64, request: &Request) -> Answer
+    ensures sure { T.is_sure tables.new → T.is_sure tables.old }
+    ensures handled { T.is_sure tables.new → (s : State) → T.represents tables.old s → IsHandled T.represents T.may_leave tables.old tables.new s moment (input_of request.now) result }
+{
+    match decision_on(tables, alloc, moment, request) {
+        Ok(decision) => committed(tables, alloc, decision),
+        Err(fault) => given_up(fault),
+    }
+}
+
+/// The gate over the tables that keep its state.
+#[derive(Drop)]
+pub struct Gate<T: Tables> {
+    tables: T,
+}
+
+impl<T: Tables> Model for Gate<T> {
+    ghost Value = { T };
+
+    ghost view = { λ gate. gate.tables };
+}
+
+impl<T: Tables> Gate<T> {
+    pub fn new(store: T) -> Self
+        ensures { result ≡ store }
+    {
+        Gate { tables: store }
+    }
+
+    /// The tables, as they are.
+    pub fn into_store(self) -> T
+        ensures { result ≡ self }
+    {
+        self.tables
+    }
+
+    /// Takes the rows of a first policy, where no user is stored, all of them or none. A crash leaves the state before
+    /// or after it, in whole; once it is acknowledged, the state after it alone.
+    pub fn bootstrap(&mut self, alloc: Global, rows: &[Row]) -> Result<(), Fault>
+        ensures sure { T.is_sure self.new → T.is_sure self.old }
+        ensures done { T.is_sure self.new → (s : State) → T.represents self.old s → OnOk result (IsFounded T.represents T.may_leave self.new s rows.now) }
+        ensures refused { T.is_sure self.new → (s : State) → T.represents self.old s → IfErr result (λ f. f ≢ why.NoMemory → f ≢ why.Store → bootstrapped rows.now s ≡ Err f) }
+        ensures unchanged { T.is_sure self.new → (s : State) → T.represents self.old s → OnErr result (T.represents self.new s) }
+        ensures crash { T.is_sure self.new → (s : State) → T.represents self.old s → (left : State) → T.may_leave self.new left → T.may_leave self.old left ⊎ (bootstrapped rows.now s ≡ Ok left) }
+    {
+        bootstrap(&mut self.tables, alloc, rows)
+    }
+
+    /// Answers a request. The answer and the state that the tables represent afterwards are a step of the access
+    /// machine. A crash leaves the state before it or the state after it, in whole; once a change is acknowledged,
+    /// the state after it alone.
+    pub fn handle(&mut self, alloc: Global, moment: u64, request: &Request) -> Answer
+        ensures sure { T.is_sure self.new → T.is_sure self.old }
+        ensures handled { T.is_sure self.new → (s : State) → T.represents self.old s → IsHandled T.represents T.may_leave self.old self.new s moment (input_of request.now) result }
+    {
+        handle(&mut self.tables, alloc, moment, request)
+    }
+
+    /// Answers requests, with their moments, one after another. The answers, and the state that the tables represent
+    /// afterwards, are those of the access machine. The memory for the answers is taken before the first request:
+    /// where it is wanting, none is handled.
+    pub fn run(
+        &mut self,
+        alloc: Global,
+        requests: &[(u64, Request)],
+    ) -> Result<Vec<Answer>, AllocError>
+        ensures sure { T.is_sure self.new → T.is_sure self.old }
+        ensures none { OnErr result (self.new ≡ self.old) }
+        ensures runs { T.is_sure self.new → (s : State) → T.represents self.old s → IfOk result (λ answers. IsRun T.represents self.new s requests.now answers.items) }
+    {
+        run(&mut self.tables, alloc, requests)
+    }
+}
+
+fn run<T: Tables>(
+    tables: &mut T,
+    alloc: Global,
+    requests: &[(u64, Request)],
+) -> Result<Vec<Answer>, AllocError>
+    ensures sure { T.is_sure tables.new → T.is_sure tables.old }
+    ensures none { OnErr result (tables.new ≡ tables.old) }
+    ensures runs { T.is_sure tables.new → (s : State) → T.represents tables.old s → IfOk result (λ answers. IsRun T.represents tables.new s requests.now answers.items) }
+{
+    let mut answers = Vec::with_capacity(alloc, requests.len())?;
+    for request in requests {
+        let answer = handle(tables, alloc, request.0, &request.1);
+        match answers.push(answer) {
+            Ok(()) => {}
+            // There is room for each.
+            Err(_) => unreachable!(),
+        }
+    }
+    Ok(answers)
+}

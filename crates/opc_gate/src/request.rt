@@ -1,0 +1,35 @@
+//! Requests and their answers.
+use opc_board::event::Event;
+use opc_board::line::Line;
+use opc_board::text::KeptText;
+use opc_names::name::ConsoleName;
+use opc_policy::fault::Fault;
+use opc_policy::rule::Rule;
+use opc_rows::Rows;
+
+/// What is asked of the gate.
+#[derive(Drop)]
+pub enum Request {
+    /// A command line as it was typed at a console.
+    Command {
+        console: ConsoleName,
+        text: KeptText,
+    },
+    /// What happens in the machine room.
+    Event(Event),
+}
+
+/// What the gate answers.
+#[derive(Drop)]
+pub enum Answer {
+    /// It is done: the lines that it gives, and the rule that allowed it, where it needed one.
+    Done {
+        lines: Rows<Line>,
+        rule: Option<Rule>,
+    },
+    /// It is refused: why, and the rule that decided, where it was one.
+    Refused {
+        fault: Fault,
+        rule: Option<Rule>,
+    },
+}

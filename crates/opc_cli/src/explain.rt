@@ -1,29 +1,18 @@
 //! `opcmds explain`: which profile decides for a user, and why, by a policy file.
 ghost use Rattle.std.specs.Prelude.{◌≤◌};
 
-use crate::streams::{BAD_WORDS, DONE, REFUSED, read_up_to, tell};
+use crate::policy_file::read_rows;
+use crate::streams::{BAD_WORDS, DONE, REFUSED, tell};
 use clap::ArgMatches;
-use opc_import::fault::ImportFault;
-use opc_import::read::read_policy;
 use opc_names::class::Class;
 use opc_names::level::Level;
 use opc_names::name::{Resource, UserId};
 use opc_policy::explained::{Explained, explain};
-use opc_policy::fault::{Fault, Why};
+use opc_policy::fault::Fault;
 use opc_policy::policy::Policy;
 use opc_policy::verdict::Verdict;
 use std::alloc::Global;
-use std::io::{ErrorKind, Read, Write};
-use std::{io, str};
-
-/// The most bytes of a policy file.
-const POLICY_LIMIT: u32 = 16_777_216;
-
-/// What a file over the limit is, or one that is no text: it has no header to read.
-const NO_HEADER: Fault = Fault::RowFault {
-    row: 0,
-    why: Why::Header,
-};
+use std::io::{Read, Write};
 
 /// What is asked: whether a user holds a level on a resource.
 #[derive(Clone, Copy)]
@@ -91,29 +80,11 @@ fn answer<R: Read>(alloc: Global, question: &Question, input: &mut R) -> Result<
 
 /// The policy of the file on the input: all of its rows are read before the first is taken.
 fn read_whole<R: Read>(alloc: Global, input: &mut R) -> Result<Policy, Fault> {
-    let bytes = match read_up_to(alloc, input, POLICY_LIMIT) {
-        Ok(bytes) => bytes,
-        Err(error) => return Err(fault_of(&error)),
-    };
-    if bytes.len() > POLICY_LIMIT as usize {
-        return Err(NO_HEADER);
-    }
-    let Ok(text) = str::from_utf8(&bytes) else {
-        return Err(NO_HEADER);
-    };
     let mut policy = Policy::new(alloc);
-    for row in &read_policy(alloc, text)? {
+    for row in &read_rows(alloc, input)? {
         policy.take(alloc, row)?;
     }
     Ok(policy)
-}
-
-/// A read that found no memory, or a device that failed.
-fn fault_of(error: &io::Error) -> Fault {
-    match error.kind() {
-        ErrorKind::OutOfMemory => Fault::NoMemory,
-        _ => Fault::Store,
-    }
 }
 
 fn print<W: Write, E: Write>(

@@ -1,7 +1,10 @@
-//! The program `opcmds`: questions to a policy and, later, the gate itself, on the command line.
+//! The program `opcmds`: questions to a policy, and the gate itself, on the command line.
 #![tactic(auto)]
 
 mod explain;
+mod machine;
+mod policy_file;
+mod run;
 mod streams;
 #[cfg(test)]
 mod tests;
@@ -13,10 +16,10 @@ use std::process::ExitCode;
 use std::{env, io};
 
 fn main(rt: HostRuntime) -> ExitCode {
-    ExitCode::from(run(&rt))
+    ExitCode::from(answer(&rt))
 }
 
-fn run(rt: &HostRuntime) -> u8 {
+fn answer(rt: &HostRuntime) -> u8 {
     let mut errors = rt.stderr();
     match given_words(rt) {
         Ok(words) => words::run_words(

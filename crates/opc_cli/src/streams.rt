@@ -7,10 +7,31 @@ use opc_policy::fault::Fault;
 use std::alloc::Global;
 use std::fmt::Write as _;
 use std::io;
-use std::io::{Read, Write};
+use std::io::{ErrorKind, Read, Write};
 
 /// More bytes than the line of any fault has: the longest name in one is a pattern of 39 characters.
 const FAULT_LINE: usize = 160;
+
+/// A writer that remembers whether it failed; one that takes no byte has failed, too.
+#[derive(Drop)]
+pub struct Watched<'a, W: Write> {
+    pub output: &'a mut W,
+    pub has_failed: bool,
+}
+
+impl<W: Write> Write for Watched<'_, W> {
+    fn write(&mut self, buf: &[u8]) -> io::Result<usize> {
+        let written = self.output.write(buf);
+        if !matches!(written, Ok(count) if count > 0) {
+            self.has_failed = true;
+        }
+        written
+    }
+
+    fn flush(&mut self) -> io::Result<()> {
+        self.output.flush()
+    }
+}
 
 /// The statuses of the program.
 pub const DONE: u8 = 0;
@@ -42,6 +63,14 @@ pub fn tell<E: Write>(fault: &Fault, errors: &mut E) -> u8
         let _ = errors.write_all(line.as_str().as_bytes());
     }
     status_of(fault)
+}
+
+/// A read that found no memory, or a device that failed.
+pub fn fault_of(error: &io::Error) -> Fault {
+    match error.kind() {
+        ErrorKind::OutOfMemory => Fault::NoMemory,
+        _ => Fault::Store,
+    }
 }
 
 /// The bytes of a reader, one more than the limit at most.

@@ -1,8 +1,9 @@
 //! The words of the command line.
 ghost use Rattle.std.specs.Prelude.{◌≤◌};
 
-use crate::explain;
+use crate::machine::Machine;
 use crate::streams::{BAD_WORDS, DONE, tell};
+use crate::{explain, run};
 use clap::error::ErrorKind;
 use clap::{Arg, ArgAction, ArgMatches, Command, Error};
 use opc_policy::fault::Fault;
@@ -46,12 +47,37 @@ fn explain_command<'a>(alloc: Global) -> Result<Command<'a>, AllocError> {
         .required(true))
 }
 
+fn run_command<'a>(alloc: Global) -> Result<Command<'a>, AllocError> {
+    Command::new(alloc, "run")
+        .about(
+            "Answers the commands and events of the script on standard input (1,048,576 bytes at most), one a line",
+        )
+        .after_help(
+            "A line: MOMENT CONSOLE COMMAND, or MOMENT * EVENT; the moment is a number up to 9,999,999,999,999.\n\
+             Example: echo '1 C1 S MONPL' | opcmds run --policy policy.csv\n\
+             Status: 0 all done, 1 something refused, 2 bad words, policy file or line, 3 want of memory or of a device",
+        )
+        .arg(value(
+            alloc,
+            "db",
+            "FILE",
+            "The database file, made if it is not there; in memory without this",
+        ))?
+        .arg(value(
+            alloc,
+            "policy",
+            "FILE",
+            "The first policy (16,777,216 bytes at most), for tables in which no user is stored",
+        ))
+}
+
 fn whole_command<'a>(alloc: Global) -> Result<Command<'a>, AllocError> {
     Command::new(alloc, "opcmds")
         .about("The authority gate for operator commands, by RACF-like profiles")
         .after_help("Example: opcmds explain --help")
         .subcommand_required(true)
-        .subcommand(explain_command(alloc)?)
+        .subcommand(explain_command(alloc)?)?
+        .subcommand(run_command(alloc)?)
 }
 
 fn matches_of<'a>(alloc: Global, words: &'a [String]) -> Result<ArgMatches<'a>, Error> {
@@ -60,8 +86,8 @@ fn matches_of<'a>(alloc: Global, words: &'a [String]) -> Result<ArgMatches<'a>, 
 
 /// Runs the program on its words, the first of which is its own name, and answers its status: 0 done,
 /// 1 refused, 2 bad words or input, 3 want of memory or of a device.
-pub fn run_words<T: AllocGlobal, R: Read, W: Write, E: Write>(
-    rt: &T,
+pub fn run_words<M: Machine, R: Read, W: Write, E: Write>(
+    rt: &M,
     words: &[String],
     input: &mut R,
     output: &mut W,
@@ -76,6 +102,9 @@ pub fn run_words<T: AllocGlobal, R: Read, W: Write, E: Write>(
     };
     if let Some(chosen) = matches.subcommand_matches("explain") {
         return explain::run(alloc, chosen, input, output, errors);
+    }
+    if let Some(chosen) = matches.subcommand_matches("run") {
+        return run::run(rt, chosen, input, output, errors);
     }
     BAD_WORDS
 }

@@ -1,5 +1,6 @@
 //! Policy files and outputs that fail: the fault that is told, and the status.
 use super::runs::{DIGEST, HEADER, POLICY, run_on, run_to};
+use crate::machine::Machine;
 use std::alloc::AllocError;
 use std::io;
 use std::io::Write;
@@ -17,7 +18,7 @@ const WORDS: [&str; 7] = [
 ];
 
 /// Asks a question of a file, which ends in this fault.
-fn told(rt: &(impl Abort + AllocGlobal), file: &[u8], wanted: (u8, &str)) -> Result<(), Fail> {
+fn told(rt: &(impl Abort + Machine), file: &[u8], wanted: (u8, &str)) -> Result<(), Fail> {
     let ran = run_on(rt, &WORDS, file)?;
     assert_eq!(rt; ran.errors.as_slice(), wanted.1.as_bytes());
     assert!(rt; ran.output.is_empty());
@@ -26,7 +27,7 @@ fn told(rt: &(impl Abort + AllocGlobal), file: &[u8], wanted: (u8, &str)) -> Res
 }
 
 /// The example policy with one row more.
-fn with_row(rt: &(impl Abort + AllocGlobal), row: &str) -> Result<String, AllocError> {
+fn with_row(rt: &(impl Abort + Machine), row: &str) -> Result<String, AllocError> {
     format!(in rt.alloc(); "{HEADER}{POLICY}{row}\n")
 }
 

@@ -1,11 +1,12 @@
 //! Questions to a policy: what is printed, and the status.
 use super::runs::{HEADER, POLICY, run_on};
+use crate::machine::Machine;
 use std::process::Abort;
 use std::test::Fail;
 
 /// Asks a question of the example policy.
 fn asked(
-    rt: &(impl Abort + AllocGlobal),
+    rt: &(impl Abort + Machine),
     user: &str,
     resource: &str,
     level: &str,

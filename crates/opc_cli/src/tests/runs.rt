@@ -1,4 +1,5 @@
 //! One run of the program, over streams in memory.
+use crate::machine::Machine;
 use crate::streams::FAILED;
 use crate::words::run_words;
 use std::alloc::AllocError;
@@ -43,7 +44,7 @@ fn owned(rt: &impl AllocGlobal, words: &[&str]) -> Result<Vec<String>, AllocErro
 /// Runs the program on an output of the caller's, and gives its status and what it says to the errors. Where it says
 /// want of memory, that is the answer.
 pub(super) fn run_to<W: Write>(
-    rt: &impl AllocGlobal,
+    rt: &impl Machine,
     words: &[&str],
     mut input: &[u8],
     output: &mut W,
@@ -57,11 +58,7 @@ pub(super) fn run_to<W: Write>(
     Ok((status, errors))
 }
 
-pub(super) fn run_on(
-    rt: &impl AllocGlobal,
-    words: &[&str],
-    input: &[u8],
-) -> Result<Run, AllocError> {
+pub(super) fn run_on(rt: &impl Machine, words: &[&str], input: &[u8]) -> Result<Run, AllocError> {
     let mut output = Vec::with_capacity(rt.alloc(), PRINTED)?;
     let (status, errors) = run_to(rt, words, input, &mut output)?;
     Ok(Run {

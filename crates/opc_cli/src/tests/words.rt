@@ -8,7 +8,7 @@ fn bad_words(rt: HostRuntime) -> Result<(), Fail> {
     let cases: [&[&str]; 12] = [
         &[],
         &["cancel"],
-        &["run"],
+        &["serve"],
         &["explain"],
         &["explain", "--user", "ANNA", "--resource", "A"],
         &["explain", "--user", "ANNA", "--resource", "A", "--level"],

@@ -1,0 +1,11 @@
+//! Scripts: requests as lines of a text, and the answers to them.
+#![tactic(auto)]
+
+mod event;
+pub mod laws;
+mod line;
+pub mod run;
+mod script;
+#[cfg(test)]
+mod tests;
+mod transcript;

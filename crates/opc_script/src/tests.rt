@@ -1,0 +1,4 @@
+//! Scripts over tables that are shut, and their lines.
+mod lines;
+mod runs;
+mod shut;

@@ -1,6 +1,7 @@
 -- Which names are those of our tables, and which version such tables are of.
 use Rattle.std.specs.Prelude.{◌≡◌, ◌≢◌, ◌⊎◌, ℕ, pos, Bool, ◌||◌, List, [], ◌∷◌, codes}
 use Rattle.std.specs.List.{list_any}
+use Rattle.sqlite.specs.Recovery.{Image}
 use Rattle.sqlite_schema.specs.Names.{same_name}
 use Rattle.sqlite_schema.specs.declared.schema.Table.{Table}
 use Rattle.sqlite_schema.specs.declared.schema.Index.{Index}
@@ -18,6 +19,10 @@ use Rattle.opc_store.specs.declared.opening.OpenFault.TheVariants as fault
 abbrev pub our_names : List (List ℕ)
 our_names =
     codes "meta" ∷ codes "classes" ∷ codes "consoles" ∷ codes "units" ∷ codes "devices" ∷ codes "replies" ∷ codes "answered" ∷ codes "log" ∷ codes "messages" ∷ codes "board" ∷ codes "account" ∷ codes "batches" ∷ codes "grp" ∷ codes "usr" ∷ codes "connects" ∷ codes "profiles" ∷ codes "entries" ∷ []
+
+-- a log and a database file in which nothing is written
+abbrev pub new_files : Image
+new_files = record { log = []; db = [] }
 
 -- in any case of its letters
 abbrev pub is_ours : List ℕ → Bool

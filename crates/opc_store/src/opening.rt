@@ -12,7 +12,7 @@ ghost use Rattle.sqlite.specs.State.{HasCleanDisk, Survives};
 ghost use Rattle.opc_tables.specs.Shapes.{no_schema};
 ghost use Rattle.opc_state.specs.State.{empty};
 ghost use Rattle.opc_store.specs.Represented.{Represents, AreTablesOf};
-ghost use Rattle.opc_store.specs.Ours.{has_our_name, open_fault, unasked, NamesVersion, IsRefused};
+ghost use Rattle.opc_store.specs.Ours.{has_our_name, new_files, open_fault, unasked, NamesVersion, IsRefused};
 ghost use Rattle.opc_store.specs.declared.opening.OpenFault.TheVariants as TheFault;
 
 use crate::loads::version_on;
@@ -92,6 +92,16 @@ impl<S: Alter> Store<S> {
     }
 }
 
+impl<S: Alter> Store<S> {
+    /// The connection to the tables, outside any transaction. `open_files` adopts it again.
+    pub fn into_connection(self) -> Connection<S>
+        ensures same { result ≡ self }
+        ensures outside { result.in_transaction ≡ false }
+    {
+        self.conn
+    }
+}
+
 impl<S: Start> Store<FileStore<FileFrom<S>>> {
     /// Opens the database file at a path, or makes it, and adopts it as `open_files` does. `start` stands for what the
     /// files hold, and says what a torn write may leave.
@@ -112,7 +122,11 @@ impl<S: Start> Store<FileStore<FileFrom<S>>> {
 
 impl Store<FileStore<FileFrom<Wary>>> {
     /// Opens the database file at a path, or makes it. A torn write may leave any bytes, so each commit syncs twice.
-    pub fn open_from(rt: &HostRuntime, path: &str) -> Result<Self, OpenFault> {
+    /// What is promised of a file that is not new, `open_at` says, for any contents.
+    pub fn open_from(rt: &HostRuntime, path: &str) -> Result<Self, OpenFault>
+        ensures found { IfOk result (λ store. HasCleanDisk (file_state store) → (db : Trees) → HoldsDatabase (new_files) db → (s : _) → AreTablesOf db s → Represents (file_state store).now s) }
+        ensures made { IfOk result (λ store. HasCleanDisk (file_state store) → (trees : Trees) × AreFoundIn (new_files) trees × (Lists (trees catalog_tree) no_schema → Represents (file_state store).now empty)) }
+    {
         Store::open_at(rt, path, Wary)
     }
 }

@@ -5,7 +5,7 @@ ghost use Rattle.opc_board.specs.History.{without_history};
 ghost use Rattle.opc_board.specs.Texts.{text_or};
 ghost use Rattle.opc_state.specs.State.{State};
 ghost use Rattle.opc_state.specs.Changes.{IsKept};
-ghost use Rattle.opc_gate.specs.Bootstrap.{IsFounded, bootstrapped};
+ghost use Rattle.opc_gate.specs.Bootstrap.{HaveNothingNew, IsFounded, bootstrapped};
 ghost use Rattle.opc_gate.specs.Inputs.{Input, console_of, input_of};
 ghost use Rattle.opc_gate.specs.Machine.{IsGivenUp, account_row, is_warned, outcome as outcome_of, user_acting};
 ghost use Rattle.opc_gate.specs.Handling.{IsDecision, IsHandled, IsNothingWhereSame, IsOutcome, IsRun};
@@ -237,13 +237,15 @@ impl<T: Tables> Gate<T> {
     }
 
     /// Takes the rows of a first policy, where no user is stored, all of them or none. A crash leaves the state before
-    /// or after it, in whole; once it is acknowledged, the state after it alone.
+    /// or after it, in whole; once it is acknowledged, the state after it alone. Rows that bring nothing new write
+    /// nothing.
     pub fn bootstrap(&mut self, alloc: Global, rows: &[Row]) -> Result<(), Fault>
         ensures sure { T.is_sure self.new → T.is_sure self.old }
         ensures done { T.is_sure self.new → (s : State) → T.represents self.old s → OnOk result (IsFounded T.represents T.may_leave self.new s rows.now) }
         ensures refused { T.is_sure self.new → (s : State) → T.represents self.old s → IfErr result (λ f. f ≢ why.NoMemory → f ≢ why.Store → bootstrapped rows.now s ≡ Err f) }
         ensures unchanged { T.is_sure self.new → (s : State) → T.represents self.old s → OnErr result (T.represents self.new s) }
         ensures crash { T.is_sure self.new → (s : State) → T.represents self.old s → (left : State) → T.may_leave self.new left → T.may_leave self.old left ⊎ (bootstrapped rows.now s ≡ Ok left) }
+        ensures idle { T.is_sure self.new → (s : State) → T.represents self.old s → HaveNothingNew rows.now s → (left : State) → T.may_leave self.new left → T.may_leave self.old left }
     {
         bootstrap(&mut self.tables, alloc, rows)
     }

@@ -1,40 +1,37 @@
-//! The program `opcmds`: questions to a policy, and the gate itself, on the command line.
+//! The program `opcmds` on the machine that runs it.
 #![tactic(auto)]
 
-mod explain;
 mod machine;
-mod policy_file;
-mod run;
-mod streams;
-#[cfg(test)]
-mod tests;
-mod words;
 
+use crate::machine::Process;
 use opc_policy::fault::Fault;
+use opc_program::streams::{BAD_WORDS, tell};
+use opc_program::words::run_words;
 use std::io::{ErrorKind, Write};
 use std::process::ExitCode;
 use std::{env, io};
 
 fn main(rt: HostRuntime) -> ExitCode {
-    ExitCode::from(answer(&rt))
+    ExitCode::from(answer(&Process { rt }))
 }
 
-fn answer(rt: &HostRuntime) -> u8 {
+fn answer(process: &Process) -> u8 {
+    let rt = &process.rt;
     let mut errors = rt.stderr();
     match given_words(rt) {
-        Ok(words) => words::run_words(
-            rt,
+        Ok(words) => run_words(
+            process,
             words.as_slice(),
             &mut rt.stdin(),
             &mut rt.stdout(),
             &mut errors,
         ),
         Err(error) if error.kind() == ErrorKind::OutOfMemory => {
-            streams::tell(&Fault::NoMemory, &mut errors)
+            tell(&Fault::NoMemory, &mut errors)
         }
         Err(_) => {
             let _ = writeln!(errors, "error: a word is not UTF-8");
-            streams::BAD_WORDS
+            BAD_WORDS
         }
     }
 }

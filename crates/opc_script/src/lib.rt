@@ -6,6 +6,7 @@ pub mod laws;
 mod line;
 pub mod run;
 mod script;
+pub mod shut;
 #[cfg(test)]
 mod tests;
 mod transcript;

@@ -1,4 +1,3 @@
 //! Scripts over tables that are shut, and their lines.
 mod lines;
 mod runs;
-mod shut;

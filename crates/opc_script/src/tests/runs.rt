@@ -1,6 +1,6 @@
 //! What is printed, over tables that are shut, and to writers that fail.
 use crate::run::run_script;
-use crate::tests::shut::Shut;
+use crate::shut::Shut;
 use opc_gate::gate::Gate;
 use std::io;
 use std::io::{ErrorKind, Write};

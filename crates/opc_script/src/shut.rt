@@ -1,4 +1,4 @@
-//! Tables that are shut: whatever is asked of them fails. Nothing is proved of them: they are never sure.
+//! Tables that are shut, for tests of those who ask tables: whatever is asked fails.
 ghost use Rattle.opc_state.specs.State.{State};
 
 use opc_board::board::Board;
@@ -12,6 +12,7 @@ use opc_state::change::Change;
 use opc_state::tables::Tables;
 use std::alloc::Global;
 
+/// Whatever is asked of them fails. Nothing is promised of them, since they are never sure.
 #[derive(Drop)]
 pub struct Shut;
 

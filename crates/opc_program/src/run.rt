@@ -1,73 +1,23 @@
 //! `opcmds run`: commands and events, over tables in memory or in a file.
 ghost use Rattle.std.specs.Prelude.{◌≤◌};
 
-use crate::machine::{FileTables, Machine};
 use crate::policy_file::read_rows;
 use crate::streams::{BAD_WORDS, Watched, fault_of, read_up_to, tell};
-use clap::ArgMatches;
 use opc_gate::gate::Gate;
 use opc_policy::fault::Fault;
-use opc_policy::source::StoreFault;
 use opc_script::run::run_script;
 use opc_state::tables::Tables;
-use opc_store::opening::OpenFault;
-use opc_store::store::Store;
-use std::fs::File;
+use std::fs::{File, Files};
 use std::io::{Read, Write};
 use std::{io, str};
 
 /// The most bytes of a script.
 const SCRIPT_LIMIT: u32 = 1_048_576;
 
-/// Runs the script on the input over the tables that the words name, and answers its status.
-pub fn run<M: Machine, R: Read, W: Write, E: Write>(
-    rt: &M,
-    chosen: &ArgMatches<'_>,
-    input: &mut R,
-    output: &mut W,
-    errors: &mut E,
-) -> u8
-    ensures { result ≤ 3 }
-{
-    let policy = chosen.get_str("policy");
-    match chosen.get_str("db") {
-        Some(path) => match rt.open_tables(path) {
-            Ok(tables) => {
-                let (status, tables) = run_over(rt, tables, policy, input, output, errors);
-                close(tables, status, errors)
-            }
-            Err(fault) => tell(&open_fault(fault), errors),
-        },
-        None => match Store::in_memory(rt.alloc()) {
-            Ok(tables) => run_over(rt, tables, policy, input, output, errors).0,
-            Err(StoreFault::NoMemory) => tell(&Fault::NoMemory, errors),
-            Err(StoreFault::Store) => tell(&Fault::Store, errors),
-        },
-    }
-}
-
-fn open_fault(fault: OpenFault) -> Fault {
-    match fault {
-        OpenFault::NoMemory => Fault::NoMemory,
-        OpenFault::Store => Fault::Store,
-        OpenFault::NotOurs(version) => Fault::NotOurs { version },
-    }
-}
-
-/// Puts the last commit into the database file. What was acknowledged is kept where that fails, too.
-fn close<E: Write>(tables: FileTables, status: u8, errors: &mut E) -> u8
-    requires { status ≤ 3 }
-    ensures { result ≤ 3 }
-{
-    match tables.close() {
-        Ok(_) => status,
-        Err(_) => tell(&Fault::Store, errors),
-    }
-}
-
-/// Takes the policy, if one is named, and runs the script.
-fn run_over<M: Machine, T: Tables, R: Read, W: Write, E: Write>(
-    rt: &M,
+/// Takes the policy, if one is named, and runs the script on the input over these tables. Answers the status, and hands
+/// the tables back.
+pub fn run_over<H: AllocGlobal + Files, T: Tables, R: Read, W: Write, E: Write>(
+    rt: &H,
     tables: T,
     policy: Option<&str>,
     input: &mut R,
@@ -85,8 +35,8 @@ fn run_over<M: Machine, T: Tables, R: Read, W: Write, E: Write>(
 }
 
 /// The first policy, from a file if one is named.
-fn found<M: Machine, T: Tables>(
-    rt: &M,
+fn found<H: AllocGlobal + Files, T: Tables>(
+    rt: &H,
     gate: &mut Gate<T>,
     policy: Option<&str>,
 ) -> Result<(), Fault> {
@@ -101,8 +51,8 @@ fn found<M: Machine, T: Tables>(
     gate.bootstrap(rt.alloc(), &rows)
 }
 
-fn answer_script<M: Machine, T: Tables, R: Read, W: Write, E: Write>(
-    rt: &M,
+fn answer_script<H: AllocGlobal + Files, T: Tables, R: Read, W: Write, E: Write>(
+    rt: &H,
     gate: &mut Gate<T>,
     input: &mut R,
     output: &mut W,
@@ -117,8 +67,8 @@ fn answer_script<M: Machine, T: Tables, R: Read, W: Write, E: Write>(
     }
 }
 
-fn print_answers<M: Machine, T: Tables, W: Write, E: Write>(
-    rt: &M,
+fn print_answers<H: AllocGlobal + Files, T: Tables, W: Write, E: Write>(
+    rt: &H,
     gate: &mut Gate<T>,
     script: &str,
     output: &mut W,
@@ -139,7 +89,10 @@ fn print_answers<M: Machine, T: Tables, W: Write, E: Write>(
 }
 
 /// The text of a script, or none where it has too many bytes or is not UTF-8.
-fn read_script<M: Machine, R: Read>(rt: &M, input: &mut R) -> io::Result<Option<String>> {
+fn read_script<H: AllocGlobal + Files, R: Read>(
+    rt: &H,
+    input: &mut R,
+) -> io::Result<Option<String>> {
     let bytes = read_up_to(rt.alloc(), input, SCRIPT_LIMIT)?;
     if bytes.len() > SCRIPT_LIMIT as usize {
         return Ok(None);

@@ -1,6 +1,6 @@
 //! What the program reads and prints, and the status that it ends with.
 ghost use Rattle.std.specs.Prelude.{◌≡◌, ◌+◌, ◌≤◌, IfOk, IfSome, take};
-ghost use Rattle.opc_cli.specs.Statuses.{status_of};
+ghost use Rattle.opc_program.specs.Statuses.{status_of};
 
 use arrayvec::ArrayString;
 use opc_policy::fault::Fault;

@@ -1,6 +1,6 @@
 use Rattle.std.proofs.Common.{rules, ◌≡◌, ◌+◌, IfSome, take, ℕ, List, []}
 use Rattle.std.specs.Prelude.{Option, Some, None, option_map, ◌++◌}
-use Rattle.opc_cli.proofs.streams.read_up_to.Goals as goal
+use Rattle.opc_program.proofs.streams.read_up_to.Goals as goal
 
 known_prefix : (known : Option (List ℕ)) (n : ℕ) (got : List ℕ) → IfSome (option_map (take n) known) (λ xs. got ≡ xs) → IfSome known (λ all. got ≡ take n all)
 known_prefix None n got h = h

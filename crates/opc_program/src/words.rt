@@ -1,9 +1,9 @@
 //! The words of the command line.
 ghost use Rattle.std.specs.Prelude.{◌≤◌};
 
+use crate::explain;
 use crate::machine::Machine;
 use crate::streams::{BAD_WORDS, DONE, tell};
-use crate::{explain, run};
 use clap::error::ErrorKind;
 use clap::{Arg, ArgAction, ArgMatches, Command, Error};
 use opc_policy::fault::Fault;
@@ -104,7 +104,8 @@ pub fn run_words<M: Machine, R: Read, W: Write, E: Write>(
         return explain::run(alloc, chosen, input, output, errors);
     }
     if let Some(chosen) = matches.subcommand_matches("run") {
-        return run::run(rt, chosen, input, output, errors);
+        let (database, policy) = (chosen.get_str("db"), chosen.get_str("policy"));
+        return rt.run(database, policy, input, output, errors);
     }
     BAD_WORDS
 }

@@ -1,0 +1,11 @@
+//! The program `opcmds` over any machine: questions to a policy, and the gate itself, by the words of a command line.
+#![tactic(auto)]
+
+mod explain;
+pub mod machine;
+mod policy_file;
+pub mod run;
+pub mod streams;
+#[cfg(test)]
+mod tests;
+pub mod words;

@@ -1,0 +1,5 @@
+//! Tests of `opc_store` by its public calls.
+#![tactic(auto)]
+
+#[cfg(test)]
+mod tests;

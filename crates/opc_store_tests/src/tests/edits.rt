@@ -1,0 +1,397 @@
+//! Each kind of edit, put, put again and removed, as the tables tell it.
+use super::policy::{edits_of, with_base};
+use super::{commit_one, refusal, same, tell, tell_query, told_after_each};
+use opc_board::rows::{ConsoleRow, DeviceRow, MessageRow, ReplyRow, UnitKind, UnitRow};
+use opc_board::text::KeptText;
+use opc_names::auth::Auth;
+use opc_names::class::Class;
+use opc_names::level::Level;
+use opc_names::name::{ConsoleName, Device, GroupName, Pattern, UnitName, UserId, Volume};
+use opc_policy::connect::Connect;
+use opc_policy::entries::Entries;
+use opc_policy::entry::{Entry, EntryId};
+use opc_policy::mode::Mode;
+use opc_policy::profile::Profile;
+use opc_policy::source::StoreFault;
+use opc_state::change::{Change, Edit};
+use opc_store::store::Store;
+use std::alloc::Global;
+use std::rt::HostRuntime;
+use std::test::Fail;
+
+/// The lines of a query after each row of a policy file and a last edit, in a new store.
+fn told_after_rows(alloc: Global, rows: &str, last: Edit, sql: &str) -> Result<String, Fail> {
+    let mut edits = edits_of(alloc, rows)?;
+    edits.push(last)?;
+    told_after_each(alloc, Store::in_memory(alloc)?, edits, sql)
+}
+
+#[test]
+fn groups_are_put_and_removed(rt: HostRuntime) -> Result<(), Fail> {
+    let lines = told_after_rows(
+        rt.alloc(),
+        "kind,class,name,id,value,owner,flags,digest\ngroup,,OPS,,,,,\ngroup,,NIGHT,,,,,\ngroup,,OPS,,,,,\n",
+        Edit::RemoveGroup(GroupName::read("OPS")?),
+        "SELECT name FROM grp ORDER BY name",
+    )?;
+    same(
+        &rt,
+        lines.as_str(),
+        "OPS \nNIGHT OPS \nNIGHT OPS \nNIGHT \n",
+    );
+    Ok(())
+}
+
+#[test]
+fn users_are_put_and_removed(rt: HostRuntime) -> Result<(), Fail> {
+    let lines = told_after_rows(
+        rt.alloc(),
+        "kind,class,name,id,value,owner,flags,digest\nuser,,ANNA,,,,A,\n\
+         user,,ANNA,,,,S,b5d4045c3f466fa91fe2cc6abe79232a1a57cdf104f7a26e716e0a1e2789df78\nuser,,ANNA,,,,R,\n",
+        Edit::RemoveUser(UserId::read("ANNA")?),
+        "SELECT id || special || auditor || revoked || hex(digest) FROM usr",
+    )?;
+    same(
+        &rt,
+        lines.as_str(),
+        "ANNA010 \nANNA100B5D4045C3F466FA91FE2CC6ABE79232A1A57CDF104F7A26E716E0A1E2789DF78 \nANNA001 \n\n",
+    );
+    Ok(())
+}
+
+#[test]
+fn classes_are_made_active_and_inactive(rt: HostRuntime) -> Result<(), Fail> {
+    let lines = told_after_rows(
+        rt.alloc(),
+        "kind,class,name,id,value,owner,flags,digest\nclass,CONSOLE,,,ACTIVE,,,\nclass,CONSOLE,,,ACTIVE,,,\n",
+        Edit::SetActive(Class::Console, false),
+        "SELECT class || active FROM classes ORDER BY class",
+    )?;
+    same(
+        &rt,
+        lines.as_str(),
+        "CONSOLE1 OPERCMDS0 \nCONSOLE1 OPERCMDS0 \nCONSOLE0 OPERCMDS0 \n",
+    );
+    Ok(())
+}
+
+fn connect_edits(alloc: Global) -> Result<Vec<Edit>, Fail> {
+    let user = UserId::read("BERT")?;
+    let group = GroupName::read("NIGHT")?;
+    let night = Connect { user, group };
+    let mut edits = Vec::new(alloc);
+    for is_there in [true, false, true] {
+        edits.push(if is_there {
+            Edit::PutConnect(night)
+        } else {
+            Edit::RemoveConnect(night)
+        })?;
+    }
+    Ok(edits)
+}
+
+#[test]
+fn a_removed_connect_takes_no_other(rt: HostRuntime) -> Result<(), Fail> {
+    let alloc = rt.alloc();
+    let sql = "SELECT usr || '-' || grp FROM connects ORDER BY usr, grp";
+    let lines = told_after_each(alloc, with_base(alloc)?, connect_edits(alloc)?, sql)?;
+    same(
+        &rt,
+        lines.as_str(),
+        "ANNA-OPS BERT-NIGHT BERT-OPS \nANNA-OPS BERT-OPS \nANNA-OPS BERT-NIGHT BERT-OPS \n",
+    );
+    Ok(())
+}
+
+fn list_of(alloc: Global, id: EntryId) -> Result<Entries, Fail> {
+    let mut entries = Entries::new(alloc);
+    let level = Level::Read;
+    entries.set(Entry { id, level })?;
+    Ok(entries)
+}
+
+fn profile(alloc: Global, uacc: Level, entry: &str) -> Result<Edit, Fail> {
+    let pattern = Pattern::read("MVS.MOUNT.%")?;
+    let owner = UserId::read("SECADM")?;
+    let entries = list_of(alloc, EntryId::read(entry)?)?;
+    Ok(Edit::PutProfile(Profile {
+        class: Class::Opercmds,
+        pattern,
+        owner,
+        uacc,
+        warning: false,
+        entries,
+    }))
+}
+
+/// A profile that is put again keeps the access list that it has.
+fn profile_edits(alloc: Global) -> Result<Vec<Edit>, Fail> {
+    let mut edits = Vec::new(alloc);
+    for (uacc, entry) in [(Level::None, "OPS"), (Level::Control, "ANNA")] {
+        edits.push(profile(alloc, uacc, entry)?)?;
+    }
+    Ok(edits)
+}
+
+fn with_entries(mut edits: Vec<Edit>) -> Result<Vec<Edit>, Fail> {
+    let (class, pattern) = (Class::Opercmds, Pattern::read("MVS.MOUNT.%")?);
+    let [bert, ops] = [EntryId::read("BERT")?, EntryId::read("OPS")?];
+    for level in [Level::Alter, Level::Update] {
+        edits.push(Edit::PutEntry(class, pattern, Entry { id: bert, level }))?;
+    }
+    edits.push(Edit::RemoveEntry(class, pattern, ops))?;
+    edits.push(Edit::RemoveProfile(class, pattern))?;
+    Ok(edits)
+}
+
+#[test]
+fn a_profile_keeps_its_access_list_until_it_goes(rt: HostRuntime) -> Result<(), Fail> {
+    let alloc = rt.alloc();
+    let sql = "SELECT head || uacc FROM profiles WHERE pattern = 'MVS.MOUNT.%' UNION ALL \
+        SELECT id || level FROM entries WHERE pattern = 'MVS.MOUNT.%' ORDER BY 1 DESC";
+    let edits = with_entries(profile_edits(alloc)?)?;
+    let lines = told_after_each(alloc, with_base(alloc)?, edits, sql)?;
+    same(
+        &rt,
+        lines.as_str(),
+        "OPS1 MVS.MOUNT.0 \nOPS1 MVS.MOUNT.3 \nOPS1 MVS.MOUNT.3 BERT4 \nOPS1 MVS.MOUNT.3 BERT2 \nMVS.MOUNT.3 BERT2 \n\n",
+    );
+    Ok(())
+}
+
+#[test]
+fn an_entry_needs_its_profile(rt: HostRuntime) -> Result<(), Fail> {
+    let alloc = rt.alloc();
+    let pattern = Pattern::read("MVS.**")?;
+    let (id, level) = (EntryId::everyone(), Level::Alter);
+    let edit = Edit::PutEntry(Class::Console, pattern, Entry { id, level });
+    let answer = commit_one(alloc, &mut with_base(alloc)?, edit)?;
+    assert!(rt; matches!(answer, Err(StoreFault::Store)));
+    Ok(())
+}
+
+/// A group that is put, and a user removed whom a connect names.
+fn refused_change(alloc: Global) -> Result<Change, Fail> {
+    let day = GroupName::read("DAY")?;
+    let bert = UserId::read("BERT")?;
+    let mut edits = Vec::new(alloc);
+    edits.push(Edit::PutGroup(day))?;
+    edits.push(Edit::RemoveUser(bert))?;
+    let account = Some(refusal(alloc, "E55")?);
+    Ok(Change { edits, account })
+}
+
+fn tell_refused(alloc: Global, lines: &mut String) -> Result<(), Fail> {
+    let mut store = with_base(alloc)?;
+    let answer = store.commit(alloc, &refused_change(alloc)?);
+    tell(lines, &answer)?;
+    tell_query(
+        lines,
+        &mut store.into_connection(),
+        "SELECT name FROM grp UNION ALL SELECT code FROM account ORDER BY 1",
+    )
+}
+
+#[test]
+fn a_refused_edit_undoes_those_before_it(rt: HostRuntime) -> Result<(), Fail> {
+    let alloc = rt.alloc();
+    let mut lines = String::new(alloc);
+    tell_refused(alloc, &mut lines)?;
+    same(&rt, lines.as_str(), "Err(Store)\nE12 NIGHT OPS \n");
+    Ok(())
+}
+
+fn last_text_of(alloc: Global, stopping: bool) -> Result<Option<KeptText>, Fail> {
+    if stopping {
+        return Ok(Some(KeptText::new(alloc, "STOP")?));
+    }
+    Ok(None)
+}
+
+pub(super) fn unit(
+    alloc: Global,
+    name: &str,
+    kind: UnitKind,
+    stopping: bool,
+) -> Result<Edit, Fail> {
+    let name = UnitName::read(name)?;
+    let last_text = last_text_of(alloc, stopping)?;
+    Ok(Edit::PutUnit(UnitRow {
+        name,
+        kind,
+        cancelable: !stopping,
+        stopping,
+        last_text,
+    }))
+}
+
+fn unit_edits(alloc: Global) -> Result<Vec<Edit>, Fail> {
+    let [pay, member] = [UnitName::read("PAY")?, UnitName::read("ACCT")?];
+    let mut edits = Vec::new(alloc);
+    for (kind, stopping) in [
+        (UnitKind::Job, false),
+        (UnitKind::Stc { member }, true),
+        (UnitKind::Tsu, false),
+    ] {
+        edits.push(unit(alloc, "PAY", kind, stopping)?)?;
+    }
+    edits.push(Edit::RemoveUnit(pay))?;
+    Ok(edits)
+}
+
+#[test]
+fn units_are_put_and_removed(rt: HostRuntime) -> Result<(), Fail> {
+    let alloc = rt.alloc();
+    let sql =
+        "SELECT name || kind || coalesce(member, '-') || cancelable || stopping || coalesce(last, '-') FROM units";
+    let lines = told_after_each(alloc, Store::in_memory(alloc)?, unit_edits(alloc)?, sql)?;
+    same(
+        &rt,
+        lines.as_str(),
+        "PAYJ-10- \nPAYSACCT01STOP \nPAYT-10- \n\n",
+    );
+    Ok(())
+}
+
+pub(super) fn device(mounted: bool) -> Result<Edit, Fail> {
+    let number = Device::read("0A80")?;
+    let volume = Volume::read("WORK01")?;
+    let unit = UnitName::read("PAY")?;
+    Ok(Edit::PutDevice(DeviceRow {
+        number,
+        online: mounted,
+        volume: if mounted { Some(volume) } else { None },
+        unit: if mounted { Some(unit) } else { None },
+    }))
+}
+
+fn device_edits(alloc: Global) -> Result<Vec<Edit>, Fail> {
+    let number = Device::read("0A80")?;
+    let mut edits = Vec::new(alloc);
+    for mounted in [false, true] {
+        edits.push(device(mounted)?)?;
+    }
+    edits.push(Edit::RemoveDevice(number))?;
+    Ok(edits)
+}
+
+#[test]
+fn devices_are_put_and_removed(rt: HostRuntime) -> Result<(), Fail> {
+    let alloc = rt.alloc();
+    let sql =
+        "SELECT number || online || coalesce(volume, '-') || coalesce(unit, '-') FROM devices";
+    let lines = told_after_each(alloc, Store::in_memory(alloc)?, device_edits(alloc)?, sql)?;
+    same(&rt, lines.as_str(), "0A800-- \n0A801WORK01PAY \n\n");
+    Ok(())
+}
+
+pub(super) fn console(auth: Auth, user: Option<UserId>) -> Result<Edit, Fail> {
+    let name = ConsoleName::read("C1")?;
+    let on = user.is_some();
+    Ok(Edit::PutConsole(ConsoleRow {
+        name,
+        auth,
+        mode: if on { Mode::Required } else { Mode::Optional },
+        online: on,
+        user,
+        monitor: !on,
+    }))
+}
+
+fn console_edits(alloc: Global) -> Result<Vec<Edit>, Fail> {
+    let name = ConsoleName::read("C1")?;
+    let anna = UserId::read("ANNA")?;
+    let mut edits = Vec::new(alloc);
+    for (auth, user) in [(Auth::All, None), (Auth::SysIoCons, Some(anna))] {
+        edits.push(console(auth, user)?)?;
+    }
+    edits.push(Edit::RemoveConsole(name))?;
+    Ok(edits)
+}
+
+#[test]
+fn consoles_are_put_and_removed(rt: HostRuntime) -> Result<(), Fail> {
+    let alloc = rt.alloc();
+    let sql =
+        "SELECT name || '/' || auth || mode || online || coalesce(usr, '-') || monitor FROM consoles";
+    let lines = told_after_each(alloc, Store::in_memory(alloc)?, console_edits(alloc)?, sql)?;
+    same(&rt, lines.as_str(), "C1/1O0-1 \nC1/15R1ANNA0 \n\n");
+    Ok(())
+}
+
+pub(super) fn reply(alloc: Global, id: u8, text: &str) -> Result<ReplyRow, Fail> {
+    let text = KeptText::new(alloc, text)?;
+    Ok(ReplyRow { id, text })
+}
+
+fn reply_edits(alloc: Global) -> Result<Vec<Edit>, Fail> {
+    let mut edits = Vec::new(alloc);
+    for (id, text) in [(42, "READY"), (7, "MOUNT"), (42, "AGAIN")] {
+        edits.push(Edit::PutReply(reply(alloc, id, text)?))?;
+    }
+    edits.push(Edit::RemoveReply(42))?;
+    Ok(edits)
+}
+
+#[test]
+fn replies_are_put_and_removed(rt: HostRuntime) -> Result<(), Fail> {
+    let alloc = rt.alloc();
+    let sql = "SELECT id || text FROM replies ORDER BY id";
+    let lines = told_after_each(alloc, Store::in_memory(alloc)?, reply_edits(alloc)?, sql)?;
+    same(
+        &rt,
+        lines.as_str(),
+        "42READY \n7MOUNT 42READY \n7MOUNT 42AGAIN \n7MOUNT \n",
+    );
+    Ok(())
+}
+
+fn message(alloc: Global) -> Result<Edit, Fail> {
+    let user = UserId::read("ANNA")?;
+    let text = KeptText::new(alloc, "HELLO")?;
+    Ok(Edit::AddMessage(MessageRow { user, text }))
+}
+
+/// Lines of each history.
+pub(super) fn histories(alloc: Global) -> Result<Vec<Edit>, Fail> {
+    let mut edits = Vec::new(alloc);
+    for (id, text) in [(9, "YES"), (3, "NO")] {
+        edits.push(Edit::AddAnswered(reply(alloc, id, text)?))?;
+    }
+    edits.push(Edit::AddLog(KeptText::new(alloc, "SHIFT")?))?;
+    edits.push(message(alloc)?)?;
+    Ok(edits)
+}
+
+#[test]
+fn histories_are_numbered_from_one(rt: HostRuntime) -> Result<(), Fail> {
+    let alloc = rt.alloc();
+    let sql =
+        "SELECT 'log' || number || text FROM log UNION ALL SELECT 'answered' || number || id || text FROM answered \
+        UNION ALL SELECT 'messages' || number || usr || text FROM messages ORDER BY 1";
+    let lines = told_after_each(alloc, Store::in_memory(alloc)?, histories(alloc)?, sql)?;
+    same(
+        &rt,
+        lines.as_str(),
+        "answered19YES \nanswered19YES answered23NO \nanswered19YES answered23NO log1SHIFT \n\
+         answered19YES answered23NO log1SHIFT messages1ANNAHELLO \n",
+    );
+    Ok(())
+}
+
+fn halts(alloc: Global) -> Result<Vec<Edit>, Fail> {
+    let mut edits = Vec::new(alloc);
+    for halted in [true, true, false] {
+        edits.push(Edit::SetHalted(halted))?;
+    }
+    Ok(edits)
+}
+
+#[test]
+fn the_day_is_halted_and_resumed(rt: HostRuntime) -> Result<(), Fail> {
+    let alloc = rt.alloc();
+    let sql = "SELECT 'H' || halted FROM board";
+    let lines = told_after_each(alloc, Store::in_memory(alloc)?, halts(alloc)?, sql)?;
+    same(&rt, lines.as_str(), "H1 \nH1 \nH0 \n");
+    Ok(())
+}

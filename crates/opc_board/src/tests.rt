@@ -18,6 +18,7 @@ use crate::text::KeptText;
 use opc_names::auth::Auth;
 use opc_names::name::{ConsoleName, Device, UnitName, UserId};
 use opc_policy::mode::Mode;
+use opc_policy::unit_kind::UnitKindAt;
 use opc_reader::command::Command;
 use opc_reader::line::read_command;
 use opc_rows::Rows;
@@ -108,6 +109,10 @@ fn is_taken(board: &Board, name: &ConsoleName) -> bool
         },
         None => false,
     }
+}
+
+fn is_of_kind(board: &Board, name: &str, kind: UnitKindAt) -> Result<bool, Fail> {
+    Ok(board.kind_at(&unit(name)?) == kind)
 }
 
 fn log_on(rt: &impl Abort, board: &mut Board, name: &str, id: &str) -> Result<(), Fail> {

@@ -66,8 +66,26 @@ C1 E CN(C9)
     )
 }
 
+// It keeps all but authority and mode.
 #[test]
-fn users_come_and_go(rt: HostRuntime) -> Result<(), Fail> {
+fn a_console_defined_again_keeps_its_user(rt: HostRuntime) -> Result<(), Fail> {
+    let mut board = base(&rt)?;
+    log_on(&rt, &mut board, "C1", "ANNA")?;
+    board.define_console(console("C1")?, Auth::Io, Mode::Required)?;
+    runs(
+        &rt,
+        &mut board,
+        "\
+C1 D C
+  C1       ONLINE  -- IO ANNA
+  C2       ONLINE  -- MASTER -
+  C3       ONLINE  -- ALL -
+",
+    )
+}
+
+#[test]
+fn a_console_that_goes_offline_loses_its_user(rt: HostRuntime) -> Result<(), Fail> {
     let mut board = base(&rt)?;
     log_on(&rt, &mut board, "C1", "ANNA")?;
     runs(
@@ -79,28 +97,22 @@ C1 D C
   C1       ONLINE  MN SYS ANNA
   C2       ONLINE  -- MASTER -
   C3       ONLINE  -- ALL -
-",
-    )?;
-    // A console that is defined again keeps all but authority and mode.
-    board.define_console(console("C1")?, Auth::Io, Mode::Required)?;
-    runs(
-        &rt,
-        &mut board,
-        "\
-C1 D C
-  C1       ONLINE  MN IO ANNA
-  C2       ONLINE  -- MASTER -
-  C3       ONLINE  -- ALL -
 C1 PM JOBNAMES
 C1 PM JOBNAMES
 C2 V CN(C1),OFFLINE
 C2 V CN(C1),ONLINE
 C1 D C
-  C1       ONLINE  -- IO -
+  C1       ONLINE  -- SYS -
   C2       ONLINE  -- MASTER -
   C3       ONLINE  -- ALL -
 ",
     )?;
+    log_on(&rt, &mut board, "C1", "BERT")
+}
+
+#[test]
+fn users_are_taken_off(rt: HostRuntime) -> Result<(), Fail> {
+    let mut board = base(&rt)?;
     log_on(&rt, &mut board, "C1", "BERT")?;
     runs(
         &rt,
@@ -110,6 +122,12 @@ C2 E CN(C1)
 C2 E CN(C1)
 ",
     )?;
+    log_on(&rt, &mut board, "C1", "CARL")
+}
+
+#[test]
+fn users_come_and_go(rt: HostRuntime) -> Result<(), Fail> {
+    let mut board = base(&rt)?;
     log_on(&rt, &mut board, "C1", "CARL")?;
     log_off(&rt, &mut board, "C1")?;
     log_on(&rt, &mut board, "C1", "ANNA")

@@ -42,21 +42,53 @@ fn offline_console(name: &str, user: Option<UserId>) -> Result<ConsoleRow, Fail>
     })
 }
 
+fn with_unit(rt: &(impl Abort + AllocGlobal), name: &str) -> Result<BoardRows, Fail> {
+    let mut rows = rows(rt)?;
+    rows.units.push(job(name)?)?;
+    Ok(rows)
+}
+
+fn with_console(
+    rt: &(impl Abort + AllocGlobal),
+    name: &str,
+    user: Option<UserId>,
+) -> Result<BoardRows, Fail> {
+    let mut rows = rows(rt)?;
+    rows.consoles.push(offline_console(name, user)?)?;
+    Ok(rows)
+}
+
+fn are_board(rows: BoardRows) -> bool {
+    Board::of(rows).is_ok()
+}
+
+fn board_of(rows: BoardRows) -> Result<Board, Fail> {
+    Ok(Board::of(rows).ok().ok_or("rows of a board")?)
+}
+
+/// How many units come back where rows are no board's.
+fn refused_units(rows: BoardRows) -> Option<usize> {
+    match Board::of(rows) {
+        Ok(_) => None,
+        Err(back) => Some(back.units.as_slice().len()),
+    }
+}
+
 #[test]
 fn names_in_order_and_distinct_make_a_board(rt: HostRuntime) -> Result<(), Fail> {
-    assert!(rt; Board::of(rows(&rt)?).is_ok());
-    let mut unordered = rows(&rt)?;
-    unordered.units.push(job("ANNA")?)?;
-    match Board::of(unordered) {
-        Ok(_) => panic!(rt; "a unit out of order"),
-        Err(back) => assert_eq!(rt; back.units.as_slice().len(), 4),
-    }
-    let mut doubled = rows(&rt)?;
-    doubled.units.push(job("SECRET")?)?;
-    assert!(rt; Board::of(doubled).is_err(), "two units of one name");
-    let mut doubled = rows(&rt)?;
-    doubled.consoles.push(offline_console("C3", None)?)?;
-    assert!(rt; Board::of(doubled).is_err(), "two consoles of one name");
+    assert!(rt; are_board(rows(&rt)?));
+    assert!(rt;
+        refused_units(with_unit(&rt, "ANNA")?) == Some(4),
+        "a unit out of order"
+    );
+    assert!(rt;
+        !are_board(with_unit(&rt, "SECRET")?),
+        "two units of one name"
+    );
+    assert!(rt;
+        !are_board(with_console(&rt, "C3", None)?),
+        "two consoles of one name"
+    );
     Ok(())
 }
 
@@ -67,23 +99,17 @@ fn devices_held_rightly_make_a_board(rt: HostRuntime) -> Result<(), Fail> {
         online: false,
         ..device
     });
-    assert!(rt; Board::of(offline).is_err(), "in use and offline");
+    assert!(rt; !are_board(offline), "in use and offline");
     let mut orphaned = rows(&rt)?;
     orphaned.units = Rows::new(rt.alloc());
-    assert!(rt;
-        Board::of(orphaned).is_err(),
-        "in use by a unit that isn't there"
-    );
+    assert!(rt; !are_board(orphaned), "in use by a unit that isn't there");
     Ok(())
 }
 
 // No run puts a user there, but such rows are a board's. A console that is offline already keeps its user.
 #[test]
 fn an_offline_console_with_a_user_stays_so(rt: HostRuntime) -> Result<(), Fail> {
-    let mut rows = rows(&rt)?;
-    rows.consoles
-        .push(offline_console("C9", Some(user("ANNA")?))?)?;
-    let mut board = Board::of(rows).ok().ok_or("rows of a board")?;
+    let mut board = board_of(with_console(&rt, "C9", Some(user("ANNA")?))?)?;
     runs(
         &rt,
         &mut board,

@@ -1,11 +1,12 @@
-use super::{base, runs, unit};
+use super::{base, is_of_kind, runs, unit};
+use crate::board::Board;
 use opc_policy::unit_kind::UnitKindAt;
 use std::test::Fail;
 
 #[test]
 fn a_cancelled_job_is_gone(rt: HostRuntime) -> Result<(), Fail> {
     let mut board = base(&rt)?;
-    assert_eq!(rt; board.kind_at(&unit("BACKUP")?), UnitKindAt::Job);
+    assert!(rt; is_of_kind(&board, "BACKUP", UnitKindAt::Job)?);
     runs(
         &rt,
         &mut board,
@@ -23,7 +24,7 @@ C1 FORCE X
   NoUnit
 ",
     )?;
-    assert_eq!(rt; board.kind_at(&unit("BACKUP")?), UnitKindAt::Absent);
+    assert!(rt; is_of_kind(&board, "BACKUP", UnitKindAt::Absent)?);
     Ok(())
 }
 
@@ -71,6 +72,17 @@ C1 D A,L
     )
 }
 
+/// Whether a unit was given this text last.
+fn has_text(board: &Board, name: &str, text: &str) -> Result<bool, Fail> {
+    match board.unit(&unit(name)?) {
+        Ok(row) => match &row.last_text {
+            Some(last) => Ok(last.as_str() == text),
+            None => Ok(false),
+        },
+        Err(_) => Ok(false),
+    }
+}
+
 #[test]
 fn units_stop_and_are_given_texts(rt: HostRuntime) -> Result<(), Fail> {
     let mut board = base(&rt)?;
@@ -97,15 +109,9 @@ C1 D A,ANNA
   ANNA     TSU ACTIVE
 ",
     )?;
-    match board.unit(&unit("P1")?) {
-        Ok(row) => match &row.last_text {
-            Some(text) => assert_eq!(rt; text.as_str(), "it's late"),
-            None => panic!(rt; "a text was given"),
-        },
-        Err(_) => panic!(rt; "the unit is there"),
-    }
+    assert!(rt; has_text(&board, "P1", "it's late")?);
     let member = unit("PAY")?;
-    assert_eq!(rt; board.kind_at(&unit("P1")?), UnitKindAt::Stc { member });
+    assert!(rt; is_of_kind(&board, "P1", UnitKindAt::Stc { member })?);
     Ok(())
 }
 

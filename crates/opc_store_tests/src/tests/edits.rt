@@ -166,7 +166,7 @@ fn an_entry_needs_its_profile(rt: HostRuntime) -> Result<(), Fail> {
     let (id, level) = (EntryId::everyone(), Level::Alter);
     let edit = Edit::PutEntry(Class::Console, pattern, Entry { id, level });
     let answer = commit_one(alloc, &mut with_base(alloc)?, edit)?;
-    assert!(rt; matches!(answer, Err(StoreFault::Store)));
+    assert_eq!(rt; answer, Err(StoreFault::Store));
     Ok(())
 }
 

@@ -90,9 +90,7 @@ impl<S: Alter> Store<S> {
             Err(error) => Err((version_fault(error), conn)),
         }
     }
-}
 
-impl<S: Alter> Store<S> {
     /// The connection to the tables, outside any transaction. `open_files` adopts it again.
     pub fn into_connection(self) -> Connection<S>
         ensures same { result ≡ self }
@@ -122,10 +120,11 @@ impl<S: Start> Store<FileStore<FileFrom<S>>> {
 
 impl Store<FileStore<FileFrom<Wary>>> {
     /// Opens the database file at a path, or makes it. A torn write may leave any bytes, so each commit syncs twice.
-    /// What is promised of a file that is not new, `open_at` says, for any contents.
+    /// The clauses speak of a file that is new, for which `Wary` stands; what is found in one that is not, `open_at`
+    /// says, for any contents.
     pub fn open_from(rt: &HostRuntime, path: &str) -> Result<Self, OpenFault>
-        ensures found { IfOk result (λ store. HasCleanDisk (file_state store) → (db : Trees) → HoldsDatabase (new_files) db → (s : _) → AreTablesOf db s → Represents (file_state store).now s) }
-        ensures made { IfOk result (λ store. HasCleanDisk (file_state store) → (trees : Trees) × AreFoundIn (new_files) trees × (Lists (trees catalog_tree) no_schema → Represents (file_state store).now empty)) }
+        ensures found { IfOk result (λ store. HasCleanDisk (file_state store) → (db : Trees) → HoldsDatabase new_files db → (s : _) → AreTablesOf db s → Represents (file_state store).now s) }
+        ensures made { IfOk result (λ store. HasCleanDisk (file_state store) → (trees : Trees) × AreFoundIn new_files trees × (Lists (trees catalog_tree) no_schema → Represents (file_state store).now empty)) }
     {
         Store::open_at(rt, path, Wary)
     }

@@ -71,13 +71,14 @@ C1 E CN(C9)
 fn a_console_defined_again_keeps_its_user(rt: HostRuntime) -> Result<(), Fail> {
     let mut board = base(&rt)?;
     log_on(&rt, &mut board, "C1", "ANNA")?;
+    runs(&rt, &mut board, "C1 MN JOBNAMES\n")?;
     board.define_console(console("C1")?, Auth::Io, Mode::Required)?;
     runs(
         &rt,
         &mut board,
         "\
 C1 D C
-  C1       ONLINE  -- IO ANNA
+  C1       ONLINE  MN IO ANNA
   C2       ONLINE  -- MASTER -
   C3       ONLINE  -- ALL -
 ",

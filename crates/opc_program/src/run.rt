@@ -51,7 +51,7 @@ fn found<H: AllocGlobal + Files, T: Tables>(
     gate.bootstrap(rt.alloc(), &rows)
 }
 
-fn answer_script<H: AllocGlobal + Files, T: Tables, R: Read, W: Write, E: Write>(
+fn answer_script<H: AllocGlobal, T: Tables, R: Read, W: Write, E: Write>(
     rt: &H,
     gate: &mut Gate<T>,
     input: &mut R,
@@ -67,7 +67,7 @@ fn answer_script<H: AllocGlobal + Files, T: Tables, R: Read, W: Write, E: Write>
     }
 }
 
-fn print_answers<H: AllocGlobal + Files, T: Tables, W: Write, E: Write>(
+fn print_answers<H: AllocGlobal, T: Tables, W: Write, E: Write>(
     rt: &H,
     gate: &mut Gate<T>,
     script: &str,
@@ -89,10 +89,7 @@ fn print_answers<H: AllocGlobal + Files, T: Tables, W: Write, E: Write>(
 }
 
 /// The text of a script, or none where it has too many bytes or is not UTF-8.
-fn read_script<H: AllocGlobal + Files, R: Read>(
-    rt: &H,
-    input: &mut R,
-) -> io::Result<Option<String>> {
+fn read_script<H: AllocGlobal, R: Read>(rt: &H, input: &mut R) -> io::Result<Option<String>> {
     let bytes = read_up_to(rt.alloc(), input, SCRIPT_LIMIT)?;
     if bytes.len() > SCRIPT_LIMIT as usize {
         return Ok(None);

@@ -1,6 +1,7 @@
 //! What the program reads and prints, and the status that it ends with.
 ghost use Rattle.std.specs.Prelude.{◌≡◌, ◌+◌, ◌≤◌, IfOk, IfSome, take};
-ghost use Rattle.opc_program.specs.Statuses.{status_of};
+ghost use Rattle.std.specs.IoError.{error_kind};
+ghost use Rattle.opc_program.specs.Statuses.{fault_of_kind, status_of};
 
 use arrayvec::ArrayString;
 use opc_policy::fault::Fault;
@@ -66,7 +67,9 @@ pub fn tell<E: Write>(fault: &Fault, errors: &mut E) -> u8
 }
 
 /// A read that found no memory, or a device that failed.
-pub fn fault_of(error: &io::Error) -> Fault {
+pub fn fault_of(error: &io::Error) -> Fault
+    ensures { result ≡ fault_of_kind (error_kind error.now) }
+{
     match error.kind() {
         ErrorKind::OutOfMemory => Fault::NoMemory,
         _ => Fault::Store,

@@ -1,5 +1,5 @@
-use Rattle.std.proofs.Common.{rules, ◌≡◌, ◌+◌, IfSome, take, ℕ, List, []}
-use Rattle.std.specs.Prelude.{Option, Some, None, option_map, ◌++◌}
+use Rattle.std.proofs.Common.{◌≡◌, IfSome, take, ℕ, List}
+use Rattle.std.specs.Prelude.{Option, Some, None, option_map}
 use Rattle.opc_program.proofs.streams.read_up_to.Goals as goal
 
 known_prefix : (known : Option (List ℕ)) (n : ℕ) (got : List ℕ) → IfSome (option_map (take n) known) (λ xs. got ≡ xs) → IfSome known (λ all. got ≡ take n all)

@@ -3,7 +3,7 @@ ghost use Rattle.std.specs.Prelude.{◌≡◌, codes};
 ghost use Rattle.csv.specs.Records.{fields_of};
 ghost use Rattle.opc_import.specs.Columns.{column_name, field_in, has_names, is_header, reason, unused};
 
-use csv::ByteRecord;
+use csv::StringRecord;
 use opc_policy::fault::Why;
 
 /// A column of a policy file.
@@ -66,14 +66,14 @@ impl Column {
 }
 
 // The field of a record in a column, empty where the record is too short.
-pub(crate) fn field_in(line: &ByteRecord, column: Column) -> &[u8]
+pub(crate) fn field_in(line: &StringRecord, column: Column) -> &str
     ensures { result.now ≡ field_in column (fields_of line.now) }
 {
-    line.get(column as usize).unwrap_or(&[])
+    line.get(column as usize).unwrap_or("")
 }
 
 // That a column that the row's kind does not use is empty.
-pub(crate) fn unused(line: &ByteRecord, column: Column) -> Result<(), Why>
+pub(crate) fn unused(line: &StringRecord, column: Column) -> Result<(), Why>
     ensures { result ≡ unused column (fields_of line.now) }
 {
     if field_in(line, column).is_empty() {
@@ -84,15 +84,17 @@ pub(crate) fn unused(line: &ByteRecord, column: Column) -> Result<(), Why>
 }
 
 // Whether a record is the header.
-pub(crate) fn is_header(line: &ByteRecord) -> bool
+pub(crate) fn is_header(line: &StringRecord) -> bool
     ensures { result ≡ is_header (fields_of line.now) }
 {
     line.len() == COLUMNS.len() && has_names(line)
 }
 
 // Whether the name of each column stands in it.
-fn has_names(line: &ByteRecord) -> bool
+fn has_names(line: &StringRecord) -> bool
     ensures { result ≡ has_names (fields_of line.now) }
 {
-    COLUMNS.iter().all(|column| field_in(line, *column) == column.name().as_bytes())
+    COLUMNS
+        .iter()
+        .all(|column| field_in(line, *column) == column.name())
 }

@@ -6,11 +6,14 @@ ghost use Rattle.opc_import.specs.Kinds.{class_row, connect_row, console_row, gr
 
 use crate::column::{COLUMNS, Column, field_in, unused};
 use crate::field::{
-    read_activity, read_auth, read_class, read_digest, read_entry_id, read_level, read_mode,
-    read_name, read_user_flags, read_warning,
+    read_activity, read_digest, read_entry_id, read_name, read_user_flags, read_warning,
 };
-use csv::ByteRecord;
+use csv::StringRecord;
+use opc_names::auth::Auth;
+use opc_names::class::Class;
+use opc_names::level::Level;
 use opc_policy::fault::Why;
+use opc_policy::mode::Mode;
 use opc_policy::row::Row;
 use opc_policy::user::User;
 
@@ -45,33 +48,26 @@ impl Kind {
         }
     }
 
-    fn read(field: &[u8]) -> Option<Self>
-        ensures { result ≡ lookup kinds field.now }
+    fn read(text: &str) -> Option<Self>
+        ensures { result ≡ lookup kinds text.now }
     {
-        if field == b"class".as_slice() {
-            Some(Kind::Class)
-        } else if field == b"group".as_slice() {
-            Some(Kind::Group)
-        } else if field == b"user".as_slice() {
-            Some(Kind::User)
-        } else if field == b"connect".as_slice() {
-            Some(Kind::Connect)
-        } else if field == b"console".as_slice() {
-            Some(Kind::Console)
-        } else if field == b"profile".as_slice() {
-            Some(Kind::Profile)
-        } else if field == b"permit".as_slice() {
-            Some(Kind::Permit)
-        } else {
-            None
+        match text {
+            "class" => Some(Kind::Class),
+            "group" => Some(Kind::Group),
+            "user" => Some(Kind::User),
+            "connect" => Some(Kind::Connect),
+            "console" => Some(Kind::Console),
+            "profile" => Some(Kind::Profile),
+            "permit" => Some(Kind::Permit),
+            _ => None,
         }
     }
 }
 
-fn class_row(line: &ByteRecord) -> Result<Row, Why>
+fn class_row(line: &StringRecord) -> Result<Row, Why>
     ensures { result ≡ class_row (fields_of line.now) }
 {
-    let class = read_class(field_in(line, Column::Class)).ok_or(Why::Class)?;
+    let class = Class::read(field_in(line, Column::Class)).ok_or(Why::Class)?;
     unused(line, Column::Name)?;
     unused(line, Column::Id)?;
     let active = read_activity(field_in(line, Column::Value)).ok_or(Why::Value)?;
@@ -81,7 +77,7 @@ fn class_row(line: &ByteRecord) -> Result<Row, Why>
     Ok(Row::Class { class, active })
 }
 
-fn group_row(line: &ByteRecord) -> Result<Row, Why>
+fn group_row(line: &StringRecord) -> Result<Row, Why>
     ensures { result ≡ group_row (fields_of line.now) }
 {
     unused(line, Column::Class)?;
@@ -94,7 +90,7 @@ fn group_row(line: &ByteRecord) -> Result<Row, Why>
     Ok(Row::Group { name })
 }
 
-fn user_row(line: &ByteRecord) -> Result<Row, Why>
+fn user_row(line: &StringRecord) -> Result<Row, Why>
     ensures { result ≡ user_row (fields_of line.now) }
 {
     unused(line, Column::Class)?;
@@ -113,7 +109,7 @@ fn user_row(line: &ByteRecord) -> Result<Row, Why>
     }))
 }
 
-fn connect_row(line: &ByteRecord) -> Result<Row, Why>
+fn connect_row(line: &StringRecord) -> Result<Row, Why>
     ensures { result ≡ connect_row (fields_of line.now) }
 {
     unused(line, Column::Class)?;
@@ -126,26 +122,26 @@ fn connect_row(line: &ByteRecord) -> Result<Row, Why>
     Ok(Row::Connect { user, group })
 }
 
-fn console_row(line: &ByteRecord) -> Result<Row, Why>
+fn console_row(line: &StringRecord) -> Result<Row, Why>
     ensures { result ≡ console_row (fields_of line.now) }
 {
     unused(line, Column::Class)?;
     let name = read_name(field_in(line, Column::Name)).ok_or(Why::Name)?;
     unused(line, Column::Id)?;
-    let auth = read_auth(field_in(line, Column::Value)).ok_or(Why::Value)?;
+    let auth = Auth::read(field_in(line, Column::Value)).ok_or(Why::Value)?;
     unused(line, Column::Owner)?;
-    let mode = read_mode(field_in(line, Column::Flags)).ok_or(Why::Flags)?;
+    let mode = Mode::read(field_in(line, Column::Flags)).ok_or(Why::Flags)?;
     unused(line, Column::Digest)?;
     Ok(Row::Console { name, auth, mode })
 }
 
-fn profile_row(line: &ByteRecord) -> Result<Row, Why>
+fn profile_row(line: &StringRecord) -> Result<Row, Why>
     ensures { result ≡ profile_row (fields_of line.now) }
 {
-    let class = read_class(field_in(line, Column::Class)).ok_or(Why::Class)?;
+    let class = Class::read(field_in(line, Column::Class)).ok_or(Why::Class)?;
     let pattern = read_name(field_in(line, Column::Name)).ok_or(Why::Name)?;
     unused(line, Column::Id)?;
-    let uacc = read_level(field_in(line, Column::Value)).ok_or(Why::Value)?;
+    let uacc = Level::read(field_in(line, Column::Value)).ok_or(Why::Value)?;
     let owner = read_name(field_in(line, Column::Owner)).ok_or(Why::Owner)?;
     let warning = read_warning(field_in(line, Column::Flags)).ok_or(Why::Flags)?;
     unused(line, Column::Digest)?;
@@ -158,13 +154,13 @@ fn profile_row(line: &ByteRecord) -> Result<Row, Why>
     })
 }
 
-fn permit_row(line: &ByteRecord) -> Result<Row, Why>
+fn permit_row(line: &StringRecord) -> Result<Row, Why>
     ensures { result ≡ permit_row (fields_of line.now) }
 {
-    let class = read_class(field_in(line, Column::Class)).ok_or(Why::Class)?;
+    let class = Class::read(field_in(line, Column::Class)).ok_or(Why::Class)?;
     let pattern = read_name(field_in(line, Column::Name)).ok_or(Why::Name)?;
     let id = read_entry_id(field_in(line, Column::Id)).ok_or(Why::Id)?;
-    let level = read_level(field_in(line, Column::Value)).ok_or(Why::Value)?;
+    let level = Level::read(field_in(line, Column::Value)).ok_or(Why::Value)?;
     unused(line, Column::Owner)?;
     unused(line, Column::Flags)?;
     unused(line, Column::Digest)?;
@@ -176,7 +172,7 @@ fn permit_row(line: &ByteRecord) -> Result<Row, Why>
     })
 }
 
-fn row_of_kind(kind: Kind, line: &ByteRecord) -> Result<Row, Why>
+fn row_of_kind(kind: Kind, line: &StringRecord) -> Result<Row, Why>
     ensures { result ≡ row_of_kind kind (fields_of line.now) }
 {
     match kind {
@@ -191,7 +187,7 @@ fn row_of_kind(kind: Kind, line: &ByteRecord) -> Result<Row, Why>
 }
 
 /// The row that a record is, as the data record of this number, or what is wrong with it first.
-pub(crate) fn row_of(number: u32, line: &ByteRecord) -> Result<Row, Why>
+pub(crate) fn row_of(number: u32, line: &StringRecord) -> Result<Row, Why>
     ensures { result ≡ row_of number (fields_of line.now) }
 {
     if line.len() != COLUMNS.len() {

@@ -6,7 +6,7 @@ use crate::column::is_header;
 use crate::fault::ImportFault;
 use crate::kind::{MOST_ROWS, row_of};
 use crate::records::Records;
-use csv::ByteRecord;
+use csv::StringRecord;
 use opc_policy::fault::Why;
 use opc_policy::row::Row;
 use std::alloc::Global;
@@ -17,7 +17,7 @@ pub fn read_policy(alloc: Global, text: &str) -> Result<Vec<Row>, ImportFault>
     ensures err { IfErr result (λ fault. fault ≢ ImportFault.NoMemory → policy_of text.now ≡ Err fault) }
 {
     let mut records = Records::of(alloc, text);
-    let mut line = ByteRecord::new(alloc);
+    let mut line = StringRecord::new(alloc);
     if !records.take_into(&mut line)? || !is_header(&line) {
         return Err(ImportFault::Row {
             row: 0,

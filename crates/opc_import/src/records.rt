@@ -4,7 +4,7 @@ ghost use Rattle.csv.specs.Reading.{default_config, records, strip_bom};
 ghost use Rattle.csv.specs.Records.{fields_of};
 ghost use Rattle.opc_import.specs.Records.{IsPlainReader, TakesFirst, records_left};
 
-use csv::{ByteRecord, Reader, ReaderBuilder};
+use csv::{Reader, ReaderBuilder, StringRecord};
 use std::alloc::{AllocError, Global};
 use std::marker::Model;
 
@@ -34,10 +34,11 @@ impl<'a> Records<'a> {
     }
 
     /// Takes the first of the records that are left, if there is one.
-    pub(crate) fn take_into(&mut self, row: &mut ByteRecord) -> Result<bool, AllocError>
+    pub(crate) fn take_into(&mut self, row: &mut StringRecord) -> Result<bool, AllocError>
         ensures { IfOk result (λ found. TakesFirst self.old found (fields_of row.new) self.new) }
     {
-        let Ok(found) = self.reader.read_byte_record(row) else {
+        // A record of a text is text, of any length, and a slice can be read: only memory can be wanting.
+        let Ok(found) = self.reader.read_record(row) else {
             return Err(AllocError);
         };
         Ok(found)

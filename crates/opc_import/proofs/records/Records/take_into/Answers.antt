@@ -10,4 +10,4 @@ ok-inj r a b e f = cc
 pub returns : goal.returns
 returns c =
     let failed_none = λ (failed : has_failed c.self.inside.reader ≡ true). ok-inj _ c.in-Ok.found _ refl (c.in-Ok.ensures.failed failed) in
-    rw (← c.self.view_is) (takes-plain c.self.inside.reader c.read_byte_record.new.self c.in-Ok.found _ c.self.invariant failed_none c.in-Ok.ensures.reads)
+    rw (← c.self.view_is) (takes-plain c.self.inside.reader c.read_record.new.self c.in-Ok.found _ c.self.invariant failed_none c.in-Ok.ensures.reads)

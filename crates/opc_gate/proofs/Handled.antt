@@ -53,7 +53,7 @@ module _ {T : Type 0} (represents may_leave : T → State → Type 0) where
     represented = represented;
     crash = crash;
     idle = idle;
-    acknowledged = λ done differs left h. absurd (differs refl);
+    acknowledged = λ answered. absurd (answered gives);
   }
 
   pub unwritten : (tables : T) (s : State) (moment : ℕ) (r : Input) (answer : Answer) (c : Change) → IsDecision s moment r answer c → is_nothing c ≡ true → represents tables s
@@ -64,7 +64,7 @@ module _ {T : Type 0} (represents may_leave : T → State → Type 0) where
     represented = represented;
     crash = λ left h. inl h;
     idle = λ same left h. h;
-    acknowledged = λ done differs left h. absurd (differs refl);
+    acknowledged = λ answered. inr (refl, λ left h. h);
   }
 
   pub written : (old new : T) (s : State) (moment : ℕ) (r : Input) (answer : Answer) (c : Change) → IsDecision s moment r answer c → IsNothingWhereSame s c → is_nothing c ≡ false → represents new (changed_by c s) → (Fits s → Fits (changed_by c s))
@@ -76,5 +76,17 @@ module _ {T : Type 0} (represents may_leave : T → State → Type 0) where
     represented = represented;
     crash = λ left h. elim (crash left h) [ inl before ↦ inl before | inr is ↦ inr (is ∙ d.becomes) ];
     idle = λ same. absurd (some_change s moment r answer c d nothing something same);
-    acknowledged = λ done differs. acknowledged;
+    acknowledged = λ answered. inl acknowledged;
+  }
+
+  -- a request is handled since what a crash may leave was not more
+  pub handled_since : (old mid new : T) (s : State) (moment : ℕ) (r : Input) (answer : Answer) → ((left : State) → may_leave mid left → may_leave old left)
+      → IsHandled represents may_leave mid new s moment r answer → IsHandled represents may_leave old new s moment r answer
+  handled_since old mid new s moment r answer before h = record {
+    next = h.next;
+    step = h.step;
+    represented = h.represented;
+    crash = λ left l. elim (h.crash left l) [ inl was ↦ inl (before left was) | inr is ↦ inr is ];
+    idle = λ same left l. before left (h.idle same left l);
+    acknowledged = λ answered. elim (h.acknowledged answered) [ inl alone ↦ inl alone | inr same ↦ inr (same.0, λ left l. before left (same.1 left l)) ];
   }

@@ -1,5 +1,6 @@
 -- One request handled over tables, and a run of requests.
-use Rattle.std.specs.Prelude.{◌≡◌, ◌⊎◌, true, List, [], Result, Ok, Err, ℕ}
+use Rattle.std.specs.Prelude.{◌≡◌, ◌⊎◌, true, List, [], ◌∷◌, ◌++◌, length, take, Result, Ok, Err, ℕ}
+use Rattle.std.specs.List.{All}
 use Rattle.opc_board.specs.declared.board.BoardRows.{BoardRows}
 use Rattle.opc_board.specs.declared.line.Line.{Line}
 use Rattle.opc_board.specs.Outcome.{Outcome as BoardOutcome, done_with}
@@ -11,7 +12,7 @@ use Rattle.opc_gate.specs.declared.outcome.Deed as found
 use Rattle.opc_gate.specs.declared.outcome.Denial as found_denial
 use Rattle.opc_gate.specs.declared.request.Request.{Request}
 use Rattle.opc_gate.specs.declared.request.Answer.{Answer}
-use Rattle.opc_gate.specs.Inputs.{Input, inputs_of}
+use Rattle.opc_gate.specs.Inputs.{Input, input_of, inputs_of}
 use Rattle.opc_gate.specs.Outcome.{Outcome}
 use Rattle.opc_gate.specs.Machine.{outcome, after, answer_of, Step, Runs, IsGivenUp}
 
@@ -41,6 +42,22 @@ pub record IsDecision (s : State) (moment : ℕ) (r : Input) (answer : Answer) (
 abbrev pub IsNothingWhereSame : State → Change → Type 0
 IsNothingWhereSame s change = changed_by change s ≡ s → is_nothing change ≡ true
 
+-- a crash leaves nothing but what it might have left before
+abbrev pub LeavesAsBefore : {T : Type 0} → (T → State → Type 0) → T → T → Type 0
+LeavesAsBefore may_leave old new = (left : State) → may_leave new left → may_leave old left
+
+-- a crash leaves this state alone
+abbrev pub LeavesAlone : {T : Type 0} → (T → State → Type 0) → T → State → Type 0
+LeavesAlone may_leave new s = (left : State) → may_leave new left → left ≡ s
+
+-- A change is acknowledged: a crash leaves the new state alone, or nothing was changed.
+abbrev pub IsAcknowledged : {T : Type 0} → (T → State → Type 0) → T → T → State → State → Type 0
+IsAcknowledged may_leave old new s next = LeavesAlone may_leave new next ⊎ ((next ≡ s) × LeavesAsBefore may_leave old new)
+
+-- the answer is that of the machine, and no word that the request was given up
+abbrev pub IsAnswered : Answer → Type 0
+IsAnswered answer = IsGivenUp answer → ⊥
+
 -- One request, handled: a step of the machine, and what a crash may leave then.
 pub record IsHandled {T : Type 0} (represents may_leave : T → State → Type 0) (old new : T) (s : State) (moment : ℕ) (r : Input) (answer : Answer) : Type 0 where
   pub next : State
@@ -49,12 +66,26 @@ pub record IsHandled {T : Type 0} (represents may_leave : T → State → Type 0
   -- what it might have left before, or the state after the request, in whole
   pub crash : (left : State) → may_leave new left → may_leave old left ⊎ (left ≡ after s moment r (outcome s r))
   -- where the request leaves the state as it is, nothing but what it might have left before
-  pub idle : after s moment r (outcome s r) ≡ s → (left : State) → may_leave new left → may_leave old left
-  -- and once a change is acknowledged, the state after the request alone
-  pub acknowledged : (IsGivenUp answer → ⊥) → (next ≡ s → ⊥) → (left : State) → may_leave new left → left ≡ next
+  pub idle : after s moment r (outcome s r) ≡ s → LeavesAsBefore may_leave old new
+  -- and once it is answered, the state after the request alone
+  pub acknowledged : IsAnswered answer → IsAcknowledged may_leave old new s next
 
--- The answers are those of a run of the machine, whose last state is represented.
-pub record IsRun {T : Type 0} (represents : T → State → Type 0) (new : T) (s : State) (requests : List (ℕ × Request)) (answers : List Answer) : Type 0 where
+-- The state is one that a request makes, in whole, of the one that the requests before it led to.
+pub record IsMadeByOne (s : State) (requests : List (ℕ × Request)) (answers : List Answer) (made : State) : Type 0 where
+  pub before : List (ℕ × Request)
+  pub request : ℕ × Request
+  pub behind : List (ℕ × Request)
+  pub are : requests ≡ before ++ request ∷ behind
+  pub met : State
+  pub runs : Runs s (inputs_of before) (take (length before) answers) met
+  pub makes : made ≡ after met request.0 (input_of request.1) (outcome met (input_of request.1))
+
+-- The answers are those of a run of the machine, whose last state is represented, and what a crash may leave then.
+pub record IsRun {T : Type 0} (represents may_leave : T → State → Type 0) (old new : T) (s : State) (requests : List (ℕ × Request)) (answers : List Answer) : Type 0 where
   pub last : State
   pub runs : Runs s (inputs_of requests) answers last
   pub represented : represents new last
+  -- what it might have left before, or a state that one of the requests makes, in whole
+  pub crash : (left : State) → may_leave new left → may_leave old left ⊎ IsMadeByOne s requests answers left
+  -- and once all are answered, the last state alone
+  pub acknowledged : All IsAnswered answers → IsAcknowledged may_leave old new s last

@@ -261,8 +261,9 @@ impl<T: Tables> Gate<T> {
     }
 
     /// Answers requests, with their moments, one after another. The answers, and the state that the tables represent
-    /// afterwards, are those of the access machine. The memory for the answers is taken before the first request:
-    /// where it is wanting, none is handled.
+    /// afterwards, are those of the access machine. A crash leaves the state before them or one that one of them
+    /// makes, in whole; once all are answered, the last state alone. The memory for the answers is taken before the
+    /// first request: where it is wanting, none is handled.
     pub fn run(
         &mut self,
         alloc: Global,
@@ -270,7 +271,7 @@ impl<T: Tables> Gate<T> {
     ) -> Result<Vec<Answer>, AllocError>
         ensures sure { T.is_sure self.new → T.is_sure self.old }
         ensures none { OnErr result (self.new ≡ self.old) }
-        ensures runs { T.is_sure self.new → (s : State) → T.represents self.old s → IfOk result (λ answers. IsRun T.represents self.new s requests.now answers.items) }
+        ensures runs { T.is_sure self.new → (s : State) → T.represents self.old s → IfOk result (λ answers. IsRun T.represents T.may_leave self.old self.new s requests.now answers.items) }
     {
         run(&mut self.tables, alloc, requests)
     }
@@ -283,7 +284,7 @@ fn run<T: Tables>(
 ) -> Result<Vec<Answer>, AllocError>
     ensures sure { T.is_sure tables.new → T.is_sure tables.old }
     ensures none { OnErr result (tables.new ≡ tables.old) }
-    ensures runs { T.is_sure tables.new → (s : State) → T.represents tables.old s → IfOk result (λ answers. IsRun T.represents tables.new s requests.now answers.items) }
+    ensures runs { T.is_sure tables.new → (s : State) → T.represents tables.old s → IfOk result (λ answers. IsRun T.represents T.may_leave tables.old tables.new s requests.now answers.items) }
 {
     let mut answers = Vec::with_capacity(alloc, requests.len())?;
     for request in requests {

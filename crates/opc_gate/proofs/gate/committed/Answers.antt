@@ -1,5 +1,5 @@
 use Rattle.std.proofs.Common.{inl, inr, ◌∙◌}
-use Rattle.opc_gate.proofs.Handled.{given_up, some_change, written}
+use Rattle.opc_gate.proofs.Handled.{given_up, some_change, unwritten, written}
 use Rattle.opc_gate.proofs.gate.committed.Goals as goal
 
 pub returns-in-Ok-clause-handled : goal.returns-in-Ok-clause-handled
@@ -13,3 +13,7 @@ returns-in-Err-clause-handled g c = λ sure s represents moment r d idle.
     given_up g.T.Tables.represents g.T.Tables.may_leave _ _ s moment r _ c.given_up.ensures (c.in-Err.ensures.failed sure s represents)
     (λ left h. elim (c.commit.ensures.crash sure s represents left h) [ inl before ↦ inl before | inr is ↦ inr (is ∙ d.becomes) ])
     (λ same. absurd (some_change s moment r _ c.args.decision.change d idle (cc) same))
+
+pub returns-then-is_nothing-clause-handled : goal.returns-then-is_nothing-clause-handled
+returns-then-is_nothing-clause-handled g c = λ sure s represents moment r d idle.
+    unwritten g.T.Tables.represents g.T.Tables.may_leave _ s moment r _ c.args.decision.change d (cc) represents

@@ -11,6 +11,6 @@ loop-request-preserved g c =
       λ sure. was.2 (handled.sure sure),
       λ sure s represents.
           let run = was.3 (handled.sure sure) s represents in
-          let more = run_more g.T.Tables.represents g.T.Tables.may_leave c.args.requests.now c.loop-request.request-index c.request-item.result _ _ s c.loop-request.answers.items c.handle-answer.result (omega arith) c.request-item.is run (handled.handled sure run.last run.represented) in
+          let more = run_more g.T.Tables.represents g.T.Tables.may_leave c.args.requests.now c.loop-request.request-index c.request-item.result _ _ _ s c.loop-request.answers.items c.handle-answer.result (omega arith) c.request-item.is run (handled.handled sure run.last run.represented) in
           rw c.in-Ok.ensures.items more,
     )

@@ -9,4 +9,4 @@ invariant-loop-request g l =
     (vec_len l.answers ≡ l.request-index)
     × (length l.requests ≤ vec_capacity l.answers)
     × (g.T.Tables.is_sure l.tables → g.T.Tables.is_sure l.fn.tables)
-    × (g.T.Tables.is_sure l.tables → (s : State) → g.T.Tables.represents l.fn.tables s → IsRun g.T.Tables.represents l.tables s (take l.request-index l.requests) l.answers.items)
+    × (g.T.Tables.is_sure l.tables → (s : State) → g.T.Tables.represents l.fn.tables s → IsRun g.T.Tables.represents g.T.Tables.may_leave l.fn.tables l.tables s (take l.request-index l.requests) l.answers.items)

@@ -1,11 +1,12 @@
 //! Command lines.
-ghost use Rattle.std.specs.Prelude.{◌≡◌, ◌≤◌, ◌<◌, ◌==◌, ◌↔◌, false, nat_lt, not, length, IfSome, IfNone, IfOk};
+ghost use Rattle.std.specs.Prelude.{◌≡◌, ◌≤◌, ◌<◌, ◌==◌, ◌↔◌, false, nat_lt, not, length, option_map, Some, IfSome, IfNone, IfOk};
 ghost use Rattle.std.specs.List.{list_all, position, prefix_len, suffix_len};
 ghost use Rattle.std.specs.Str.{chars, IsAscii};
 ghost use Rattle.opc_reader.specs.declared.command.Command.{Command as TheCommand};
 ghost use Rattle.opc_reader.specs.declared.line.ReadFault.{ReadFault as TheFault};
+ghost use Rattle.opc_reader.specs.declared.line.ReadFault.TheVariants.{OpenQuote};
 ghost use Rattle.opc_reader.specs.Lines.{Reads, IsReadFault, OperandsAreSlices, is_space, is_typeable, trimmed, skip_spaces, open_at, open_place};
-ghost use Rattle.opc_reader.specs.Reading.{reading};
+ghost use Rattle.opc_reader.specs.Reading.{outcome_of, reading};
 
 use crate::command::Command;
 use crate::form::command;
@@ -155,6 +156,20 @@ fn is_too_long(line: &str) -> bool
     count_characters(line) > 126
 }
 
+/// The command of a verb with these operands, or what is wrong with them first.
+fn read_operands(verb: Verb, operands: Piece<'_>) -> Result<Command<'_>, ReadFault>
+    ensures { result ≡ outcome_of (option_map OpenQuote (open_place verb operands.entry)) (Some verb) operands.entry }
+{
+    if let Some(at) = open_place(verb, &operands) {
+        return Err(ReadFault::OpenQuote(at));
+    }
+    let span = operands.span();
+    match command(verb, operands) {
+        Some(command) => Ok(command),
+        None => Err(ReadFault::BadOperand(span)),
+    }
+}
+
 fn read(line: &str) -> Result<Command<'_>, ReadFault>
     ensures { result ≡ reading line.now }
 {
@@ -169,18 +184,10 @@ fn read(line: &str) -> Result<Command<'_>, ReadFault>
     }
     let body = trimmed(line);
     let (word, rest) = body.split(word_len(body.text().as_bytes()));
-    let operands = skip_spaces(&rest);
     let Some(verb) = Verb::spelled(word.folded().as_str()) else {
         return Err(ReadFault::UnknownVerb(word.span()));
     };
-    if let Some(at) = open_place(verb, &operands) {
-        return Err(ReadFault::OpenQuote(at));
-    }
-    let span = operands.span();
-    match command(verb, operands) {
-        Some(command) => Ok(command),
-        None => Err(ReadFault::BadOperand(span)),
-    }
+    read_operands(verb, skip_spaces(&rest))
 }
 
 /// The command that a line is, with each operand as the slice of the line at its span, or the first fault of the

@@ -81,7 +81,7 @@ impl<K: NameKind<N>, const N: usize> Name<K, N> {
         ensures ascii { IsAscii self.now }
         ensures short { length self.now ≤ N }
     {
-        // A name is ASCII: a look at each byte once more would be a tenth of what reading a policy takes.
+        // A name is ASCII, so it is a text, and no byte has to be looked at again.
         unsafe { str::from_utf8_unchecked(self.bytes.as_slice()) }
     }
 }

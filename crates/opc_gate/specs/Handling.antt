@@ -67,7 +67,7 @@ pub record IsHandled {T : Type 0} (represents may_leave : T → State → Type 0
   pub crash : (left : State) → may_leave new left → may_leave old left ⊎ (left ≡ after s moment r (outcome s r))
   -- where the request leaves the state as it is, nothing but what it might have left before
   pub idle : after s moment r (outcome s r) ≡ s → LeavesAsBefore may_leave old new
-  -- and once it is answered, the state after the request alone
+  -- and once it is answered, the state after the request alone, or nothing was changed
   pub acknowledged : IsAnswered answer → IsAcknowledged may_leave old new s next
 
 -- The state is one that a request makes, in whole, of the one that the requests before it led to.
@@ -87,5 +87,5 @@ pub record IsRun {T : Type 0} (represents may_leave : T → State → Type 0) (o
   pub represented : represents new last
   -- what it might have left before, or a state that one of the requests makes, in whole
   pub crash : (left : State) → may_leave new left → may_leave old left ⊎ IsMadeByOne s requests answers left
-  -- and once all are answered, the last state alone
+  -- and once all are answered, the last state alone, or nothing was changed
   pub acknowledged : All IsAnswered answers → IsAcknowledged may_leave old new s last

@@ -261,9 +261,9 @@ impl<T: Tables> Gate<T> {
     }
 
     /// Answers requests, with their moments, one after another. The answers, and the state that the tables represent
-    /// afterwards, are those of the access machine. A crash leaves the state before them or one that one of them
-    /// makes, in whole; once all are answered, the last state alone. The memory for the answers is taken before the
-    /// first request: where it is wanting, none is handled.
+    /// afterwards, are those of the access machine. A crash leaves what it might have left before them or a state that
+    /// one of them makes, in whole; once all are answered, the last state alone, where anything was changed. The
+    /// memory for the answers is taken before the first request: where it is wanting, none is handled.
     pub fn run(
         &mut self,
         alloc: Global,

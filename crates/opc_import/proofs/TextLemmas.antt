@@ -1,20 +1,15 @@
 -- Texts that read are ASCII.
 use Rattle.std.proofs.Common.{◌≡◌, ℕ, Bool, true, false, List, [], ◌∷◌, refl, cond, arith}
-use Rattle.std.specs.Prelude.{Option, Some, None, is_none, IsUtf8, ◌&&◌}
+use Rattle.std.specs.Prelude.{None, ◌&&◌}
 use Rattle.std.specs.List.{list_all}
 use Rattle.std.specs.Str.{IsAscii, bytes_eq}
 use Rattle.std.proofs.lemmas.Slice.Eq.{bytes_eq-Decides}
-use Rattle.std.proofs.lemmas.Str.{IsUtf8-from_ascii}
 use Rattle.std.proofs.lemmas.Str.Ascii.{IsAscii-cons, IsAscii-nil}
 use Rattle.std.proofs.lemmas.Bool.Decides.{nat_tests}
 use Rattle.std.specs.Char.{is_ascii}
 use Rattle.opc_names.specs.Names.{name_fault, user_rule}
-use Rattle.opc_names.specs.Spellings.{lookup}
-use Rattle.opc_names.specs.declared.rule.NameFault.{NameFault}
-use Rattle.opc_names.specs.declared.rule.NameRule.{NameRule}
 use Rattle.opc_names.proofs.Faults.{name_ascii}
 use Rattle.opc_policy.specs.Entries.{entry_fault}
-use Rattle.opc_import.specs.Fields.{entry_id_of, name_of}
 
 pub both : (a b : Bool) → (a && b) ≡ true → (a ≡ true) × (b ≡ true)
 both true b h = (refl, h)

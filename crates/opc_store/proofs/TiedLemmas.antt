@@ -10,10 +10,10 @@ use Rattle.opc_tables.specs.Steps.{Looks}
 use Rattle.opc_state.specs.declared.change.Change.{Change}
 use Rattle.opc_state.specs.Changes.{IsKept, changed_by}
 use Rattle.opc_state.specs.State.{State, Fits}
-use Rattle.opc_store.specs.Changes.{Becomes}
-use Rattle.opc_store.specs.Represented.{Represents, AreTablesOf}
+use Rattle.opc_stored.specs.Changes.{Becomes}
+use Rattle.opc_stored.specs.Represented.{Represents, AreTablesOf}
 use Rattle.opc_store.specs.Tied.{Stands, IsSure, MayLeave}
-use Rattle.opc_store.proofs.Decoded.{one_state}
+use Rattle.opc_stored.proofs.Decoded.{one_state}
 
 -- no number of what tables represent passes what they can hold
 pub fits_of : (db : Database) (s : State) → Represents db s → Fits s

@@ -1,15 +1,2 @@
-pub mod Tables
-pub mod Contents
-pub mod Placed
-pub mod Made
-pub mod State
-pub mod Represented
-pub mod Changes
-pub mod Ours
-pub mod Content
+pub mod Opening
 pub mod Tied
-pub mod Search
-pub mod Loads
-pub mod PolicyFile
-pub mod Faithful
-pub mod Laws

@@ -2,7 +2,7 @@
 ghost use Rattle.std.specs.Prelude.{◌≡◌, ◌⊎◌, false, IfOk, IfErr, IfSome, IsTrue, IsFalse};
 ghost use Rattle.sqlite.specs.Held.{state};
 ghost use Rattle.sqlite.specs.Closing.{IsCopied};
-ghost use Rattle.sqlite.specs.Files.{file_state, AreFoundIn, HoldsDatabase};
+ghost use Rattle.sqlite.specs.Files.{file_state, over_files, AreFoundIn, HoldsDatabase};
 ghost use Rattle.sqlite_catalog.specs.Listing.{Lists};
 ghost use Rattle.sqlite_trees.specs.Objects.{catalog_tree};
 ghost use Rattle.sqlite.specs.Tree.{Trees};
@@ -11,14 +11,15 @@ ghost use Rattle.sqlite.specs.WalReads.{AreClean};
 ghost use Rattle.sqlite.specs.State.{HasCleanDisk, Survives};
 ghost use Rattle.opc_tables.specs.Shapes.{no_schema};
 ghost use Rattle.opc_state.specs.State.{empty};
-ghost use Rattle.opc_store.specs.Represented.{Represents, AreTablesOf};
-ghost use Rattle.opc_store.specs.Ours.{has_our_name, new_files, open_fault, unasked, NamesVersion, IsRefused};
+ghost use Rattle.opc_stored.specs.Represented.{Represents, AreTablesOf};
+ghost use Rattle.opc_stored.specs.Ours.{has_our_name, NamesVersion};
+ghost use Rattle.opc_store.specs.Opening.{new_files, open_fault, unasked, IsRefused, FailsToOpenIn};
 ghost use Rattle.opc_store.specs.declared.opening.OpenFault.TheVariants as TheFault;
 
-use crate::loads::version_on;
-use crate::making::make_tables;
-use crate::names::has_our_name;
 use crate::store::Store;
+use opc_stored::making::make_tables;
+use opc_stored::names::has_our_name;
+use opc_stored::version::version_on;
 use sqlite::{
     Alter, Connection, Error, ErrorCode, FileFrom, FileStore, Files, Options, Start, Wary,
 };
@@ -74,8 +75,10 @@ impl<S: Alter> Store<S> {
         ensures unmade { IfErr result (λ e. IsFalse (has_our_name conn.schema) → (e.0 ≡ TheFault.NoMemory) ⊎ (e.0 ≡ TheFault.Store)) }
         ensures made { IfOk result (λ store. HasCleanDisk (state S.Store store) → (state S.Store conn).now.schema ≡ no_schema → Represents (state S.Store store).now empty) }
         ensures unharmed { IfErr result (λ e. HasCleanDisk (state S.Store e.1) → IsTrue (state S.Store conn).is_open → IsTrue (state S.Store e.1).is_open → (state S.Store e.1).now ≡ (state S.Store conn).now) }
-        ensures crash { IfOk result (λ store. Survives (state S.Store conn) (state S.Store store) (λ db. (state S.Store conn).now.schema ≡ no_schema → AreTablesOf db empty)) }
-        ensures crash_at_fault { IfErr result (λ e. Survives (state S.Store conn) (state S.Store e.1) (λ db. (state S.Store conn).now.schema ≡ no_schema → AreTablesOf db empty)) }
+        ensures crash { IfOk result (λ store. Survives (state S.Store conn) (state S.Store store) (λ db. IsFalse (has_our_name conn.schema) × ((state S.Store conn).now.schema ≡ no_schema → AreTablesOf db empty))) }
+        ensures crash_at_fault { IfErr result (λ e. Survives (state S.Store conn) (state S.Store e.1) (λ db. IsFalse (has_our_name conn.schema) × ((state S.Store conn).now.schema ≡ no_schema → AreTablesOf db empty))) }
+        ensures outside { IfErr result (λ e. e.1.in_transaction ≡ false) }
+        ensures settled { IfOk result (λ store. HasCleanDisk (state S.Store store) → (db : Trees) → (state S.Store store).may_leave db → db ≡ (state S.Store store).now.trees) }
     {
         let _settled = conn.is_autocommit();
         if !has_our_name(conn.schema()) {
@@ -85,7 +88,10 @@ impl<S: Alter> Store<S> {
             };
         }
         match version_on(&mut conn) {
-            Ok(VERSION) => Ok(Store { conn }),
+            Ok(VERSION) => {
+                let _settled = conn.is_autocommit();
+                Ok(Store { conn })
+            }
             Ok(version) => Err((OpenFault::NotOurs(version), conn)),
             Err(error) => Err((version_fault(error), conn)),
         }
@@ -102,10 +108,13 @@ impl<S: Alter> Store<S> {
 
 impl<S: Start> Store<FileStore<FileFrom<S>>> {
     /// Opens the database file at a path, or makes it, and adopts it as `open_files` does. `start` stands for what the
-    /// files hold, and says what a torn write may leave.
+    /// files hold, and says what a torn write may leave. `NotOurs` is told only of what the files
+    /// held: it was opened, has a name of ours and was asked for its version.
     pub fn open_at(rt: &HostRuntime, path: &str, start: S) -> Result<Self, OpenFault>
         ensures found { IfOk result (λ store. HasCleanDisk (file_state store) → (db : Trees) → HoldsDatabase (image_at S.Start) db → (s : _) → AreTablesOf db s → Represents (file_state store).now s) }
         ensures made { IfOk result (λ store. HasCleanDisk (file_state store) → (trees : Trees) × AreFoundIn (image_at S.Start) trees × (Lists (trees catalog_tree) no_schema → Represents (file_state store).now empty)) }
+        ensures settled { IfOk result (λ store. HasCleanDisk (file_state store) → (db : Trees) → (file_state store).may_leave db → db ≡ (file_state store).now.trees) }
+        ensures refused { FailsToOpenIn over_files (image_at S.Start) result }
     {
         let conn = match Connection::open_from(rt, path, false, start) {
             Ok(conn) => conn,
@@ -125,6 +134,8 @@ impl Store<FileStore<FileFrom<Wary>>> {
     pub fn open_from(rt: &HostRuntime, path: &str) -> Result<Self, OpenFault>
         ensures found { IfOk result (λ store. HasCleanDisk (file_state store) → (db : Trees) → HoldsDatabase new_files db → (s : _) → AreTablesOf db s → Represents (file_state store).now s) }
         ensures made { IfOk result (λ store. HasCleanDisk (file_state store) → (trees : Trees) × AreFoundIn new_files trees × (Lists (trees catalog_tree) no_schema → Represents (file_state store).now empty)) }
+        ensures settled { IfOk result (λ store. HasCleanDisk (file_state store) → (db : Trees) → (file_state store).may_leave db → db ≡ (file_state store).now.trees) }
+        ensures refused { FailsToOpenIn over_files new_files result }
     {
         Store::open_at(rt, path, Wary)
     }

@@ -1,17 +1,25 @@
 //! The store as the tables that the machine asks for.
 ghost use Rattle.opc_tables.specs.Steps.{Looks};
 
-use crate::loads::version_on;
-use crate::store::{Store, fault};
+use crate::store::Store;
 use opc_board::board::Board;
+use opc_board_tables::board::live_board_on;
+use opc_commit::commit::commit_on;
 use opc_names::class::Class;
 use opc_names::name::{GroupName, Resource, UserId};
 use opc_policy::policy::Policy;
 use opc_policy::search::Found;
 use opc_policy::source::StoreFault;
 use opc_policy::user::User;
+use opc_policy_tables::classes::active_on;
+use opc_policy_tables::connects::user_groups_on;
+use opc_policy_tables::policy::policy_on;
+use opc_policy_tables::users::{has_users_on, user_on};
+use opc_search::search::deciding_on;
 use opc_state::change::Change;
 use opc_state::tables::Tables;
+use opc_stored::faults::fault;
+use opc_stored::version::version_on;
 use sqlite::Alter;
 use std::alloc::Global;
 
@@ -37,19 +45,19 @@ impl<S: Alter> Tables for Store<S> {
     ghost may_leave = { MayLeave S.Store };
 
     fn live_board(&mut self, alloc: Global) -> Result<Board, StoreFault> {
-        self.live_board(alloc)
+        live_board_on(alloc, &mut self.conn)
     }
 
     fn user(&mut self, _alloc: Global, id: &UserId) -> Result<Option<User>, StoreFault> {
-        self.user(id)
+        user_on(&mut self.conn, id)
     }
 
     fn groups_of(&mut self, alloc: Global, user: &UserId) -> Result<Vec<GroupName>, StoreFault> {
-        self.groups_of(alloc, user)
+        user_groups_on(alloc, &mut self.conn, user)
     }
 
     fn is_active(&mut self, class: Class) -> Result<bool, StoreFault> {
-        self.active(class)
+        active_on(&mut self.conn, class)
     }
 
     fn deciding(
@@ -58,19 +66,19 @@ impl<S: Alter> Tables for Store<S> {
         class: Class,
         resource: &Resource,
     ) -> Result<Found, StoreFault> {
-        self.deciding(alloc, class, resource)
+        deciding_on(alloc, &mut self.conn, class, resource)
     }
 
     fn has_users(&mut self) -> Result<bool, StoreFault> {
-        self.has_users()
+        has_users_on(&mut self.conn)
     }
 
     fn policy(&mut self, alloc: Global) -> Result<Policy, StoreFault> {
-        self.policy(alloc)
+        policy_on(alloc, &mut self.conn)
     }
 
     fn commit(&mut self, alloc: Global, change: &Change) -> Result<(), StoreFault> {
         self.see_open()?;
-        self.commit(alloc, change)
+        commit_on(alloc, &mut self.conn, change)
     }
 }

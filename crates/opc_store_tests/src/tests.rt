@@ -13,6 +13,7 @@ use opc_board::text::KeptText;
 use opc_policy::source::StoreFault;
 use opc_state::account::AccountRow;
 use opc_state::change::{Change, Edit};
+use opc_state::tables::Tables;
 use opc_store::store::Store;
 use sqlite::{Alter, Connection, MemStore, Row};
 use std::alloc::Global;

@@ -22,3 +22,5 @@ pub mod Putting
 pub mod Sorting
 pub mod LastNumber
 pub mod Places
+pub mod Keyed
+pub mod Asked

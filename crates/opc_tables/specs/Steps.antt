@@ -1,5 +1,5 @@
 -- What a step of a transaction does to a connection.
-use Rattle.std.specs.Prelude.{◌≡◌, ℕ, List, IsTrue, Result, Ok, OnOk}
+use Rattle.std.specs.Prelude.{◌≡◌, ◌≢◌, ℕ, List, IsTrue, Result, Ok, OnOk}
 use Rattle.sqlite_trees.specs.declared.store.Store.{Ghosts}
 use Rattle.sqlite.specs.Order.{Row}
 use Rattle.sqlite.specs.State.{HasCleanDisk, Survives, KeepsCommit, Executes}
@@ -25,6 +25,14 @@ module _ {S : Type 0} (g : Ghosts S) where
     pub inside : IsTrue old.in_transaction
     pub still : IsTrue new.in_transaction
     pub executes : Executes sql params (state g old) (state g new) (Ok count)
+
+  -- The first statement ran; where it found no row, the second ran behind it, with the same parameters, and else nothing did.
+  pub record Puts (update insert : List ℕ) (params : Row) (old new : Held S) : Type 0 where
+    pub mid : Held S
+    pub found : ℕ
+    pub updates : Ran update params old mid found
+    pub ends : found ≢ 0 → new ≡ mid
+    pub inserts : found ≡ 0 → (added : ℕ) × Ran insert params mid new added
 
   -- What a query keeps: where the connection is still open the tables are as they were, and a crash leaves nothing new.
   pub record Looks {X E : Type 0} (old new : Held S) (result : Result X E) : Type 0 where

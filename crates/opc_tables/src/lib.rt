@@ -1,13 +1,13 @@
-//! What SQL statements do to tables: general lemmas, and the two calls that they are about.
+//! What SQL statements do to tables: general lemmas, and the calls that they are about.
 #![tactic(auto)]
 
 pub mod numbers;
 
-ghost use Rattle.std.specs.Prelude.{◌≡◌, false, IfOk, IfErr};
+ghost use Rattle.std.specs.Prelude.{◌≡◌, false, IfOk, IfErr, OnOk};
 ghost use Rattle.sqlite.specs.Held.{state};
 ghost use Rattle.sqlite.specs.Values.{bound};
 ghost use Rattle.sqlite.specs.State.{HasCleanDisk, Shown, FailsToQuery};
-ghost use Rattle.opc_tables.specs.Steps.{Stays, Ran, Looks, NeverWrites};
+ghost use Rattle.opc_tables.specs.Steps.{Stays, Ran, Puts, Looks, NeverWrites};
 
 use sqlite::types::ValueRef;
 use sqlite::{Alter, Connection, Error, Row, Transaction};
@@ -23,6 +23,24 @@ pub fn run<S: Alter>(
     ensures ran { HasCleanDisk (state S.Store tx.new.conn.now) → IfOk result (Ran S.Store sql.now (bound params.now) tx.old.conn.now tx.new.conn.now) }
 {
     tx.execute(sql, params)
+}
+
+/// Puts a row at its key: `update` sets it where it is there, and `insert` adds it where it is not. Both take all of `params`.
+pub fn put<S: Alter>(
+    tx: &mut Transaction<'_, S>,
+    update: &str,
+    insert: &str,
+    params: &[ValueRef<'_>],
+) -> Result<(), Error>
+    ensures same_reference { tx.new.conn.ghost_name ≡ tx.old.conn.ghost_name }
+    ensures stays { Stays S.Store tx.old.conn.now tx.new.conn.now result }
+    ensures put { HasCleanDisk (state S.Store tx.new.conn.now) → OnOk result (Puts S.Store update.now insert.now (bound params.now) tx.old.conn.now tx.new.conn.now) }
+{
+    let found = run(tx, update, params)?;
+    if found == 0 {
+        run(tx, insert, params)?;
+    }
+    Ok(())
 }
 
 /// The rows of a query, outside any transaction. A query changes nothing, also of what a crash may leave.

@@ -8,6 +8,7 @@ use opc_names::name::{GroupName, UnitName, UserId};
 use opc_policy::row::Row;
 use opc_rows::Rows;
 use opc_state::change::{Batch, Change, Edit};
+use opc_state::tables::Tables;
 use opc_store::store::Store;
 use sqlite::MemStore;
 use std::alloc::Global;

@@ -3,6 +3,7 @@ use super::policy::edits_of;
 use super::{limited, refusal};
 use opc_names::name::UserId;
 use opc_state::change::Change;
+use opc_state::tables::Tables;
 use opc_store::store::Store;
 use sqlite::MemStore;
 use std::alloc::Global;
@@ -35,7 +36,7 @@ fn loads_read_little_more_than_they_give(rt: HostRuntime) -> Result<(), Fail> {
     let id = UserId::read("A7")?;
     let mut store = limited(filled(alloc)?, 6)?;
     assert!(rt; store.has_users()?);
-    assert!(rt; store.user(&id)?.is_some());
+    assert!(rt; store.user(alloc, &id)?.is_some());
     assert!(rt; store.account(alloc, 9, 2)?.as_slice().len() == 2);
     // Twelve users are more than six steps.
     assert!(rt; store.policy(alloc).is_err());

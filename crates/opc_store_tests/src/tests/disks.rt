@@ -2,6 +2,7 @@
 use super::{refusal, same, tell_query};
 use opc_names::name::GroupName;
 use opc_state::change::{Change, Edit};
+use opc_state::tables::Tables;
 use opc_store::store::Store;
 use sqlite::{Alter, Connection, FileStore, Files, Options};
 use sqlite_disk::{Crash, Disk, Fuse, Memory};

@@ -7,6 +7,7 @@ use opc_names::auth::Auth;
 use opc_names::class::Class;
 use opc_names::level::Level;
 use opc_names::name::{ConsoleName, Device, GroupName, Pattern, UnitName, UserId, Volume};
+use opc_names::reply_id::ReplyId;
 use opc_policy::connect::Connect;
 use opc_policy::entries::Entries;
 use opc_policy::entry::{Entry, EntryId};
@@ -14,6 +15,7 @@ use opc_policy::mode::Mode;
 use opc_policy::profile::Profile;
 use opc_policy::source::StoreFault;
 use opc_state::change::{Change, Edit};
+use opc_state::tables::Tables;
 use opc_store::store::Store;
 use std::alloc::Global;
 use std::rt::HostRuntime;
@@ -319,9 +321,15 @@ fn consoles_are_put_and_removed(rt: HostRuntime) -> Result<(), Fail> {
     Ok(())
 }
 
+fn reply_id(number: u8) -> Result<ReplyId, Fail> {
+    Ok(ReplyId::new(number).ok_or("the number of a reply")?)
+}
+
 pub(super) fn reply(alloc: Global, id: u8, text: &str) -> Result<ReplyRow, Fail> {
-    let text = KeptText::new(alloc, text)?;
-    Ok(ReplyRow { id, text })
+    Ok(ReplyRow {
+        id: reply_id(id)?,
+        text: KeptText::new(alloc, text)?,
+    })
 }
 
 fn reply_edits(alloc: Global) -> Result<Vec<Edit>, Fail> {
@@ -329,7 +337,7 @@ fn reply_edits(alloc: Global) -> Result<Vec<Edit>, Fail> {
     for (id, text) in [(42, "READY"), (7, "MOUNT"), (42, "AGAIN")] {
         edits.push(Edit::PutReply(reply(alloc, id, text)?))?;
     }
-    edits.push(Edit::RemoveReply(42))?;
+    edits.push(Edit::RemoveReply(reply_id(42)?))?;
     Ok(edits)
 }
 

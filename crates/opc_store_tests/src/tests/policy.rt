@@ -14,6 +14,7 @@ use opc_policy::policy::Policy;
 use opc_policy::profile::Profile;
 use opc_policy::row::Row;
 use opc_state::change::{Change, Edit};
+use opc_state::tables::Tables;
 use opc_store::store::Store;
 use sqlite::MemStore;
 use std::alloc::Global;
@@ -149,7 +150,7 @@ fn tell_members(
     for (user, console) in [("BERT", "C3"), ("CARL", "C2")] {
         let id = UserId::read(user)?;
         let name = ConsoleName::read(console)?;
-        tell(lines, &store.user(&id)?)?;
+        tell(lines, &store.user(alloc, &id)?)?;
         tell(lines, &store.groups_of(alloc, &id)?)?;
         tell(lines, &store.console(&name)?)?;
     }

@@ -8,7 +8,6 @@ use opc_policy::search::{Found, search};
 use opc_policy::source::{ProfileSource, Taken};
 use opc_state::change::Change;
 use opc_state::tables::Tables;
-use opc_store::source::StoredProfiles;
 use opc_store::store::Store;
 use sqlite::MemStore;
 use std::alloc::Global;
@@ -63,11 +62,6 @@ fn searched_in_memory(alloc: Global) -> Result<String, Fail> {
     Ok(lines)
 }
 
-fn stored(alloc: Global) -> Result<StoredProfiles<MemStore>, Fail> {
-    let store = with_base(alloc)?;
-    Ok(StoredProfiles { store, alloc })
-}
-
 #[test]
 fn the_counts_by_heads_are_those_in_memory(rt: HostRuntime) -> Result<(), Fail> {
     let alloc = rt.alloc();
@@ -77,32 +71,36 @@ fn the_counts_by_heads_are_those_in_memory(rt: HostRuntime) -> Result<(), Fail> 
     Ok(())
 }
 
-#[test]
-fn the_search_of_policies_asks_the_tables(rt: HostRuntime) -> Result<(), Fail> {
-    let alloc = rt.alloc();
-    let mut lines = String::new(alloc);
-    tell_searches(&mut lines, &mut stored(alloc)?)?;
-    same(&rt, lines.as_str(), searched_in_memory(alloc)?.as_str());
-    Ok(())
-}
-
 fn tell_taken(lines: &mut String, taken: &Taken) -> Result<(), Fail> {
     tell(lines, &taken.profile)?;
     tell(lines, &taken.rows)
 }
 
-/// What a source finds first at some heads.
-fn tell_heads<P: ProfileSource>(lines: &mut String, source: &mut P) -> Result<(), Fail> {
+const HEADS: [&str; 5] = ["MVS", "MVS.CANCEL.JOB.", "MVS.CANCEL.JOB.PAY", "M", ""];
+
+/// What the tables find first at some heads.
+fn tell_heads(alloc: Global, lines: &mut String, store: &mut Store<MemStore>) -> Result<(), Fail> {
     let resource = Resource::read("MVS.CANCEL.JOB.PAYROLL")?;
-    for head in ["MVS", "MVS.CANCEL.JOB.", "MVS.CANCEL.JOB.PAY", "M", ""] {
-        tell_taken(lines, &source.first_in(Class::Opercmds, head, &resource)?)?;
+    for head in HEADS {
+        tell_taken(
+            lines,
+            &store.first_in(alloc, Class::Opercmds, head, &resource)?,
+        )?;
     }
     Ok(())
 }
 
+/// The same of the policy in memory.
 fn heads_in_memory(alloc: Global) -> Result<String, Fail> {
     let mut lines = String::new(alloc);
-    tell_heads(&mut lines, &mut taken(alloc)?)?;
+    let mut policy = taken(alloc)?;
+    let resource = Resource::read("MVS.CANCEL.JOB.PAYROLL")?;
+    for head in HEADS {
+        tell_taken(
+            &mut lines,
+            &policy.first_in(Class::Opercmds, head, &resource)?,
+        )?;
+    }
     Ok(lines)
 }
 
@@ -110,7 +108,7 @@ fn heads_in_memory(alloc: Global) -> Result<String, Fail> {
 fn each_head_gives_its_first_cover(rt: HostRuntime) -> Result<(), Fail> {
     let alloc = rt.alloc();
     let mut lines = String::new(alloc);
-    tell_heads(&mut lines, &mut stored(alloc)?)?;
+    tell_heads(alloc, &mut lines, &mut with_base(alloc)?)?;
     same(&rt, lines.as_str(), heads_in_memory(alloc)?.as_str());
     Ok(())
 }

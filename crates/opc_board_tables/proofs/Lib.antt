@@ -1,0 +1,6 @@
+pub mod BoardLoads
+pub mod ConsoleRows
+pub mod DayRows
+pub mod DeviceRows
+pub mod ReplyRows
+pub mod UnitRows

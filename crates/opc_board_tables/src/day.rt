@@ -1,0 +1,44 @@
+//! The table of the day, which may be halted.
+ghost use Rattle.std.specs.Prelude.{◌≡◌, ◌∷◌, [], OnOk, false, Bool, IfOk};
+ghost use Rattle.sqlite.specs.Held.{state};
+ghost use Rattle.sqlite.specs.State.{HasCleanDisk};
+ghost use Rattle.opc_tables.specs.Steps.{Stays, Looks};
+ghost use Rattle.opc_state.specs.Changes.{with_halted};
+ghost use Rattle.opc_stored.specs.Changes.{Becomes};
+ghost use Rattle.opc_stored.specs.Represented.{Represents, halted_row};
+
+use opc_policy::source::StoreFault;
+use opc_stored::columns::value_in;
+use opc_stored::faults::unreadable;
+use opc_stored::queries::read;
+use opc_tables::run;
+use sqlite::{Alter, Connection, Error, Row, Transaction, params};
+
+pub fn set_halted<S: Alter>(tx: &mut Transaction<'_, S>, halted: bool) -> Result<(), Error>
+    ensures same_reference { tx.new.conn.ghost_name ≡ tx.old.conn.ghost_name }
+    ensures stays { Stays S.Store tx.old.conn.now tx.new.conn.now result }
+    ensures done { HasCleanDisk (state S.Store tx.new.conn.now) → OnOk result (Becomes (with_halted halted) (state S.Store tx.old.conn.now).now (state S.Store tx.new.conn.now).now) }
+{
+    run(tx, "UPDATE board SET halted = ?1", params![halted])?;
+    Ok(())
+}
+
+/// Whether the day is halted.
+pub fn halted_on<S: Alter>(conn: &mut Connection<S>) -> Result<bool, StoreFault>
+    requires { conn.old.in_transaction ≡ false }
+    ensures mode { conn.new.in_transaction ≡ false }
+    ensures looks { Looks S.Store conn.old conn.new result }
+    ensures found { HasCleanDisk (state S.Store conn.new) → (s : _) → Represents (state S.Store conn.old).now s → IfOk result (λ v. v ≡ s.board.halted) }
+{
+    let rows = read(conn, "SELECT halted FROM board ORDER BY halted", &[])?;
+    halted_in(rows.as_slice())
+}
+
+fn halted_in(rows: &[Row]) -> Result<bool, StoreFault>
+    ensures { (halted : Bool) → rows.now ≡ halted_row halted ∷ [] → IfOk result (λ v. v ≡ halted) }
+{
+    match rows.get(0) {
+        Some(row) => value_in(row, 0),
+        None => Err(unreadable()),
+    }
+}

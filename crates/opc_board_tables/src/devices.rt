@@ -1,0 +1,103 @@
+//! The table of devices.
+ghost use Rattle.std.specs.Prelude.{◌≡◌, OnOk, IfOk, false};
+ghost use Rattle.sqlite.specs.Held.{state};
+ghost use Rattle.sqlite.specs.State.{HasCleanDisk};
+ghost use Rattle.opc_tables.specs.Steps.{Stays, Looks};
+ghost use Rattle.std.specs.Option.{option_copied};
+ghost use Rattle.opc_state.specs.Changes.{with_devices};
+ghost use Rattle.opc_state.specs.Members.{with_device, without_device};
+ghost use Rattle.opc_stored.specs.Changes.{Becomes};
+ghost use Rattle.opc_stored.specs.Represented.{device_row, Represents};
+
+use opc_board::rows::DeviceRow;
+use opc_names::name::Device;
+use opc_policy::source::StoreFault;
+use opc_rows::Rows;
+use opc_stored::columns::{Keeps, all_in, name_in, name_or_none_in, value_in};
+use opc_stored::queries::read;
+use opc_tables::{put, run};
+use sqlite::{Alter, Connection, Error, Row, Transaction, params};
+use std::alloc::Global;
+
+/// The table of devices.
+pub struct DeviceTable;
+
+impl Keeps<DeviceRow> for DeviceTable {
+    ghost row_of = { device_row };
+
+    fn kept_in(row: &Row) -> Result<DeviceRow, StoreFault> {
+        Ok(DeviceRow {
+            number: name_in(row, 0)?,
+            online: value_in(row, 1)?,
+            volume: name_or_none_in(row, 2)?,
+            unit: name_or_none_in(row, 3)?,
+        })
+    }
+}
+
+pub fn put_device<S: Alter>(tx: &mut Transaction<'_, S>, device: &DeviceRow) -> Result<(), Error>
+    ensures same_reference { tx.new.conn.ghost_name ≡ tx.old.conn.ghost_name }
+    ensures stays { Stays S.Store tx.old.conn.now tx.new.conn.now result }
+    ensures done { HasCleanDisk (state S.Store tx.new.conn.now) → OnOk result (Becomes (λ s. with_devices (with_device device.now s.board.devices) s) (state S.Store tx.old.conn.now).now (state S.Store tx.new.conn.now).now) }
+{
+    put(
+        tx,
+        "UPDATE devices SET number = ?1, online = ?2, volume = ?3, unit = ?4 WHERE number = ?1",
+        "INSERT INTO devices VALUES (?1, ?2, ?3, ?4)",
+        params![
+            device.number.text(),
+            device.online,
+            volume_of(device),
+            unit_of(device)
+        ],
+    )
+}
+
+pub fn remove_device<S: Alter>(tx: &mut Transaction<'_, S>, number: &Device) -> Result<(), Error>
+    ensures same_reference { tx.new.conn.ghost_name ≡ tx.old.conn.ghost_name }
+    ensures stays { Stays S.Store tx.old.conn.now tx.new.conn.now result }
+    ensures done { HasCleanDisk (state S.Store tx.new.conn.now) → OnOk result (Becomes (λ s. with_devices (without_device number.now s.board.devices) s) (state S.Store tx.old.conn.now).now (state S.Store tx.new.conn.now).now) }
+{
+    run(
+        tx,
+        "DELETE FROM devices WHERE number = ?1",
+        params![number.text()],
+    )?;
+    Ok(())
+}
+
+fn volume_of(device: &DeviceRow) -> Option<&str>
+    ensures { option_copied result ≡ device.now.volume }
+{
+    match &device.volume {
+        Some(volume) => Some(volume.text()),
+        None => None,
+    }
+}
+
+fn unit_of(device: &DeviceRow) -> Option<&str>
+    ensures { option_copied result ≡ device.now.unit }
+{
+    match &device.unit {
+        Some(unit) => Some(unit.text()),
+        None => None,
+    }
+}
+
+/// The devices, in order.
+pub fn devices_on<S: Alter>(
+    alloc: Global,
+    conn: &mut Connection<S>,
+) -> Result<Rows<DeviceRow>, StoreFault>
+    requires { conn.old.in_transaction ≡ false }
+    ensures mode { conn.new.in_transaction ≡ false }
+    ensures looks { Looks S.Store conn.old conn.new result }
+    ensures found { HasCleanDisk (state S.Store conn.new) → (s : _) → Represents (state S.Store conn.old).now s → IfOk result (λ v. v ≡ s.board.devices) }
+{
+    let rows = read(
+        conn,
+        "SELECT number, online, volume, unit FROM devices ORDER BY number",
+        &[],
+    )?;
+    all_in::<_, DeviceTable>(alloc, rows.as_slice())
+}

@@ -1,0 +1,71 @@
+//! The table of open replies.
+ghost use Rattle.std.specs.Prelude.{◌≡◌, OnOk, false, IfOk};
+ghost use Rattle.sqlite.specs.Held.{state};
+ghost use Rattle.sqlite.specs.State.{HasCleanDisk};
+ghost use Rattle.opc_tables.specs.Steps.{Stays, Looks};
+ghost use Rattle.opc_state.specs.Changes.{with_replies};
+ghost use Rattle.opc_state.specs.Members.{with_reply, without_reply};
+ghost use Rattle.opc_stored.specs.Changes.{Becomes};
+ghost use Rattle.opc_stored.specs.Represented.{Represents, reply_shown};
+
+use opc_board::rows::ReplyRow;
+use opc_names::reply_id::ReplyId;
+use opc_policy::source::StoreFault;
+use opc_rows::Rows;
+use opc_stored::columns::{Keeps, all_in, reply_in, reply_number};
+use opc_stored::queries::read;
+use opc_tables::run;
+use sqlite::{Alter, Connection, Error, Row, Transaction, params};
+use std::alloc::Global;
+
+/// The table of open replies.
+pub struct ReplyTable;
+
+impl Keeps<ReplyRow> for ReplyTable {
+    ghost row_of = { reply_shown };
+
+    fn kept_in(row: &Row) -> Result<ReplyRow, StoreFault> {
+        reply_in(row)
+    }
+}
+
+pub fn put_reply<S: Alter>(tx: &mut Transaction<'_, S>, reply: &ReplyRow) -> Result<(), Error>
+    ensures same_reference { tx.new.conn.ghost_name ≡ tx.old.conn.ghost_name }
+    ensures stays { Stays S.Store tx.old.conn.now tx.new.conn.now result }
+    ensures done { HasCleanDisk (state S.Store tx.new.conn.now) → OnOk result (Becomes (λ s. with_replies (with_reply reply.now s.board.replies) s) (state S.Store tx.old.conn.now).now (state S.Store tx.new.conn.now).now) }
+{
+    remove_reply(tx, reply.id)?;
+    run(
+        tx,
+        "INSERT INTO replies VALUES (?1, ?2)",
+        params![reply_number(reply.id), reply.text.as_str()],
+    )?;
+    Ok(())
+}
+
+pub fn remove_reply<S: Alter>(tx: &mut Transaction<'_, S>, id: ReplyId) -> Result<(), Error>
+    ensures same_reference { tx.new.conn.ghost_name ≡ tx.old.conn.ghost_name }
+    ensures stays { Stays S.Store tx.old.conn.now tx.new.conn.now result }
+    ensures done { HasCleanDisk (state S.Store tx.new.conn.now) → OnOk result (Becomes (λ s. with_replies (without_reply id s.board.replies) s) (state S.Store tx.old.conn.now).now (state S.Store tx.new.conn.now).now) }
+{
+    run(
+        tx,
+        "DELETE FROM replies WHERE id = ?1",
+        params![reply_number(id)],
+    )?;
+    Ok(())
+}
+
+/// The open replies, in order.
+pub fn replies_on<S: Alter>(
+    alloc: Global,
+    conn: &mut Connection<S>,
+) -> Result<Rows<ReplyRow>, StoreFault>
+    requires { conn.old.in_transaction ≡ false }
+    ensures mode { conn.new.in_transaction ≡ false }
+    ensures looks { Looks S.Store conn.old conn.new result }
+    ensures found { HasCleanDisk (state S.Store conn.new) → (s : _) → Represents (state S.Store conn.old).now s → IfOk result (λ v. v ≡ s.board.replies) }
+{
+    let rows = read(conn, "SELECT id, text FROM replies ORDER BY id", &[])?;
+    all_in::<_, ReplyTable>(alloc, rows.as_slice())
+}

@@ -1,0 +1,4 @@
+//! Changes put into the tables.
+#![tactic(auto)]
+
+pub mod commit;

@@ -1,0 +1,4 @@
+pub mod BatchRows
+pub mod HistoryLoads
+pub mod HistoryNumbers
+pub mod HistoryRows

@@ -1,0 +1,105 @@
+//! The table of the account.
+ghost use Rattle.std.specs.Prelude.{◌≡◌, OnOk, ◌-◌, ◌^◌, false, pos, min, IfOk};
+ghost use Rattle.sqlite.specs.Held.{state};
+ghost use Rattle.sqlite.specs.State.{HasCleanDisk};
+ghost use Rattle.opc_tables.specs.Steps.{Stays, Looks};
+ghost use Rattle.opc_stored.specs.Changes.{Becomes};
+ghost use Rattle.opc_state.specs.Changes.{with_account_row, with_account};
+ghost use Rattle.opc_history_tables.specs.Loads.{account_page};
+ghost use Rattle.opc_stored.specs.Represented.{Represents, account_shown};
+
+use opc_policy::source::StoreFault;
+use opc_rows::Rows;
+use opc_state::account::AccountRow;
+use opc_stored::columns::{Keeps, all_in, text_in, value_in};
+use opc_stored::queries::read;
+use opc_tables::numbers::last_number;
+use opc_tables::run;
+use sqlite::{Alter, Connection, Error, ErrorCode, Row, Transaction, params};
+use std::alloc::Global;
+
+/// The table of the account.
+pub struct AccountTable;
+
+impl Keeps<AccountRow> for AccountTable {
+    ghost row_of = { account_shown };
+
+    fn kept_in(row: &Row) -> Result<AccountRow, StoreFault> {
+        Ok(AccountRow {
+            moment: value_in(row, 0)?,
+            console: text_in(row, 1)?,
+            user: text_in(row, 2)?,
+            code: text_in(row, 3)?,
+            rule: text_in(row, 4)?,
+        })
+    }
+}
+
+fn add_row<S: Alter>(tx: &mut Transaction<'_, S>, row: &AccountRow) -> Result<(), Error>
+    ensures same_reference { tx.new.conn.ghost_name ≡ tx.old.conn.ghost_name }
+    ensures stays { Stays S.Store tx.old.conn.now tx.new.conn.now result }
+    ensures done { HasCleanDisk (state S.Store tx.new.conn.now) → OnOk result (Becomes (with_account_row row.now) (state S.Store tx.old.conn.now).now (state S.Store tx.new.conn.now).now) }
+{
+    let Ok(moment) = i64::try_from(row.moment) else {
+        return Err(Error::SqliteFailure(ErrorCode::IntegerOverflow));
+    };
+    run(
+        tx,
+        "INSERT INTO account VALUES (NULL, ?1, ?2, ?3, ?4, ?5)",
+        params![
+            moment,
+            row.console.as_str(),
+            row.user.as_str(),
+            row.code.as_str(),
+            row.rule.as_str()
+        ],
+    )?;
+    let _number = last_number(tx);
+    Ok(())
+}
+
+/// One more row of the account, if there is one.
+pub fn account_for<S: Alter>(
+    tx: &mut Transaction<'_, S>,
+    row: &Option<AccountRow>,
+) -> Result<(), Error>
+    ensures same_reference { tx.new.conn.ghost_name ≡ tx.old.conn.ghost_name }
+    ensures stays { Stays S.Store tx.old.conn.now tx.new.conn.now result }
+    ensures done { HasCleanDisk (state S.Store tx.new.conn.now) → OnOk result (Becomes (with_account row.now) (state S.Store tx.old.conn.now).now (state S.Store tx.new.conn.now).now) }
+{
+    match row {
+        Some(row) => add_row(tx, row),
+        None => Ok(()),
+    }
+}
+
+// The last number before those that are asked for, or the greatest that a table can hold.
+fn last_before(from: u64) -> i64
+    ensures { result ≡ pos (min (from - 1) (2 ^ 63 - 1)) }
+{
+    match i64::try_from(from.saturating_sub(1)) {
+        Ok(last) => last,
+        Err(_) => i64::MAX,
+    }
+}
+
+/// The rows of the account from a number on, as many as asked at most.
+pub fn account_on<S: Alter>(
+    alloc: Global,
+    conn: &mut Connection<S>,
+    from: u64,
+    count: u32,
+) -> Result<Rows<AccountRow>, StoreFault>
+    requires { conn.old.in_transaction ≡ false }
+    ensures mode { conn.new.in_transaction ≡ false }
+    ensures looks { Looks S.Store conn.old conn.new result }
+    ensures found { HasCleanDisk (state S.Store conn.new) → (s : _) → Represents (state S.Store conn.old).now s → IfOk result (λ v. v ≡ account_page from count s.account) }
+{
+    let last = last_before(from);
+    let rows = read(
+        conn,
+        "SELECT moment, console, usr, code, rule FROM account WHERE number > ?1 ORDER BY number LIMIT ?2",
+        params![last, count],
+    )?;
+    all_in::<_, AccountTable>(alloc, rows.as_slice())
+}

@@ -1,0 +1,57 @@
+//! The table of answered replies.
+ghost use Rattle.std.specs.Prelude.{◌≡◌, ◌++◌, ◌∷◌, [], OnOk, false, IfOk};
+ghost use Rattle.sqlite.specs.Held.{state};
+ghost use Rattle.sqlite.specs.State.{HasCleanDisk};
+ghost use Rattle.opc_tables.specs.Steps.{Stays, Looks};
+ghost use Rattle.opc_state.specs.Changes.{with_answered};
+ghost use Rattle.opc_stored.specs.Changes.{Becomes};
+ghost use Rattle.opc_stored.specs.Represented.{Represents, reply_shown};
+
+use opc_board::rows::ReplyRow;
+use opc_policy::source::StoreFault;
+use opc_rows::Rows;
+use opc_stored::columns::{Keeps, all_in, reply_in, reply_number};
+use opc_stored::queries::read;
+use opc_tables::numbers::last_number;
+use opc_tables::run;
+use sqlite::{Alter, Connection, Error, Row, Transaction, params};
+use std::alloc::Global;
+
+/// The table of answered replies.
+pub struct AnsweredTable;
+
+impl Keeps<ReplyRow> for AnsweredTable {
+    ghost row_of = { reply_shown };
+
+    fn kept_in(row: &Row) -> Result<ReplyRow, StoreFault> {
+        reply_in(row)
+    }
+}
+
+pub fn add_answered<S: Alter>(tx: &mut Transaction<'_, S>, reply: &ReplyRow) -> Result<(), Error>
+    ensures same_reference { tx.new.conn.ghost_name ≡ tx.old.conn.ghost_name }
+    ensures stays { Stays S.Store tx.old.conn.now tx.new.conn.now result }
+    ensures done { HasCleanDisk (state S.Store tx.new.conn.now) → OnOk result (Becomes (λ s. with_answered (s.board.answered ++ reply.now ∷ []) s) (state S.Store tx.old.conn.now).now (state S.Store tx.new.conn.now).now) }
+{
+    run(
+        tx,
+        "INSERT INTO answered VALUES (NULL, ?1, ?2)",
+        params![reply_number(reply.id), reply.text.as_str()],
+    )?;
+    let _number = last_number(tx);
+    Ok(())
+}
+
+/// The answered replies, in the order of their answers.
+pub fn answered_on<S: Alter>(
+    alloc: Global,
+    conn: &mut Connection<S>,
+) -> Result<Rows<ReplyRow>, StoreFault>
+    requires { conn.old.in_transaction ≡ false }
+    ensures mode { conn.new.in_transaction ≡ false }
+    ensures looks { Looks S.Store conn.old conn.new result }
+    ensures found { HasCleanDisk (state S.Store conn.new) → (s : _) → Represents (state S.Store conn.old).now s → IfOk result (λ v. v ≡ s.board.answered) }
+{
+    let rows = read(conn, "SELECT id, text FROM answered ORDER BY number", &[])?;
+    all_in::<_, AnsweredTable>(alloc, rows.as_slice())
+}

@@ -1,0 +1,70 @@
+//! The table of batches, whose rows are kept as the text of a policy file.
+ghost use Rattle.std.specs.Prelude.{◌≡◌, OnOk, false, IfOk};
+ghost use Rattle.sqlite.specs.Held.{state};
+ghost use Rattle.sqlite.specs.State.{HasCleanDisk};
+ghost use Rattle.opc_tables.specs.Steps.{Stays, Looks};
+ghost use Rattle.opc_state.specs.Changes.{with_batches};
+ghost use Rattle.opc_state.specs.Members.{with_batch};
+ghost use Rattle.opc_stored.specs.Changes.{Becomes};
+ghost use Rattle.opc_history_tables.specs.Loads.{kept_text};
+ghost use Rattle.opc_stored.specs.Represented.{Represents};
+
+use opc_board::text::KeptText;
+use opc_import::kind::MOST_ROWS;
+use opc_import::write::write_policy;
+use opc_policy::source::StoreFault;
+use opc_state::change::Batch;
+use opc_stored::columns::text_in;
+use opc_stored::queries::read;
+use opc_tables::run;
+use sqlite::{Alter, Connection, Error, ErrorCode, Transaction, params};
+use std::alloc::Global;
+
+/// A batch of more rows than a policy file has could not be read back, and is not kept.
+pub fn put_batch<S: Alter>(
+    alloc: Global,
+    tx: &mut Transaction<'_, S>,
+    batch: &Batch,
+) -> Result<(), Error>
+    ensures same_reference { tx.new.conn.ghost_name ≡ tx.old.conn.ghost_name }
+    ensures stays { Stays S.Store tx.old.conn.now tx.new.conn.now result }
+    ensures done { HasCleanDisk (state S.Store tx.new.conn.now) → OnOk result (Becomes (λ s. with_batches (with_batch batch.now s.batches) s) (state S.Store tx.old.conn.now).now (state S.Store tx.new.conn.now).now) }
+{
+    let rows = batch.rows.as_slice();
+    if rows.len() > MOST_ROWS as usize {
+        return Err(Error::SqliteFailure(ErrorCode::TooBig));
+    }
+    let text = write_policy(alloc, rows)?;
+    run(
+        tx,
+        "DELETE FROM batches WHERE number = ?1",
+        params![batch.number],
+    )?;
+    run(
+        tx,
+        "INSERT INTO batches VALUES (?1, ?2)",
+        params![batch.number, text.as_str()],
+    )?;
+    Ok(())
+}
+
+/// The text of the batch of a number.
+pub fn batch_on<S: Alter>(
+    conn: &mut Connection<S>,
+    number: u32,
+) -> Result<Option<KeptText>, StoreFault>
+    requires { conn.old.in_transaction ≡ false }
+    ensures mode { conn.new.in_transaction ≡ false }
+    ensures looks { Looks S.Store conn.old conn.new result }
+    ensures found { HasCleanDisk (state S.Store conn.new) → (s : _) → Represents (state S.Store conn.old).now s → IfOk result (λ v. v ≡ kept_text s.batches number) }
+{
+    let rows = read(
+        conn,
+        "SELECT rows FROM batches WHERE number = ?1 ORDER BY number",
+        params![number],
+    )?;
+    match rows.as_slice().get(0) {
+        Some(row) => Ok(Some(text_in(row, 0)?)),
+        None => Ok(None),
+    }
+}

@@ -1,0 +1,57 @@
+//! The table of the log.
+ghost use Rattle.std.specs.Prelude.{◌≡◌, ◌++◌, ◌∷◌, [], OnOk, false, IfOk};
+ghost use Rattle.sqlite.specs.Held.{state};
+ghost use Rattle.sqlite.specs.State.{HasCleanDisk};
+ghost use Rattle.opc_tables.specs.Steps.{Stays, Looks};
+ghost use Rattle.opc_state.specs.Changes.{with_log};
+ghost use Rattle.opc_stored.specs.Changes.{Becomes};
+ghost use Rattle.opc_stored.specs.Represented.{Represents, log_shown};
+
+use opc_board::text::KeptText;
+use opc_policy::source::StoreFault;
+use opc_rows::Rows;
+use opc_stored::columns::{Keeps, all_in, text_in};
+use opc_stored::queries::read;
+use opc_tables::numbers::last_number;
+use opc_tables::run;
+use sqlite::{Alter, Connection, Error, Row, Transaction, params};
+use std::alloc::Global;
+
+/// The table of the log.
+pub struct LogTable;
+
+impl Keeps<KeptText> for LogTable {
+    ghost row_of = { log_shown };
+
+    fn kept_in(row: &Row) -> Result<KeptText, StoreFault> {
+        text_in(row, 0)
+    }
+}
+
+pub fn add_log<S: Alter>(tx: &mut Transaction<'_, S>, text: &KeptText) -> Result<(), Error>
+    ensures same_reference { tx.new.conn.ghost_name ≡ tx.old.conn.ghost_name }
+    ensures stays { Stays S.Store tx.old.conn.now tx.new.conn.now result }
+    ensures done { HasCleanDisk (state S.Store tx.new.conn.now) → OnOk result (Becomes (λ s. with_log (s.board.log ++ text.now ∷ []) s) (state S.Store tx.old.conn.now).now (state S.Store tx.new.conn.now).now) }
+{
+    run(
+        tx,
+        "INSERT INTO log VALUES (NULL, ?1)",
+        params![text.as_str()],
+    )?;
+    let _number = last_number(tx);
+    Ok(())
+}
+
+/// The log, in its order.
+pub fn log_on<S: Alter>(
+    alloc: Global,
+    conn: &mut Connection<S>,
+) -> Result<Rows<KeptText>, StoreFault>
+    requires { conn.old.in_transaction ≡ false }
+    ensures mode { conn.new.in_transaction ≡ false }
+    ensures looks { Looks S.Store conn.old conn.new result }
+    ensures found { HasCleanDisk (state S.Store conn.new) → (s : _) → Represents (state S.Store conn.old).now s → IfOk result (λ v. v ≡ s.board.log) }
+{
+    let rows = read(conn, "SELECT text FROM log ORDER BY number", &[])?;
+    all_in::<_, LogTable>(alloc, rows.as_slice())
+}

@@ -1,0 +1,14 @@
+pub mod ClassLoads
+pub mod ClassRows
+pub mod ConnectRows
+pub mod Defined
+pub mod EntryRows
+pub mod GroupRows
+pub mod Named
+pub mod PolicyLoads
+pub mod ProfileRows
+pub mod Restated
+pub mod Streaming
+pub mod UserLoads
+pub mod UserRows
+pub mod WholeRows

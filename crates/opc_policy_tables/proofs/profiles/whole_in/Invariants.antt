@@ -1,0 +1,19 @@
+use Rattle.std.proofs.Common.{◌≡◌, List, map, take, Ok, Result, IsTrue, false}
+use Rattle.sqlite.specs.declared.error.Error.{Error}
+use Rattle.sqlite.specs.Held.{state}
+use Rattle.sqlite.specs.State.{HasCleanDisk}
+use Rattle.opc_tables.specs.Steps.{Looks}
+use Rattle.opc_policy.specs.declared.profile.Profile.{Profile}
+use Rattle.opc_stored.specs.Represented.{Represents, profile_row}
+use Rattle.opc_policy_tables.specs.Among.{AreAmong}
+use Rattle.opc_policy_tables.proofs.profiles.whole_in.Given as goal
+
+abbrev pub invariant-loop-row : goal.invariant-loop-row
+invariant-loop-row g l =
+    let old = l.fn.conn in
+    let now = l.conn in
+    let ok : Result (Unit {0}) Error = Ok tt in
+    (now.in_transaction ≡ false)
+    × ((HasCleanDisk (state g.S.Store old) → IsTrue (state g.S.Store old).is_open) → Looks g.S.Store old now ok)
+    × (HasCleanDisk (state g.S.Store now) → (s : _) → Represents (state g.S.Store old).now s → (ps : List Profile) → AreAmong s.policy.profiles ps → l.rows ≡ map profile_row ps
+    → Represents (state g.S.Store now).now s × (l.profiles.items ≡ take l.row-index ps))

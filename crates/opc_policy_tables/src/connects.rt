@@ -1,0 +1,110 @@
+//! The table of connects.
+ghost use Rattle.std.specs.Prelude.{◌≡◌, OnOk, false, List, IfOk, map};
+ghost use Rattle.sqlite.specs.Held.{state};
+ghost use Rattle.sqlite.specs.State.{HasCleanDisk};
+ghost use Rattle.opc_tables.specs.Steps.{Stays, Looks};
+ghost use Rattle.opc_policy.specs.Members.{with_connect, groups_of};
+ghost use Rattle.opc_stored.specs.Changes.{Becomes};
+ghost use Rattle.opc_state.specs.Changes.{with_connects};
+ghost use Rattle.opc_state.specs.Members.{without_connect};
+ghost use Rattle.opc_policy.specs.declared.connect.Connect.{Connect as TheConnect};
+ghost use Rattle.opc_stored.specs.Represented.{Represents, connect_row};
+
+use opc_names::name::{GroupName, UserId};
+use opc_policy::connect::Connect;
+use opc_policy::source::StoreFault;
+use opc_rows::Rows;
+use opc_stored::columns::{Keeps, all_in, name_in};
+use opc_stored::queries::read;
+use opc_tables::{put, run};
+use sqlite::{Alter, Connection, Error, Row, Transaction, params};
+use std::alloc::Global;
+
+/// The table of connects.
+pub struct ConnectTable;
+
+impl Keeps<Connect> for ConnectTable {
+    ghost row_of = { connect_row };
+
+    fn kept_in(row: &Row) -> Result<Connect, StoreFault> {
+        connect_in(row)
+    }
+}
+
+pub fn put_connect<S: Alter>(tx: &mut Transaction<'_, S>, connect: &Connect) -> Result<(), Error>
+    ensures same_reference { tx.new.conn.ghost_name ≡ tx.old.conn.ghost_name }
+    ensures stays { Stays S.Store tx.old.conn.now tx.new.conn.now result }
+    ensures done { HasCleanDisk (state S.Store tx.new.conn.now) → OnOk result (Becomes (λ s. with_connects (with_connect connect.now s.policy.connects) s) (state S.Store tx.old.conn.now).now (state S.Store tx.new.conn.now).now) }
+{
+    put(
+        tx,
+        "UPDATE connects SET usr = ?1, grp = ?2 WHERE usr = ?1 AND grp = ?2",
+        "INSERT INTO connects VALUES (?1, ?2)",
+        params![connect.user.text(), connect.group.text()],
+    )
+}
+
+pub fn remove_connect<S: Alter>(tx: &mut Transaction<'_, S>, connect: &Connect) -> Result<(), Error>
+    ensures same_reference { tx.new.conn.ghost_name ≡ tx.old.conn.ghost_name }
+    ensures stays { Stays S.Store tx.old.conn.now tx.new.conn.now result }
+    ensures done { HasCleanDisk (state S.Store tx.new.conn.now) → OnOk result (Becomes (λ s. with_connects (without_connect connect.now s.policy.connects) s) (state S.Store tx.old.conn.now).now (state S.Store tx.new.conn.now).now) }
+{
+    run(
+        tx,
+        "DELETE FROM connects WHERE usr = ?1 AND grp = ?2",
+        params![connect.user.text(), connect.group.text()],
+    )?;
+    Ok(())
+}
+
+pub fn connect_in(row: &Row) -> Result<Connect, StoreFault>
+    ensures { (c : TheConnect) → row.now ≡ connect_row c → IfOk result (λ v. v ≡ c) }
+{
+    Ok(Connect {
+        user: name_in(row, 0)?,
+        group: name_in(row, 1)?,
+    })
+}
+
+/// The connects, in order.
+pub fn connects_on<S: Alter>(
+    alloc: Global,
+    conn: &mut Connection<S>,
+) -> Result<Rows<Connect>, StoreFault>
+    requires { conn.old.in_transaction ≡ false }
+    ensures mode { conn.new.in_transaction ≡ false }
+    ensures looks { Looks S.Store conn.old conn.new result }
+    ensures found { HasCleanDisk (state S.Store conn.new) → (s : _) → Represents (state S.Store conn.old).now s → IfOk result (λ v. v ≡ s.policy.connects) }
+{
+    let rows = read(conn, "SELECT usr, grp FROM connects ORDER BY usr, grp", &[])?;
+    all_in::<_, ConnectTable>(alloc, rows.as_slice())
+}
+
+fn groups_in(alloc: Global, rows: &[Row]) -> Result<Vec<GroupName>, StoreFault>
+    ensures { (connects : List TheConnect) → rows.now ≡ map connect_row connects → IfOk result (λ v. v.items ≡ map (λ (c : TheConnect). c.group) connects) }
+{
+    let mut groups = Vec::new(alloc);
+    for row in rows {
+        groups.push(name_in(row, 1)?)?;
+    }
+    Ok(groups)
+}
+
+/// The groups that a user is connected to, in order.
+pub fn user_groups_on<S: Alter>(
+    alloc: Global,
+    conn: &mut Connection<S>,
+    id: &UserId,
+) -> Result<Vec<GroupName>, StoreFault>
+    requires { conn.old.in_transaction ≡ false }
+    ensures mode { conn.new.in_transaction ≡ false }
+    ensures looks { Looks S.Store conn.old conn.new result }
+    ensures found { HasCleanDisk (state S.Store conn.new) → (s : _) → Represents (state S.Store conn.old).now s → IfOk result (λ v. v.items ≡ groups_of s.policy.connects id.now) }
+{
+    let rows = read(
+        conn,
+        "SELECT usr, grp FROM connects WHERE usr = ?1 ORDER BY usr, grp",
+        params![id.text()],
+    )?;
+    groups_in(alloc, rows.as_slice())
+}

@@ -1,0 +1,174 @@
+//! The table of access lists.
+ghost use Rattle.std.specs.Prelude.{◌≡◌, ◌∷◌, ◌++◌, List, ℕ, IfOk, OnOk, map, false, Some};
+ghost use Rattle.sqlite.specs.Held.{state};
+ghost use Rattle.sqlite.specs.State.{HasCleanDisk};
+ghost use Rattle.opc_tables.specs.Order.{Rises};
+ghost use Rattle.opc_tables.specs.Steps.{Stays, Looks};
+ghost use Rattle.opc_policy.specs.Access.{entry_cmp};
+ghost use Rattle.opc_policy.specs.Profiles.{profile_of, with_permission};
+ghost use Rattle.opc_state.specs.Changes.{with_profiles};
+ghost use Rattle.opc_state.specs.Members.{without_permission};
+ghost use Rattle.opc_stored.specs.Contents.{Contents};
+ghost use Rattle.opc_stored.specs.Made.{IsMade};
+ghost use Rattle.opc_stored.specs.Represented.{Represents, entry_row};
+ghost use Rattle.opc_stored.specs.Changes.{Becomes};
+ghost use Rattle.sqlite.specs.Order.{column};
+ghost use Rattle.sqlite.specs.declared.types.Value.TheVariants.{Text};
+ghost use Rattle.opc_names.specs.declared.class.Class.{Class as TheClass};
+ghost use Rattle.opc_policy.specs.declared.entry.Entry.{Entry as TheEntry};
+ghost use Rattle.opc_policy.specs.declared.profile.Profile.{Profile as TheProfile};
+
+use crate::levels::{level_in, rank_of};
+use opc_names::class::Class;
+use opc_names::name::Pattern;
+use opc_policy::entries::Entries;
+use opc_policy::entry::{Entry, EntryId};
+use opc_policy::source::StoreFault;
+use opc_stored::columns::value_in;
+use opc_stored::faults::unreadable;
+use opc_stored::queries::read;
+use opc_tables::run;
+use sqlite::{Alter, Connection, Error, Row, Transaction, params};
+use std::alloc::Global;
+
+fn insert_entry<S: Alter>(
+    tx: &mut Transaction<'_, S>,
+    class: Class,
+    pattern: &Pattern,
+    entry: &Entry,
+) -> Result<(), Error>
+    ensures same_reference { tx.new.conn.ghost_name ≡ tx.old.conn.ghost_name }
+    ensures stays { Stays S.Store tx.old.conn.now tx.new.conn.now result }
+    ensures added { HasCleanDisk (state S.Store tx.new.conn.now) → OnOk result ((c : Contents) → IsMade c (state S.Store tx.old.conn.now).now → IsMade (record c { entries = entry_row class pattern.now entry.now ∷ c.entries }) (state S.Store tx.new.conn.now).now) }
+{
+    run(
+        tx,
+        "INSERT INTO entries VALUES (?1, ?2, ?3, ?4)",
+        params![
+            class.text(),
+            pattern.text(),
+            entry.id.text(),
+            rank_of(entry.level)
+        ],
+    )?;
+    Ok(())
+}
+
+pub(crate) fn insert_entries<S: Alter>(
+    tx: &mut Transaction<'_, S>,
+    class: Class,
+    pattern: &Pattern,
+    entries: &[Entry],
+) -> Result<(), Error>
+    ensures same_reference { tx.new.conn.ghost_name ≡ tx.old.conn.ghost_name }
+    ensures stays { Stays S.Store tx.old.conn.now tx.new.conn.now result }
+    ensures added { HasCleanDisk (state S.Store tx.new.conn.now) → OnOk result ((c : Contents) → IsMade c (state S.Store tx.old.conn.now).now → IsMade (record c { entries = map (entry_row class pattern.now) entries.now ++ c.entries }) (state S.Store tx.new.conn.now).now) }
+{
+    for entry in entries {
+        insert_entry(tx, class, pattern, entry)?;
+    }
+    Ok(())
+}
+
+/// An entry of the access list of a profile that is there.
+pub fn put_entry<S: Alter>(
+    tx: &mut Transaction<'_, S>,
+    class: Class,
+    pattern: &Pattern,
+    entry: &Entry,
+) -> Result<(), Error>
+    ensures same_reference { tx.new.conn.ghost_name ≡ tx.old.conn.ghost_name }
+    ensures stays { Stays S.Store tx.old.conn.now tx.new.conn.now result }
+    ensures done { HasCleanDisk (state S.Store tx.new.conn.now) → OnOk result (Becomes (λ s. with_profiles (with_permission class pattern.now entry.now s.policy.profiles) s) (state S.Store tx.old.conn.now).now (state S.Store tx.new.conn.now).now) }
+{
+    let found = run(
+        tx,
+        "UPDATE entries SET class = ?1, pattern = ?2, id = ?3, level = ?4 WHERE class = ?1 AND pattern = ?2 AND id = ?3",
+        params![
+            class.text(),
+            pattern.text(),
+            entry.id.text(),
+            rank_of(entry.level)
+        ],
+    )?;
+    if found == 0 {
+        run(
+            tx,
+            "INSERT INTO entries VALUES (?1, ?2, ?3, ?4)",
+            params![
+                class.text(),
+                pattern.text(),
+                entry.id.text(),
+                rank_of(entry.level)
+            ],
+        )?;
+    }
+    Ok(())
+}
+
+pub fn remove_entry<S: Alter>(
+    tx: &mut Transaction<'_, S>,
+    class: Class,
+    pattern: &Pattern,
+    id: &EntryId,
+) -> Result<(), Error>
+    ensures same_reference { tx.new.conn.ghost_name ≡ tx.old.conn.ghost_name }
+    ensures stays { Stays S.Store tx.old.conn.now tx.new.conn.now result }
+    ensures done { HasCleanDisk (state S.Store tx.new.conn.now) → OnOk result (Becomes (λ s. with_profiles (without_permission class pattern.now id.now s.policy.profiles) s) (state S.Store tx.old.conn.now).now (state S.Store tx.new.conn.now).now) }
+{
+    run(
+        tx,
+        "DELETE FROM entries WHERE class = ?1 AND pattern = ?2 AND id = ?3",
+        params![class.text(), pattern.text(), id.text()],
+    )?;
+    Ok(())
+}
+
+fn entry_id_in(row: &Row) -> Result<EntryId, StoreFault>
+    ensures { (id : List ℕ) → column row.now 2 ≡ Text id → IfOk result (λ v. v ≡ id) }
+{
+    let text: String = value_in(row, 2)?;
+    match EntryId::read(text.as_str()) {
+        Ok(id) => Ok(id),
+        Err(_) => Err(unreadable()),
+    }
+}
+
+fn entry_in(row: &Row) -> Result<Entry, StoreFault>
+    ensures { (class : TheClass) → (pattern : List ℕ) → (e : TheEntry) → row.now ≡ entry_row class pattern e → IfOk result (λ v. v ≡ e) }
+{
+    Ok(Entry {
+        id: entry_id_in(row)?,
+        level: level_in(row)?,
+    })
+}
+
+fn entries_in(alloc: Global, rows: &[Row]) -> Result<Entries, StoreFault>
+    ensures { (class : TheClass) → (pattern : List ℕ) → (entries : List TheEntry) → Rises entry_cmp entries → rows.now ≡ map (entry_row class pattern) entries → IfOk result (λ v. v ≡ entries) }
+{
+    let mut entries = Entries::new(alloc);
+    for row in rows {
+        entries.set(entry_in(row)?)?;
+    }
+    Ok(entries)
+}
+
+/// The access list of a profile.
+pub fn entries_on<S: Alter>(
+    alloc: Global,
+    conn: &mut Connection<S>,
+    class: Class,
+    pattern: &Pattern,
+) -> Result<Entries, StoreFault>
+    requires { conn.old.in_transaction ≡ false }
+    ensures mode { conn.new.in_transaction ≡ false }
+    ensures looks { Looks S.Store conn.old conn.new result }
+    ensures found { HasCleanDisk (state S.Store conn.new) → (s : _) → Represents (state S.Store conn.old).now s → (p : TheProfile) → profile_of s.policy.profiles class pattern.now ≡ Some p → IfOk result (λ v. v ≡ p.entries) }
+{
+    let rows = read(
+        conn,
+        "SELECT class, pattern, id, level FROM entries WHERE class = ?1 AND pattern = ?2 ORDER BY id",
+        params![class.text(), pattern.text()],
+    )?;
+    entries_in(alloc, rows.as_slice())
+}

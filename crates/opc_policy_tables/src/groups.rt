@@ -1,0 +1,66 @@
+//! The table of groups.
+ghost use Rattle.std.specs.Prelude.{◌≡◌, OnOk, IfOk, false};
+ghost use Rattle.sqlite.specs.Held.{state};
+ghost use Rattle.sqlite.specs.State.{HasCleanDisk};
+ghost use Rattle.opc_tables.specs.Steps.{Stays, Looks};
+ghost use Rattle.opc_policy.specs.Members.{with_group};
+ghost use Rattle.opc_stored.specs.Changes.{Becomes};
+ghost use Rattle.opc_state.specs.Changes.{with_groups};
+ghost use Rattle.opc_state.specs.Members.{without_group};
+ghost use Rattle.opc_stored.specs.Represented.{group_row, Represents};
+
+use opc_names::name::GroupName;
+use opc_policy::source::StoreFault;
+use opc_rows::Rows;
+use opc_stored::columns::{Keeps, all_in, name_in};
+use opc_stored::queries::read;
+use opc_tables::{put, run};
+use sqlite::{Alter, Connection, Error, Row, Transaction, params};
+use std::alloc::Global;
+
+/// The table of groups.
+pub struct GroupTable;
+
+impl Keeps<GroupName> for GroupTable {
+    ghost row_of = { group_row };
+
+    fn kept_in(row: &Row) -> Result<GroupName, StoreFault> {
+        name_in(row, 0)
+    }
+}
+
+pub fn put_group<S: Alter>(tx: &mut Transaction<'_, S>, name: &GroupName) -> Result<(), Error>
+    ensures same_reference { tx.new.conn.ghost_name ≡ tx.old.conn.ghost_name }
+    ensures stays { Stays S.Store tx.old.conn.now tx.new.conn.now result }
+    ensures done { HasCleanDisk (state S.Store tx.new.conn.now) → OnOk result (Becomes (λ s. with_groups (with_group name.now s.policy.groups) s) (state S.Store tx.old.conn.now).now (state S.Store tx.new.conn.now).now) }
+{
+    put(
+        tx,
+        "UPDATE grp SET name = ?1 WHERE name = ?1",
+        "INSERT INTO grp VALUES (?1)",
+        params![name.text()],
+    )
+}
+
+pub fn remove_group<S: Alter>(tx: &mut Transaction<'_, S>, name: &GroupName) -> Result<(), Error>
+    ensures same_reference { tx.new.conn.ghost_name ≡ tx.old.conn.ghost_name }
+    ensures stays { Stays S.Store tx.old.conn.now tx.new.conn.now result }
+    ensures done { HasCleanDisk (state S.Store tx.new.conn.now) → OnOk result (Becomes (λ s. with_groups (without_group name.now s.policy.groups) s) (state S.Store tx.old.conn.now).now (state S.Store tx.new.conn.now).now) }
+{
+    run(tx, "DELETE FROM grp WHERE name = ?1", params![name.text()])?;
+    Ok(())
+}
+
+/// The groups, in order.
+pub fn groups_on<S: Alter>(
+    alloc: Global,
+    conn: &mut Connection<S>,
+) -> Result<Rows<GroupName>, StoreFault>
+    requires { conn.old.in_transaction ≡ false }
+    ensures mode { conn.new.in_transaction ≡ false }
+    ensures looks { Looks S.Store conn.old conn.new result }
+    ensures found { HasCleanDisk (state S.Store conn.new) → (s : _) → Represents (state S.Store conn.old).now s → IfOk result (λ v. v ≡ s.policy.groups) }
+{
+    let rows = read(conn, "SELECT name FROM grp ORDER BY name", &[])?;
+    all_in::<_, GroupTable>(alloc, rows.as_slice())
+}

@@ -1,0 +1,12 @@
+//! The tables of a policy.
+#![tactic(auto)]
+
+pub mod classes;
+pub mod connects;
+pub mod entries;
+pub mod groups;
+pub mod levels;
+pub mod policy;
+pub mod profiles;
+pub mod rows;
+pub mod users;

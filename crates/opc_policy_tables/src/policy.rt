@@ -1,0 +1,88 @@
+//! The policy, made of the lists that the tables keep.
+ghost use Rattle.std.specs.Prelude.{◌≡◌, false, IfOk};
+ghost use Rattle.sqlite.specs.Held.{state};
+ghost use Rattle.sqlite.specs.State.{HasCleanDisk};
+ghost use Rattle.opc_tables.specs.Order.{Rises};
+ghost use Rattle.opc_tables.specs.Steps.{Looks};
+ghost use Rattle.opc_policy.specs.Members.{name_cmp, user_cmp, connect_cmp};
+ghost use Rattle.opc_policy.specs.Profiles.{profile_cmp};
+ghost use Rattle.opc_stored.specs.Represented.{Represents};
+
+use crate::classes::actives_on;
+use crate::connects::connects_on;
+use crate::groups::groups_on;
+use crate::profiles::profiles_on;
+use crate::users::users_on;
+use opc_names::name::GroupName;
+use opc_policy::connect::{Connect, Connects};
+use opc_policy::groups::Groups;
+use opc_policy::policy::Policy;
+use opc_policy::profile::Profile;
+use opc_policy::profiles::Profiles;
+use opc_policy::source::StoreFault;
+use opc_policy::user::User;
+use opc_policy::users::Users;
+use sqlite::{Alter, Connection};
+use std::alloc::{AllocError, Global};
+
+// Each of these puts a list that is in order, member after member, into what keeps that order.
+fn groups_of(alloc: Global, list: &[GroupName]) -> Result<Groups, AllocError>
+    ensures { Rises name_cmp list.now → IfOk result (λ v. v ≡ list.now) }
+{
+    let mut groups = Groups::new(alloc);
+    for name in list {
+        groups.insert(*name)?;
+    }
+    Ok(groups)
+}
+
+fn users_of(alloc: Global, list: &[User]) -> Result<Users, AllocError>
+    ensures { Rises user_cmp list.now → IfOk result (λ v. v ≡ list.now) }
+{
+    let mut users = Users::new(alloc);
+    for user in list {
+        users.insert(*user)?;
+    }
+    Ok(users)
+}
+
+fn connects_of(alloc: Global, list: &[Connect]) -> Result<Connects, AllocError>
+    ensures { Rises connect_cmp list.now → IfOk result (λ v. v ≡ list.now) }
+{
+    let mut connects = Connects::new(alloc);
+    for connect in list {
+        connects.insert(*connect)?;
+    }
+    Ok(connects)
+}
+
+fn profiles_of(alloc: Global, list: Vec<Profile>) -> Result<Profiles, AllocError>
+    ensures { Rises profile_cmp list.items → IfOk result (λ v. v ≡ list.items) }
+{
+    let mut profiles = Profiles::new(alloc);
+    for profile in list {
+        profiles.define(profile)?;
+    }
+    Ok(profiles)
+}
+
+/// The whole policy.
+pub fn policy_on<S: Alter>(alloc: Global, conn: &mut Connection<S>) -> Result<Policy, StoreFault>
+    requires { conn.old.in_transaction ≡ false }
+    ensures mode { conn.new.in_transaction ≡ false }
+    ensures looks { Looks S.Store conn.old conn.new result }
+    ensures found { HasCleanDisk (state S.Store conn.new) → (s : _) → Represents (state S.Store conn.old).now s → IfOk result (λ v. v ≡ s.policy) }
+{
+    let users = users_on(alloc, conn)?;
+    let groups = groups_on(alloc, conn)?;
+    let connects = connects_on(alloc, conn)?;
+    let profiles = profiles_on(alloc, conn)?;
+    let active = actives_on(conn)?;
+    Ok(Policy {
+        users: users_of(alloc, users.as_slice())?,
+        groups: groups_of(alloc, groups.as_slice())?,
+        connects: connects_of(alloc, connects.as_slice())?,
+        profiles: profiles_of(alloc, profiles)?,
+        active,
+    })
+}

@@ -1,0 +1,190 @@
+//! The policy and the consoles, as rows of a policy file.
+ghost use Rattle.std.specs.Prelude.{◌≡◌, ◌++◌, false, IfOk, OnOk, map};
+ghost use Rattle.std.specs.List.{flat_map};
+ghost use Rattle.sqlite.specs.Held.{state};
+ghost use Rattle.sqlite.specs.State.{HasCleanDisk};
+ghost use Rattle.opc_tables.specs.Steps.{Looks};
+ghost use Rattle.opc_policy.specs.declared.policy.Policy.{Policy as ThePolicy};
+ghost use Rattle.opc_policy.specs.declared.row.Row.{Row as TheRow};
+ghost use Rattle.opc_policy_tables.specs.PolicyFile.{rows_of, row_of_group, row_of_user, row_of_connect, row_of_console, row_of_profile, row_of_entry, permits_of};
+ghost use Rattle.opc_stored.specs.Represented.{Represents};
+
+use crate::classes::actives_on;
+use crate::connects::connects_on;
+use crate::groups::groups_on;
+use crate::profiles::profiles_on;
+use crate::users::users_on;
+use opc_board::rows::ConsoleRow;
+use opc_names::class::Class;
+use opc_names::name::{GroupName, Pattern};
+use opc_policy::connect::Connect;
+use opc_policy::entry::Entry;
+use opc_policy::policy::ActiveClasses;
+use opc_policy::profile::Profile;
+use opc_policy::row::Row;
+use opc_policy::source::StoreFault;
+use opc_policy::user::User;
+use sqlite::{Alter, Connection};
+use std::alloc::{AllocError, Global};
+
+/// What is written as one row of a policy file.
+trait Written {
+    ghost row_of: { Self → TheRow };
+
+    fn to_row(&self) -> Row
+        ensures { result ≡ row_of self.now };
+}
+
+impl Written for GroupName {
+    ghost row_of = { row_of_group };
+
+    fn to_row(&self) -> Row {
+        Row::Group { name: *self }
+    }
+}
+
+impl Written for User {
+    ghost row_of = { row_of_user };
+
+    fn to_row(&self) -> Row {
+        Row::User(*self)
+    }
+}
+
+impl Written for Connect {
+    ghost row_of = { row_of_connect };
+
+    fn to_row(&self) -> Row {
+        Row::Connect {
+            user: self.user,
+            group: self.group,
+        }
+    }
+}
+
+impl Written for ConsoleRow {
+    ghost row_of = { row_of_console };
+
+    fn to_row(&self) -> Row {
+        Row::Console {
+            name: self.name,
+            auth: self.auth,
+            mode: self.mode,
+        }
+    }
+}
+
+impl Written for Profile {
+    ghost row_of = { row_of_profile };
+
+    fn to_row(&self) -> Row {
+        Row::Profile {
+            class: self.class,
+            pattern: self.pattern,
+            uacc: self.uacc,
+            owner: self.owner,
+            warning: self.warning,
+        }
+    }
+}
+
+fn add_all<X: Written>(rows: &mut Vec<Row>, members: &[X]) -> Result<(), AllocError>
+    ensures { OnOk result (rows.new.items ≡ rows.old.items ++ map X.row_of members.now) }
+{
+    for member in members {
+        rows.push(member.to_row())?;
+    }
+    Ok(())
+}
+
+fn add_entries(
+    rows: &mut Vec<Row>,
+    class: Class,
+    pattern: Pattern,
+    entries: &[Entry],
+) -> Result<(), AllocError>
+    ensures { OnOk result (rows.new.items ≡ rows.old.items ++ map (row_of_entry class pattern) entries.now) }
+{
+    for entry in entries {
+        rows.push(Row::Permit {
+            class,
+            pattern,
+            id: entry.id,
+            level: entry.level,
+        })?;
+    }
+    Ok(())
+}
+
+fn add_permits(rows: &mut Vec<Row>, profiles: &[Profile]) -> Result<(), AllocError>
+    ensures { OnOk result (rows.new.items ≡ rows.old.items ++ flat_map permits_of profiles.now) }
+{
+    for profile in profiles {
+        add_entries(
+            rows,
+            profile.class,
+            profile.pattern,
+            profile.entries.as_slice(),
+        )?;
+    }
+    Ok(())
+}
+
+/// The rows of a policy file, of lists of what it tells.
+fn rows_of(
+    alloc: Global,
+    active: ActiveClasses,
+    groups: &[GroupName],
+    users: &[User],
+    connects: &[Connect],
+    consoles: &[ConsoleRow],
+    profiles: &[Profile],
+) -> Result<Vec<Row>, AllocError>
+    ensures { let policy : ThePolicy = record { users = users.now; groups = groups.now; connects = connects.now; profiles = profiles.now; active = active } in
+        IfOk result (λ v. v.items ≡ rows_of policy consoles.now) }
+{
+    let mut rows = Vec::new(alloc);
+    rows.push(Row::Class {
+        class: Class::Console,
+        active: active.console,
+    })?;
+    rows.push(Row::Class {
+        class: Class::Opercmds,
+        active: active.opercmds,
+    })?;
+    add_all(&mut rows, groups)?;
+    add_all(&mut rows, users)?;
+    add_all(&mut rows, connects)?;
+    add_all(&mut rows, consoles)?;
+    add_all(&mut rows, profiles)?;
+    add_permits(&mut rows, profiles)?;
+    Ok(rows)
+}
+
+/// The policy and these consoles, as rows of a policy file.
+pub fn policy_rows_on<S: Alter>(
+    alloc: Global,
+    conn: &mut Connection<S>,
+    consoles: &[ConsoleRow],
+) -> Result<Vec<Row>, StoreFault>
+    requires { conn.old.in_transaction ≡ false }
+    ensures mode { conn.new.in_transaction ≡ false }
+    ensures looks { Looks S.Store conn.old conn.new result }
+    ensures found { HasCleanDisk (state S.Store conn.new) → (s : _) → Represents (state S.Store conn.old).now s → IfOk result (λ v. v.items ≡ rows_of s.policy consoles.now) }
+{
+    let active = actives_on(conn)?;
+    let groups = groups_on(alloc, conn)?;
+    let users = users_on(alloc, conn)?;
+    let connects = connects_on(alloc, conn)?;
+    let profiles = profiles_on(alloc, conn)?;
+    let rows = rows_of(
+        alloc,
+        active,
+        groups.as_slice(),
+        users.as_slice(),
+        connects.as_slice(),
+        consoles,
+        profiles.as_slice(),
+    )?;
+    Ok(rows)
+}

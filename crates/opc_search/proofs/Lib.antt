@@ -1,0 +1,3 @@
+pub mod FirstDeciding
+pub mod SearchFound
+pub mod SearchLoads

@@ -1,0 +1,4 @@
+//! The search over the tables.
+#![tactic(auto)]
+
+pub mod search;

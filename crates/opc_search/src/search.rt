@@ -1,0 +1,211 @@
+//! The search for the profile that decides, over the tables.
+ghost use Rattle.std.specs.Prelude.{◌≡◌, ◌+◌, false, find, length, List, IfOk};
+ghost use Rattle.std.specs.Option.{option_map};
+ghost use Rattle.sqlite.specs.Held.{state};
+ghost use Rattle.sqlite.specs.State.{HasCleanDisk};
+ghost use Rattle.sqlite.specs.Values.{bound};
+ghost use Rattle.opc_tables.specs.Steps.{Looks, NeverWrites};
+ghost use Rattle.opc_tables.specs.Taken.{taken_for};
+ghost use Rattle.opc_policy.specs.Deciding.{of_class, deciding};
+ghost use Rattle.opc_policy.specs.Examined.{examined, head_length, read_until, with_head};
+ghost use Rattle.opc_policy.specs.declared.profile.Profile.{Profile as TheProfile};
+ghost use Rattle.opc_state.specs.State.{State, deciding_in};
+ghost use Rattle.opc_stored.specs.Represented.{Represents};
+ghost use Rattle.opc_search.specs.Search.{Selects, covers};
+ghost use Rattle.opc_stored.specs.Content.{bare};
+
+use opc_names::class::Class;
+use opc_names::name::Resource;
+use opc_policy::profile::Profile;
+use opc_policy::search::Found;
+use opc_policy::source::{StoreFault, Taken};
+use opc_policy_tables::entries::entries_on;
+use opc_policy_tables::profiles::{profile_in, whole_in};
+use opc_stored::faults::fault;
+use opc_stored::queries::read;
+use sqlite::types::ValueRef;
+use sqlite::{Alter, Connection, params};
+use std::alloc::Global;
+
+/// The profiles of a class with a head, in the order of their keys.
+const BY_HEAD: &str =
+    "SELECT class, pattern, owner, uacc, warning, skey, head FROM profiles WHERE class = ?1 AND head = ?2 ORDER BY class, skey";
+
+/// The first profile that covers a resource, of those that a query selects, but for its access list, and how many were
+/// read for it. The rows are taken one at a time, and left at the first cover.
+fn first_covering_on<S: Alter>(
+    alloc: Global,
+    conn: &mut Connection<S>,
+    sql: &str,
+    params: &[ValueRef<'_>],
+    resource: &Resource,
+) -> Result<Taken, StoreFault>
+    requires quiet { NeverWrites sql.now }
+    requires mode { conn.old.in_transaction ≡ false }
+    ensures mode { conn.new.in_transaction ≡ false }
+    ensures looks { Looks S.Store conn.old conn.new result }
+    ensures found { HasCleanDisk (state S.Store conn.new) → (select : State → List TheProfile) → Selects S.Store sql.now (bound params.now) select → (s : State) → Represents (state S.Store conn.old).now s → IfOk result (λ taken.
+        (taken.profile ≡ option_map bare (find (covers resource.now) (select s))) × (taken.rows ≡ taken_for (covers resource.now) (select s))) }
+{
+    let _settled = conn.is_autocommit();
+    let mut rows = match conn.query(sql, params) {
+        Ok(rows) => rows,
+        Err(error) => return Err(fault(error)),
+    };
+    'rows: for at in 0..u64::MAX {
+        let row = match rows.next() {
+            Ok(row) => row,
+            Err(error) => return Err(fault(error)),
+        };
+        let Some(row) = row else {
+            return Ok(Taken {
+                profile: None,
+                rows: at,
+            });
+        };
+        let profile = profile_in(alloc, row)?;
+        if profile.pattern.covers(resource) {
+            return Ok(Taken {
+                profile: Some(profile),
+                rows: at + 1,
+            });
+        }
+    }
+    Err(StoreFault::Store)
+}
+
+/// The first profile that covers a resource, in the order of the patterns, of those of a class with this very head, and how
+/// many were read for it.
+pub fn first_in_on<S: Alter>(
+    alloc: Global,
+    conn: &mut Connection<S>,
+    class: Class,
+    head: &str,
+    resource: &Resource,
+) -> Result<Taken, StoreFault>
+    requires { conn.old.in_transaction ≡ false }
+    ensures mode { conn.new.in_transaction ≡ false }
+    ensures looks { Looks S.Store conn.old conn.new result }
+    ensures first { HasCleanDisk (state S.Store conn.new) → (s : _) → Represents (state S.Store conn.old).now s → IfOk result (λ taken.
+        taken.profile ≡ deciding (with_head head.now (of_class class s.policy.profiles)) resource.now) }
+    ensures rows { HasCleanDisk (state S.Store conn.new) → (s : _) → Represents (state S.Store conn.old).now s → IfOk result (λ taken.
+        taken.rows ≡ length (read_until taken.profile (with_head head.now (of_class class s.policy.profiles)))) }
+{
+    let taken = first_covering_on(alloc, conn, BY_HEAD, params![class.text(), head], resource)?;
+    let Taken { profile, rows } = taken;
+    let Some(profile) = profile else {
+        return Ok(Taken {
+            profile: None,
+            rows,
+        });
+    };
+    let entries = entries_on(alloc, conn, profile.class, &profile.pattern)?;
+    Ok(Taken {
+        profile: Some(Profile { entries, ..profile }),
+        rows,
+    })
+}
+
+/// The first profile of a class that covers a resource, in the order of the patterns, and how many were read for it.
+pub fn first_on<S: Alter>(
+    alloc: Global,
+    conn: &mut Connection<S>,
+    class: Class,
+    resource: &Resource,
+) -> Result<Taken, StoreFault>
+    requires { conn.old.in_transaction ≡ false }
+    ensures mode { conn.new.in_transaction ≡ false }
+    ensures looks { Looks S.Store conn.old conn.new result }
+    ensures first { HasCleanDisk (state S.Store conn.new) → (s : _) → Represents (state S.Store conn.old).now s → IfOk result (λ taken.
+        taken.profile ≡ deciding_in s.policy class resource.now) }
+    ensures rows { HasCleanDisk (state S.Store conn.new) → (s : _) → Represents (state S.Store conn.old).now s → IfOk result (λ taken.
+        taken.rows ≡ length (read_until taken.profile (of_class class s.policy.profiles))) }
+{
+    let taken = first_covering_on(
+        alloc,
+        conn,
+        "SELECT class, pattern, owner, uacc, warning, skey, head FROM profiles WHERE class = ?1 ORDER BY class, skey",
+        params![class.text()],
+        resource,
+    )?;
+    let Taken { profile, rows } = taken;
+    let Some(profile) = profile else {
+        return Ok(Taken {
+            profile: None,
+            rows,
+        });
+    };
+    let entries = entries_on(alloc, conn, profile.class, &profile.pattern)?;
+    Ok(Taken {
+        profile: Some(Profile { entries, ..profile }),
+        rows,
+    })
+}
+
+/// The profiles of a class, in the order of their patterns.
+pub fn all_on<S: Alter>(
+    alloc: Global,
+    conn: &mut Connection<S>,
+    class: Class,
+) -> Result<Vec<Profile>, StoreFault>
+    requires { conn.old.in_transaction ≡ false }
+    ensures mode { conn.new.in_transaction ≡ false }
+    ensures looks { Looks S.Store conn.old conn.new result }
+    ensures found { HasCleanDisk (state S.Store conn.new) → (s : _) → Represents (state S.Store conn.old).now s → IfOk result (λ v. v.items ≡ of_class class s.policy.profiles) }
+{
+    let rows = read(
+        conn,
+        "SELECT class, pattern, owner, uacc, warning, skey, head FROM profiles WHERE class = ?1 ORDER BY class, skey",
+        params![class.text()],
+    )?;
+    whole_in(alloc, conn, rows.as_slice())
+}
+
+fn sum(rows: u64, read: u64) -> Result<u64, StoreFault>
+    ensures { IfOk result (λ sum. sum ≡ rows + read) }
+{
+    match rows.checked_add(read) {
+        Some(sum) => Ok(sum),
+        None => Err(StoreFault::Store),
+    }
+}
+
+/// The profile of a class that decides a resource: the tables are asked for the prefixes of the name as heads, from the
+/// whole name down to the empty one, and no more once a profile covers.
+pub fn deciding_on<S: Alter>(
+    alloc: Global,
+    conn: &mut Connection<S>,
+    class: Class,
+    resource: &Resource,
+) -> Result<Found, StoreFault>
+    requires { conn.old.in_transaction ≡ false }
+    ensures mode { conn.new.in_transaction ≡ false }
+    ensures looks { Looks S.Store conn.old conn.new result }
+    ensures found { HasCleanDisk (state S.Store conn.new) → (s : _) → Represents (state S.Store conn.old).now s → IfOk result (λ found.
+        found.profile ≡ deciding_in s.policy class resource.now) }
+    ensures ranges { HasCleanDisk (state S.Store conn.new) → (s : _) → Represents (state S.Store conn.old).now s → IfOk result (λ found.
+        found.ranges + head_length found.profile ≡ length resource.now + 1) }
+    ensures rows { HasCleanDisk (state S.Store conn.new) → (s : _) → Represents (state S.Store conn.old).now s → IfOk result (λ found.
+        found.rows ≡ length (examined found.profile resource.now (of_class class s.policy.profiles))) }
+{
+    let name = resource.text();
+    let mut rows = 0;
+    let mut length = name.len();
+    'heads: loop {
+        let taken = first_in_on(alloc, conn, class, &name[..length], resource)?;
+        let Taken {
+            profile,
+            rows: read,
+        } = taken;
+        rows = sum(rows, read)?;
+        if profile.is_some() || length == 0 {
+            let ranges = (name.len() + 1 - length) as u32;
+            return Ok(Found {
+                profile,
+                ranges,
+                rows,
+            });
+        }
+        length -= 1;
+    }
+}

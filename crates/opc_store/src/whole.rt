@@ -1,0 +1,55 @@
+//! The whole board, and the rows of a policy file, of the tables of several rooms.
+ghost use Rattle.std.specs.Prelude.{◌≡◌, false, IfOk};
+ghost use Rattle.sqlite.specs.Held.{state};
+ghost use Rattle.sqlite.specs.State.{HasCleanDisk};
+ghost use Rattle.opc_tables.specs.Steps.{Looks};
+ghost use Rattle.opc_policy_tables.specs.PolicyFile.{rows_of};
+ghost use Rattle.opc_stored.specs.Represented.{Represents};
+
+use opc_board::board::BoardRows;
+use opc_board_tables::board::live_rows_on;
+use opc_board_tables::consoles::consoles_on;
+use opc_history_tables::answered::answered_on;
+use opc_history_tables::log::log_on;
+use opc_history_tables::messages::messages_on;
+use opc_policy::row::Row;
+use opc_policy::source::StoreFault;
+use opc_policy_tables::rows::policy_rows_on;
+use sqlite::{Alter, Connection};
+use std::alloc::Global;
+
+/// All rows of the board, with the histories.
+pub(crate) fn board_rows_on<S: Alter>(
+    alloc: Global,
+    conn: &mut Connection<S>,
+) -> Result<BoardRows, StoreFault>
+    requires { conn.old.in_transaction ≡ false }
+    ensures mode { conn.new.in_transaction ≡ false }
+    ensures looks { Looks S.Store conn.old conn.new result }
+    ensures found { HasCleanDisk (state S.Store conn.new) → (s : _) → Represents (state S.Store conn.old).now s → IfOk result (λ v. v ≡ s.board) }
+{
+    let live = live_rows_on(alloc, conn)?;
+    let answered = answered_on(alloc, conn)?;
+    let log = log_on(alloc, conn)?;
+    let messages = messages_on(alloc, conn)?;
+    Ok(BoardRows {
+        answered,
+        log,
+        messages,
+        ..live
+    })
+}
+
+/// The policy and the consoles, as rows of a policy file.
+pub(crate) fn policy_file_on<S: Alter>(
+    alloc: Global,
+    conn: &mut Connection<S>,
+) -> Result<Vec<Row>, StoreFault>
+    requires { conn.old.in_transaction ≡ false }
+    ensures mode { conn.new.in_transaction ≡ false }
+    ensures looks { Looks S.Store conn.old conn.new result }
+    ensures found { HasCleanDisk (state S.Store conn.new) → (s : _) → Represents (state S.Store conn.old).now s → IfOk result (λ v. v.items ≡ rows_of s.policy s.board.consoles) }
+{
+    let consoles = consoles_on(alloc, conn)?;
+    policy_rows_on(alloc, conn, consoles.as_slice())
+}

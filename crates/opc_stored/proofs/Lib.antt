@@ -1,0 +1,15 @@
+pub mod AccessLists
+pub mod Cast
+pub mod Decoded
+pub mod Filled
+pub mod Keys
+pub mod Made
+pub mod Opened
+pub mod Ordered
+pub mod Pieces
+pub mod PolicyRead
+pub mod ProfileTexts
+pub mod Spared
+pub mod Texts
+pub mod Turns
+pub mod VersionLoads

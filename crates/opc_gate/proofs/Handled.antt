@@ -7,9 +7,9 @@ use Rattle.opc_state.specs.declared.account.AccountRow.{AccountRow}
 use Rattle.opc_state.specs.declared.change.Change.{Change}
 use Rattle.opc_state.specs.declared.change.Edit.{Edit}
 use Rattle.opc_state.specs.declared.change.Edit.TheVariants.{SetHalted}
-use Rattle.opc_gate.specs.declared.request.Answer.{Answer}
-use Rattle.opc_gate.specs.Inputs.{Input}
-use Rattle.opc_gate.specs.Machine.{IsGivenUp, outcome, after}
+use Rattle.opc_machine.specs.declared.request.Answer.{Answer}
+use Rattle.opc_machine.specs.Inputs.{Input}
+use Rattle.opc_machine.specs.Machine.{IsGivenUp, outcome, after}
 use Rattle.opc_gate.specs.Handling.{IsDecision, IsHandled, IsNothingWhereSame}
 
 -- a row more is another list

@@ -1,13 +1,13 @@
 -- A run goes on by one request.
-use Rattle.std.proofs.Common.{◌≡◌, ◌⊎◌, inl, inr, ℕ, suc, ◌+◌, ◌<◌, ◌≤◌, List, [], ◌∷◌, ◌++◌, length, take, get_or, Some, refl, subst, sym, ap, ◌∙◌, arith}
+use Rattle.std.proofs.Common.{◌≡◌, inl, inr, ℕ, suc, ◌+◌, ◌<◌, ◌≤◌, List, [], ◌∷◌, ◌++◌, length, take, get_or, Some, refl, subst, sym, ap, ◌∙◌, arith}
 use Rattle.std.proofs.Math.Seq.{take-append_seam}
 use Rattle.std.proofs.lemmas.List.{append_assoc, length-append, take-append-le, take_more}
 use Rattle.std.proofs.lemmas.List.Elements.{All-pop}
 use Rattle.opc_state.specs.State.{State}
-use Rattle.opc_gate.specs.declared.request.Request.{Request}
-use Rattle.opc_gate.specs.declared.request.Answer.{Answer}
-use Rattle.opc_gate.specs.Inputs.{input_of, inputs_of}
-use Rattle.opc_gate.specs.Machine.{Step, Runs, after, outcome}
+use Rattle.opc_machine.specs.declared.request.Request.{Request}
+use Rattle.opc_machine.specs.declared.request.Answer.{Answer}
+use Rattle.opc_machine.specs.Inputs.{input_of, inputs_of}
+use Rattle.opc_machine.specs.Machine.{Step, Runs, after, outcome}
 use Rattle.opc_gate.specs.Handling.{IsAcknowledged, IsAnswered, IsHandled, IsMadeByOne, IsRun}
 
 pub runs_more : (s : State) (rs : List (ℕ × Request)) (answers : List Answer) (mid last : State) (r : ℕ × Request) (answer : Answer)

@@ -3,26 +3,31 @@ ghost use Rattle.std.specs.Prelude.{◌≡◌, ◌≢◌, ◌⊎◌, IfErr, IfOk
 ghost use Rattle.opc_policy.specs.declared.fault.Fault.TheVariants as why;
 ghost use Rattle.opc_board.specs.History.{without_history};
 ghost use Rattle.opc_board.specs.Texts.{text_or};
+ghost use Rattle.opc_state.specs.Asked.{Answers};
 ghost use Rattle.opc_state.specs.State.{State};
 ghost use Rattle.opc_state.specs.Changes.{IsKept};
-ghost use Rattle.opc_gate.specs.Bootstrap.{HaveNothingNew, IsFounded, bootstrapped};
-ghost use Rattle.opc_gate.specs.Inputs.{Input, console_of, input_of};
-ghost use Rattle.opc_gate.specs.Machine.{IsGivenUp, account_row, is_warned, outcome as outcome_of, user_acting};
-ghost use Rattle.opc_gate.specs.Handling.{IsDecision, IsHandled, IsNothingWhereSame, IsOutcome, IsRun};
+ghost use Rattle.opc_bootstrap.specs.Founded.{HaveNothingNew, IsFounded};
+ghost use Rattle.opc_machine.specs.Bootstrap.{bootstrapped};
+ghost use Rattle.opc_machine.specs.Inputs.{Input, console_of, input_of};
+ghost use Rattle.opc_machine.specs.Machine.{IsGivenUp, account_row, is_warned, outcome as outcome_of, user_acting};
+ghost use Rattle.opc_gate.specs.Handling.{IsDecision, IsHandled, IsNothingWhereSame};
+ghost use Rattle.opc_gate.specs.Listening.{IsEndedRun, IsHeardRun};
+ghost use Rattle.opc_machine.specs.Deeds.{IsOutcome};
 
-use crate::bootstrap::bootstrap;
-use crate::command::{command_on, event_on};
-use crate::console::console_at;
-use crate::fault;
-use crate::outcome::{Deed, Denial, Found};
-use crate::request::{Answer, Request};
+use crate::listener::Listener;
 use opc_board::board::Board;
 use opc_board::text::KeptText;
+use opc_bootstrap::bootstrap::bootstrap;
+use opc_commands::command::{command_on, event_on};
+use opc_machine::fault;
+use opc_machine::outcome::{Deed, Denial, Found};
+use opc_machine::request::{Answer, Request};
 use opc_names::name::{ConsoleName, Name, NameKind, UserId};
 use opc_policy::fault::Fault;
 use opc_policy::row::Row;
 use opc_policy::rule::Rule;
 use opc_policy::source::StoreFault;
+use opc_rulings::console::console_at;
 use opc_state::account::AccountRow;
 use opc_state::change::Change;
 use opc_state::tables::Tables;
@@ -157,7 +162,7 @@ fn given_up(fault: StoreFault) -> Answer
 // What a request comes to, on the live board; writes nothing.
 fn outcome_on<T: Tables>(tables: &mut T, alloc: Global, board: Board, request: &Request) -> Found
     ensures kept { IsKept T.is_sure T.represents T.may_leave tables.old tables.new }
-    ensures outcome { T.is_sure tables.new → (s : State) → T.represents tables.old s → board ≡ without_history s.board → IfOk result (λ o. IsOutcome s (outcome_of s (input_of request.now)) o) }
+    ensures outcome { Answers (T.is_sure tables.new) (T.represents tables.old) result (λ s o. board ≡ without_history s.board → IsOutcome s (outcome_of s (input_of request.now)) o) }
 {
     match request {
         Request::Command { console, text } => {
@@ -175,8 +180,8 @@ fn decision_on<T: Tables>(
     request: &Request,
 ) -> Result<Decision, StoreFault>
     ensures kept { IsKept T.is_sure T.represents T.may_leave tables.old tables.new }
-    ensures decides { T.is_sure tables.new → (s : State) → T.represents tables.old s → IfOk result (λ d. IsDecision s moment (input_of request.now) d.answer d.change) }
-    ensures idle { T.is_sure tables.new → (s : State) → T.represents tables.old s → IfOk result (λ d. IsNothingWhereSame s d.change) }
+    ensures decides { Answers (T.is_sure tables.new) (T.represents tables.old) result (λ s d. IsDecision s moment (input_of request.now) d.answer d.change) }
+    ensures idle { Answers (T.is_sure tables.new) (T.represents tables.old) result (λ s d. IsNothingWhereSame s d.change) }
 {
     let board = tables.live_board(alloc)?;
     let user = user_acting(&board, request);
@@ -260,40 +265,38 @@ impl<T: Tables> Gate<T> {
         handle(&mut self.tables, alloc, moment, request)
     }
 
-    /// Answers requests, with their moments, one after another. The answers, and the state that the tables represent
-    /// afterwards, are those of the access machine. A crash leaves what it might have left before them or a state that
-    /// one of them makes, in whole; once all are answered, the last state alone, where anything was changed. The
-    /// memory for the answers is taken before the first request: where it is wanting, none is handled.
-    pub fn run(
+    /// Answers requests, with their moments, one after another, and lets a listener hear each answer before the next
+    /// request is handled. The answers, and the state that the tables represent afterwards, are those of the access
+    /// machine. A crash leaves what it might have left before them or a state that one of them makes, in whole; once
+    /// all are answered, the last state alone, where anything was changed. Where an answer is not heard, the run ends
+    /// with that request, which is handled.
+    pub fn run<L: Listener>(
         &mut self,
         alloc: Global,
         requests: &[(u64, Request)],
-    ) -> Result<Vec<Answer>, AllocError>
+        listener: &mut L,
+    ) -> Result<(), L::Fault>
         ensures sure { T.is_sure self.new → T.is_sure self.old }
-        ensures none { OnErr result (self.new ≡ self.old) }
-        ensures runs { T.is_sure self.new → (s : State) → T.represents self.old s → IfOk result (λ answers. IsRun T.represents T.may_leave self.old self.new s requests.now answers.items) }
+        ensures heard { OnOk result (IsHeardRun T.is_sure T.represents T.may_leave L.heard self.old self.new requests.now listener.old listener.new) }
+        ensures ended { IfErr result (IsEndedRun T.is_sure T.represents T.may_leave L.heard L.missed self.old self.new requests.now listener.old listener.new) }
     {
-        run(&mut self.tables, alloc, requests)
+        run(&mut self.tables, alloc, requests, listener)
     }
 }
 
-fn run<T: Tables>(
+fn run<T: Tables, L: Listener>(
     tables: &mut T,
     alloc: Global,
     requests: &[(u64, Request)],
-) -> Result<Vec<Answer>, AllocError>
+    listener: &mut L,
+) -> Result<(), L::Fault>
     ensures sure { T.is_sure tables.new → T.is_sure tables.old }
-    ensures none { OnErr result (tables.new ≡ tables.old) }
-    ensures runs { T.is_sure tables.new → (s : State) → T.represents tables.old s → IfOk result (λ answers. IsRun T.represents T.may_leave tables.old tables.new s requests.now answers.items) }
+    ensures heard { OnOk result (IsHeardRun T.is_sure T.represents T.may_leave L.heard tables.old tables.new requests.now listener.old listener.new) }
+    ensures ended { IfErr result (IsEndedRun T.is_sure T.represents T.may_leave L.heard L.missed tables.old tables.new requests.now listener.old listener.new) }
 {
-    let mut answers = Vec::with_capacity(alloc, requests.len())?;
     for request in requests {
         let answer = handle(tables, alloc, request.0, &request.1);
-        match answers.push(answer) {
-            Ok(()) => {}
-            // There is room for each.
-            Err(_) => unreachable!(),
-        }
+        listener.hear(request.0, &answer)?;
     }
-    Ok(answers)
+    Ok(())
 }

@@ -3,3 +3,4 @@ pub mod Members
 pub mod Changes
 pub mod Difference
 pub mod Facts
+pub mod Asked

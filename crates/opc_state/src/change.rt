@@ -3,10 +3,11 @@ ghost use Rattle.std.specs.Prelude.{◌≡◌};
 ghost use Rattle.opc_state.specs.Changes.{is_nothing};
 
 use crate::account::AccountRow;
-use opc_board::rows::{ConsoleRow, DeviceRow, MessageRow, ReplyId, ReplyRow, UnitRow};
+use opc_board::rows::{ConsoleRow, DeviceRow, MessageRow, ReplyRow, UnitRow};
 use opc_board::text::KeptText;
 use opc_names::class::Class;
 use opc_names::name::{ConsoleName, Device, GroupName, Pattern, UnitName, UserId};
+use opc_names::reply_id::ReplyId;
 use opc_policy::connect::Connect;
 use opc_policy::entry::{Entry, EntryId};
 use opc_policy::profile::Profile;

@@ -1,8 +1,9 @@
 //! What the machine asks of the tables that keep its state.
-ghost use Rattle.std.specs.Prelude.{◌≡◌, ◌⊎◌, IfOk, OnOk, OnErr};
+ghost use Rattle.std.specs.Prelude.{◌≡◌, ◌⊎◌, OnOk, OnErr};
 ghost use Rattle.opc_board.specs.History.{without_history};
 ghost use Rattle.opc_policy.specs.Members.{user_of, groups_of};
 ghost use Rattle.opc_policy.specs.Taken.{is_active};
+ghost use Rattle.opc_state.specs.Asked.{Answers};
 ghost use Rattle.opc_state.specs.State.{State, Fits, deciding_in, has_users};
 ghost use Rattle.opc_state.specs.Changes.{IsKept, changed_by};
 
@@ -30,20 +31,20 @@ pub trait Tables {
     /// The board without its histories.
     fn live_board(&mut self, alloc: Global) -> Result<Board, StoreFault>
         ensures kept { IsKept is_sure represents may_leave self.old self.new }
-        ensures board { is_sure self.new → (s : State) → represents self.old s → IfOk result (λ board. board ≡ without_history s.board) };
+        ensures board { Answers (is_sure self.new) (represents self.old) result (λ s board. board ≡ without_history s.board) };
 
     fn user(&mut self, alloc: Global, id: &UserId) -> Result<Option<User>, StoreFault>
         ensures kept { IsKept is_sure represents may_leave self.old self.new }
-        ensures user { is_sure self.new → (s : State) → represents self.old s → IfOk result (λ user. user ≡ user_of s.policy.users id.now) };
+        ensures user { Answers (is_sure self.new) (represents self.old) result (λ s user. user ≡ user_of s.policy.users id.now) };
 
     /// The groups that a user is connected to.
     fn groups_of(&mut self, alloc: Global, user: &UserId) -> Result<Vec<GroupName>, StoreFault>
         ensures kept { IsKept is_sure represents may_leave self.old self.new }
-        ensures groups { is_sure self.new → (s : State) → represents self.old s → IfOk result (λ groups. groups.items ≡ groups_of s.policy.connects user.now) };
+        ensures groups { Answers (is_sure self.new) (represents self.old) result (λ s groups. groups.items ≡ groups_of s.policy.connects user.now) };
 
     fn is_active(&mut self, class: Class) -> Result<bool, StoreFault>
         ensures kept { IsKept is_sure represents may_leave self.old self.new }
-        ensures active { is_sure self.new → (s : State) → represents self.old s → IfOk result (λ active. active ≡ is_active s.policy.active class) };
+        ensures active { Answers (is_sure self.new) (represents self.old) result (λ s active. active ≡ is_active s.policy.active class) };
 
     /// The profile of a class that decides a resource, as a search finds it.
     fn deciding(
@@ -53,17 +54,17 @@ pub trait Tables {
         resource: &Resource,
     ) -> Result<Found, StoreFault>
         ensures kept { IsKept is_sure represents may_leave self.old self.new }
-        ensures found { is_sure self.new → (s : State) → represents self.old s → IfOk result (λ found. found.profile ≡ deciding_in s.policy class resource.now) };
+        ensures found { Answers (is_sure self.new) (represents self.old) result (λ s found. found.profile ≡ deciding_in s.policy class resource.now) };
 
     /// Whether a user is stored.
     fn has_users(&mut self) -> Result<bool, StoreFault>
         ensures kept { IsKept is_sure represents may_leave self.old self.new }
-        ensures users { is_sure self.new → (s : State) → represents self.old s → IfOk result (λ some. some ≡ has_users s.policy) };
+        ensures users { Answers (is_sure self.new) (represents self.old) result (λ s some. some ≡ has_users s.policy) };
 
     /// The whole policy.
     fn policy(&mut self, alloc: Global) -> Result<Policy, StoreFault>
         ensures kept { IsKept is_sure represents may_leave self.old self.new }
-        ensures policy { is_sure self.new → (s : State) → represents self.old s → IfOk result (λ policy. policy ≡ s.policy) };
+        ensures policy { Answers (is_sure self.new) (represents self.old) result (λ s policy. policy ≡ s.policy) };
 
     /// Writes all of a change, or nothing. A crash leaves the state before or after it; once it is acknowledged, the
     /// state after it alone.

@@ -1,0 +1,2 @@
+pub mod Founded
+pub use Rattle.opc_machine.specs.Bootstrap

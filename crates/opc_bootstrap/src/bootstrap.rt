@@ -1,0 +1,222 @@
+//! The first policy.
+ghost use Rattle.std.specs.Prelude.{◌≡◌, ◌≢◌, ◌⊎◌, ◌++◌, List, [], IfErr, IfOk, OnErr, OnOk, MatchOption, Ok, Err, true, false};
+ghost use Rattle.std.specs.List.{cons_option};
+ghost use Rattle.opc_policy.specs.declared.fault.Fault.TheVariants as why;
+ghost use Rattle.opc_policy.specs.declared.row.Row.{Row as TheRow};
+ghost use Rattle.opc_board.specs.History.{without_history};
+ghost use Rattle.opc_state.specs.Asked.{Answers};
+ghost use Rattle.opc_state.specs.State.{Fits, State, has_users};
+ghost use Rattle.opc_state.specs.Changes.{IsKept, all_edited};
+ghost use Rattle.opc_bootstrap.specs.Founded.{AreEditsOf, HaveNothingNew, IsFounded, edit_of, edits_of};
+ghost use Rattle.opc_machine.specs.Bootstrap.{bootstrapped, console_after, consoles_after, founding, loses_master, policy_after};
+
+use opc_board::board::Board;
+use opc_machine::fault;
+use opc_policy::connect::Connect;
+use opc_policy::entries::Entries;
+use opc_policy::entry::Entry;
+use opc_policy::fault::Fault;
+use opc_policy::policy::Policy;
+use opc_policy::profile::Profile;
+use opc_policy::row::Row;
+use opc_policy::source::StoreFault;
+use opc_state::change::{Change, Edit};
+use opc_state::difference::{copied, difference};
+use opc_state::tables::Tables;
+use std::alloc::{AllocError, Global};
+
+/// What is stored where no user is: a policy and a live board.
+#[derive(Drop)]
+struct Stored {
+    policy: Policy,
+    board: Board,
+}
+
+// What a row makes of a policy, as an edit. A console is no part of a policy.
+fn edit_of(alloc: Global, row: &Row) -> Option<Edit>
+    ensures { result ≡ edit_of row.now }
+{
+    match *row {
+        Row::Class { class, active } => Some(Edit::SetActive(class, active)),
+        Row::Group { name } => Some(Edit::PutGroup(name)),
+        Row::User(user) => Some(Edit::PutUser(user)),
+        Row::Connect { user, group } => Some(Edit::PutConnect(Connect { user, group })),
+        Row::Console { .. } => None,
+        Row::Profile {
+            class,
+            pattern,
+            uacc,
+            owner,
+            warning,
+        } => Some(Edit::PutProfile(Profile {
+            class,
+            pattern,
+            owner,
+            uacc,
+            warning,
+            entries: Entries::new(alloc),
+        })),
+        Row::Permit {
+            class,
+            pattern,
+            id,
+            level,
+        } => Some(Edit::PutEntry(class, pattern, Entry { id, level })),
+    }
+}
+
+// An edit behind others, if there is one.
+fn add_any(edits: &mut Vec<Edit>, edit: Option<Edit>) -> Result<(), AllocError>
+    ensures { OnOk result (edits.new.items ≡ edits.old.items ++ cons_option edit []) }
+{
+    match edit {
+        Some(edit) => {
+            edits.push(edit)?;
+            Ok(())
+        }
+        None => Ok(()),
+    }
+}
+
+// The edits that rows make of a policy, behind others.
+fn add_edits(alloc: Global, edits: &mut Vec<Edit>, rows: &[Row]) -> Result<(), AllocError>
+    ensures { OnOk result (edits.new.items ≡ edits.old.items ++ edits_of rows.now) }
+{
+    for row in rows {
+        add_any(edits, edit_of(alloc, row))?;
+    }
+    Ok(())
+}
+
+fn take_all(policy: &mut Policy, alloc: Global, rows: &[Row]) -> Result<(), Fault>
+    ensures ok { OnOk result (policy_after rows.now policy.old ≡ Ok policy.new) }
+    ensures fault { IfErr result (λ f. f ≢ why.NoMemory → policy_after rows.now policy.old ≡ Err f) }
+{
+    for row in rows {
+        policy.take(alloc, row)?;
+    }
+    Ok(())
+}
+
+fn define_console(board: &mut Board, row: &Row) -> Result<(), AllocError>
+    ensures { OnOk result (board.new ≡ console_after row.now board.old) }
+{
+    match *row {
+        Row::Console { name, auth, mode } => board.define_console(name, auth, mode),
+        _ => Ok(()),
+    }
+}
+
+fn define_all(board: &mut Board, rows: &[Row]) -> Result<(), AllocError>
+    ensures { OnOk result (board.new ≡ consoles_after rows.now board.old) }
+{
+    for row in rows {
+        define_console(board, row)?;
+    }
+    Ok(())
+}
+
+// Whether a console was online with authority MASTER, and none is.
+fn loses_master(old: &Board, new: &Board) -> bool
+    ensures { result ≡ loses_master old.now new.now }
+{
+    old.has_master() && !new.has_master()
+}
+
+// The edits by which rows make one live board of another and change a policy.
+fn edits_from(
+    alloc: Global,
+    old: &Board,
+    new: &Board,
+    rows: &[Row],
+) -> Result<Vec<Edit>, AllocError>
+    ensures { IfOk result (λ edits. AreEditsOf old.now new.now rows.now edits.items) }
+{
+    let mut edits = difference(alloc, old, new)?;
+    add_edits(alloc, &mut edits, rows)?;
+    Ok(edits)
+}
+
+// The edits that rows make of what is stored, or why they are refused.
+fn founding(alloc: Global, stored: Stored, rows: &[Row]) -> Result<Vec<Edit>, Fault>
+    ensures made { IfOk result (λ edits. (s : State) → stored.policy ≡ s.policy → stored.board ≡ without_history s.board → founding rows.now s ≡ Ok (all_edited edits.items s)) }
+    ensures idle { IfOk result (λ edits. (s : State) → stored.board ≡ without_history s.board → HaveNothingNew rows.now s → edits.items ≡ []) }
+    ensures refused { IfErr result (λ f. f ≢ why.NoMemory → (s : State) → stored.policy ≡ s.policy → stored.board ≡ without_history s.board → founding rows.now s ≡ Err f) }
+{
+    let Stored {
+        mut policy,
+        mut board,
+    } = stored;
+    take_all(&mut policy, alloc, rows)?;
+    let old = copied(alloc, &board)?;
+    define_all(&mut board, rows)?;
+    if loses_master(&old, &board) {
+        return Err(Fault::LastMaster);
+    }
+    Ok(edits_from(alloc, &old, &board, rows)?)
+}
+
+// Loads what is stored, where no user is.
+fn stored_on<T: Tables>(tables: &mut T, alloc: Global) -> Result<Option<Stored>, StoreFault>
+    ensures kept { IsKept T.is_sure T.represents T.may_leave tables.old tables.new }
+    ensures stored { Answers (T.is_sure tables.new) (T.represents tables.old) result (λ s found. MatchOption found
+        (has_users s.policy ≡ true)
+        (λ stored. (has_users s.policy ≡ false) × (stored.policy ≡ s.policy) × (stored.board ≡ without_history s.board))) }
+{
+    if tables.has_users()? {
+        return Ok(None);
+    }
+    let policy = tables.policy(alloc)?;
+    let board = tables.live_board(alloc)?;
+    Ok(Some(Stored { policy, board }))
+}
+
+// Loads what a first policy needs, and decides; writes nothing.
+fn edits_on<T: Tables>(tables: &mut T, alloc: Global, rows: &[Row]) -> Result<Vec<Edit>, Fault>
+    ensures kept { IsKept T.is_sure T.represents T.may_leave tables.old tables.new }
+    ensures made { Answers (T.is_sure tables.new) (T.represents tables.old) result (λ s edits. bootstrapped rows.now s ≡ Ok (all_edited edits.items s)) }
+    ensures idle { Answers (T.is_sure tables.new) (T.represents tables.old) result (λ s edits. HaveNothingNew rows.now s → edits.items ≡ []) }
+    ensures refused { T.is_sure tables.new → (s : State) → T.represents tables.old s → IfErr result (λ f. f ≢ why.NoMemory → f ≢ why.Store → bootstrapped rows.now s ≡ Err f) }
+{
+    match stored_on(tables, alloc) {
+        Ok(Some(stored)) => founding(alloc, stored, rows),
+        Ok(None) => Err(Fault::NotEmpty),
+        Err(fault) => Err(fault::of_store(fault)),
+    }
+}
+
+// Writes the edits of a first policy, if there are any.
+fn found<T: Tables>(tables: &mut T, alloc: Global, edits: Vec<Edit>) -> Result<(), Fault>
+    ensures sure { T.is_sure tables.new → T.is_sure tables.old }
+    ensures idle { edits.items ≡ [] → (left : State) → T.may_leave tables.new left → T.may_leave tables.old left }
+    ensures founds { T.is_sure tables.new → (s : State) → T.represents tables.old s → (rows : List TheRow) → bootstrapped rows s ≡ Ok (all_edited edits.items s)
+        → OnOk result (IsFounded T.represents T.may_leave tables.new s rows) }
+    ensures refused { IfErr result (λ f. (f ≡ why.NoMemory) ⊎ (f ≡ why.Store)) }
+    ensures unchanged { T.is_sure tables.new → (s : State) → T.represents tables.old s → OnErr result (T.represents tables.new s) }
+    ensures crash { T.is_sure tables.new → (s : State) → T.represents tables.old s → (left : State) → T.may_leave tables.new left → T.may_leave tables.old left ⊎ (left ≡ all_edited edits.items s) }
+{
+    let change = Change {
+        edits,
+        account: None,
+    };
+    if change.is_nothing() {
+        return Ok(());
+    }
+    match tables.commit(alloc, &change) {
+        Ok(()) => Ok(()),
+        Err(fault) => Err(fault::of_store(fault)),
+    }
+}
+
+/// Takes the rows of a first policy, where no user is stored.
+pub fn bootstrap<T: Tables>(tables: &mut T, alloc: Global, rows: &[Row]) -> Result<(), Fault>
+    ensures sure { T.is_sure tables.new → T.is_sure tables.old }
+    ensures done { T.is_sure tables.new → (s : State) → T.represents tables.old s → OnOk result (IsFounded T.represents T.may_leave tables.new s rows.now) }
+    ensures refused { T.is_sure tables.new → (s : State) → T.represents tables.old s → IfErr result (λ f. f ≢ why.NoMemory → f ≢ why.Store → bootstrapped rows.now s ≡ Err f) }
+    ensures unchanged { T.is_sure tables.new → (s : State) → T.represents tables.old s → OnErr result (T.represents tables.new s) }
+    ensures crash { T.is_sure tables.new → (s : State) → T.represents tables.old s → (left : State) → T.may_leave tables.new left → T.may_leave tables.old left ⊎ (bootstrapped rows.now s ≡ Ok left) }
+    ensures idle { T.is_sure tables.new → (s : State) → T.represents tables.old s → HaveNothingNew rows.now s → (left : State) → T.may_leave tables.new left → T.may_leave tables.old left }
+{
+    let edits = edits_on(tables, alloc, rows)?;
+    found(tables, alloc, edits)
+}

@@ -1,0 +1,4 @@
+//! The first policy of a gate.
+#![tactic(auto)]
+
+pub mod bootstrap;

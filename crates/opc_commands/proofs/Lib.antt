@@ -1,0 +1,5 @@
+pub mod Whole
+pub mod Sessions
+pub mod Lines
+pub mod Needs
+pub mod Logons

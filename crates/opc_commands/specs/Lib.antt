@@ -1,0 +1,3 @@
+pub mod Acted
+pub use Rattle.opc_machine.specs.Commands
+pub use Rattle.opc_machine.specs.Deeds

@@ -1,0 +1,189 @@
+//! What commands, logons and events make of a live board, as edits of the state.
+ghost use Rattle.std.specs.Prelude.{◌≡◌, ◌≢◌, IfErr, IfOk, IsSome, Some, None, Err, OnOk, [], true, false};
+ghost use Rattle.opc_board.specs.declared.board.BoardRows.{BoardRows};
+ghost use Rattle.opc_board.specs.declared.fault.BoardFault.TheVariants.{NoMemory};
+ghost use Rattle.opc_board.specs.Consoles.{logged_on, logged_off};
+ghost use Rattle.opc_board.specs.Effect.{effect, event_effect, is_session_command};
+ghost use Rattle.opc_board.specs.Facts.{console_at};
+ghost use Rattle.opc_board.specs.History.{after, history_of, without_history};
+ghost use Rattle.opc_board.specs.Outcome.{done_with};
+ghost use Rattle.opc_state.specs.State.{State};
+ghost use Rattle.opc_state.specs.Changes.{all_edited};
+ghost use Rattle.opc_machine.specs.Commands.{is_display};
+ghost use Rattle.opc_commands.specs.Acted.{IsActed};
+
+use opc_board::board::Board;
+use opc_board::event::Event;
+use opc_board::fault::BoardFault;
+use opc_board::laws::histories_only_grow;
+use opc_board::line::Line;
+use opc_board::rows::ConsoleRow;
+use opc_names::name::{ConsoleName, UserId};
+use opc_reader::command::Command;
+use opc_state::change::Edit;
+use opc_state::difference::{copied, difference};
+use std::alloc::{AllocError, Global};
+
+/// What a command makes of a state, and the lines that it gives.
+#[derive(Drop)]
+pub(crate) struct Acted {
+    pub(crate) edits: Vec<Edit>,
+    pub(crate) lines: Vec<Line>,
+}
+
+fn is_display(command: &Command<'_>) -> bool
+    ensures { result ≡ is_display command.now }
+{
+    match command {
+        Command::DisplayUnits
+        | Command::DisplayUnit(_)
+        | Command::DisplayDevices
+        | Command::DisplayConsoles
+        | Command::DisplayReplies => true,
+        _ => false,
+    }
+}
+
+// Acts on a live board: the same comes of it as of any board with its histories.
+fn act_to(
+    board: &mut Board,
+    alloc: Global,
+    command: &Command<'_>,
+    console: &ConsoleName,
+) -> Result<Vec<Line>, BoardFault>
+    requires console { IsSome (console_at board.old console.now) }
+    requires command { is_session_command command.now ≡ false }
+    ensures done { IfOk result (λ lines. (whole : BoardRows) → board.old ≡ without_history whole → effect whole command.now console.now ≡ done_with (after (history_of whole) board.new) lines.items) }
+    ensures refused { IfErr result (λ fault. fault ≢ NoMemory → (whole : BoardRows) → board.old ≡ without_history whole → effect whole command.now console.now ≡ Err fault) }
+{
+    histories_only_grow();
+    match board.act(alloc, command, console) {
+        Ok(lines) => Ok(lines),
+        Err(fault) => Err(fault),
+    }
+}
+
+// A command that only shows.
+fn show_on(
+    alloc: Global,
+    mut board: Board,
+    command: &Command<'_>,
+    console: &ConsoleName,
+) -> Result<Acted, BoardFault>
+    requires console { IsSome (console_at board console.now) }
+    requires command { is_session_command command.now ≡ false }
+    requires display { is_display command.now ≡ true }
+    ensures done { IfOk result (λ a. (s : State) → board ≡ without_history s.board → IsActed s (effect s.board command.now console.now) a.edits.items a.lines.items) }
+    ensures refused { IfErr result (λ fault. fault ≢ NoMemory → (s : State) → board ≡ without_history s.board → effect s.board command.now console.now ≡ Err fault) }
+{
+    match act_to(&mut board, alloc, command, console) {
+        Ok(lines) => Ok(Acted {
+            edits: Vec::new(alloc),
+            lines,
+        }),
+        Err(fault) => Err(fault),
+    }
+}
+
+// A command that may change the board.
+fn change_on(
+    alloc: Global,
+    mut board: Board,
+    command: &Command<'_>,
+    console: &ConsoleName,
+) -> Result<Acted, BoardFault>
+    requires console { IsSome (console_at board console.now) }
+    requires command { is_session_command command.now ≡ false }
+    ensures done { IfOk result (λ a. (s : State) → board ≡ without_history s.board → IsActed s (effect s.board command.now console.now) a.edits.items a.lines.items) }
+    ensures refused { IfErr result (λ fault. fault ≢ NoMemory → (s : State) → board ≡ without_history s.board → effect s.board command.now console.now ≡ Err fault) }
+{
+    let old = copied(alloc, &board)?;
+    match act_to(&mut board, alloc, command, console) {
+        Ok(lines) => {
+            let edits = difference(alloc, &old, &board)?;
+            Ok(Acted { edits, lines })
+        }
+        Err(fault) => Err(fault),
+    }
+}
+
+/// What a command makes of a state with this live board.
+pub(crate) fn act_on(
+    alloc: Global,
+    board: Board,
+    command: &Command<'_>,
+    console: &ConsoleName,
+) -> Result<Acted, BoardFault>
+    requires console { IsSome (console_at board console.now) }
+    requires command { is_session_command command.now ≡ false }
+    ensures done { IfOk result (λ a. (s : State) → board ≡ without_history s.board → IsActed s (effect s.board command.now console.now) a.edits.items a.lines.items) }
+    ensures refused { IfErr result (λ fault. fault ≢ NoMemory → (s : State) → board ≡ without_history s.board → effect s.board command.now console.now ≡ Err fault) }
+{
+    if is_display(command) {
+        return show_on(alloc, board, command, console);
+    }
+    change_on(alloc, board, command, console)
+}
+
+/// What a logon at a console makes of a state with this live board.
+pub(crate) fn log_on(
+    alloc: Global,
+    mut board: Board,
+    console: &ConsoleRow,
+    user: UserId,
+) -> Result<Vec<Edit>, AllocError>
+    requires there { console_at board console.now.name ≡ Some console.now }
+    requires nobody { console.now.user ≡ None }
+    ensures becomes { IfOk result (λ edits. (s : State) → board ≡ without_history s.board → all_edited edits.items s ≡ record s { board = logged_on console.now.name user s.board }) }
+    ensures idle { IfOk result (λ edits. (s : State) → board ≡ without_history s.board → all_edited edits.items s ≡ s → edits.items ≡ []) }
+{
+    let old = copied(alloc, &board)?;
+    board.log_on(&console.name, user);
+    let edits = difference(alloc, &old, &board)?;
+    Ok(edits)
+}
+
+/// What a logoff at a console makes of a state with this live board.
+pub(crate) fn log_off(
+    alloc: Global,
+    mut board: Board,
+    console: &ConsoleRow,
+) -> Result<Vec<Edit>, AllocError>
+    requires there { console_at board console.now.name ≡ Some console.now }
+    requires somebody { console.now.user ≢ None }
+    ensures becomes { IfOk result (λ edits. (s : State) → board ≡ without_history s.board → all_edited edits.items s ≡ record s { board = logged_off console.now.name s.board }) }
+    ensures idle { IfOk result (λ edits. (s : State) → board ≡ without_history s.board → all_edited edits.items s ≡ s → edits.items ≡ []) }
+{
+    let old = copied(alloc, &board)?;
+    board.log_off(&console.name);
+    let edits = difference(alloc, &old, &board)?;
+    Ok(edits)
+}
+
+// An event on a live board: the same comes of it as of any board with its histories.
+fn come_to(board: &mut Board, alloc: Global, event: &Event) -> Result<(), BoardFault>
+    ensures done { OnOk result ((whole : BoardRows) → board.old ≡ without_history whole → event_effect whole event.now ≡ done_with (after (history_of whole) board.new) []) }
+    ensures refused { IfErr result (λ fault. fault ≢ NoMemory → (whole : BoardRows) → board.old ≡ without_history whole → event_effect whole event.now ≡ Err fault) }
+{
+    histories_only_grow();
+    board.event(alloc, event)
+}
+
+/// What an event makes of a state with this live board.
+pub(crate) fn come_on(
+    alloc: Global,
+    mut board: Board,
+    event: &Event,
+) -> Result<Vec<Edit>, BoardFault>
+    ensures done { IfOk result (λ edits. (s : State) → board ≡ without_history s.board → IsActed s (event_effect s.board event.now) edits.items []) }
+    ensures refused { IfErr result (λ fault. fault ≢ NoMemory → (s : State) → board ≡ without_history s.board → event_effect s.board event.now ≡ Err fault) }
+{
+    let old = copied(alloc, &board)?;
+    match come_to(&mut board, alloc, event) {
+        Ok(()) => {
+            let edits = difference(alloc, &old, &board)?;
+            Ok(edits)
+        }
+        Err(fault) => Err(fault),
+    }
+}

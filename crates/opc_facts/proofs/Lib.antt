@@ -1,0 +1,3 @@
+pub mod Boards
+pub mod Policies
+pub mod Keeping

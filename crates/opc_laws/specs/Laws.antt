@@ -1,0 +1,205 @@
+-- What the access machine means to those who use it.
+use Rattle.std.specs.Prelude.{◌≡◌, ◌⊎◌, ◌↔◌, ℕ, true, List, [], ◌∷◌, ◌++◌, Option, Some, None, Ok, filter, Contains}
+use Rattle.std.specs.Option.{is_some}
+use Rattle.opc_policy.specs.declared.fault.Fault.{Fault}
+use Rattle.opc_policy.specs.declared.fault.Fault.TheVariants as fault
+use Rattle.opc_policy.specs.declared.need.Need.{Need}
+use Rattle.opc_policy.specs.declared.rule.Rule.{Rule}
+use Rattle.opc_policy.specs.declared.rule.Rule.TheVariants as rule
+use Rattle.opc_policy.specs.declared.ruling.Ruling.TheVariants.{Allowed, Denied}
+use Rattle.opc_policy.specs.declared.user.User.{User}
+use Rattle.opc_policy.specs.Faults.{fault_code}
+use Rattle.opc_reader.specs.declared.command.Command.{Command}
+use Rattle.opc_reader.specs.declared.command.Command.TheVariants as command
+use Rattle.opc_reader.specs.declared.command.Operand.{Operand}
+use Rattle.opc_reader.specs.Lines.{Reads}
+use Rattle.opc_board.specs.declared.line.Line.{Line}
+use Rattle.opc_board.specs.declared.rows.ConsoleRow.{ConsoleRow}
+use Rattle.opc_board.specs.Consoles.{logged_on, logged_off}
+use Rattle.opc_board.specs.Effect.{effect}
+use Rattle.opc_board.specs.Facts.{console_at}
+use Rattle.opc_board.specs.Outcome.{Done as BoardDone}
+use Rattle.opc_state.specs.State.{State}
+use Rattle.opc_machine.specs.declared.request.Answer.{Answer}
+use Rattle.opc_machine.specs.declared.request.Answer.TheVariants.{Done, Refused}
+use Rattle.opc_machine.specs.Inputs.{Input}
+use Rattle.opc_machine.specs.Inputs as input
+use Rattle.opc_machine.specs.Rulings.{ruling, logon_denial, logon_ruling, shown}
+use Rattle.opc_machine.specs.Commands.{need_of, known_by}
+use Rattle.opc_machine.specs.Machine.{Step, IsGivenUp, account_row}
+
+-- A line typed at a console is a command that is heard: the console is there and online, and the line reads.
+pub record IsHeard (s : State) (name text : List ℕ) (console : ConsoleRow) (command : Command) : Type 0 where
+  pub there : console_at s.board name ≡ Some console
+  pub online : console.online ≡ true
+  pub reads : Reads text command
+
+-- The policy of this moment allows it: the ruling on what it needs is Allowed.
+pub record IsAllowed (s : State) (name text : List ℕ) (console : ConsoleRow) (command : Command) (why : Rule) : Type 0 where
+  pub heard : IsHeard s name text console command
+  pub need : Need
+  pub needs : need_of s.board command ≡ Some need
+  pub allowed : ruling s console need ≡ Allowed why
+
+-- The command acts: it is done by that rule, the board is the one that it makes, and of its lines those are given
+-- that may be shown. The policy stays.
+pub record Acts (s : State) (console : ConsoleRow) (command : Command) (why : Rule) (answer : Answer) (new : State) : Type 0 where
+  pub act : BoardDone
+  pub makes : effect s.board command console.name ≡ Ok act
+  pub answered : answer ≡ Done (filter (shown s console) act.lines) (Some why)
+  pub board : new.board ≡ act.board
+  pub policy : new.policy ≡ s.policy
+
+-- A command that needs something acts only where the policy of that moment allows it,
+abbrev pub ActsOnlyWhereAllowed : Type 0
+ActsOnlyWhereAllowed =
+    (s : State) (moment : ℕ) (name text : List ℕ) (command : Command) (need : Need) (lines : List Line) (why : Option Rule) (new : State)
+    → Reads text command → need_of s.board command ≡ Some need → Step s moment (input.Command name text) (Done lines why) new
+    → (console : ConsoleRow) × (rule : Rule) × IsAllowed s name text console command rule × Acts s console command rule (Done lines why) new
+
+-- and wherever it does, unless the board is in the way or the request is given up.
+abbrev pub ActsWhereverAllowed : Type 0
+ActsWhereverAllowed =
+    (s : State) (moment : ℕ) (name text : List ℕ) (console : ConsoleRow) (command : Command) (why : Rule) (act : BoardDone) (answer : Answer) (new : State)
+    → IsAllowed s name text console command why → effect s.board command console.name ≡ Ok act → Step s moment (input.Command name text) answer new
+    → IsGivenUp answer ⊎ Acts s console command why answer new
+
+-- Of the lines of a command that acts, a unit's or a console's is listed exactly where it may be shown.
+abbrev pub ListsExactlyWhatMayBeShown : Type 0
+ListsExactlyWhatMayBeShown =
+    (s : State) (console : ConsoleRow) (command : Command) (why : Rule) (lines : List Line) (rule : Option Rule) (new : State) (acts : Acts s console command why (Done lines rule) new) (line : Line)
+    → Contains lines line ↔ (Contains acts.act.lines line × (shown s console line ≡ true))
+
+-- A LOGON may let the user on: the line is heard, nobody is on, the password is the user's, and the policy of this
+-- moment allows it.
+pub record IsLetOn (s : State) (name text : List ℕ) (console : ConsoleRow) (id password : Operand (List ℕ)) (user : User) (why : Rule) : Type 0 where
+  pub heard : IsHeard s name text console (command.Logon id password)
+  pub nobody : console.user ≡ None
+  pub known : known_by s id.value password.value ≡ Some user
+  pub allowed : logon_ruling s console user ≡ Allowed why
+
+-- The user is on, by that rule, and the policy stays.
+pub record LogsOn (s : State) (console : ConsoleRow) (id : List ℕ) (why : Rule) (answer : Answer) (new : State) : Type 0 where
+  pub answered : answer ≡ Done [] (Some why)
+  pub board : new.board ≡ logged_on console.name id s.board
+  pub policy : new.policy ≡ s.policy
+
+-- A user is logged on only where the policy of that moment allows it,
+abbrev pub LogsOnOnlyWhereAllowed : Type 0
+LogsOnOnlyWhereAllowed =
+    (s : State) (moment : ℕ) (name text : List ℕ) (id password : Operand (List ℕ)) (lines : List Line) (why : Option Rule) (new : State)
+    → Reads text (command.Logon id password) → Step s moment (input.Command name text) (Done lines why) new
+    → (console : ConsoleRow) × (user : User) × (rule : Rule) × IsLetOn s name text console id password user rule × LogsOn s console id.value rule (Done lines why) new
+
+-- and wherever it does, unless the request is given up.
+abbrev pub LogsOnWhereverAllowed : Type 0
+LogsOnWhereverAllowed =
+    (s : State) (moment : ℕ) (name text : List ℕ) (console : ConsoleRow) (id password : Operand (List ℕ)) (user : User) (why : Rule) (answer : Answer) (new : State)
+    → IsLetOn s name text console id password user why → Step s moment (input.Command name text) answer new
+    → IsGivenUp answer ⊎ LogsOn s console id.value why answer new
+
+-- Nobody is on any more, which no rule decides, and the policy stays.
+pub record LogsOff (s : State) (console : ConsoleRow) (answer : Answer) (new : State) : Type 0 where
+  pub answered : answer ≡ Done [] None
+  pub board : new.board ≡ logged_off console.name s.board
+  pub policy : new.policy ≡ s.policy
+
+-- LOGOFF is done only where somebody is on,
+abbrev pub LogsOffOnlyWhereSomebodyIsOn : Type 0
+LogsOffOnlyWhereSomebodyIsOn =
+    (s : State) (moment : ℕ) (name text : List ℕ) (lines : List Line) (why : Option Rule) (new : State)
+    → Reads text command.Logoff → Step s moment (input.Command name text) (Done lines why) new
+    → (console : ConsoleRow) × IsHeard s name text console command.Logoff × (is_some console.user ≡ true) × LogsOff s console (Done lines why) new
+
+-- and wherever somebody is, unless the request is given up.
+abbrev pub LogsOffWhereverSomebodyIsOn : Type 0
+LogsOffWhereverSomebodyIsOn =
+    (s : State) (moment : ℕ) (name text : List ℕ) (console : ConsoleRow) (answer : Answer) (new : State)
+    → IsHeard s name text console command.Logoff → is_some console.user ≡ true → Step s moment (input.Command name text) answer new
+    → IsGivenUp answer ⊎ LogsOff s console answer new
+
+-- A refusal leaves board, policy and batches, and adds its row to the account.
+pub record IsRefusal (s : State) (moment : ℕ) (r : Input) (fault : Fault) (why : Option Rule) (new : State) : Type 0 where
+  pub board : new.board ≡ s.board
+  pub policy : new.policy ≡ s.policy
+  pub batches : new.batches ≡ s.batches
+  pub account : new.account ≡ s.account ++ account_row s moment r (fault_code fault) why ∷ []
+
+-- One that is given up leaves all.
+abbrev pub RefusalsChangeNothing : Type 0
+RefusalsChangeNothing =
+    (s : State) (moment : ℕ) (r : Input) (fault : Fault) (why : Option Rule) (new : State) → Step s moment r (Refused fault why) new
+    → (IsGivenUp (Refused fault why) × (new ≡ s)) ⊎ IsRefusal s moment r fault why new
+
+-- the refusals of authority
+abbrev pub IsOfAuthority : Fault → Type 0
+IsOfAuthority fault.LogonRequired = Unit {0}
+IsOfAuthority fault.Revoked = Unit {0}
+IsOfAuthority fault.DeniedConsole = Unit {0}
+IsOfAuthority fault.DeniedProfile = Unit {0}
+IsOfAuthority fault.DeniedGroup = Unit {0}
+IsOfAuthority other = ⊥
+
+abbrev pub IsOfProfile : Rule → Type 0
+IsOfProfile (rule.Profile class pattern held needed warned) = Unit {0}
+IsOfProfile rule.NoProfile = ⊥
+IsOfProfile (rule.ConsoleGroup group auth) = ⊥
+IsOfProfile rule.LogonRequired = ⊥
+IsOfProfile rule.Revoked = ⊥
+
+abbrev pub IsOfConsole : Rule → Type 0
+IsOfConsole (rule.ConsoleGroup group auth) = Unit {0}
+IsOfConsole (rule.Profile class pattern held needed warned) = ⊥
+IsOfConsole rule.NoProfile = ⊥
+IsOfConsole rule.LogonRequired = ⊥
+IsOfConsole rule.Revoked = ⊥
+
+-- what kind of rule each of them names: the logon rule, a profile, or a console's group
+abbrev pub IsNamedBy : Fault → Rule → Type 0
+IsNamedBy fault.LogonRequired why = why ≡ rule.LogonRequired
+IsNamedBy fault.Revoked why = why ≡ rule.Revoked
+IsNamedBy fault.DeniedConsole why = IsOfProfile why
+IsNamedBy fault.DeniedProfile why = IsOfProfile why
+IsNamedBy fault.DeniedGroup why = IsOfConsole why
+IsNamedBy other why = Unit {0}
+
+-- The policy of this moment denies what the line needs, by this rule.
+pub record IsRuledOut (s : State) (name text : List ℕ) (why : Rule) : Type 0 where
+  pub console : ConsoleRow
+  pub command : Command
+  pub heard : IsHeard s name text console command
+  pub need : Need
+  pub needs : need_of s.board command ≡ Some need
+  pub denied : ruling s console need ≡ Denied why
+
+-- The line is a LOGON of a user with the user's password, whom the policy of this moment does not let on, by this
+-- rule.
+pub record IsKeptOff (s : State) (name text : List ℕ) (why : Rule) : Type 0 where
+  pub console : ConsoleRow
+  pub id : Operand (List ℕ)
+  pub password : Operand (List ℕ)
+  pub heard : IsHeard s name text console (command.Logon id password)
+  pub user : User
+  pub known : known_by s id.value password.value ≡ Some user
+  pub denied : logon_ruling s console user ≡ Denied why
+
+-- The logon rule denies whatever is asked at a console that is there and online.
+pub record IsShutOut (s : State) (name : List ℕ) (why : Rule) : Type 0 where
+  pub console : ConsoleRow
+  pub there : console_at s.board name ≡ Some console
+  pub online : console.online ≡ true
+  pub denied : logon_denial s console ≡ Some why
+
+abbrev pub IsDeniedBy : State → Input → Rule → Type 0
+IsDeniedBy s (input.Command name text) why = IsRuledOut s name text why ⊎ IsKeptOff s name text why
+IsDeniedBy s (input.Admin name operation) why = IsShutOut s name why
+IsDeniedBy s (input.ListProfiles name class) why = IsShutOut s name why
+IsDeniedBy s (input.ListAccount name from count) why = IsShutOut s name why
+IsDeniedBy s (input.Import name batch rows) why = IsShutOut s name why
+IsDeniedBy s (input.Event e) why = ⊥
+
+-- A refusal of authority names its rule, and that rule denies by the policy of that moment.
+abbrev pub RefusalsOfAuthorityNameTheirRule : Type 0
+RefusalsOfAuthorityNameTheirRule =
+    (s : State) (moment : ℕ) (r : Input) (fault : Fault) (why : Option Rule) (new : State) → IsOfAuthority fault → Step s moment r (Refused fault why) new
+    → (rule : Rule) × (why ≡ Some rule) × IsNamedBy fault rule × IsDeniedBy s r rule

@@ -1,0 +1,102 @@
+//! What the access machine means to those who use it, each law as what a call without a body ensures.
+ghost use Rattle.opc_laws.specs.ChangingLaws.{AdministersOnlyWhereAllowed, AdministersWhereverAllowed, ImportsOnlyWhereAllowed, ImportsWhereverAllowed, ListsAccountOnlyWhereShown, ListsAccountWhereverShown, ListsExactlyProfilesShown, ListsProfilesWhereverAsked, RepeatsWhereverAllowed, SameRowsAreEqual};
+ghost use Rattle.opc_laws.specs.Laws.{ActsOnlyWhereAllowed, ActsWhereverAllowed, ListsExactlyWhatMayBeShown, LogsOffOnlyWhereSomebodyIsOn, LogsOffWhereverSomebodyIsOn, LogsOnOnlyWhereAllowed, LogsOnWhereverAllowed, RefusalsChangeNothing, RefusalsOfAuthorityNameTheirRule};
+
+/// A command acts only where the written policy of that moment allows it.
+pub fn acts_only_where_allowed()
+    ensures { ActsOnlyWhereAllowed }
+{}
+
+/// A command acts wherever the written policy of that moment allows it, unless the board is in the way or the request
+/// is given up.
+pub fn acts_wherever_allowed()
+    ensures { ActsWhereverAllowed }
+{}
+
+/// A unit's or a console's line is listed exactly where the written policy of that moment lets it be shown.
+pub fn lists_exactly_what_may_be_shown()
+    ensures { ListsExactlyWhatMayBeShown }
+{}
+
+/// A user is logged on only where nobody is on, the password is the user's, and the written policy of that moment
+/// allows it.
+pub fn logs_on_only_where_allowed()
+    ensures { LogsOnOnlyWhereAllowed }
+{}
+
+/// A user is logged on wherever all that holds, unless the request is given up.
+pub fn logs_on_wherever_allowed()
+    ensures { LogsOnWhereverAllowed }
+{}
+
+/// LOGOFF is done only where somebody is on.
+pub fn logs_off_only_where_somebody_is_on()
+    ensures { LogsOffOnlyWhereSomebodyIsOn }
+{}
+
+/// LOGOFF is done wherever somebody is on, unless the request is given up.
+pub fn logs_off_wherever_somebody_is_on()
+    ensures { LogsOffWhereverSomebodyIsOn }
+{}
+
+/// Administration is done only where the written policy of that moment gives the right.
+pub fn administers_only_where_allowed()
+    ensures { AdministersOnlyWhereAllowed }
+{}
+
+/// Administration is done wherever the written policy of that moment gives the right, unless something is in the way or
+/// the request is given up.
+pub fn administers_wherever_allowed()
+    ensures { AdministersWhereverAllowed }
+{}
+
+/// A profile's line is listed exactly where the written policy of that moment lets it be shown.
+pub fn lists_exactly_profiles_shown()
+    ensures { ListsExactlyProfilesShown }
+{}
+
+/// Profiles are listed wherever somebody may ask, unless the request is given up.
+pub fn lists_profiles_wherever_asked()
+    ensures { ListsProfilesWhereverAsked }
+{}
+
+/// The account is listed only where the written policy of that moment lets it be shown.
+pub fn lists_account_only_where_shown()
+    ensures { ListsAccountOnlyWhereShown }
+{}
+
+/// The account is listed wherever it may be shown, unless the request is given up.
+pub fn lists_account_wherever_shown()
+    ensures { ListsAccountWhereverShown }
+{}
+
+/// An import is done only for SPECIAL, and in whole.
+pub fn imports_only_where_allowed()
+    ensures { ImportsOnlyWhereAllowed }
+{}
+
+/// An import with a new number is done wherever SPECIAL asks, unless a row is refused or the request is given up,
+pub fn imports_wherever_allowed()
+    ensures { ImportsWhereverAllowed }
+{}
+
+/// and one that is kept with the same rows changes nothing.
+pub fn repeats_wherever_allowed()
+    ensures { RepeatsWhereverAllowed }
+{}
+
+/// Two batches are the same where their rows are equal.
+pub fn same_rows_are_equal()
+    ensures { SameRowsAreEqual }
+{}
+
+/// A refusal changes nothing but the account, to which it adds its row.
+pub fn refusals_change_nothing()
+    ensures { RefusalsChangeNothing }
+{}
+
+/// A refusal of authority names its rule, a profile, a console's group or the logon rule, and that rule denies by the
+/// written policy of that moment.
+pub fn refusals_of_authority_name_their_rule()
+    ensures { RefusalsOfAuthorityNameTheirRule }
+{}

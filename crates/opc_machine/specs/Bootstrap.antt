@@ -1,0 +1,50 @@
+-- The first policy of a gate, in whose tables no user is stored.
+use Rattle.std.specs.Prelude.{◌&&◌, Bool, true, false, not, if◌then◌else◌, List, [], ◌∷◌, Result, Ok, Err}
+use Rattle.opc_policy.specs.declared.fault.Fault.{Fault}
+use Rattle.opc_policy.specs.declared.fault.Fault.TheVariants.{NotEmpty, LastMaster}
+use Rattle.opc_policy.specs.declared.policy.Policy.{Policy}
+use Rattle.opc_policy.specs.declared.row.Row.{Row}
+use Rattle.opc_policy.specs.declared.row.Row.TheVariants as rows
+use Rattle.opc_policy.specs.Taken.{after_row}
+use Rattle.opc_board.specs.declared.board.BoardRows.{BoardRows}
+use Rattle.opc_board.specs.Consoles.{console_defined}
+use Rattle.opc_board.specs.Facts.{has_master}
+use Rattle.opc_state.specs.State.{State, has_users}
+
+abbrev pub then_policy : Result Policy Fault → (Policy → Result Policy Fault) → Result Policy Fault
+then_policy (Ok p) next = next p
+then_policy (Err fault) next = Err fault
+
+-- rows taken one after another, up to the first that has a fault
+abbrev pub policy_after : List Row → Policy → Result Policy Fault
+policy_after [] p = Ok p
+policy_after (row ∷ more) p = then_policy (after_row row p) (λ q. policy_after more q)
+
+-- and their consoles, which have none
+abbrev pub console_after : Row → BoardRows → BoardRows
+console_after (rows.Console name auth mode) b = console_defined name auth mode b
+console_after other b = b
+
+abbrev pub consoles_after : List Row → BoardRows → BoardRows
+consoles_after [] b = b
+consoles_after (row ∷ more) b = consoles_after more (console_after row b)
+
+-- where an online console has AUTH MASTER, one has it afterwards
+abbrev pub loses_master : BoardRows → BoardRows → Bool
+loses_master old new = has_master old.consoles && not (has_master new.consoles)
+
+abbrev pub mastered : Bool → State → Result State Fault
+mastered true s = Err LastMaster
+mastered false s = Ok s
+
+abbrev pub founded : State → BoardRows → Result Policy Fault → Result State Fault
+founded s board (Ok policy) = mastered (loses_master s.board board) (record s { policy = policy; board = board })
+founded s board (Err fault) = Err fault
+
+-- the state after rows, or why they are refused
+abbrev pub founding : List Row → State → Result State Fault
+founding more s = founded s (consoles_after more s.board) (policy_after more s.policy)
+
+-- and that no user is stored yet
+abbrev pub bootstrapped : List Row → State → Result State Fault
+bootstrapped more s = if has_users s.policy then Err NotEmpty else founding more s

@@ -1,0 +1,13 @@
+pub mod Operations
+pub mod Inputs
+pub mod Outcome
+pub mod Faults
+pub mod Rulings
+pub mod Commands
+pub mod Bootstrap
+pub mod Rights
+pub mod Administration
+pub mod Listings
+pub mod Imports
+pub mod Machine
+pub mod Deeds

@@ -1,0 +1,5 @@
+//! Rulings: who acts at a console, what is ruled on a need there, and what may be shown.
+#![tactic(auto)]
+
+pub mod console;
+pub mod ruling;

@@ -1,0 +1,205 @@
+//! Rulings, from what is loaded for them.
+ghost use Rattle.std.specs.Prelude.{◌≡◌, ◌≤◌, Some, IfOk, IsTrue, filter, length};
+ghost use Rattle.opc_names.specs.Names.{is_plain, is_resource};
+ghost use Rattle.opc_names.specs.declared.class.Class.TheVariants.{Opercmds};
+ghost use Rattle.opc_policy.specs.Members.{groups_of};
+ghost use Rattle.opc_policy.specs.Rulings.{console_ruling, ruling as policy_ruling};
+ghost use Rattle.opc_policy.specs.Taken.{is_active};
+ghost use Rattle.opc_state.specs.Asked.{Answers};
+ghost use Rattle.opc_state.specs.State.{State, deciding_in};
+ghost use Rattle.opc_state.specs.Changes.{IsKept};
+ghost use Rattle.opc_machine.specs.Rulings.{is_required, is_allowed, logon_ruling, need_to_show, ruling, shown, to_show};
+
+use opc_board::line::{Item, Line};
+use opc_board::rows::ConsoleRow;
+use opc_names::auth::Auth;
+use opc_names::class::Class;
+use opc_names::group::Group;
+use opc_names::level::Level;
+use opc_names::name::{ConsoleName, Name, NameKind, Resource};
+use opc_policy::mode::Mode;
+use opc_policy::need::Need;
+use opc_policy::rule::Rule;
+use opc_policy::ruling::{Ruling, rule_on};
+use opc_policy::search::Found;
+use opc_policy::source::StoreFault;
+use opc_policy::user::User;
+use opc_policy::verdict::Verdict;
+use opc_rows::Rows;
+use opc_state::tables::Tables;
+use std::alloc::Global;
+
+fn is_required(mode: Mode) -> bool
+    ensures { result ≡ is_required mode }
+{
+    match mode {
+        Mode::Required => true,
+        Mode::Optional => false,
+    }
+}
+
+// By the authority of the console alone.
+fn by_console(auth: Auth, need: &Need) -> Ruling
+    ensures { result ≡ console_ruling auth need.now }
+{
+    let found = Found {
+        profile: None,
+        ranges: 0,
+        rows: 0,
+    };
+    rule_on(&found, false, None, &[], auth, need)
+}
+
+// By the profile that decides for a user, else by the authority of the console.
+fn by_profile<T: Tables>(
+    tables: &mut T,
+    alloc: Global,
+    user: &User,
+    auth: Auth,
+    need: &Need,
+) -> Result<Ruling, StoreFault>
+    ensures kept { IsKept T.is_sure T.represents T.may_leave tables.old tables.new }
+    ensures ruling { Answers (T.is_sure tables.new) (T.represents tables.old) result (λ s r. r ≡
+        policy_ruling (is_active s.policy.active Opercmds) (deciding_in s.policy Opercmds need.now.resource) (Some user.now) (groups_of s.policy.connects user.now.id) auth need.now) }
+{
+    let active = tables.is_active(Class::Opercmds)?;
+    let found = tables.deciding(alloc, Class::Opercmds, &need.resource)?;
+    let groups = tables.groups_of(alloc, &user.id)?;
+    Ok(rule_on(&found, active, Some(user), groups.as_slice(), auth, need))
+}
+
+/// The ruling on a need at a console.
+pub fn ruling_on<T: Tables>(
+    tables: &mut T,
+    alloc: Global,
+    console: &ConsoleRow,
+    need: &Need,
+) -> Result<Ruling, StoreFault>
+    ensures kept { IsKept T.is_sure T.represents T.may_leave tables.old tables.new }
+    ensures ruling { Answers (T.is_sure tables.new) (T.represents tables.old) result (λ s r. r ≡ ruling s console.now need.now) }
+{
+    let Some(id) = console.user else {
+        if is_required(console.mode) {
+            return Ok(Ruling::Denied(Rule::LogonRequired));
+        }
+        return Ok(by_console(console.auth, need));
+    };
+    let Some(user) = tables.user(alloc, &id)? else {
+        return Ok(by_console(console.auth, need));
+    };
+    if user.revoked {
+        return Ok(Ruling::Denied(Rule::Revoked));
+    }
+    by_profile(tables, alloc, &user, console.auth, need)
+}
+
+fn resource_of(name: &ConsoleName) -> Resource
+    ensures { result ≡ name.now }
+{
+    match Resource::read(name.text()) {
+        Ok(resource) => resource,
+        Err(_) => unreachable!(),
+    }
+}
+
+/// The ruling on a user who logs on at a console.
+pub fn logon_ruling_on<T: Tables>(
+    tables: &mut T,
+    alloc: Global,
+    console: &ConsoleRow,
+    user: &User,
+) -> Result<Ruling, StoreFault>
+    ensures kept { IsKept T.is_sure T.represents T.may_leave tables.old tables.new }
+    ensures ruling { Answers (T.is_sure tables.new) (T.represents tables.old) result (λ s r. r ≡ logon_ruling s console.now user.now) }
+{
+    if user.revoked {
+        return Ok(Ruling::Denied(Rule::Revoked));
+    }
+    if !tables.is_active(Class::Console)? {
+        return Ok(Ruling::Allowed(Rule::NoProfile));
+    }
+    let found = tables.deciding(alloc, Class::Console, &resource_of(&console.name))?;
+    let Some(profile) = found.profile else {
+        return Ok(Ruling::Allowed(Rule::NoProfile));
+    };
+    let groups = tables.groups_of(alloc, &user.id)?;
+    let rule = profile.rule_for(user, groups.as_slice(), Level::Read);
+    match profile.verdict_on(user, groups.as_slice(), Level::Read) {
+        Verdict::Allowed => Ok(Ruling::Allowed(rule)),
+        Verdict::Denied => Ok(Ruling::Denied(rule)),
+        Verdict::Undecided => Ok(Ruling::Allowed(Rule::NoProfile)),
+    }
+}
+
+fn is_allowed(ruling: Ruling) -> bool
+    ensures { result ≡ is_allowed ruling }
+{
+    match ruling {
+        Ruling::Allowed(_) => true,
+        Ruling::Denied(_) => false,
+    }
+}
+
+fn to_show<K: NameKind<8>>(words: &str, name: &Name<K, 8>) -> Option<Need>
+    requires words { IsTrue (is_resource words.now) }
+    requires room { length words.now ≤ 30 }
+    requires plain { IsTrue (is_plain K.rule.alphabet) }
+    ensures { result ≡ to_show words.now name.now }
+{
+    Some(Need {
+        resource: Resource::of_words(words).with(name),
+        level: Level::Read,
+        group: Group::Info,
+    })
+}
+
+fn need_to_show(item: Item) -> Option<Need>
+    ensures { result ≡ need_to_show item }
+{
+    match item {
+        Item::Plain => None,
+        Item::Unit(name) => to_show("MVS.DISPLAY.JOB", &name),
+        Item::Console(name) => to_show("MVS.DISPLAY.CN", &name),
+    }
+}
+
+// Whether a line may be shown.
+fn is_shown<T: Tables>(
+    tables: &mut T,
+    alloc: Global,
+    console: &ConsoleRow,
+    line: &Line,
+) -> Result<bool, StoreFault>
+    ensures kept { IsKept T.is_sure T.represents T.may_leave tables.old tables.new }
+    ensures shown { Answers (T.is_sure tables.new) (T.represents tables.old) result (λ s b. b ≡ shown s console.now line.now) }
+{
+    match need_to_show(line.item) {
+        None => Ok(true),
+        Some(need) => {
+            let ruling = ruling_on(tables, alloc, console, &need)?;
+            Ok(is_allowed(ruling))
+        }
+    }
+}
+
+/// Those lines that may be shown.
+pub fn shown_lines<T: Tables>(
+    tables: &mut T,
+    alloc: Global,
+    console: &ConsoleRow,
+    lines: Vec<Line>,
+) -> Result<Rows<Line>, StoreFault>
+    ensures kept { IsKept T.is_sure T.represents T.may_leave tables.old tables.new }
+    ensures lines { Answers (T.is_sure tables.new) (T.represents tables.old) result (λ s kept. kept ≡ filter (shown s console.now) lines.items) }
+{
+    let mut kept = Rows::new(alloc);
+    for line in lines {
+        if is_shown(tables, alloc, console, &line)? {
+            match kept.push(line) {
+                Ok(()) => {}
+                Err(_) => return Err(StoreFault::NoMemory),
+            }
+        }
+    }
+    Ok(kept)
+}

@@ -1,11 +1,10 @@
 -- What a hole with a width writes.
-use Rattle.std.proofs.Common.{◌≡◌, ℕ, ◌-◌, ◌^◌, ◌<◌, ◌≤◌, true, false, List, [], ◌∷◌, ◌++◌, length, replicate, refl, ap, arith, suc, zero, ◌==◌, append-nil, Result, Ok, Err, IfOk}
+use Rattle.std.proofs.Common.{◌≡◌, ℕ, ◌-◌, ◌^◌, ◌<◌, ◌≤◌, true, false, List, [], ◌∷◌, ◌++◌, length, replicate, refl, ap, arith, suc, ◌==◌, Result, Ok, Err, IfOk}
 use Rattle.std.proofs.lemmas.Bool.Decides.{nat_tests}
-use Rattle.std.specs.Fmt.{char_count, take_chars, padded, padded_integral, format_spec, decimal, is_char_start}
-use Rattle.std.specs.List.{repeat}
-use Rattle.std.specs.Char.{encode_utf8}
+use Rattle.std.specs.Fmt.{char_count, take_chars, padded, format_spec, is_char_start}
 use Rattle.std.specs.Str.{IsAscii}
-use Rattle.opc_board.specs.Texts.{left, two_digits}
+use Rattle.opc_names.proofs.Digits.{spaces}
+use Rattle.opc_board.specs.Texts.{left}
 
 starts : (b : ℕ) → b < 128 → is_char_start b ≡ true
 starts b small = grind (arith, nat_tests)
@@ -25,22 +24,9 @@ take_ascii n (b ∷ text) ascii short =
     let some : (n == 0) ≡ false = grind (arith, nat_tests) in
     rw (starts b (ascii 0), some) (ap (λ ts. b ∷ ts) (take_ascii (n - 1) text (rest_ascii b text ascii) (omega arith)))
 
-spaces : (n : ℕ) → repeat n (encode_utf8 32) ≡ replicate n 32
-unfolding encode_utf8
-spaces zero = refl
-spaces (suc n) = ap (λ ts. 32 ∷ ts) (spaces n)
-
 pub padded_left : (w : ℕ) (text : List ℕ) → IsAscii text → length text ≤ 1000 → padded (format_spec 32 1 0 w (2 ^ 64 - 1)) text ≡ left w text
 unfolding padded
 padded_left w text ascii short = let whole : take_chars (2 ^ 64 - 1) text ≡ text = take_ascii (2 ^ 64 - 1) text ascii (omega arith) in rw (whole, count_ascii text ascii, spaces) (ap (λ n. text ++ replicate n 32) (omega arith))
-
-count_none : char_count [] ≡ 0
-unfolding char_count
-count_none = refl
-
-pub padded_two : (n : ℕ) → padded_integral (format_spec 32 0 4 2 (2 ^ 64 - 1)) false [] (decimal n) ≡ two_digits n
-unfolding padded_integral
-padded_two n = rw (spaces, append-nil, count_none) (ap (λ k. replicate k 48 ++ decimal n) (omega arith))
 
 pub if_ok : {A E : Type 0} (P Q : A → Type 0) → ((x : A) → P x → Q x) → (r : Result A E) → IfOk r P → IfOk r Q
 if_ok P Q weaker (Ok x) holds = weaker x holds

@@ -1,7 +1,7 @@
 -- The lines of answers.
 use Rattle.std.specs.Prelude.{ℕ, ◌-◌, Bool, true, false, List, [], ◌∷◌, ◌++◌, length, replicate, Option, Some, None, codes}
-use Rattle.std.specs.Fmt.{decimal}
 use Rattle.opc_names.specs.Spellings.{auth_text}
+pub use Rattle.opc_names.specs.Spellings.{two_digits}
 use Rattle.opc_board.specs.declared.rows.UnitKind.{UnitKind}
 use Rattle.opc_board.specs.declared.rows.UnitKind.TheVariants.{Job, Stc, Tsu}
 use Rattle.opc_board.specs.declared.rows.UnitRow.{UnitRow}
@@ -56,10 +56,6 @@ device_text d = columns (d.number ∷ left 7 (online_text d.online) ∷ left 6 (
 
 abbrev pub console_text : ConsoleRow → List ℕ
 console_text c = columns (left 8 c.name ∷ left 7 (online_text c.online) ∷ monitor_text c.monitor ∷ auth_text c.auth ∷ text_or (codes "-") c.user ∷ [])
-
--- a number in two digits
-abbrev pub two_digits : ℕ → List ℕ
-two_digits n = replicate (2 - length (decimal n)) 48 ++ decimal n
 
 abbrev pub reply_text : ℕ → List ℕ → List ℕ
 reply_text id text = columns (two_digits id ∷ text ∷ [])

@@ -1,10 +1,11 @@
 //! What happens to a board without a command.
-use crate::rows::{ReplyId, UnitKind};
+use crate::rows::UnitKind;
 use crate::text::KeptText;
 use opc_names::name::{Device, UnitName};
+use opc_names::reply_id::ReplyId;
 
 /// An event of the machine room.
-#[derive(Debug, Drop)]
+#[derive(Drop)]
 pub enum Event {
     /// A unit comes.
     JobIn {

@@ -11,7 +11,5 @@ pub mod laws;
 pub mod line;
 mod replies;
 pub mod rows;
-#[cfg(test)]
-mod tests;
 pub mod text;
 mod units;

@@ -4,13 +4,14 @@ ghost use Rattle.std.specs.Option.{option_copied};
 ghost use Rattle.std.specs.Str.{IsAscii};
 ghost use Rattle.opc_board.specs.Texts.{activity_text, columns, console_line, console_text, device_line, device_text, kind_text, left, lines_of, monitor_text, online_text, reply_line, reply_text, text_or, unit_line, unit_text};
 
-use crate::rows::{ConsoleRow, DeviceRow, ReplyId, ReplyRow, UnitKind, UnitRow};
+use crate::rows::{ConsoleRow, DeviceRow, ReplyRow, UnitKind, UnitRow};
 use crate::text::KeptText;
 use opc_names::name::{ConsoleName, Name, NameKind, UnitName};
+use opc_names::reply_id::ReplyId;
 use std::alloc::{AllocError, Global};
 
 /// What a line is about, by which whoever shows it decides who may see it.
-#[derive(Clone, Copy, Debug, PartialEq, Eq)]
+#[derive(Clone, Copy)]
 pub enum Item {
     Plain,
     Unit(UnitName),
@@ -18,7 +19,7 @@ pub enum Item {
 }
 
 /// A line of an answer.
-#[derive(Debug, Drop)]
+#[derive(Drop)]
 pub struct Line {
     pub item: Item,
     pub text: KeptText,
@@ -125,11 +126,10 @@ fn console_columns(
     format!(in alloc; "{name:<8} {state:<7} {monitor} {auth} {user}")
 }
 
-#[tactic(auto, using(crate::proofs::Padding::padded_two))]
 fn text_of_reply(alloc: Global, id: ReplyId, text: &str) -> Result<String, AllocError>
     ensures { IfOk result (λ line. string_bytes line ≡ reply_text id text.now) }
 {
-    format!(in alloc; "{id:02} {text}")
+    format!(in alloc; "{id} {text}")
 }
 
 fn text_of_unit(alloc: Global, unit: &UnitRow) -> Result<String, AllocError>

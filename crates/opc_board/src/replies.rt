@@ -8,9 +8,10 @@ ghost use Rattle.opc_board.specs.Replies.{has_session, is_on, resumed, reply as 
 use crate::board::Board;
 use crate::fault::BoardFault;
 use crate::line::{Line, reply_line};
-use crate::rows::{ConsoleRow, MessageRow, ReplyId, ReplyRow};
+use crate::rows::{ConsoleRow, MessageRow, ReplyRow};
 use crate::text::KeptText;
 use opc_names::name::{UnitName, UserId};
+use opc_names::reply_id::ReplyId;
 use std::alloc::Global;
 
 /// The name of a user's session on the board.

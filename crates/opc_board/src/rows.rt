@@ -2,11 +2,12 @@
 use crate::text::KeptText;
 use opc_names::auth::Auth;
 use opc_names::name::{ConsoleName, Device, UnitName, UserId, Volume};
+use opc_names::reply_id::ReplyId;
 use opc_policy::mode::Mode;
 use opc_rows::Keyed;
 
 /// What a unit is: a job, a started task of a member, or a user's session.
-#[derive(Clone, Copy, Debug, PartialEq, Eq)]
+#[derive(Clone, Copy, Debug)]
 pub enum UnitKind {
     Job,
     Stc { member: UnitName },
@@ -35,7 +36,7 @@ impl Keyed for UnitRow {
 }
 
 /// A device, with the volume that is mounted on it and the unit that has it.
-#[derive(Clone, Copy, Debug, PartialEq, Eq)]
+#[derive(Clone, Copy, Debug)]
 pub struct DeviceRow {
     pub number: Device,
     pub online: bool,
@@ -54,7 +55,7 @@ impl Keyed for DeviceRow {
 }
 
 /// A console, with the user who is logged on there.
-#[derive(Clone, Copy, Debug, PartialEq, Eq)]
+#[derive(Clone, Copy, Debug)]
 pub struct ConsoleRow {
     pub name: ConsoleName,
     pub auth: Auth,
@@ -74,9 +75,6 @@ impl Keyed for ConsoleRow {
         &self.name
     }
 }
-
-/// The number of a reply, 0 to 99.
-pub type ReplyId = u8;
 
 /// An open reply with the text that it asks, or an answered one with the answer.
 #[derive(Debug, Drop)]

@@ -7,7 +7,7 @@ use Rattle.std.proofs.lemmas.Bool.Decides.{nat_tests}
 use Rattle.opc_policy.specs.declared.row.Row.{Row}
 use Rattle.opc_import.specs.Columns.{Record, is_header}
 use Rattle.opc_import.specs.Files.{after_rows, rows_from, rows_of, with_row}
-use Rattle.opc_import.specs.Kinds.{row_of}
+use Rattle.opc_import.specs.Kinds.{most_rows, row_of}
 use Rattle.opc_import.specs.declared.fault.ImportFault.{ImportFault}
 use Rattle.opc_import.specs.declared.fault.ImportFault.TheVariants as fault
 use Rattle.opc_policy.specs.declared.fault.Why.{Why}
@@ -45,9 +45,9 @@ err-ok : {reason : Why} {row : Row} → Err reason ≡ Ok row → ⊥
 err-ok e = cc
 
 -- a good record has a number within the limit
-pub good-number : (number : ℕ) (first : Record) (row : Row) → row_of number first ≡ Ok row → number ≤ 10000
+pub good-number : (number : ℕ) (first : Record) (row : Row) → row_of number first ≡ Ok row → number ≤ most_rows
 good-number number first row good = elim (cases_Bool (length first == 8)) [
-  | inl eight ↦ elim (cases_Bool (nat_lt 10000 number)) [
+  | inl eight ↦ elim (cases_Bool (nat_lt most_rows number)) [
     | inl many ↦ absurd (err-ok (rw (eight, many) at good))
     | inr few ↦ grind (arith, nat_tests, few)
   ]

@@ -11,7 +11,7 @@ use Rattle.opc_policy.specs.declared.row.Row.{Row}
 use Rattle.opc_policy.specs.declared.row.Row.TheVariants as row
 use Rattle.opc_import.specs.Columns.{Record, columns, field_in, reason, unused}
 use Rattle.opc_import.specs.Fields.{activities, digest_of, entry_id_of, name_of, user_flags, warnings}
-use Rattle.opc_import.specs.Kinds.{◌>>=◌, kinds, read_in, row_by_kind, row_of_kind}
+use Rattle.opc_import.specs.Kinds.{◌>>=◌, kinds, most_rows, read_in, row_by_kind, row_of_kind}
 use Rattle.opc_import.specs.Laws.{FirstFaultIsNamed, fault_by_kind, fault_of, first_fault}
 use Rattle.opc_import.specs.declared.column.Column.{Column}
 use Rattle.opc_import.specs.declared.column.Column.TheVariants as column
@@ -96,7 +96,7 @@ by-name None fields = refl
 by-name (Some k) fields = by-kind k fields
 
 pub first-fault : FirstFaultIsNamed
-first-fault number fields = go (length fields == length columns) (nat_lt 10000 number)
+first-fault number fields = go (length fields == length columns) (nat_lt most_rows number)
   where
     go : (b c : Bool) → fault_of (cond b (cond c (Err why.Many) (row_by_kind fields)) (Err why.Columns)) ≡ cond b (cond c (Some why.Many) (fault_by_kind (lookup kinds (field_in column.Kind fields)) fields)) (Some why.Columns)
     go false c = refl

@@ -30,7 +30,7 @@ use Rattle.opc_policy.specs.declared.row.Row.TheVariants as row
 use Rattle.opc_import.specs.Columns.{Record, header}
 use Rattle.opc_import.specs.Fields.{activities, decoded, digest_of, flags_of, is_lower_digit, user_flags, warnings}
 use Rattle.opc_import.specs.Files.{policy_of, rows_from}
-use Rattle.opc_import.specs.Kinds.{row_of}
+use Rattle.opc_import.specs.Kinds.{most_rows, row_of}
 use Rattle.opc_import.specs.Lines.{csv_text}
 use Rattle.opc_import.specs.Records.{records_of_source}
 use Rattle.opc_import.specs.Rows.{IsValid, IsValidIn, activity_text, flags_text, record_of, warning_text}
@@ -40,7 +40,7 @@ use Rattle.opc_import.proofs.RecordLemmas.{first-left, none-first}
 true-false : true ≡ false → ⊥
 true-false e = cc
 
-within : (number : ℕ) → number ≤ 10000 → nat_lt 10000 number ≡ false
+within : (number : ℕ) → number ≤ most_rows → nat_lt most_rows number ≡ false
 within number h = grind (arith, nat_tests, h)
 
 classes-back : (c : Class) → lookup classes (class_text c) ≡ Some c
@@ -124,7 +124,7 @@ valid-in-all r name id owner digest column.Flags = tt
 valid-in-all r name id owner digest column.Digest = digest
 
 -- the record of a row is read as that row, whatever its number in a file
-pub row-back : (r : Row) → IsValid r → (number : ℕ) → number ≤ 10000 → row_of number (record_of r) ≡ Ok r
+pub row-back : (r : Row) → IsValid r → (number : ℕ) → number ≤ most_rows → row_of number (record_of r) ≡ Ok r
 unfolding field_at
 row-back (row.Class c active) valid number h = rw (within number h, classes-back c, activities-back active) refl
 row-back (row.Group n) valid number h = rw (within number h, valid column.Name) refl
@@ -159,7 +159,7 @@ unfolding strip_bom is_blank fields_text
 no-mark rows = refl
 
 -- a file that was written
-pub file-back : (rows : List Row) → length rows ≤ 10000 → All IsValid rows → policy_of (csv_text rows) ≡ Ok rows
+pub file-back : (rows : List Row) → length rows ≤ most_rows → All IsValid rows → policy_of (csv_text rows) ≡ Ok rows
 unfolding field_at
 file-back rows fits h = rw (no-mark rows, lines-back (header ∷ map record_of rows)) (rows-back 1 rows (omega arith) h)
 

@@ -8,7 +8,6 @@ use Rattle.opc_policy.specs.declared.row.Row.{Row}
 use Rattle.opc_policy.specs.declared.row.Row.TheVariants as row
 use Rattle.opc_import.specs.Columns.{Record, columns, field_in, reason, unused}
 use Rattle.opc_import.specs.Fields.{activities, digest_of, entry_id_of, name_of, user_flags, warnings}
-use Rattle.opc_import.specs.declared.kind.TheConstants.{MOST_ROWS}
 use Rattle.opc_import.specs.declared.kind.Kind.{Kind}
 use Rattle.opc_import.specs.declared.kind.Kind.TheVariants as kind
 use Rattle.opc_import.specs.declared.column.Column.{Column}
@@ -133,8 +132,12 @@ row_by_kind fields = do
   kind ← read_in column.Kind (lookup kinds) fields
   row_of_kind kind fields
 
+-- how many rows a file has at most
+abbrev pub most_rows : ℕ
+most_rows = 10000
+
 -- the row that a record is, as the data record of this number, or what is wrong with it first
 abbrev pub row_of : ℕ → Record → Result Row Why
 row_of number fields =
-    if length fields == length columns then (if nat_lt MOST_ROWS number then Err why.Many else row_by_kind fields)
+    if length fields == length columns then (if nat_lt most_rows number then Err why.Many else row_by_kind fields)
     else Err why.Columns

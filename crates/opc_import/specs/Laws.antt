@@ -8,12 +8,11 @@ use Rattle.opc_policy.specs.declared.fault.Why.{Why}
 use Rattle.opc_policy.specs.declared.fault.Why.TheVariants as why
 use Rattle.opc_import.specs.Columns.{Record, columns, field_in, reason}
 use Rattle.opc_import.specs.Fields.{activities, digest_of, entry_id_of, name_of, user_flags, warnings}
-use Rattle.opc_import.specs.Kinds.{kinds, row_of}
+use Rattle.opc_import.specs.Kinds.{kinds, most_rows, row_of}
 use Rattle.opc_import.specs.declared.column.Column.{Column}
 use Rattle.opc_import.specs.declared.column.Column.TheVariants as column
 use Rattle.opc_import.specs.declared.kind.Kind.{Kind}
 use Rattle.opc_import.specs.declared.kind.Kind.TheVariants as kind
-use Rattle.opc_import.specs.declared.kind.TheConstants.{MOST_ROWS}
 
 -- Whether a kind takes a text in a column, past the one that names the kind. A column that it doesn't use is empty.
 abbrev pub takes : Kind → Column → List ℕ → Bool
@@ -56,7 +55,7 @@ fault_by_kind (Some kind) fields = first_fault kind fields columns
 abbrev pub record_fault : ℕ → Record → Option Why
 record_fault number fields =
     if length fields == length columns then
-    (if nat_lt MOST_ROWS number then Some why.Many else fault_by_kind (lookup kinds (field_in column.Kind fields)) fields)
+    (if nat_lt most_rows number then Some why.Many else fault_by_kind (lookup kinds (field_in column.Kind fields)) fields)
     else Some why.Columns
 
 -- the fault of an answer

@@ -7,7 +7,7 @@ use csv::StringRecord;
 use opc_policy::fault::Why;
 
 /// A column of a policy file.
-#[derive(Clone, Copy, Debug, PartialEq, Eq)]
+#[derive(Clone, Copy)]
 pub enum Column {
     Kind,
     Class,

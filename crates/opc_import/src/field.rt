@@ -8,7 +8,7 @@ use opc_names::name::{Name, NameKind};
 use opc_policy::entry::EntryId;
 
 /// What a user is.
-#[derive(Clone, Copy, Debug, PartialEq, Eq)]
+#[derive(Clone, Copy)]
 pub(crate) struct UserFlags {
     pub special: bool,
     pub auditor: bool,

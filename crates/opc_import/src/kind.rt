@@ -21,7 +21,7 @@ use opc_policy::user::User;
 pub const MOST_ROWS: u32 = 10_000;
 
 /// A kind of row.
-#[derive(Clone, Copy, Debug, PartialEq, Eq)]
+#[derive(Clone, Copy)]
 pub enum Kind {
     Class,
     Group,

@@ -9,6 +9,4 @@ pub mod laws;
 mod line;
 pub mod read;
 mod records;
-#[cfg(test)]
-mod tests;
 pub mod write;

@@ -8,7 +8,7 @@ use csv::{Reader, ReaderBuilder, StringRecord};
 use std::alloc::{AllocError, Global};
 use std::marker::Model;
 
-/// What is left of a text, as records. After want of memory nothing is left.
+/// What is left of a text, as records. Once out of memory, nothing is left.
 #[derive(Drop)]
 pub(crate) struct Records<'a> {
     reader: Reader<&'a [u8]>,
@@ -37,7 +37,7 @@ impl<'a> Records<'a> {
     pub(crate) fn take_into(&mut self, row: &mut StringRecord) -> Result<bool, AllocError>
         ensures { IfOk result (λ found. TakesFirst self.old found (fields_of row.new) self.new) }
     {
-        // A record of a text is text, of any length, and a slice can be read: only memory can be wanting.
+        // A record of a text is text, of any length, and a slice can be read: memory alone can run out.
         let Ok(found) = self.reader.read_record(row) else {
             return Err(AllocError);
         };

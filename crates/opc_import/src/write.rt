@@ -3,10 +3,10 @@ ghost use Rattle.std.specs.Prelude.{◌≡◌, ◌≤◌, IfOk, Ok, OnOk, length
 ghost use Rattle.std.specs.List.{All};
 ghost use Rattle.csv.specs.Records.{fields_of};
 ghost use Rattle.opc_import.specs.Files.{policy_of};
+ghost use Rattle.opc_import.specs.Kinds.{most_rows};
 ghost use Rattle.opc_import.specs.Lines.{AddsLine, IsFresh, csv_text, policy_text};
 ghost use Rattle.opc_import.specs.Rows.{IsValid};
 
-use crate::kind::MOST_ROWS;
 use crate::line::{fill, fill_header};
 use csv::{ByteRecord, Writer, WriterBuilder};
 use opc_policy::row::Row;
@@ -42,10 +42,10 @@ fn lines_of(alloc: Global, rows: &[Row]) -> Result<Vec<u8>, AllocError>
     }
 }
 
-/// The policy file that has these rows. One of at most `MOST_ROWS` rows reads back as they are.
+/// The policy file that has these rows. One of at most 10,000 rows reads back as they are.
 pub fn write_policy(alloc: Global, rows: &[Row]) -> Result<String, AllocError>
     ensures text { IfOk result (λ text. string_bytes text ≡ policy_text rows.now) }
-    ensures reads_back { length rows.now ≤ MOST_ROWS → IfOk result (λ text. policy_of (string_bytes text) ≡ Ok rows.now) }
+    ensures reads_back { length rows.now ≤ most_rows → IfOk result (λ text. policy_of (string_bytes text) ≡ Ok rows.now) }
 {
     let bytes = lines_of(alloc, rows)?;
     let Ok(text) = String::from_utf8(bytes) else {

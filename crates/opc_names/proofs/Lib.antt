@@ -1,6 +1,7 @@
 pub mod Computed
 pub mod Copies
 pub mod CoveredSuffixes
+pub mod Digits
 pub mod Faults
 pub mod FewParts
 pub mod Fronts

@@ -1,5 +1,6 @@
--- The texts of access levels, classes, command groups and authorities, each kind as a table.
-use Rattle.std.specs.Prelude.{ℕ, List, [], ◌∷◌, Option, Some, None, if◌then◌else◌, codes}
+-- The texts of access levels, classes, command groups and authorities, each kind as a table, and of reply numbers.
+use Rattle.std.specs.Prelude.{ℕ, ◌-◌, List, [], ◌∷◌, ◌++◌, Option, Some, None, if◌then◌else◌, codes, length, replicate}
+use Rattle.std.specs.Fmt.{decimal}
 use Rattle.std.specs.Str.{bytes_eq}
 use Rattle.opc_names.specs.declared.level.Level.{Level}
 use Rattle.opc_names.specs.declared.level.Level.TheVariants as level
@@ -66,3 +67,7 @@ auths =
     ∷ (codes "SYS,IO,CONS", SysIoCons) ∷ (codes "SYS,CONS,IO", SysIoCons)
     ∷ (codes "IO,SYS,CONS", SysIoCons) ∷ (codes "IO,CONS,SYS", SysIoCons)
     ∷ (codes "CONS,SYS,IO", SysIoCons) ∷ (codes "CONS,IO,SYS", SysIoCons) ∷ []
+
+-- a number in two digits
+abbrev pub two_digits : ℕ → List ℕ
+two_digits n = replicate (2 - length (decimal n)) 48 ++ decimal n

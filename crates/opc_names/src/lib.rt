@@ -1,4 +1,4 @@
-//! Names, patterns and their order, access levels, classes, command groups and console authority.
+//! Names, patterns and their order, reply numbers, access levels, classes, command groups and console authority.
 #![tactic(auto)]
 
 pub mod auth;
@@ -11,8 +11,7 @@ pub mod level;
 pub mod name;
 pub mod pattern;
 mod qualifier;
+pub mod reply_id;
 mod resource;
 pub mod rule;
-#[cfg(test)]
-mod tests;
 pub mod token;

@@ -34,13 +34,13 @@ filter_both {X} p q (x ∷ xs) =
       | false ↦ filter_both p q xs
     ]
 
--- those before an element of a list, and those behind it
-parted_before : {X : Type 0} (R : X → X → Type 0) (xs : List X) (d : X) (ys : List X) → AllPairs R (xs ++ d ∷ ys) → All (λ x. R x d) xs
-parted_before R xs d ys h = λ k e l.
+-- those before an element of a list, and those after it
+related_before : {X : Type 0} (R : X → X → Type 0) (xs : List X) (d : X) (ys : List X) → AllPairs R (xs ++ d ∷ ys) → All (λ x. R x d) xs
+related_before R xs d ys h = λ k e l.
     rw (get_or_append_left xs (d ∷ ys) e k l, get_or-append_seam xs d ys e) at (h k (length xs) e l (omega (arith, length-append xs (d ∷ ys))))
 
-parted_behind : {X : Type 0} (R : X → X → Type 0) (xs : List X) (d : X) (ys : List X) → AllPairs R (xs ++ d ∷ ys) → All (R d) ys
-parted_behind R xs d ys h = λ k e l.
+related_after : {X : Type 0} (R : X → X → Type 0) (xs : List X) (d : X) (ys : List X) → AllPairs R (xs ++ d ∷ ys) → All (R d) ys
+related_after R xs d ys h = λ k e l.
     rw (get_or-append_seam xs d ys e, get_or-append-add xs (d ∷ ys) (suc k) e) at (h (length xs) (length xs + suc k) e (omega arith) (omega (arith, l, length-append xs (d ∷ ys))))
 
 abbrev pub AreBefore : List Profile → Type 0
@@ -51,7 +51,7 @@ NoneCovers resource profiles = All (λ (p : Profile). covers_text p.pattern reso
 
 module _ (resource : List ℕ) (before : List Profile) (d : Profile) (behind : List Profile) (order : AreBefore (before ++ d ∷ behind)) where
   later : (q : Profile) → Contains behind q → is_before q d ≡ false
-  later q m = ordered.one_way d q (All-contains (λ (p : Profile). is_before d p ≡ true) behind q (parted_behind (λ (p q : Profile). is_before p q ≡ true) before d behind order) m)
+  later q m = ordered.one_way d q (All-contains (λ (p : Profile). is_before d p ≡ true) behind q (related_after (λ (p q : Profile). is_before p q ≡ true) before d behind order) m)
 
   stays : (o : Option Profile) → FirstIs (covering resource behind) o → first_with d o ≡ d
   unfolding FirstIs
@@ -67,8 +67,8 @@ module _ (resource : List ℕ) (before : List Profile) (d : Profile) (behind : L
   pub read_first : length (read_until (Some d) (before ++ d ∷ behind)) ≡ length before + 1
   read_first =
       let read : Profile → Bool = λ p. not (is_before d p) in
-      let earlier : All (λ p. read p ≡ true) before = λ k e l. ap not (ordered.one_way (get_or before k e) d (parted_before (λ (p q : Profile). is_before p q ≡ true) before d behind order k e l)) in
-      let not_later : All (λ p. read p ≡ false) behind = λ k e l. ap not (parted_behind (λ (p q : Profile). is_before p q ≡ true) before d behind order k e l) in
+      let earlier : All (λ p. read p ≡ true) before = λ k e l. ap not (ordered.one_way (get_or before k e) d (related_before (λ (p q : Profile). is_before p q ≡ true) before d behind order k e l)) in
+      let not_later : All (λ p. read p ≡ false) behind = λ k e l. ap not (related_after (λ (p q : Profile). is_before p q ≡ true) before d behind order k e l) in
       let parts : read_until (Some d) (before ++ d ∷ behind) ≡ before ++ d ∷ [] = filter-append read before (d ∷ behind) ∙ rw (kept_all read before earlier, not_before_itself d, kept_none read behind not_later) refl in
       ap length parts ∙ length-append before (d ∷ [])
 

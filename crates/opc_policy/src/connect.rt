@@ -8,14 +8,14 @@ use std::collections::BTreeSet;
 use std::marker::Model;
 
 /// A user's membership in a group (RACF guide: CONNECT). Connects are in the order of users, then groups.
-#[derive(Clone, Copy, Debug, PartialEq, Eq, PartialOrd, Ord)]
+#[derive(Clone, Copy, PartialEq, Eq, PartialOrd, Ord)]
 pub struct Connect {
     pub user: UserId,
     pub group: GroupName,
 }
 
 /// The connects of a policy, in order.
-#[derive(Debug, Drop)]
+#[derive(Drop)]
 pub struct Connects {
     set: BTreeSet<Connect>,
 }

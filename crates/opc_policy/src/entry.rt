@@ -134,7 +134,7 @@ impl fmt::Display for EntryId {
 }
 
 /// One entry of an access list.
-#[derive(Clone, Copy, Debug, PartialEq, Eq)]
+#[derive(Clone, Copy, Debug)]
 pub struct Entry {
     pub id: EntryId,
     pub level: Level,

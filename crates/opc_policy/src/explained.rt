@@ -21,7 +21,7 @@ use std::fmt;
 use std::marker::Model;
 
 /// Patterns, each before all later ones.
-#[derive(Debug, Drop)]
+#[derive(Drop)]
 pub struct Patterns {
     list: Vec<Pattern>,
 }
@@ -44,7 +44,7 @@ impl Patterns {
 
 /// The profiles of a class that cover a resource, by their patterns, the verdict on a user and a level, and the
 /// rule of the verdict.
-#[derive(Debug, Drop)]
+#[derive(Drop)]
 pub struct Explained {
     pub covering: Patterns,
     pub verdict: Verdict,

@@ -9,7 +9,7 @@ use std::collections::BTreeSet;
 use std::marker::Model;
 
 /// The groups of a policy, in order. They are kept by their texts, so that a name of any kind can be looked up.
-#[derive(Debug, Drop)]
+#[derive(Drop)]
 pub struct Groups {
     set: BTreeSet<Bytes<8>>,
 }

@@ -8,7 +8,7 @@ use std::fmt;
 
 /// Whether a user has to be logged on at a console before commands are entered there (MVS Planning:
 /// Operations, LOGON).
-#[derive(Clone, Copy, Debug, PartialEq, Eq, PartialOrd, Ord, Hash)]
+#[derive(Clone, Copy, Debug, PartialEq, Eq)]
 pub enum Mode {
     Optional,
     Required,
@@ -47,20 +47,5 @@ impl fmt::Display for Mode {
 
     fn fmt<W: fmt::Write>(&self, f: &mut fmt::Formatter<W>) -> fmt::Result {
         f.pad(self.text())
-    }
-}
-
-#[cfg(test)]
-mod tests {
-    use super::*;
-
-    #[test]
-    fn modes_read_back(rt: HostRuntime) {
-        for mode in [Mode::Optional, Mode::Required] {
-            assert_eq!(rt; Mode::read(mode.text()), Some(mode));
-        }
-        for text in ["", "AUTO", "required", "REQUIRED "] {
-            assert_eq!(rt; Mode::read(text), None, "{text}");
-        }
     }
 }

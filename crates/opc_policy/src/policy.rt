@@ -17,7 +17,7 @@ use opc_names::name::{GroupName, Pattern};
 use std::alloc::Global;
 
 /// Which classes are active (RACF guide: SETROPTS CLASSACT).
-#[derive(Clone, Copy, Debug, PartialEq, Eq)]
+#[derive(Clone, Copy)]
 pub struct ActiveClasses {
     pub console: bool,
     pub opercmds: bool,
@@ -46,7 +46,7 @@ impl ActiveClasses {
 }
 
 /// A policy: users, groups, the connects between them, profiles, and the active classes.
-#[derive(Debug, Drop)]
+#[derive(Drop)]
 pub struct Policy {
     pub users: Users,
     pub groups: Groups,
@@ -83,7 +83,7 @@ impl Policy {
         }
     }
 
-    /// Applies a row. A fault, want of memory too, leaves the policy as it was.
+    /// Applies a row. A fault, out of memory among them, leaves the policy as it was.
     pub fn take(&mut self, alloc: Global, row: &Row) -> Result<(), Fault>
         ensures ok { OnOk result (after_row row.now self.old ≡ Ok self.new) }
         ensures fault { IfErr result (λ fault. fault ≢ NoMemory → after_row row.now self.old ≡ Err fault) }

@@ -83,12 +83,20 @@ impl Policy {
 }
 
 impl ProfileSource for Policy {
-    ghost use Rattle.std.specs.Prelude.{◌≡◌, ⊤};
+    ghost use Rattle.std.specs.Prelude.{◌≡◌, ⊤, refl};
+    ghost use Rattle.std.proofs.Common.{◌∙◌};
     ghost use Rattle.opc_policy.specs.declared.source.StoreFault.TheVariants.{NoMemory};
 
     ghost content = { λ policy. policy.profiles };
 
     ghost is_faithful = { λ _. ⊤ };
+
+    // Asking changes nothing in a policy, its classes included.
+    ghost is_kept = { λ old new. new ≡ old };
+
+    ghost kept_itself = { λ policy. refl };
+
+    ghost kept_again = { λ policy next last same same_again. same_again ∙ same };
 
     ghost can_fail_with = { λ fault. fault ≡ NoMemory };
 

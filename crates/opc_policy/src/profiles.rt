@@ -16,7 +16,7 @@ use std::collections::btree_map::Values;
 use std::marker::Model;
 
 /// The profiles of a policy, by class and then by pattern, in the order of the patterns.
-#[derive(Debug, Drop)]
+#[derive(Drop)]
 pub struct Profiles {
     by_key: BTreeMap<(Class, SortKey), Profile>,
 }

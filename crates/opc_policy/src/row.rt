@@ -8,7 +8,7 @@ use opc_names::level::Level;
 use opc_names::name::{ConsoleName, GroupName, Pattern, UserId};
 
 /// One row of a written policy, of the kinds in the order in which a policy is written.
-#[derive(Clone, Copy, Debug, PartialEq, Eq)]
+#[derive(Clone, Copy, PartialEq, Eq)]
 pub enum Row {
     Class {
         class: Class,

@@ -14,7 +14,7 @@ use opc_names::level::Level;
 use opc_names::name::GroupName;
 
 /// Whether a command is allowed, and by which rule.
-#[derive(Clone, Copy, Debug, PartialEq, Eq)]
+#[derive(Clone, Copy)]
 pub enum Ruling {
     Allowed(Rule),
     Denied(Rule),

@@ -1,7 +1,7 @@
 //! The search for the deciding profile.
 ghost use Rattle.std.specs.Prelude.{◌≡◌, ◌≤◌, ◌+◌, ◌^◌, ◌⊎◌, IfOk, IfErr, MatchResult, length};
 ghost use Rattle.opc_policy.specs.declared.source.StoreFault.TheVariants.{Store};
-ghost use Rattle.opc_policy.specs.Deciding.{of_class, deciding};
+ghost use Rattle.opc_policy.specs.Deciding.{AreProfiles, IsDeciding, of_class, deciding};
 ghost use Rattle.opc_policy.specs.Examined.{examined, head_length};
 
 use crate::profile::Profile;
@@ -10,7 +10,7 @@ use opc_names::class::Class;
 use opc_names::name::Resource;
 
 /// The deciding profile, how often the source was asked, and how many profiles it read.
-#[derive(Debug, Drop)]
+#[derive(Drop)]
 pub struct Found {
     pub profile: Option<Profile>,
     pub ranges: u32,
@@ -24,17 +24,21 @@ pub fn search<S: ProfileSource>(
     class: Class,
     resource: &Resource,
 ) -> Result<Found, StoreFault>
-    ensures deciding { IfOk result (λ found. S.is_faithful source.old →
+    ensures kept { S.is_kept source.old source.new }
+    ensures profiles { S.is_faithful source.new → AreProfiles (S.content source.old) }
+    ensures most_specific { IfOk result (λ found. S.is_faithful source.new →
+        IsDeciding (of_class class (S.content source.old)) resource.now found.profile) }
+    ensures deciding { IfOk result (λ found. S.is_faithful source.new →
         found.profile ≡ deciding (of_class class (S.content source.old)) resource.now) }
-    ensures ranges { IfOk result (λ found. S.is_faithful source.old →
+    ensures ranges { IfOk result (λ found. S.is_faithful source.new →
         found.ranges + head_length found.profile ≡ length resource.now + 1) }
-    ensures rows { IfOk result (λ found. S.is_faithful source.old →
+    ensures rows { IfOk result (λ found. S.is_faithful source.new →
         found.rows ≡ length (examined found.profile resource.now (of_class class (S.content source.old)))) }
     // Besides the faults of the source: the count of what was read does not fit.
-    ensures fault { S.is_faithful source.old → IfErr result (λ fault.
+    ensures fault { S.is_faithful source.new → IfErr result (λ fault.
         S.can_fail_with fault ⊎ ((fault ≡ Store) × (2 ^ 64 ≤ length (S.content source.old)))) }
-    ensures same { S.is_faithful source.old → S.content source.new ≡ S.content source.old }
-    ensures faithful { S.is_faithful source.old → S.is_faithful source.new }
+    ensures same { S.is_faithful source.new → S.content source.new ≡ S.content source.old }
+    ensures faithful { S.is_faithful source.new → S.is_faithful source.old }
 {
     let name = resource.text();
     let mut rows = 0;

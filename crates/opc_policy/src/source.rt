@@ -8,7 +8,7 @@ ghost use Rattle.opc_policy.specs.declared.source.StoreFault.{StoreFault as TheF
 use crate::profile::Profile;
 use opc_names::class::Class;
 use opc_names::name::Resource;
-use std::alloc::AllocError;
+use std::alloc::{AllocError, AllocFailed};
 use thiserror::Error;
 
 /// Why a source has no answer.
@@ -31,8 +31,19 @@ impl From<AllocError> for StoreFault {
     }
 }
 
+impl<T: Drop> From<AllocFailed<T>> for StoreFault {
+    ghost use Rattle.std.specs.Prelude.{◌≡◌};
+    ghost use Rattle.opc_policy.specs.declared.source.StoreFault.TheVariants.{NoMemory};
+
+    ghost from_gives = { λ _ fault. fault ≡ NoMemory };
+
+    fn from(_refused: AllocFailed<T>) -> Self {
+        StoreFault::NoMemory
+    }
+}
+
 /// The first profile that covers a resource, and how many profiles were read for it.
-#[derive(Debug, Drop)]
+#[derive(Drop)]
 pub struct Taken {
     pub profile: Option<Profile>,
     pub rows: u64,
@@ -50,13 +61,17 @@ impl Taken {
     }
 }
 
-/// Where profiles come from: of one class and with one head at a time.
+/// Where profiles come from: of one class and with one head at a time. A source over files may fail for good while it
+/// is asked, so what it answers is known where it is faithful afterwards.
 pub trait ProfileSource {
     /// The profiles.
     ghost content: { Self → List TheProfile };
 
-    /// Where this holds, the answers are of the content, and asking changes nothing.
+    /// Where this holds after a call, the answer is of the profiles that were there before, and they are there still.
     ghost is_faithful: { Self → Type 0 };
+
+    /// What asking leaves of the source as it was before, whatever comes of it.
+    ghost is_kept: { Self → Self → Type 0 };
 
     /// The faults that asking may end in.
     ghost can_fail_with: { TheFault → Type 0 };
@@ -69,12 +84,18 @@ pub trait ProfileSource {
         head: &str,
         resource: &Resource,
     ) -> Result<Taken, StoreFault>
-        ensures profiles { is_faithful self.old → AreProfiles (content self.old) }
-        ensures first { IfOk result (λ taken. is_faithful self.old →
+        ensures kept { is_kept self.old self.new }
+        ensures profiles { is_faithful self.new → AreProfiles (content self.old) }
+        ensures first { IfOk result (λ taken. is_faithful self.new →
             taken.profile ≡ deciding (with_head head.now (of_class class (content self.old))) resource.now) }
-        ensures rows { IfOk result (λ taken. is_faithful self.old →
+        ensures rows { IfOk result (λ taken. is_faithful self.new →
             taken.rows ≡ length (read_until taken.profile (with_head head.now (of_class class (content self.old))))) }
         ensures fault { IfErr result can_fail_with }
-        ensures same { is_faithful self.old → content self.new ≡ content self.old }
-        ensures faithful { is_faithful self.old → is_faithful self.new };
+        ensures same { is_faithful self.new → content self.new ≡ content self.old }
+        ensures faithful { is_faithful self.new → is_faithful self.old };
+
+    /// Not to ask keeps the source, and so does to ask again.
+    ghost kept_itself: { (source : Self) → is_kept source source };
+
+    ghost kept_again: { (source next last : Self) → is_kept source next → is_kept next last → is_kept source last };
 }

@@ -2,7 +2,7 @@
 use opc_names::name::UnitName;
 
 /// What the unit is that a command names: absent, a job, a started task of a member, or a user's session.
-#[derive(Clone, Copy, Debug, PartialEq, Eq)]
+#[derive(Clone, Copy, PartialEq, Eq)]
 pub enum UnitKindAt {
     Absent,
     Job,

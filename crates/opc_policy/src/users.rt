@@ -12,7 +12,7 @@ use std::marker::Model;
 
 /// The users of a policy, in the order of their ids. They are kept by the texts of their ids, so that a name of any
 /// kind can be looked up.
-#[derive(Debug, Drop)]
+#[derive(Drop)]
 pub struct Users {
     by_id: BTreeMap<Bytes<8>, User>,
 }

@@ -5,7 +5,7 @@ ghost use Rattle.std.specs.Str.{IsAscii};
 use std::fmt;
 
 /// What the profiles of a class say of a user and a level: they decide for it or against it, or leave it open.
-#[derive(Clone, Copy, Debug, PartialEq, Eq)]
+#[derive(Clone, Copy)]
 pub enum Verdict {
     Allowed,
     Undecided,

@@ -6,6 +6,7 @@ ghost use Rattle.opc_names.specs.Names.{user_rule};
 use crate::piece::Piece;
 use opc_names::auth::Auth;
 use opc_names::name::{ConsoleName, Device, Name, NameKind, UnitName, UserId, Volume};
+use opc_names::reply_id::ReplyId;
 use opc_names::rule::{Alphabet, NameRule};
 
 /// The kind of a password.
@@ -71,8 +72,8 @@ pub enum Command<'a> {
     Stop(Operand<'a, UnitName>),
     /// `F name,text`: a text for a unit.
     Modify(Operand<'a, UnitName>, Text<'a>),
-    /// `R id,text`: the answer to an open reply, 0 to 99.
-    Reply(Operand<'a, u8>, Text<'a>),
+    /// `R id,text`: the answer to an open reply.
+    Reply(Operand<'a, ReplyId>, Text<'a>),
     /// `V dev,ONLINE`.
     VaryDeviceOnline(Operand<'a, Device>),
     /// `V dev,OFFLINE`.

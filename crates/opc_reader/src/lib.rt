@@ -9,6 +9,4 @@ pub mod line;
 mod operand;
 pub mod piece;
 mod quote;
-#[cfg(test)]
-mod tests;
 mod verb;

@@ -12,6 +12,7 @@ use crate::piece::Piece;
 use crate::quote::{is_quoted, opens_quote, quoted_len};
 use opc_names::auth::Auth;
 use opc_names::name::{Name, NameKind};
+use opc_names::reply_id::ReplyId;
 
 fn in_name(byte: u8) -> bool
     ensures { result ≡ in_name byte }
@@ -60,19 +61,21 @@ fn digits_len(text: &[u8]) -> usize
     text.iter().take_while(|c| c.is_ascii_digit()).count()
 }
 
-fn number(text: &[u8]) -> Option<u8>
+fn number(text: &[u8]) -> Option<ReplyId>
     ensures { result ≡ number text.now }
 {
     match text {
-        [a] if a.is_ascii_digit() => Some(*a - b'0'),
-        [a, b] if a.is_ascii_digit() && b.is_ascii_digit() => Some(10 * (*a - b'0') + (*b - b'0')),
+        [a] if a.is_ascii_digit() => ReplyId::new(*a - b'0'),
+        [a, b] if a.is_ascii_digit() && b.is_ascii_digit() => {
+            ReplyId::new(10 * (*a - b'0') + (*b - b'0'))
+        }
         _ => None,
     }
 }
 
 /// A number of one or two digits, and what stands behind it.
 #[tactic(auto, unfolding(crate::specs::Reading::number_front))]
-pub(crate) fn number_front<'a>(s: &Piece<'a>) -> Option<(Operand<'a, u8>, Piece<'a>)>
+pub(crate) fn number_front<'a>(s: &Piece<'a>) -> Option<(Operand<'a, ReplyId>, Piece<'a>)>
     ensures { result ≡ number_front s.now }
 {
     let (typed, rest) = s.split(digits_len(s.text().as_bytes()));

@@ -1,3 +1,4 @@
+pub mod Each
 pub mod Orders
 pub mod Places
 pub mod Search

@@ -1,6 +1,6 @@
 -- What keeps a list in order.
 use Rattle.std.specs.List.{IsAllAdjacentAnswer}
-use Rattle.std.proofs.Common.{ℕ, arith, sym, add-one, zero, suc, ◌+◌, ◌<◌, length, get_or, MatchBool, not, ◌&&◌, ◌||◌, ◌≡◌, Some, Bool, true, false, cond, List, [], ◌∷◌, map, refl, ap, ◌∙◌, subst}
+use Rattle.std.proofs.Common.{ℕ, arith, sym, add-one, zero, suc, ◌+◌, ◌<◌, length, get_or, MatchBool, ◌||◌, ◌≡◌, Some, Bool, true, false, cond, List, [], ◌∷◌, map, refl, ap, ◌∙◌, subst}
 use Rattle.std.specs.List.{AllByRecursion, filter, find, list_any}
 use Rattle.std.specs.Option.{is_some}
 use Rattle.std.proofs.lemmas.Bool.{false≢true}

@@ -4,7 +4,7 @@ use Rattle.std.proofs.Math.Numerals.{one-add}
 use Rattle.std.specs.List.{insert, remove, position, position_or_len}
 use Rattle.std.proofs.lemmas.Bool.Decides.{nat_tests}
 use Rattle.std.specs.List.{AllByRecursion, filter, find}
-use Rattle.opc_rows.specs.Ordered.{Ascends, put, changed}
+use Rattle.opc_rows.specs.Ordered.{Ascends, IsChangedAtOne, put, changed}
 use Rattle.opc_rows.proofs.Orders.{all_weaker}
 
 -- a place one further on
@@ -69,6 +69,10 @@ found_there p xs i y at is =
     let place = place_found p xs i at in
     let within : i < length xs = subst (λ (n : ℕ). n < length xs) place.0 place.1 in
     find_at p xs i y place.0 within is
+
+-- one element of a kind changed at its place
+pub changed_one : {A : Type 0} (p : A → Bool) (becomes : A → A → Type 0) (xs : List A) (i : ℕ) (y z : A) (ws : List A) → position p xs ≡ Some i → y ≡ get_or xs i y → becomes y z → ws ≡ set xs i z → IsChangedAtOne p becomes xs ws
+changed_one p becomes xs i y z ws at is made same = rw (found_there p xs i y at is) (z, (made, same ∙ changed_at p (λ _. z) xs i y z at is refl))
 
 -- all are kept where none passes
 kept : {A : Type 0} (p : A → Bool) (xs : List A) → AllByRecursion (λ x. p x ≡ false) xs → filter (λ x. not (p x)) xs ≡ xs

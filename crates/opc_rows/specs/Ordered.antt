@@ -1,7 +1,7 @@
 -- Lists in order.
-use Rattle.std.specs.Prelude.{Bool, true, ◌≡◌, if◌then◌else◌, List, [], ◌∷◌}
+use Rattle.std.specs.Prelude.{Bool, true, ◌≡◌, if◌then◌else◌, List, [], ◌∷◌, MatchOption}
 use Rattle.std.specs.declared.cmp.Ordering.{Ordering}
-use Rattle.std.specs.List.{AllByRecursion}
+use Rattle.std.specs.List.{AllByRecursion, find}
 use Rattle.std.specs.Ordering.{is_lt}
 
 -- each element stands in this order to all later ones
@@ -26,3 +26,16 @@ put before x (y ∷ ys) = if before x y then x ∷ y ∷ ys else y ∷ put befor
 abbrev pub changed : {A : Type 0} → (A → Bool) → (A → A) → List A → List A
 changed p f [] = []
 changed p f (x ∷ xs) = if p x then f x ∷ xs else x ∷ changed p f xs
+
+-- The first element of this kind has become one that it may become, and all others are as they were. Where there is
+-- none of this kind, so are all.
+abbrev pub IsChangedAtOne : {A : Type 0} → (A → Bool) → (A → A → Type 0) → List A → List A → Type 0
+IsChangedAtOne {A} p becomes old new =
+    MatchOption (find p old) (new ≡ old) (λ x. (y : A) × (becomes x y × (new ≡ changed p (λ _. y) old)))
+
+-- Each element has become one that it may become. None came, left or moved.
+abbrev pub IsChangedAtEach : {A : Type 0} → (A → A → Type 0) → List A → List A → Type 0
+IsChangedAtEach becomes [] [] = Unit {0}
+IsChangedAtEach becomes [] (y ∷ ys) = ⊥
+IsChangedAtEach becomes (x ∷ xs) [] = ⊥
+IsChangedAtEach becomes (x ∷ xs) (y ∷ ys) = becomes x y × IsChangedAtEach becomes xs ys

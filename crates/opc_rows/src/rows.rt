@@ -5,7 +5,7 @@ ghost use Rattle.std.specs.List.Sorted.{IsPartitionPoint};
 ghost use Rattle.std.specs.Fn.{FnReturns};
 ghost use Rattle.std.specs.Option.{option_copied};
 ghost use Rattle.std.specs.Ordering.{is_lt};
-ghost use Rattle.opc_rows.specs.Ordered.{IsInKeyOrder, comes_before, put, changed};
+ghost use Rattle.opc_rows.specs.Ordered.{IsChangedAtEach, IsChangedAtOne, IsInKeyOrder, comes_before, put, changed};
 
 use std::alloc::{AllocFailed, Global};
 use std::marker::Model;
@@ -100,13 +100,14 @@ impl<R: Keyed + Drop> Rows<R> {
         self.items.insert(at, row)
     }
 
-    /// Changes the row of this key, if there is one.
+    /// Changes the row of this key, if there is one. All other rows stay as they are, in their order.
     pub fn change<F: FnOnce(R) -> R>(&mut self, key: &R::Key, change: F)
     where
         F: Drop,
         requires callable { F.IsAlwaysCallable change }
         requires order { IsInKeyOrder R.Key.cmp R.key_of self.old }
-        ensures { (after : R → R) → ((old new : R) → F.post change old new → new ≡ after old)
+        ensures one { IsChangedAtOne (λ row. R.Key.eq (R.key_of row) key.now) (F.post change) self.old self.new }
+        ensures computed { (after : R → R) → ((old new : R) → F.post change old new → new ≡ after old)
             → self.new ≡ changed (λ row. R.Key.eq (R.key_of row) key.now) after self.old }
     {
         if let Ok(at) = self.place_of(key) {
@@ -119,13 +120,14 @@ impl<R: Keyed + Drop> Rows<R> {
         }
     }
 
-    /// Changes every row.
+    /// Changes every row. None comes, leaves or moves.
     pub fn change_all<F: Fn(R) -> R>(&mut self, change: F)
     where
         R: Copy,
         F: Drop,
         requires { F.IsAlwaysCallable change }
-        ensures { (after : R → R) → ((old new : R) → FnReturns F.Fn change (old, tt) new → new ≡ after old) → self.new ≡ map after self.old }
+        ensures each { IsChangedAtEach (λ old new. FnReturns F.Fn change (old, tt) new) self.old self.new }
+        ensures computed { (after : R → R) → ((old new : R) → FnReturns F.Fn change (old, tt) new → new ≡ after old) → self.new ≡ map after self.old }
     {
         for row in self.items.iter_mut() {
             *row = change(*row);

@@ -7,9 +7,6 @@ ghost use Rattle.opc_table.specs.Table.{need, needs, started, of_unit, forced};
 ghost use Rattle.opc_names.specs.declared.group.Group.TheVariants.{Info, Sys, Io};
 ghost use Rattle.opc_names.specs.declared.level.Level.TheVariants.{Read, Update};
 
-#[cfg(test)]
-mod tests;
-
 use opc_names::group::Group::{self, Cons, Info, Io, Master, Sys};
 use opc_names::level::Level::{self, Control, Read, Update};
 use opc_names::name::{Resource, UnitName};

@@ -1,5 +1,6 @@
 use Rattle.std.proofs.Common.{◌∙◌, ◌≤◌, sym, arith}
 use Rattle.opc_import.proofs.FileLemmas.{at-end, at-fault, goes-on, good-number, header-first}
+use Rattle.opc_import.specs.Kinds.{most_rows}
 use Rattle.opc_import.proofs.read.read_policy.Goals as goal
 
 pub loop-number-init : goal.loop-number-init
@@ -20,7 +21,7 @@ returns-in-Err-clause-err c _ =
 pub loop-number-preserved : goal.loop-number-preserved
 loop-number-preserved c =
     let taken = rw c.if-not-branch-2.false at c.in_ok-take_into-2.ensures in
-    let good : c.loop-number.number ≤ 10000 = good-number _ _ _ (sym c.in-Ok.ensures) in
+    let good : c.loop-number.number ≤ most_rows = good-number _ _ _ (sym c.in-Ok.ensures) in
     (rw c.in_ok-push-in-Ok.ensures.items (c.loop-number.invariant.0 ∙ goes-on _ _ _ _ _ _ taken (sym c.in-Ok.ensures)), omega (arith, good))
 
 pub unreachable-requires : goal.unreachable-requires

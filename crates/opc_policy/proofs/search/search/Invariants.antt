@@ -6,8 +6,9 @@ use Rattle.opc_policy.proofs.search.search.Given as goal
 abbrev pub invariant-heads : goal.invariant-heads
 invariant-heads g l = record {
   within : l.length ≤ length l.name;
-  told : g.S.ProfileSource.is_faithful l.fn.source → record {
-    faithful : g.S.ProfileSource.is_faithful l.source;
+  kept : g.S.ProfileSource.is_kept l.fn.source l.source;
+  told : g.S.ProfileSource.is_faithful l.source → record {
+    faithful : g.S.ProfileSource.is_faithful l.fn.source;
     same : g.S.ProfileSource.content l.source ≡ g.S.ProfileSource.content l.fn.source;
     asked : AreProfiles (g.S.ProfileSource.content l.fn.source) → Asked (of_class l.class (g.S.ProfileSource.content l.fn.source)) l.name l.length l.rows;
   };

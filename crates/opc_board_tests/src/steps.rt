@@ -1,0 +1,103 @@
+//! Rows that become a board, and what is done to it.
+ghost use Rattle.std.specs.Prelude.{IsSome, IsTrue};
+ghost use Rattle.opc_board.specs.Facts.{console_at};
+
+use crate::gathered::gathered;
+use anyhow::{Context, Result, anyhow};
+use opc_board::board::{Board, BoardRows};
+use opc_board::fault::BoardFault;
+use opc_board::line::Line;
+use opc_names::auth::Auth;
+use opc_names::name::ConsoleName;
+use opc_policy::mode::Mode;
+use opc_reader::command::Command;
+use opc_reader::line::read_command;
+use std::alloc::{AllocError, Global};
+
+// How many rows of each kind came back, where they are no board.
+fn told_rows(alloc: Global, back: &BoardRows) -> Result<String, AllocError> {
+    let units = back.units.as_slice().len();
+    let devices = back.devices.as_slice().len();
+    let consoles = back.consoles.as_slice().len();
+    let replies = back.replies.as_slice().len();
+    format!(in alloc;
+        "  no board, of {units} units, {devices} devices, {consoles} consoles, {replies} replies\n"
+    )
+}
+
+fn told_lines(alloc: Global, lines: &[Line]) -> Result<String, AllocError> {
+    let mut told = String::new(alloc);
+    for line in lines {
+        let text = line.text.as_str();
+        writeln!(told, "  {text}")?;
+    }
+    Ok(told)
+}
+
+fn told_answer(alloc: Global, answer: Result<Vec<Line>, BoardFault>) -> Result<String, AllocError> {
+    match answer {
+        Ok(lines) => told_lines(alloc, lines.as_slice()),
+        Err(fault) => format!(in alloc; "  {fault:?}\n"),
+    }
+}
+
+fn has_console(board: &Board, name: &ConsoleName) -> bool
+    ensures { IsTrue result → IsSome (console_at board.now name.now) }
+{
+    board.rows().consoles.find(name).is_some()
+}
+
+// A command typed at a console: the name, and the line.
+fn typed(alloc: Global, board: &mut Board, text: &str) -> Result<String> {
+    let (name, line) = text.split_once(' ').context("a console and a line")?;
+    let name = ConsoleName::read(name)?;
+    let there = has_console(board, &name);
+    match read_command(line)? {
+        Command::Logon(..) | Command::Logoff => Ok(String::from_str(alloc, "  a session's\n")?),
+        command if there => Ok(told_answer(alloc, board.act(alloc, &command, &name))?),
+        _ => Ok(String::from_str(alloc, "  no console\n")?),
+    }
+}
+
+// A console's authority and mode, as administration gives it.
+fn define(board: &mut Board, text: &str) -> Result<()> {
+    let (name, auth) = text.split_once(' ').context("a console and an authority")?;
+    let auth = Auth::read(auth).context("an authority")?;
+    board.define_console(ConsoleName::read(name)?, auth, Mode::Required)?;
+    Ok(())
+}
+
+// Whether these rows are a board: then it takes the place of the other.
+fn make(alloc: Global, board: &mut Board, text: &str) -> Result<String> {
+    match Board::of(gathered(alloc, text)?) {
+        Ok(made) => {
+            *board = made;
+            Ok(String::from_str(alloc, "  a board\n")?)
+        }
+        Err(back) => Ok(told_rows(alloc, &back)?),
+    }
+}
+
+/// A board without rows.
+pub fn no_rows(alloc: Global) -> Result<Board> {
+    match Board::of(gathered(alloc, "")?) {
+        Ok(board) => Ok(board),
+        Err(_) => Err(anyhow!("no rows are no board")),
+    }
+}
+
+/// What a line is answered: `board` asks whether the rows behind it are one, and `define`, `type` and `master` are of
+/// the last that was.
+pub fn step(alloc: Global, board: &mut Board, line: &str) -> Result<String> {
+    let (verb, text) = line.split_once(' ').unwrap_or((line, ""));
+    match verb {
+        "board" => make(alloc, board, text),
+        "define" => {
+            define(board, text)?;
+            Ok(String::new(alloc))
+        }
+        "master" if board.has_master() => Ok(String::from_str(alloc, "  online\n")?),
+        "master" => Ok(String::from_str(alloc, "  none\n")?),
+        _ => typed(alloc, board, text),
+    }
+}

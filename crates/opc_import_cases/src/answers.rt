@@ -1,0 +1,75 @@
+//! What is answered on each subject.
+use crate::escapes::{escaped, unescaped};
+use anyhow::{Context, Result, bail};
+use opc_import::fault::ImportFault;
+use opc_import::read::read_policy;
+use opc_import::write::write_policy;
+use opc_policy::fault::Fault;
+use std::alloc::{AllocError, Global};
+
+const HEADER: &str = "kind,class,name,id,value,owner,flags,digest\n";
+
+const ROW: &str = "group,,DAY,,,,,\n";
+
+pub fn answer(alloc: Global, line: &str) -> Result<String> {
+    let (subject, rest) = line.split_once(' ').unwrap_or((line, ""));
+    match subject {
+        "#" => Ok(String::from_str(alloc, line)?),
+        "file" => file(alloc, &unescaped(alloc, rest)?),
+        "record" => record(alloc, &unescaped(alloc, rest)?),
+        "behind" => behind(alloc, &unescaped(alloc, rest)?),
+        _ => bail!("no subject"),
+    }
+}
+
+/// A fault of the text by its code; out of memory says nothing of the text, and ends the program.
+fn told(alloc: Global, fault: ImportFault) -> Result<String> {
+    match Fault::from(fault) {
+        Fault::NoMemory => bail!("out of memory"),
+        fault => Ok(format!(in alloc; "{} {fault}", fault.code())?),
+    }
+}
+
+/// A file, as its rows are written, in one line.
+fn file(alloc: Global, text: &str) -> Result<String> {
+    match read_policy(alloc, text) {
+        Ok(rows) => {
+            let written = write_policy(alloc, rows.as_slice())?;
+            Ok(escaped(alloc, written.as_str())?)
+        }
+        Err(fault) => told(alloc, fault),
+    }
+}
+
+/// A record behind the header, as its row is written.
+fn record(alloc: Global, text: &str) -> Result<String> {
+    let file = file_of(alloc, 0, text)?;
+    match read_policy(alloc, file.as_str()) {
+        Ok(rows) => {
+            let written = write_policy(alloc, rows.as_slice())?;
+            let line = written.lines().nth(1).context("no row")?;
+            Ok(String::from_str(alloc, line)?)
+        }
+        Err(fault) => told(alloc, fault),
+    }
+}
+
+/// How many rows a file has: a number of rows, and a text behind them.
+fn behind(alloc: Global, text: &str) -> Result<String> {
+    let (count, last) = text.split_once(' ').context("no number")?;
+    let file = file_of(alloc, count.parse()?, last)?;
+    match read_policy(alloc, file.as_str()) {
+        Ok(rows) => Ok(format!(in alloc; "{}", rows.len())?),
+        Err(fault) => told(alloc, fault),
+    }
+}
+
+/// The header, so many rows, and a text.
+fn file_of(alloc: Global, count: u32, last: &str) -> Result<String, AllocError> {
+    let mut file = String::from_str(alloc, HEADER)?;
+    for _ in 0..count {
+        file.push_str(ROW)?;
+    }
+    file.push_str(last)?;
+    Ok(file)
+}

@@ -1,0 +1,136 @@
+//! What is answered on each subject.
+use crate::faults::fault_of;
+use crate::words::Words;
+use anyhow::{Context, Result, bail};
+use opc_import::read::read_policy;
+use opc_policy::entry::EntryId;
+use opc_policy::explained::explain;
+use opc_policy::fault::Fault;
+use opc_policy::plain::deciding_by_pairs;
+use opc_policy::policy::Policy;
+use opc_policy::profile::Profile;
+use opc_policy::search::search;
+use std::alloc::{AllocError, Global};
+
+const HEADER: &str = "kind,class,name,id,value,owner,flags,digest";
+
+pub fn answer(alloc: Global, policy: &mut Policy, line: &str) -> Result<String> {
+    let (subject, rest) = line.split_once(' ').unwrap_or((line, ""));
+    let words = Words::of(alloc, rest)?;
+    match subject {
+        "#" => Ok(String::from_str(alloc, line)?),
+        "new" => {
+            *policy = Policy::new(alloc);
+            Ok(String::from_str(alloc, "new")?)
+        }
+        "row" => take(alloc, policy, rest),
+        "explain" => explained(alloc, policy, &words),
+        "search" => searched(alloc, policy, &words),
+        "entries" => entries_of(alloc, policy, &words),
+        "id" => id_of(alloc, rest),
+        "fault" => Ok(spelled(alloc, &fault_of(rest)?)?),
+        _ => bail!("no subject"),
+    }
+}
+
+/// A fault by its code and text.
+fn spelled(alloc: Global, fault: &Fault) -> Result<String, AllocError> {
+    format!(in alloc; "{} {fault}", fault.code())
+}
+
+/// A fault of a question; out of memory is no answer, and ends the program.
+fn told(alloc: Global, fault: &Fault) -> Result<String> {
+    match fault {
+        Fault::NoMemory => bail!("out of memory"),
+        fault => Ok(spelled(alloc, fault)?),
+    }
+}
+
+/// Takes a row, written as in a policy file.
+fn take(alloc: Global, policy: &mut Policy, record: &str) -> Result<String> {
+    let file = format!(in alloc; "{HEADER}\n{record}\n")?;
+    let rows = match read_policy(alloc, file.as_str()) {
+        Ok(rows) => rows,
+        Err(fault) => return told(alloc, &Fault::from(fault)),
+    };
+    for row in rows.as_slice() {
+        if let Err(fault) = policy.take(alloc, row) {
+            return told(alloc, &fault);
+        }
+    }
+    Ok(String::from_str(alloc, "taken")?)
+}
+
+/// Why a user may or may not have a level of access: class, resource, user, level.
+fn explained(alloc: Global, policy: &Policy, words: &Words<'_>) -> Result<String> {
+    let (class, resource) = (words.class(0)?, words.resource(1)?);
+    let (user, level) = (words.user(2)?, words.level(3)?);
+    match explain(alloc, policy, class, &resource, &user, level) {
+        Ok(explained) => {
+            let text = explained.to_string(alloc)?;
+            Ok(in_one_line(alloc, text.as_str())?)
+        }
+        Err(fault) => told(alloc, &fault),
+    }
+}
+
+fn in_one_line(alloc: Global, text: &str) -> Result<String, AllocError> {
+    let mut line = String::new(alloc);
+    for part in text.lines() {
+        if !line.is_empty() {
+            line.push_str("; ")?;
+        }
+        line.push_str(part)?;
+    }
+    Ok(line)
+}
+
+/// The profile that decides, by heads, in the order of the patterns, and by pairs, and what was read for it: class,
+/// resource.
+fn searched(alloc: Global, policy: &mut Policy, words: &Words<'_>) -> Result<String> {
+    let (class, resource) = (words.class(0)?, words.resource(1)?);
+    let found = search(policy, class, &resource)?;
+    let first = policy.first(class, &resource)?;
+    let profiles = policy.all(alloc, class)?;
+    let by_pairs = deciding_by_pairs(profiles.as_slice(), class, &resource);
+    Ok(format!(in alloc;
+        "{} RANGES {} ROWS {}; {} ROWS {}; {}",
+        pattern_of(found.profile.as_ref()),
+        found.ranges,
+        found.rows,
+        pattern_of(first.profile.as_ref()),
+        first.rows,
+        pattern_of(by_pairs)
+    )?)
+}
+
+fn pattern_of(profile: Option<&Profile>) -> &str {
+    match profile {
+        Some(profile) => profile.pattern.text(),
+        None => "-",
+    }
+}
+
+/// The access list of a profile: class, pattern.
+fn entries_of(alloc: Global, policy: &Policy, words: &Words<'_>) -> Result<String> {
+    let (class, pattern) = (words.class(0)?, words.pattern(1)?);
+    let profile = policy.profiles.get(class, &pattern).context("no profile")?;
+    let mut list = String::new(alloc);
+    for entry in profile.entries.as_slice() {
+        if !list.is_empty() {
+            list.push_str("; ")?;
+        }
+        list.push_str(entry.id.text())?;
+        list.push_str(" ")?;
+        list.push_str(entry.level.text())?;
+    }
+    Ok(list)
+}
+
+/// A text as the id of an entry.
+fn id_of(alloc: Global, text: &str) -> Result<String> {
+    match EntryId::read(text) {
+        Ok(id) => Ok(String::from_str(alloc, id.text())?),
+        Err(fault) => Ok(fault.to_string(alloc)?),
+    }
+}

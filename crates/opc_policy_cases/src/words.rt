@@ -1,0 +1,43 @@
+//! The words of a question.
+use anyhow::{Context, Result};
+use opc_names::class::Class;
+use opc_names::level::Level;
+use opc_names::name::{Pattern, Resource, UserId};
+use std::alloc::{AllocError, Global};
+
+#[derive(Drop)]
+pub struct Words<'a> {
+    list: Vec<&'a str>,
+}
+
+impl<'a> Words<'a> {
+    pub fn of(alloc: Global, text: &'a str) -> Result<Self, AllocError> {
+        let list = text.split(' ').collect(alloc)?;
+        Ok(Words { list })
+    }
+
+    /// The word at a place, counted from 0, and empty where there are fewer.
+    fn at(&self, place: usize) -> &'a str {
+        self.list.get(place).copied().unwrap_or("")
+    }
+
+    pub fn class(&self, place: usize) -> Result<Class> {
+        Class::read(self.at(place)).context("no class")
+    }
+
+    pub fn level(&self, place: usize) -> Result<Level> {
+        Level::read(self.at(place)).context("no level")
+    }
+
+    pub fn pattern(&self, place: usize) -> Result<Pattern> {
+        Ok(Pattern::read(self.at(place))?)
+    }
+
+    pub fn resource(&self, place: usize) -> Result<Resource> {
+        Ok(Resource::read(self.at(place))?)
+    }
+
+    pub fn user(&self, place: usize) -> Result<UserId> {
+        Ok(UserId::read(self.at(place))?)
+    }
+}

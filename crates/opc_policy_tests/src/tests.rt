@@ -1,0 +1,105 @@
+use opc_import::fault::ImportFault;
+use opc_import::read::read_policy;
+use opc_import::write::write_policy;
+use opc_names::class::Class;
+use opc_names::name::Resource;
+use opc_policy::policy::Policy;
+use opc_policy::search::search;
+use opc_policy::source::{ProfileSource, StoreFault, Taken};
+use std::alloc::Global;
+use std::test::Fail;
+
+const FILE: &str = "kind,class,name,id,value,owner,flags,digest\n\
+class,OPERCMDS,,,ACTIVE,,,\n\
+group,,OPS,,,,,\n\
+user,,SECADM,,,,S,b5d4045c3f466fa91fe2cc6abe79232a1a57cdf104f7a26e716e0a1e2789df78\n\
+connect,,SECADM,OPS,,,,\n\
+console,,C1,,\"SYS,CONS\",,REQUIRED,\n\
+profile,OPERCMDS,MVS.CANCEL.JOB.PAY*,,NONE,SECADM,,\n\
+profile,OPERCMDS,MVS.CANCEL.JOB.*,,NONE,SECADM,,\n\
+profile,OPERCMDS,MVS.DISPLAY.**,,READ,SECADM,,\n\
+profile,OPERCMDS,MVS.VARY.DEV,,NONE,SECADM,W,\n\
+permit,OPERCMDS,MVS.CANCEL.JOB.*,OPS,UPDATE,,,\n";
+
+fn policy(alloc: Global) -> Result<Policy, Fail> {
+    let mut policy = Policy::new(alloc);
+    for row in read_policy(alloc, FILE)?.as_slice() {
+        policy.take(alloc, row)?;
+    }
+    Ok(policy)
+}
+
+/// A policy that fails where a head is asked for that is shorter than this.
+#[derive(Drop)]
+struct FailingBelow {
+    policy: Policy,
+    least: usize,
+}
+
+impl ProfileSource for FailingBelow {
+    ghost use Rattle.std.specs.Prelude.{⊤, []};
+
+    ghost content = { λ _. [] };
+
+    ghost is_faithful = { λ _. ⊥ };
+
+    ghost is_kept = { λ _ _. ⊤ };
+
+    ghost kept_itself = { λ _. tt };
+
+    ghost kept_again = { λ _ _ _ _ _. tt };
+
+    ghost can_fail_with = { λ _. ⊤ };
+
+    fn first_in(
+        &mut self,
+        class: Class,
+        head: &str,
+        resource: &Resource,
+    ) -> Result<Taken, StoreFault> {
+        if head.len() < self.least {
+            return Err(StoreFault::Store);
+        }
+        self.policy.first_in(class, head, resource)
+    }
+}
+
+#[test]
+fn no_head_behind_the_deciding_one_is_asked_for(rt: HostRuntime) -> Result<(), Fail> {
+    for (name, pattern, head, ranges, rows) in [
+        ("MVS.CANCEL.JOB.PAYROLL", "MVS.CANCEL.JOB.PAY*", 18, 5, 1),
+        ("MVS.CANCEL.JOB.BACKUP", "MVS.CANCEL.JOB.*", 15, 7, 1),
+        ("MVS.DISPLAY.U", "MVS.DISPLAY.**", 11, 3, 1),
+        ("Q", "-", 0, 2, 0),
+    ] {
+        let resource = Resource::read(name)?;
+        let mut source = FailingBelow {
+            policy: policy(rt.alloc())?,
+            least: head,
+        };
+        let found = search(&mut source, Class::Opercmds, &resource)?;
+        let decided = found.profile.map(|profile| profile.pattern);
+        let decided = decided.as_ref().map_or("-", |pattern| pattern.text());
+        assert_eq!(rt; decided, pattern);
+        assert_eq!(rt; found.ranges, ranges, "ranges of {name}");
+        assert_eq!(rt; found.rows, rows, "rows of {name}");
+        source.least = head.saturating_add(1);
+        let failed = search(&mut source, Class::Opercmds, &resource);
+        assert_eq!(rt; failed.err(), Some(StoreFault::Store));
+    }
+    Ok(())
+}
+
+// Under an allocator that refuses a request, each call answers in full or with memory refused.
+#[test]
+fn memory_may_be_refused(rt: HostRuntime) {
+    match read_policy(rt.alloc(), FILE) {
+        Ok(rows) => {
+            assert_eq!(rt; rows.len(), 10);
+            if let Ok(text) = write_policy(rt.alloc(), rows.as_slice()) {
+                assert!(rt; text.as_str() == FILE);
+            }
+        }
+        Err(fault) => assert_eq!(rt; fault, ImportFault::NoMemory),
+    }
+}

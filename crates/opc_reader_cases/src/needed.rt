@@ -1,0 +1,36 @@
+//! What commands need.
+use anyhow::Result;
+use opc_names::name::UnitName;
+use opc_policy::need::Need;
+use opc_policy::unit_kind::UnitKindAt;
+use opc_reader::command::Command;
+use opc_reader::line::read_command;
+use opc_table::need;
+use std::alloc::Global;
+
+/// What a command needs, whatever the unit that it names is, or for each kind of unit.
+pub fn needs(alloc: Global, line: &str) -> Result<String> {
+    let command = read_command(line)?;
+    let member = UnitName::read("MEMBER88")?;
+    let absent = told(alloc, &command, UnitKindAt::Absent)?;
+    let job = told(alloc, &command, UnitKindAt::Job)?;
+    let task = told(alloc, &command, UnitKindAt::Stc { member })?;
+    let session = told(alloc, &command, UnitKindAt::Tsu)?;
+    if absent == job && job == task && task == session {
+        return Ok(absent);
+    }
+    Ok(format!(in alloc; "absent {absent}; job {job}; task {task}; session {session}")?)
+}
+
+fn told(alloc: Global, command: &Command<'_>, kind: UnitKindAt) -> Result<String> {
+    match need(command, kind) {
+        Some(
+            Need {
+                resource,
+                level,
+                group,
+            },
+        ) => Ok(format!(in alloc; "{group} {level} {resource}")?),
+        None => Ok(String::from_str(alloc, "nothing")?),
+    }
+}

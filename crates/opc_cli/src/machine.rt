@@ -1,25 +1,32 @@
 //! The machine that the program runs on: a process of the system, its files, and the tables in them.
-ghost use Rattle.std.specs.Prelude.{◌≤◌};
-
 use opc_policy::fault::Fault;
 use opc_policy::source::StoreFault;
+use opc_program::failure::{Failure, Paths};
 use opc_program::machine::Machine;
-use opc_program::run::run_over;
-use opc_program::streams::tell;
+use opc_program::run::{run_on, told};
+use opc_script::status::Status;
 use opc_store::opening::OpenFault;
 use opc_store::store::Store;
 use sqlite::{FileFrom, FileStore, MemStore, Wary};
 use std::alloc::Global;
 use std::io::{Read, Write};
 
-type InMemory = Store<MemStore>;
-
-type InFile = Store<FileStore<FileFrom<Wary>>>;
-
 /// What the system gives a process.
 #[derive(Drop)]
 pub struct Process {
     pub rt: HostRuntime,
+}
+
+type InMemory = Store<MemStore>;
+
+type InFile = Store<FileStore<FileFrom<Wary>>>;
+
+/// Puts the last commit into the database file. What was acknowledged is kept where that fails, too.
+fn close(tables: InFile) -> Result<(), Fault> {
+    match tables.close() {
+        Ok(_) => Ok(()),
+        Err(_) => Err(Fault::Store),
+    }
 }
 
 impl Process {
@@ -39,16 +46,36 @@ impl Process {
             Err(OpenFault::NotOurs(version)) => Err(Fault::NotOurs { version }),
         }
     }
-}
 
-/// Puts the last commit into the database file. What was acknowledged is kept where that fails, too.
-fn close<E: Write>(tables: InFile, status: u8, errors: &mut E) -> u8
-    requires { status ≤ 3 }
-    ensures { result ≤ 3 }
-{
-    match tables.close() {
-        Ok(_) => status,
-        Err(_) => tell(&Fault::Store, errors),
+    fn run_in_memory<R: Read, W: Write>(
+        &self,
+        paths: &Paths<'_>,
+        input: &mut R,
+        output: &mut W,
+    ) -> Result<Status, Failure> {
+        let tables = self.new_tables()?;
+        run_on(&self.rt, tables, paths.policy, input, output).0
+    }
+
+    // What makes the run fail is told before the file is closed, which may fail, too.
+    fn run_in_file<R: Read, W: Write, E: Write>(
+        &self,
+        path: &str,
+        paths: &Paths<'_>,
+        input: &mut R,
+        output: &mut W,
+        errors: &mut E,
+    ) -> Result<Status, Failure> {
+        let tables = match self.open_tables(path) {
+            Ok(tables) => tables,
+            Err(fault) => return Err(Failure::of_database(fault)),
+        };
+        let (end, tables) = run_on(&self.rt, tables, paths.policy, input, output);
+        let status = told(end, paths, errors);
+        match close(tables) {
+            Ok(()) => Ok(status),
+            Err(fault) => Err(Failure::of_database(fault)),
+        }
     }
 }
 
@@ -63,26 +90,15 @@ impl Alloc for Process {
 impl Machine for Process {
     fn run<R: Read, W: Write, E: Write>(
         &self,
-        database: Option<&str>,
-        policy: Option<&str>,
+        paths: &Paths<'_>,
         input: &mut R,
         output: &mut W,
         errors: &mut E,
-    ) -> u8 {
-        match database {
-            Some(path) => match self.open_tables(path) {
-                Ok(tables) => {
-                    let (status, tables) = run_over(
-                        &self.rt, tables, policy, input, output, errors,
-                    );
-                    close(tables, status, errors)
-                }
-                Err(fault) => tell(&fault, errors),
-            },
-            None => match self.new_tables() {
-                Ok(tables) => run_over(&self.rt, tables, policy, input, output, errors).0,
-                Err(fault) => tell(&fault, errors),
-            },
-        }
+    ) -> Status {
+        let end = match paths.database {
+            Some(path) => self.run_in_file(path, paths, input, output, errors),
+            None => self.run_in_memory(paths, input, output),
+        };
+        told(end, paths, errors)
     }
 }

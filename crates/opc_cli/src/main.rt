@@ -5,17 +5,18 @@ mod machine;
 
 use crate::machine::Process;
 use opc_policy::fault::Fault;
-use opc_program::streams::{BAD_WORDS, tell};
+use opc_program::failure::{Failure, NO_PATHS};
 use opc_program::words::run_words;
+use opc_script::status::Status;
 use std::io::{ErrorKind, Write};
 use std::process::ExitCode;
 use std::{env, io};
 
 fn main(rt: HostRuntime) -> ExitCode {
-    ExitCode::from(answer(&Process { rt }))
+    ExitCode::from(answer(&Process { rt }).number())
 }
 
-fn answer(process: &Process) -> u8 {
+fn answer(process: &Process) -> Status {
     let rt = &process.rt;
     let mut errors = rt.stderr();
     match given_words(rt) {
@@ -27,11 +28,11 @@ fn answer(process: &Process) -> u8 {
             &mut errors,
         ),
         Err(error) if error.kind() == ErrorKind::OutOfMemory => {
-            tell(&Fault::NoMemory, &mut errors)
+            Failure::from(Fault::NoMemory).tell(&NO_PATHS, &mut errors)
         }
         Err(_) => {
             let _ = writeln!(errors, "error: a word is not UTF-8");
-            BAD_WORDS
+            Status::BadInput
         }
     }
 }

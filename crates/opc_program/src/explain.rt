@@ -1,8 +1,6 @@
 //! `opcmds explain`: which profile decides for a user, and why, by a policy file.
-ghost use Rattle.std.specs.Prelude.{◌≤◌};
-
+use crate::failure::{Failure, NO_PATHS, Place};
 use crate::policy_file::read_rows;
-use crate::streams::{BAD_WORDS, DONE, REFUSED, tell};
 use clap::ArgMatches;
 use opc_names::class::Class;
 use opc_names::level::Level;
@@ -11,6 +9,7 @@ use opc_policy::explained::{Explained, explain};
 use opc_policy::fault::Fault;
 use opc_policy::policy::Policy;
 use opc_policy::verdict::Verdict;
+use opc_script::status::Status;
 use std::alloc::Global;
 use std::io::{Read, Write};
 
@@ -47,9 +46,7 @@ pub fn run<R: Read, W: Write, E: Write>(
     input: &mut R,
     output: &mut W,
     errors: &mut E,
-) -> u8
-    ensures { result ≤ 3 }
-{
+) -> Status {
     let question = match Question::read(chosen) {
         Ok(question) => question,
         Err(word) => {
@@ -57,53 +54,53 @@ pub fn run<R: Read, W: Write, E: Write>(
                 errors,
                 "error: the value of {word} does not read; see opcmds explain --help"
             );
-            return BAD_WORDS;
+            return Status::BadInput;
         }
     };
-    match answer(alloc, &question, input) {
-        Ok(explained) => print(alloc, &explained, output, errors),
-        Err(fault) => tell(&fault, errors),
+    match answer(alloc, &question, input, output) {
+        Ok(status) => status,
+        Err(failure) => failure.tell(&NO_PATHS, errors),
     }
 }
 
-fn answer<R: Read>(alloc: Global, question: &Question, input: &mut R) -> Result<Explained, Fault> {
+fn answer<R: Read, W: Write>(
+    alloc: Global,
+    question: &Question,
+    input: &mut R,
+    output: &mut W,
+) -> Result<Status, Failure> {
     let policy = read_whole(alloc, input)?;
-    explain(
+    let explained = explain(
         alloc,
         &policy,
         question.class,
         &question.resource,
         &question.user,
         question.level,
-    )
+    )?;
+    print(alloc, &explained, output)
 }
 
 /// The policy of the file on the input: all of its rows are read before the first is taken.
-fn read_whole<R: Read>(alloc: Global, input: &mut R) -> Result<Policy, Fault> {
+fn read_whole<R: Read>(alloc: Global, input: &mut R) -> Result<Policy, Failure> {
     let mut policy = Policy::new(alloc);
-    for row in &read_rows(alloc, input)? {
+    for row in &read_rows(alloc, Place::Input, input)? {
         policy.take(alloc, row)?;
     }
     Ok(policy)
 }
 
-fn print<W: Write, E: Write>(
+fn print<W: Write>(
     alloc: Global,
     explained: &Explained,
     output: &mut W,
-    errors: &mut E,
-) -> u8
-    ensures { result ≤ 3 }
-{
+) -> Result<Status, Failure> {
     let Ok(text) = format!(in alloc; "{explained}") else {
-        return tell(&Fault::NoMemory, errors);
+        return Err(Failure::from(Fault::NoMemory));
     };
-    if output.write_all(text.as_bytes()).is_err() {
-        return tell(&Fault::Store, errors);
-    }
-    if explained.verdict == Verdict::Denied {
-        REFUSED
-    } else {
-        DONE
+    match output.write_all(text.as_bytes()) {
+        Ok(()) if explained.verdict == Verdict::Denied => Ok(Status::Refused),
+        Ok(()) => Ok(Status::Done),
+        Err(error) => Err(Failure::at(Place::Output, error)),
     }
 }

@@ -2,10 +2,9 @@
 #![tactic(auto)]
 
 mod explain;
+pub mod failure;
 pub mod machine;
 mod policy_file;
 pub mod run;
-pub mod streams;
-#[cfg(test)]
-mod tests;
+mod streams;
 pub mod words;

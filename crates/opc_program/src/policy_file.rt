@@ -1,5 +1,7 @@
 //! Policy files, from any reader.
-use crate::streams::{fault_of, read_up_to};
+use crate::failure::{Failure, Place};
+use crate::streams::read_up_to;
+use opc_import::fault::ImportFault;
 use opc_import::read::read_policy;
 use opc_policy::fault::{Fault, Why};
 use opc_policy::row::Row;
@@ -17,16 +19,19 @@ const NO_HEADER: Fault = Fault::RowFault {
 };
 
 /// The rows of the policy file that a reader gives.
-pub fn read_rows<R: Read>(alloc: Global, input: &mut R) -> Result<Vec<Row>, Fault> {
+pub fn read_rows<R: Read>(alloc: Global, place: Place, input: &mut R) -> Result<Vec<Row>, Failure> {
     let bytes = match read_up_to(alloc, input, POLICY_LIMIT) {
         Ok(bytes) => bytes,
-        Err(error) => return Err(fault_of(&error)),
+        Err(error) => return Err(Failure::at(place, error)),
     };
     if bytes.len() > POLICY_LIMIT as usize {
-        return Err(NO_HEADER);
+        return Err(Failure::of_row(place, NO_HEADER));
     }
     let Ok(text) = str::from_utf8(&bytes) else {
-        return Err(NO_HEADER);
+        return Err(Failure::of_row(place, NO_HEADER));
     };
-    Ok(read_policy(alloc, text)?)
+    match read_policy(alloc, text) {
+        Ok(rows) => Ok(rows),
+        Err(fault) => Err(Failure::of_row(place, Fault::from(fault))),
+    }
 }

@@ -1,12 +1,11 @@
 //! The words of the command line.
-ghost use Rattle.std.specs.Prelude.{◌≤◌};
-
-use crate::explain;
+use crate::failure::{Failure, NO_PATHS, Paths, Place};
 use crate::machine::Machine;
-use crate::streams::{BAD_WORDS, DONE, tell};
+use crate::{explain, run};
 use clap::error::ErrorKind;
 use clap::{Arg, ArgAction, ArgMatches, Command, Error};
 use opc_policy::fault::Fault;
+use opc_script::status::Status;
 use std::alloc::{AllocError, Global};
 use std::io::{Read, Write};
 
@@ -25,7 +24,7 @@ fn explain_command<'a>(alloc: Global) -> Result<Command<'a>, AllocError> {
         )
         .after_help(
             "Example: opcmds explain --user ANNA --resource MVS.CANCEL.JOB.PAYROLL --level UPDATE < policy.csv\n\
-             Status: 0 allowed or undecided, 1 refused, 2 bad words or policy file, 3 want of memory or of a device",
+             Status: 0 allowed or undecided, 1 refused, 2 bad words or policy file, 3 out of memory or a failed device",
         )
         .arg(value(alloc, "user", "USER", "The user: 1 to 8 name characters").required(true))?
         .arg(value(alloc, "class", "CLASS", "The class: OPERCMDS or CONSOLE").default_value(
@@ -53,9 +52,9 @@ fn run_command<'a>(alloc: Global) -> Result<Command<'a>, AllocError> {
             "Answers the commands and events of the script on standard input (1,048,576 bytes at most), one a line",
         )
         .after_help(
-            "A line: MOMENT CONSOLE COMMAND, or MOMENT * EVENT; the moment is a number up to 9,999,999,999,999.\n\
+            "A line: MOMENT CONSOLE COMMAND, or MOMENT * EVENT; the moment has 1 to 13 digits.\n\
              Example: echo '1 C1 S MONPL' | opcmds run --policy policy.csv\n\
-             Status: 0 all done, 1 something refused, 2 bad words, policy file or line, 3 want of memory or of a device",
+             Status: 0 all done, 1 something refused, 2 bad words, policy file or line, 3 out of memory or a failed device",
         )
         .arg(value(
             alloc,
@@ -81,21 +80,25 @@ fn whole_command<'a>(alloc: Global) -> Result<Command<'a>, AllocError> {
 }
 
 fn matches_of<'a>(alloc: Global, words: &'a [String]) -> Result<ArgMatches<'a>, Error> {
-    whole_command(alloc)?.try_get_matches_from(words)
+    // The help names the program as the documents do, whatever its file is called.
+    let words = match words.split_first() {
+        Some((_, rest)) => rest,
+        None => words,
+    };
+    whole_command(alloc)?
+        .no_binary_name(true)
+        .try_get_matches_from(words)
 }
 
-/// Runs the program on its words, the first of which is its own name, and answers its status: 0 done,
-/// 1 refused, 2 bad words or input, 3 want of memory or of a device.
+/// Runs the program on its words, the first of which is its own name, and answers its status.
 pub fn run_words<M: Machine, R: Read, W: Write, E: Write>(
-    rt: &M,
+    machine: &M,
     words: &[String],
     input: &mut R,
     output: &mut W,
     errors: &mut E,
-) -> u8
-    ensures { result ≤ 3 }
-{
-    let alloc = rt.alloc();
+) -> Status {
+    let alloc = machine.alloc();
     let matches = match matches_of(alloc, words) {
         Ok(matches) => matches,
         Err(error) => return tell_words(&error, output, errors),
@@ -104,25 +107,26 @@ pub fn run_words<M: Machine, R: Read, W: Write, E: Write>(
         return explain::run(alloc, chosen, input, output, errors);
     }
     if let Some(chosen) = matches.subcommand_matches("run") {
-        let (database, policy) = (chosen.get_str("db"), chosen.get_str("policy"));
-        return rt.run(database, policy, input, output, errors);
+        let paths = Paths {
+            database: chosen.get_str("db"),
+            policy: chosen.get_str("policy"),
+        };
+        return machine.run(&paths, input, output, errors);
     }
-    BAD_WORDS
+    Status::BadInput
 }
 
 // What `clap` says: help to the output, a mistake to the errors.
-fn tell_words<W: Write, E: Write>(error: &Error, output: &mut W, errors: &mut E) -> u8
-    ensures { result ≤ 3 }
-{
+fn tell_words<W: Write, E: Write>(error: &Error, output: &mut W, errors: &mut E) -> Status {
     if error.kind() == ErrorKind::OutOfMemory {
-        return tell(&Fault::NoMemory, errors);
+        return Failure::from(Fault::NoMemory).tell(&NO_PATHS, errors);
     }
     if error.use_stderr() {
         let _ = write!(errors, "{error}");
-        return BAD_WORDS;
+        return Status::BadInput;
     }
     match write!(output, "{error}") {
-        Ok(()) => DONE,
-        Err(_) => tell(&Fault::Store, errors),
+        Ok(()) => Status::Done,
+        Err(error) => Failure::at(Place::Output, error).tell(&NO_PATHS, errors),
     }
 }

@@ -3,6 +3,6 @@ pub mod Numbers
 pub mod Spelled
 pub mod ReadBack
 pub mod Written
-pub mod Running
+pub mod Printing
 pub mod Lines
 pub mod Moments

@@ -1,17 +1,19 @@
 -- Lines of a script, one after another.
-use Rattle.std.proofs.Common.{◌≡◌, ◌≤◌, ◌<◌, ◌+◌, ◌++◌, ◌∷◌, ℕ, zero, suc, Bor, map, Bool, true, false, List, [], Some, None, length, take, get_or, refl, sym, ap, subst, ◌∙◌, rules, arith, nat_lt}
+use Rattle.std.proofs.Common.{◌≡◌, ◌≤◌, ◌<◌, ◌+◌, ◌++◌, ◌∷◌, ℕ, zero, suc, Bor, map, Bool, true, false, List, [], Some, None, length, take, get_or, refl, sym, ap, subst, ◌∙◌, rules, arith, nat_lt, nat_le}
 use Rattle.std.proofs.lemmas.Bool.{lt-ltb, le-ltb}
 use Rattle.std.proofs.lemmas.Bool.Decides.{nat_tests}
 use Rattle.std.proofs.lemmas.List.{take_more, take_all, append-nil, length-map}
 use Rattle.std.proofs.lemmas.Grind.{flat_map-append}
 use Rattle.std.proofs.lemmas.List.Sums.{fails_before_first, passes_at_first, position_or_len_is}
 use Rattle.std.specs.List.{position, position_or_len, flat_map}
-use Rattle.std.specs.Option.{option_map, option_to_list}
+use Rattle.std.specs.Option.{option_to_list}
 use Rattle.std.specs.Str.Lines.{lines}
-use Rattle.opc_gate.specs.declared.request.Request.{Request}
+use Rattle.opc_machine.specs.declared.request.Request.{Request}
 use Rattle.opc_script.specs.declared.script.ScriptFault.{ScriptFault}
-use Rattle.opc_script.specs.declared.script.ScriptFault.TheVariants.{BadLine, NoMemory}
-use Rattle.opc_script.specs.Scripts.{parts_in, request_in, is_bad, bad_line, requests_in}
+use Rattle.opc_script.specs.declared.script.ScriptFault.TheVariants.{BadLine, NoMemory, Output}
+use Rattle.opc_script.specs.Refusals.{IsLineUnread, IsUnread}
+use Rattle.opc_script.specs.Reading.{is_space}
+use Rattle.opc_script.specs.Scripts.{parts_in, request_in, is_bad, is_blank, bad_line, requests_in, script_limit}
 
 -- none of the first elements, so many, passes
 abbrev pub NoneBefore : {X : Type 0} → (X → Bool) → List X → ℕ → Type 0
@@ -38,11 +40,15 @@ none_found p xs before = rw (le-ltb (position_or_len p xs) (length xs) before) r
 pub flat_more : {X Y : Type 0} (f : X → List Y) (xs : List X) (x : X) → flat_map f (xs ++ x ∷ []) ≡ flat_map f xs ++ f x
 flat_more f xs x = flat_map-append f xs (x ∷ []) ∙ ap (λ t. flat_map f xs ++ t) (append-nil (f x))
 
--- an empty line asks nothing
-pub blank_asks_nothing : (line : List ℕ) → length line ≡ 0 → request_in line ≡ None
+-- a blank line asks nothing: no digit stands before its first space
+pub blank_asks_nothing : (line : List ℕ) → is_blank line ≡ true → request_in line ≡ None
 unfolding parts_in
 blank_asks_nothing [] h = refl
-blank_asks_nothing (c ∷ line) h = absurd (search (rules, h))
+blank_asks_nothing (c ∷ line) h =
+    let at : position_or_len is_space (c ∷ line) ≡ 0 = position_or_len_is is_space (c ∷ line) 0 0 (omega arith) (λ k low. absurd (omega (arith, low))) (λ _. search (rules, h)) in
+    let low : nat_lt 0 (length (c ∷ line)) ≡ true = lt-ltb 0 (length (c ∷ line)) (omega arith) in
+    let some : position is_space (c ∷ line) ≡ Some 0 = rw (at, low) refl in
+    rw some refl
 
 abbrev asked_in : List ℕ → List (ℕ × Request)
 asked_in line = option_to_list (request_in line)
@@ -59,14 +65,23 @@ read_more all at line requests low is good far =
       ap (λ rs. rs ++ asked_in line) far.1 ∙ sym (ap (flat_map asked_in) first ∙ flat_more asked_in (take at all) line),
     )
 
-pub all_read : (script : List ℕ) (requests : List (ℕ × Request)) → AreRead (lines script) (length (lines script)) requests → (bad_line script ≡ None) × (requests ≡ requests_in script)
-all_read script requests far =
+pub all_read : (script : List ℕ) (requests : List (ℕ × Request)) → nat_le (length script) script_limit ≡ true → AreRead (lines script) (length (lines script)) requests
+    → (bad_line script ≡ None) × (requests ≡ requests_in script)
+all_read script requests short far =
     let none : position is_bad (lines script) ≡ None = none_found is_bad (lines script) far.0 in
-    (ap (option_map (λ at. at + 1)) none, far.1 ∙ ap (flat_map asked_in) (take_all (length (lines script)) (lines script) (omega arith)))
+    (rw (short, none) refl, far.1 ∙ ap (flat_map asked_in) (take_all (length (lines script)) (lines script) (omega arith)))
 
-pub bad_found : (script line : List ℕ) (at : ℕ) (requests : List (ℕ × Request)) → at < length (lines script) → line ≡ get_or (lines script) at line → is_bad line ≡ true → AreRead (lines script) at requests
+bad_found : (script line : List ℕ) (at : ℕ) (requests : List (ℕ × Request)) → nat_le (length script) script_limit ≡ true → at < length (lines script) → line ≡ get_or (lines script) at line → is_bad line ≡ true → AreRead (lines script) at requests
     → bad_line script ≡ Some (at + 1)
-bad_found script line at requests low is bad far = ap (option_map (λ i. i + 1)) (first_found is_bad (lines script) at line low far.0 (subst (λ x. is_bad x ≡ true) is bad))
+bad_found script line at requests short low is bad far =
+    let first : position is_bad (lines script) ≡ Some at = first_found is_bad (lines script) at line low far.0 (subst (λ x. is_bad x ≡ true) is bad) in
+    rw (short, first) refl
+
+pub unread : (script line : List ℕ) (at : ℕ) (requests : List (ℕ × Request)) (fault : ScriptFault) → nat_le (length script) script_limit ≡ true → at < length (lines script) → line ≡ get_or (lines script) at line
+    → AreRead (lines script) at requests → IsLineUnread (at + 1) line fault → IsUnread script fault
+unread script line at requests (BadLine number) short low is far bad = bad_found script line at requests short low is bad.1 far ∙ ap Some (sym bad.0)
+unread script line at requests NoMemory short low is far bad = tt
+unread script line at requests (Output error) short low is far bad = absurd bad
 
 -- a line is the text that stands at its place
 item_now : (items : List (Bor (List ℕ))) (i : ℕ) (d : Bor (List ℕ)) (e : List ℕ) → i < length items → (get_or items i d).now ≡ get_or (map (λ (x : Bor (List ℕ)). x.now) items) i e
@@ -81,10 +96,3 @@ line_at items all i d same low =
       subst (λ xs. i < length xs) same (omega (arith, long, low)),
       item_now items i d (get_or items i d).now low ∙ ap (λ xs. get_or xs i (get_or items i d).now) same,
     )
-
-pub not_memory : (fault : ScriptFault) (number : ℕ) → fault ≡ BadLine number → fault ≡ NoMemory → ⊥
-not_memory (BadLine m) number h k = search (rules, k)
-not_memory NoMemory number h k = search (rules, h)
-
-pub same_number : (m n : ℕ) → BadLine m ≡ BadLine n → m ≡ n
-same_number m n h = search (rules, h)

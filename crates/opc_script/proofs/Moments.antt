@@ -1,11 +1,12 @@
 -- Numbers without a sign, as `parse` reads them.
-use Rattle.std.proofs.Common.{◌≡◌, ◌<◌, ◌==◌, ◌&&◌, ◌^◌, ℕ, Bool, true, false, List, [], ◌∷◌, Some, None, Result, Ok, Err, nat_le, refl, sym, ap, subst, ◌∙◌, rules, arith}
+use Rattle.std.proofs.Common.{◌≡◌, ◌<◌, ◌≤◌, ◌==◌, ◌&&◌, ◌^◌, ℕ, Bool, true, false, List, [], ◌∷◌, Some, Result, Ok, Err, length, nat_le, refl, sym, ap, subst, ◌∙◌, rules, arith}
 use Rattle.std.proofs.lemmas.Bool.Decides.{nat_tests}
+use Rattle.std.proofs.lemmas.Str.Parse.{digits_value_short, numerals_by_value, tells_digits}
 use Rattle.std.specs.Char.{is_ascii_digit, digit_value}
 use Rattle.std.specs.List.{list_all}
 use Rattle.std.specs.Result.{result_ok}
 use Rattle.std.specs.Str.Parse.{AllDigits, IsNumeral, ParsesUnsigned, digits_value, without_leading_plus}
-use Rattle.opc_script.specs.Scripts.{is_number, last_moment, moment_in}
+use Rattle.opc_script.specs.Scripts.{is_number, moment_digits, moment_in}
 
 digit_is : (c : ℕ) → is_ascii_digit c ≡ true → digit_value c < 10
 digit_is c h = grind (arith, nat_tests, h)
@@ -32,22 +33,12 @@ numeral_is (c ∷ text) h = go (is_ascii_digit c) refl (all_of h)
     go true e k = ((omega arith, (digit_is c e, digits_are text k)), rw (no_plus c e) refl)
     go false e k = absurd (search (rules, k))
 
--- what `parse` refuses of them is past the last moment
-pub too_large : {E : Type 0} (text : List ℕ) (r : Result ℕ E) → is_number text ≡ true → ParsesUnsigned 64 10 text r → result_ok r ≡ None → moment_in text ≡ None
-too_large text (Ok x) is parses none = absurd (search (rules, none))
-too_large text (Err e) is refused none = go (nat_le (digits_value 10 text) last_moment) refl
-  where
-    go : (b : Bool) → nat_le (digits_value 10 text) last_moment ≡ b → moment_in text ≡ None
-    go true e =
-        let n = numeral_is text is in
-        let low : digits_value 10 text < 2 ^ 64 = grind (arith, nat_tests, e) in
-        absurd (refused (subst (λ t. IsNumeral 10 t × (digits_value 10 t < 2 ^ 64)) (sym n.1) (n.0, low)))
-    go false e = rw (is, e) refl
-
--- and what it reads is their value
-pub parsed_is : {E : Type 0} (text : List ℕ) (r : Result ℕ E) (moment : ℕ) → is_number text ≡ true → ParsesUnsigned 64 10 text r → result_ok r ≡ Some moment → moment ≡ digits_value 10 text
-parsed_is text (Ok x) moment is parses same =
+-- with so few digits they fit, and `parse` reads their value
+pub parsed_as : {E : Type 0} (text : List ℕ) (r : Result ℕ E) → is_number text ≡ true → nat_le (length text) moment_digits ≡ true → ParsesUnsigned 64 10 text r → result_ok r ≡ moment_in text
+parsed_as text (Ok x) is short parses = rw (is, short) (ap Some (parses.1 ∙ ap (digits_value 10) (numeral_is text is).1))
+parsed_as text (Err e) is short refused =
     let n = numeral_is text is in
-    let eq : x ≡ moment = search (rules, same) in
-    sym eq ∙ parses.1 ∙ ap (digits_value 10) n.1
-parsed_is text (Err e) moment is parses same = absurd (search (rules, same))
+    let few : length text ≤ 13 = grind (arith, nat_tests, short) in
+    let low : digits_value 10 text < 10 ^ 13 = digits_value_short (numerals_by_value (AllDigits 10) tells_digits) text 13 n.0.1 few in
+    let fits : digits_value 10 text < 2 ^ 64 = omega (arith, low) in
+    absurd (refused (subst (λ t. IsNumeral 10 t × (digits_value 10 t < 2 ^ 64)) (sym n.1) (n.0, fits)))

@@ -7,20 +7,24 @@ use Rattle.std.specs.Str.{bytes_eq}
 use Rattle.std.specs.Str.Lines.{lines}
 use Rattle.std.specs.Str.Parse.{digits_value}
 use Rattle.opc_names.specs.Names.{console_rule}
-use Rattle.opc_gate.specs.declared.request.Request.{Request}
-use Rattle.opc_gate.specs.declared.request.Request.TheVariants.{Command, Event}
-use Rattle.opc_script.specs.Reading.{◌>>=◌, parted, name_in, event_in}
+use Rattle.opc_machine.specs.declared.request.Request.{Request}
+use Rattle.opc_machine.specs.declared.request.Request.TheVariants.{Command, Event}
+use Rattle.opc_script.specs.Reading.{◌>>=◌, is_space, parted, name_in, event_in}
 
--- the last moment
-abbrev pub last_moment : ℕ
-last_moment = 9999999999999
+-- the most digits of a moment
+abbrev pub moment_digits : ℕ
+moment_digits = 13
+
+-- the most bytes of a script
+abbrev pub script_limit : ℕ
+script_limit = 1048576
 
 -- digits, and no sign
 abbrev pub is_number : List ℕ → Bool
 is_number text = not (length text == 0) && list_all is_ascii_digit text
 
 abbrev pub moment_in : List ℕ → Option ℕ
-moment_in text = if is_number text && nat_le (digits_value 10 text) last_moment then Some (digits_value 10 text) else None
+moment_in text = if is_number text && nat_le (length text) moment_digits then Some (digits_value 10 text) else None
 
 -- `*` stands for the machine room; any other name is a console's, where the text is typed as it stands
 abbrev pub request_of : List ℕ × List ℕ → Option Request
@@ -43,16 +47,17 @@ request_in line = do
   request ← request_of parts.1
   Some (parts.0, request)
 
+-- empty, or only spaces
 abbrev pub is_blank : List ℕ → Bool
-is_blank line = length line == 0
+is_blank line = list_all is_space line
 
 -- neither blank nor a request
 abbrev pub is_bad : List ℕ → Bool
 is_bad line = not (is_blank line) && is_none (request_in line)
 
--- The number of the first bad line, from 1 on; blank lines count.
+-- The number of the first bad line, from 1 on; blank lines count. 0 stands for a script that is too long.
 abbrev pub bad_line : List ℕ → Option ℕ
-bad_line script = option_map (λ at. at + 1) (position is_bad (lines script))
+bad_line script = if nat_le (length script) script_limit then option_map (λ at. at + 1) (position is_bad (lines script)) else Some 0
 
 -- The requests of a script, in order.
 abbrev pub requests_in : List ℕ → List (ℕ × Request)

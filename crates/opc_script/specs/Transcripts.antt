@@ -1,15 +1,14 @@
 -- What a script's run prints.
-use Rattle.std.specs.Prelude.{◌∷◌, ◌++◌, ℕ, Bool, true, false, if◌then◌else◌, List, [], codes}
+use Rattle.std.specs.Prelude.{◌∷◌, ◌++◌, ℕ, List, [], codes}
 use Rattle.std.specs.Fmt.{decimal}
-use Rattle.std.specs.List.{flat_map, list_any}
+use Rattle.std.specs.List.{flat_map}
 use Rattle.opc_board.specs.declared.line.Line.{Line}
 use Rattle.opc_board.specs.Texts.{columns}
-use Rattle.opc_policy.specs.declared.fault.Fault.TheVariants as fault
 use Rattle.opc_policy.specs.Faults.{fault_code, fault_text}
 use Rattle.opc_policy.specs.Rules.{rule_text_or_none}
-use Rattle.opc_gate.specs.declared.request.Request.{Request}
-use Rattle.opc_gate.specs.declared.request.Answer.{Answer}
-use Rattle.opc_gate.specs.declared.request.Answer.TheVariants.{Done, Refused}
+use Rattle.opc_machine.specs.declared.request.Request.{Request}
+use Rattle.opc_machine.specs.declared.request.Answer.{Answer}
+use Rattle.opc_machine.specs.declared.request.Answer.TheVariants.{Done, Refused}
 
 -- 10 is the line feed
 abbrev pub ended : List ℕ → List ℕ
@@ -27,19 +26,6 @@ answer_text moment (Refused fault rule) = ended (columns (decimal moment ∷ cod
 abbrev pub transcript : List (ℕ × Request) → List Answer → List ℕ
 transcript (r ∷ requests) (answer ∷ answers) = answer_text r.0 answer ++ transcript requests answers
 transcript requests answers = []
-
-abbrev pub is_given_up : Answer → Bool
-is_given_up (Refused fault.NoMemory rule) = true
-is_given_up (Refused fault.Store rule) = true
-is_given_up other = false
-
-abbrev pub is_refused : Answer → Bool
-is_refused (Refused fault rule) = true
-is_refused (Done lines rule) = false
-
--- The status: 3 where there was no memory or the store failed, else 1 where anything was refused, else 0.
-abbrev pub status_of : List Answer → ℕ
-status_of answers = if list_any is_given_up answers then 3 else (if list_any is_refused answers then 1 else 0)
 
 abbrev pub bad_line_text : ℕ → List ℕ
 bad_line_text number = ended (columns (codes "BAD LINE" ∷ decimal number ∷ []))

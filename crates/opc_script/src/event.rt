@@ -4,9 +4,10 @@ ghost use Rattle.opc_script.specs.Reading.{ask, asked, allocate, event_by, event
 ghost use Rattle.opc_names.specs.Spellings.{lookup};
 
 use opc_board::event::Event;
-use opc_board::rows::{ReplyId, UnitKind};
+use opc_board::rows::UnitKind;
 use opc_board::text::KeptText;
 use opc_names::name::{Name, NameKind};
+use opc_names::reply_id::ReplyId;
 use std::alloc::{AllocError, Global};
 
 /// The first word of a text, and what stands behind the space after it.
@@ -100,7 +101,7 @@ fn id_in(text: &str) -> Option<ReplyId>
 {
     match text.as_bytes() {
         [a, b] if a.is_ascii_digit() && b.is_ascii_digit() => {
-            Some(10 * (*a - b'0') + (*b - b'0'))
+            ReplyId::new(10 * (*a - b'0') + (*b - b'0'))
         }
         _ => None,
     }

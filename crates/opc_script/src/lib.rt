@@ -4,9 +4,8 @@
 mod event;
 pub mod laws;
 mod line;
+mod printer;
 pub mod run;
-mod script;
-pub mod shut;
-#[cfg(test)]
-mod tests;
+pub mod script;
+pub mod status;
 mod transcript;

@@ -2,15 +2,15 @@
 ghost use Rattle.std.specs.Prelude.{◌≡◌, IfOk, MatchOption, None, Some};
 ghost use Rattle.std.specs.Char.{is_ascii_digit};
 ghost use Rattle.std.specs.List.{list_all};
-ghost use Rattle.opc_script.specs.Scripts.{is_number, moment_in, parts_in, request_in, request_of};
+ghost use Rattle.opc_script.specs.Scripts.{is_blank, is_number, moment_in, parts_in, request_in, request_of};
 
 use crate::event::{event_in, name_in, parted};
 use opc_board::text::KeptText;
 use opc_gate::request::Request;
 use std::alloc::{AllocError, Global};
 
-/// The last moment: what a script may name.
-const LAST_MOMENT: u64 = 9_999_999_999_999;
+/// The most digits of a moment.
+const MOMENT_DIGITS: usize = 13;
 
 fn are_digits(bytes: &[u8]) -> bool
     ensures { result ≡ list_all is_ascii_digit bytes.now }
@@ -27,15 +27,10 @@ fn is_number(text: &str) -> bool
 fn moment_in(text: &str) -> Option<u64>
     ensures { result ≡ moment_in text.now }
 {
-    if !is_number(text) {
+    if !is_number(text) || text.len() > MOMENT_DIGITS {
         return None;
     }
-    let moment = text.parse::<u64>().ok()?;
-    if moment <= LAST_MOMENT {
-        Some(moment)
-    } else {
-        None
-    }
+    text.parse::<u64>().ok()
 }
 
 fn request_of(alloc: Global, who: &str, text: &str) -> Result<Option<Request>, AllocError>
@@ -65,6 +60,13 @@ fn parts_in(line: &str) -> Option<(u64, &str, &str)>
     let moment = moment_in(moment)?;
     let (who, text) = parted(rest)?;
     Some((moment, who, text))
+}
+
+/// Whether a line is empty or only spaces.
+pub(crate) fn is_blank(line: &str) -> bool
+    ensures { result ≡ is_blank line.now }
+{
+    line.as_bytes().iter().all(|c| *c == b' ')
 }
 
 /// The request of a line, with its moment.

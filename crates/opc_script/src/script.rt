@@ -1,23 +1,31 @@
 //! Scripts, read.
-ghost use Rattle.std.specs.Prelude.{◌≡◌, ◌≢◌, ◌+◌, ◌++◌, Err, IfErr, IfOk, OnOk, None, Some, ℕ, false, true, map};
+ghost use Rattle.std.specs.Prelude.{◌≡◌, ◌++◌, IfErr, IfOk, OnOk, None, false, map};
 ghost use Rattle.std.specs.Option.{option_to_list};
 ghost use Rattle.std.specs.Str.Lines.{lines};
+ghost use Rattle.opc_script.specs.Refusals.{IsLineUnread, IsUnread};
 ghost use Rattle.opc_script.specs.Scripts.{bad_line, is_bad, request_in, requests_in};
-ghost use Rattle.opc_script.specs.declared.script.ScriptFault.TheVariants.{BadLine, NoMemory};
 
-use crate::line::request_in;
+use crate::line::{is_blank, request_in};
 use opc_gate::request::Request;
 use std::alloc::{AllocError, AllocFailed, Global};
+use std::io;
 use thiserror::Error;
 
-/// Why a script is not run.
-#[derive(Clone, Copy, Debug, PartialEq, Eq, Error)]
-pub(crate) enum ScriptFault {
-    /// The line with this number, from 1 on, is neither blank nor a request.
+/// The most bytes of a script.
+pub const SCRIPT_LIMIT: u32 = 1_048_576;
+
+/// Why a script is not run to its end.
+#[derive(Clone, Copy, Debug, Error)]
+pub enum ScriptFault {
+    /// The line with this number, from 1 on, is neither blank nor a request; 0 stands for a script that is too long or
+    /// is not UTF-8. Nothing was run.
     #[error("bad line {0}")]
     BadLine(usize),
     #[error("no memory")]
     NoMemory,
+    /// The output took no more.
+    #[error("{0}")]
+    Output(io::Error),
 }
 
 impl From<AllocError> for ScriptFault {
@@ -42,6 +50,17 @@ impl<T: Drop> From<AllocFailed<T>> for ScriptFault {
     }
 }
 
+impl From<io::Error> for ScriptFault {
+    ghost use Rattle.std.specs.Prelude.{◌≡◌};
+    ghost use Rattle.opc_script.specs.declared.script.ScriptFault.TheVariants.{Output};
+
+    ghost from_gives = { λ error fault. fault ≡ Output error };
+
+    fn from(error: io::Error) -> Self {
+        ScriptFault::Output(error)
+    }
+}
+
 fn lines_of(alloc: Global, script: &str) -> Result<Vec<&str>, AllocError>
     ensures { IfOk result (λ v. map (λ line. line.now) v.items ≡ lines script.now) }
 {
@@ -58,9 +77,9 @@ fn read_line(
 ) -> Result<(), ScriptFault>
     ensures good { OnOk result (is_bad line.now ≡ false) }
     ensures request { OnOk result (requests.new.items ≡ requests.old.items ++ option_to_list (request_in line.now)) }
-    ensures bad { IfErr result (λ fault. fault ≢ NoMemory → (fault ≡ BadLine number) × (is_bad line.now ≡ true)) }
+    ensures bad { IfErr result (IsLineUnread number line.now) }
 {
-    if line.is_empty() {
+    if is_blank(line) {
         return Ok(());
     }
     match request_in(alloc, line)? {
@@ -69,12 +88,15 @@ fn read_line(
     }
 }
 
-/// The requests of a script with their moments, or its first bad line.
+/// The requests of a script with their moments, or its first bad line, or that there was no memory.
 pub(crate) fn requests_in(alloc: Global, script: &str) -> Result<Vec<(u64, Request)>, ScriptFault>
     ensures good { OnOk result (bad_line script.now ≡ None) }
     ensures requests { IfOk result (λ requests. requests.items ≡ requests_in script.now) }
-    ensures bad { (number : ℕ) → result ≡ Err (BadLine number) → bad_line script.now ≡ Some number }
+    ensures bad { IfErr result (IsUnread script.now) }
 {
+    if script.len() > SCRIPT_LIMIT as usize {
+        return Err(ScriptFault::BadLine(0));
+    }
     let lines = lines_of(alloc, script)?;
     let mut requests = Vec::new(alloc);
     for (at, line) in lines.iter().enumerate() {

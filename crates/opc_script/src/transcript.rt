@@ -1,7 +1,7 @@
 //! What a script's run prints.
-ghost use Rattle.std.specs.Prelude.{◌≡◌, ◌≤◌, ◌∷◌, ◌++◌, [], IfOk, List, string_bytes};
-ghost use Rattle.opc_gate.specs.declared.request.Answer.{Answer as TheAnswer};
-ghost use Rattle.opc_script.specs.Transcripts.{answer_text, bad_line_text, is_given_up, is_refused, status_of};
+ghost use Rattle.std.specs.Prelude.{◌≡◌, IfOk, string_bytes};
+ghost use Rattle.opc_machine.specs.declared.request.Answer.{Answer as TheAnswer};
+ghost use Rattle.opc_script.specs.Transcripts.{answer_text, bad_line_text};
 
 use opc_board::line::Line;
 use opc_gate::request::Answer;
@@ -9,15 +9,6 @@ use opc_policy::fault::Fault;
 use opc_policy::rule::Rule;
 use std::alloc::{AllocError, Global};
 use std::fmt::Write;
-
-/// The statuses of a run.
-pub const DONE: u8 = 0;
-
-pub const REFUSED: u8 = 1;
-
-pub const BAD_LINE: u8 = 2;
-
-pub const FAILED: u8 = 3;
 
 fn done_text(
     alloc: Global,
@@ -68,19 +59,4 @@ pub(crate) fn bad_line_text(alloc: Global, number: usize) -> Result<String, Allo
     let mut text = format!(in alloc; "BAD LINE {number}")?;
     text.push_str("\n")?;
     Ok(text)
-}
-
-/// The status after one more answer.
-pub(crate) fn status_after(status: u8, answer: &Answer) -> u8
-    ensures bound { status ≤ 3 → result ≤ 3 }
-    ensures status { (answers : List TheAnswer) → status ≡ status_of answers → result ≡ status_of (answers ++ answer.now ∷ []) }
-{
-    match answer {
-        Answer::Refused {
-            fault: Fault::NoMemory | Fault::Store,
-            ..
-        } => FAILED,
-        Answer::Refused { .. } if status == DONE => REFUSED,
-        _ => status,
-    }
 }

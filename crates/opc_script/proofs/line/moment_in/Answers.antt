@@ -1,11 +1,11 @@
-use Rattle.std.proofs.Common.{◌≡◌, ◌∙◌, true, None, rules, sym}
-use Rattle.std.specs.Result.{result_ok}
-use Rattle.opc_script.specs.Scripts.{is_number}
-use Rattle.opc_script.proofs.Moments.{too_large}
+use Rattle.std.proofs.Common.{◌≡◌, ◌∙◌, true, nat_le, length, arith, sym}
+use Rattle.std.proofs.lemmas.Bool.Decides.{nat_tests}
+use Rattle.opc_script.specs.Scripts.{is_number, moment_digits}
+use Rattle.opc_script.proofs.Moments.{parsed_as}
 use Rattle.opc_script.proofs.line.moment_in.Goals as goal
 
-pub returns-in_err-moment : goal.returns-in_err-moment
-returns-in_err-moment c =
-    let is : is_number c.args.text.now ≡ true = search rules in
-    let none : result_ok c.parse.result ≡ None = search rules in
-    c.from_residual.ensures ∙ sym (too_large c.args.text.now c.parse.result is c.parse.ensures.value.0 none)
+pub returns : goal.returns
+returns c =
+    let is : is_number c.args.text.now ≡ true = sym c.is_number.ensures ∙ c.if-not-is_number.false in
+    let short : nat_le (length c.args.text.now) moment_digits ≡ true = grind (arith, nat_tests, c.if-text-gt-MOMENT_DIGITS.false) in
+    c.ok.ensures.value ∙ parsed_as c.args.text.now c.parse.result is short c.parse.ensures.value.0

@@ -1,15 +1,17 @@
-use Rattle.std.proofs.Common.{◌≡◌, ◌∙◌, ap, arith, rules, subst, sym, Some}
+use Rattle.std.proofs.Common.{◌≡◌, true, nat_le, length, arith, subst, sym}
+use Rattle.std.proofs.lemmas.Bool.Decides.{nat_tests}
+use Rattle.std.proofs.lemmas.Result.{err_from_is_err_and}
 use Rattle.std.specs.Str.Lines.{lines}
-use Rattle.opc_script.specs.declared.script.ScriptFault.TheVariants.{BadLine}
-use Rattle.opc_script.proofs.Lines.{AreRead, read_more, bad_found, line_at, not_memory, same_number}
+use Rattle.opc_script.specs.Scripts.{script_limit}
+use Rattle.opc_script.proofs.Lines.{AreRead, line_at, read_more, unread}
 use Rattle.opc_script.proofs.script.requests_in.Goals as goal
 
 pub returns-in_err-read_line-clause-bad : goal.returns-in_err-read_line-clause-bad
-returns-in_err-read_line-clause-bad c number same =
+returns-in_err-read_line-clause-bad c =
+    let short : nat_le (length c.args.script.now) script_limit ≡ true = grind (arith, nat_tests, c.if-script.false) in
     let line = line_at c.deref-line-items.result.now (lines c.args.script.now) c.loop-at.at _ c.loop-at.invariant.0 (omega arith) in
-    let is : c.in_err-read_line.field-0.0 ≡ BadLine number = search (rules, same) in
-    let bad = c.in_err-read_line.ensures.bad (not_memory _ number is) in
-    bad_found c.args.script.now _ c.loop-at.at c.loop-at.requests.items line.0 line.1 bad.1 c.loop-at.invariant.1 ∙ ap Some (same_number _ _ (sym bad.0 ∙ is))
+    let err = err_from_is_err_and c.from_residual-in_err-read_line.result c.from_residual-in_err-read_line.ensures.1 in
+    rw (err.1, err.2) (unread c.args.script.now _ c.loop-at.at c.loop-at.requests.items _ short line.0 line.1 c.loop-at.invariant.1 c.in_err-read_line.ensures.bad)
 
 pub loop-at-preserved : goal.loop-at-preserved
 loop-at-preserved c =

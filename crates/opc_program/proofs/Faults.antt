@@ -1,0 +1,10 @@
+-- What a failed stream ends the program with.
+use Rattle.std.proofs.Common.{◌≡◌, refl}
+use Rattle.std.specs.declared.io.ErrorKind.{ErrorKind}
+use Rattle.std.specs.declared.io.ErrorKind.TheVariants.{OutOfMemory}
+use Rattle.opc_script.specs.declared.status.Status.TheVariants.{Failed}
+use Rattle.opc_program.specs.Statuses.{fault_of_kind, status_of}
+
+pub streams_fail : (kind : ErrorKind) → status_of (fault_of_kind kind) ≡ Failed
+streams_fail OutOfMemory = refl
+streams_fail kind = refl

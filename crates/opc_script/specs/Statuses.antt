@@ -1,0 +1,27 @@
+-- Statuses: what the answers of a run come to, and their numbers.
+use Rattle.std.specs.Prelude.{ℕ, Bool, true, false, if◌then◌else◌, List}
+use Rattle.std.specs.List.{list_any}
+use Rattle.opc_policy.specs.declared.fault.Fault.TheVariants as fault
+use Rattle.opc_machine.specs.declared.request.Answer.{Answer}
+use Rattle.opc_machine.specs.declared.request.Answer.TheVariants as answer
+use Rattle.opc_script.specs.declared.status.Status.{Status}
+use Rattle.opc_script.specs.declared.status.Status.TheVariants.{Done, Refused, BadInput, Failed}
+
+abbrev pub number_of : Status → ℕ
+number_of Done = 0
+number_of Refused = 1
+number_of BadInput = 2
+number_of Failed = 3
+
+abbrev pub is_given_up : Answer → Bool
+is_given_up (answer.Refused fault.NoMemory rule) = true
+is_given_up (answer.Refused fault.Store rule) = true
+is_given_up other = false
+
+abbrev pub is_refused : Answer → Bool
+is_refused (answer.Refused fault rule) = true
+is_refused (answer.Done lines rule) = false
+
+-- Failed where there was no memory or the store failed, else refused where anything was refused, else done.
+abbrev pub status_of : List Answer → Status
+status_of answers = if list_any is_given_up answers then Failed else (if list_any is_refused answers then Refused else Done)

@@ -1,0 +1,100 @@
+"""Edits that must fail: crates/NAME/must-fail/*.edit, in the form that rt ci reads."""
+import os, re
+
+from .kit import PARTS
+from .sources import functions
+
+NAMED = re.compile(r"[A-Za-z0-9_-][A-Za-z0-9_.-]*\.edit")
+
+
+class BadEdit(Exception):
+    pass
+
+
+class Edit:
+    """One edit. `function` is the one function in whose body all of it lies, as it was, and `wrong` as the edit makes it."""
+
+    def __init__(self, crate, file, texts):
+        self.crate, self.name = crate, os.path.basename(file)
+        self.pairs, self.fault = [], None
+        self.function = self.wrong = self.path = None
+        try:
+            self.pairs = list(pairs_of(file))
+            self.made = self.applied(texts)
+            self.place(texts)
+        except (BadEdit, OSError, UnicodeDecodeError) as error:
+            self.fault = str(error)
+
+    def applied(self, texts):
+        """The texts of the files that it changes, applied to these."""
+        made = {}
+        for path, old, new in self.pairs:
+            text = made.get(path, texts.get(path))
+            if text is None:
+                raise BadEdit(f"there is no file {path}")
+            if text.count(old) != 1:
+                raise BadEdit(f"an 'old:' text is in {path} {text.count(old)} times, and not once")
+            made[path] = text.replace(old, new)
+        return made
+
+    def place(self, texts):
+        """Finds the one function of src/ whose body holds every changed text."""
+        now, spots = dict(texts), set()
+        for path, old, new in self.pairs:
+            line = now[path][: now[path].index(old)].count("\n")
+            inside = [it for it in functions(now[path]) if it.body <= line <= it.end]
+            if not path.startswith("src/") or not inside:
+                return
+            spots.add((path, max(inside, key=lambda it: it.at).key()))
+            now[path] = now[path].replace(old, new)
+        if len(spots) != 1:
+            return
+        path, key = spots.pop()
+        was, is_now = ([it for it in functions(text[path]) if it.key() == key] for text in (texts, now))
+        if len(was) == len(is_now) == 1:
+            self.path, self.function, self.wrong = path, was[0], is_now[0]
+
+    def key(self):
+        return self.path, *self.function.key()
+
+
+def pairs_of(file):
+    path, old = "", None
+    with open(file, encoding="utf-8") as it:
+        lines = it.read().split("\n")
+    found = 0
+    for line in lines:
+        if line.startswith("file: "):
+            path = line[len("file: ") :].strip()
+            if os.path.normpath(path) != path or path.split("/")[0] not in PARTS:
+                raise BadEdit("a 'file:' line names no file below src/, specs/ or proofs/")
+        elif line.startswith("old: "):
+            old = line[len("old: ") :]
+        elif line.startswith("new:"):
+            if not path or not old:
+                raise BadEdit("a 'new:' line stands before any 'file:' or 'old:' line")
+            found += 1
+            yield path, old, line[len("new:") :].removeprefix(" ")
+            old = None
+    if not found:
+        raise BadEdit("it has no 'old:' and 'new:' pair")
+
+
+def texts_of(folder):
+    """The texts of a crate by their paths."""
+    found = {}
+    for part in PARTS:
+        for at, _, names in os.walk(f"{folder}/{part}"):
+            for name in names:
+                with open(f"{at}/{name}", encoding="utf-8") as it:
+                    found[os.path.relpath(f"{at}/{name}", folder)] = it.read()
+    return found
+
+
+def edits_in(folder, crate, texts):
+    """The crate's edits, and the files of its must-fail/ that are none."""
+    at = f"{folder}/must-fail"
+    names = sorted(os.listdir(at)) if os.path.isdir(at) else []
+    good = [it for it in names if NAMED.fullmatch(it) and os.path.isfile(f"{at}/{it}")]
+    stray = [it for it in names if it not in good and not it.endswith(".md")]
+    return [Edit(crate, f"{at}/{it}", texts) for it in good], stray

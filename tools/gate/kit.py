@@ -1,0 +1,62 @@
+"""The Rattle kit that `rt` on the path belongs to: its crates, and one run of its prover."""
+import contextlib, functools, importlib.machinery, importlib.util, os, shutil, subprocess, sys, tempfile
+
+PARTS = ("src", "specs", "proofs")
+
+
+@functools.lru_cache(maxsize=None)
+def rtlib():
+    """The kit's own module, which knows crates.txt and the words of each check, as rt and rt plant load it."""
+    rt = shutil.which("rt")
+    if not rt:
+        sys.exit("rt is not on the path: the gate needs the Rattle kit")
+    file = f"{os.path.dirname(os.path.realpath(rt))}/rtlib.py"
+    loader = importlib.machinery.SourceFileLoader("rtlib", file)
+    made = importlib.util.module_from_spec(importlib.util.spec_from_loader("rtlib", loader))
+    sys.modules["rtlib"] = made
+    loader.exec_module(made)
+    return made
+
+
+def crate_in(top, name):
+    return rtlib().Crate(f"{top}/crates/{name}", top, {})
+
+
+def crates_of(top):
+    """The repository's crates by name, lowest first."""
+    found = rtlib().crates_below(top)
+    return {it.name: it for it in sorted(found, key=lambda it: len(it.below()))}
+
+
+def processors():
+    return len(os.sched_getaffinity(0))
+
+
+def free_memory():
+    """Bytes that are free, 8 GB where the system does not say."""
+    with contextlib.suppress(OSError, ValueError, IndexError), open("/proc/meminfo") as it:
+        return next(1024 * int(line.split()[1]) for line in it if line.startswith("MemAvailable:"))
+    return 8_000_000_000
+
+
+def linked(was, to):
+    """Copies a folder, by hard links where both lie on one disk."""
+    os.makedirs(os.path.dirname(to), exist_ok=True)
+    if subprocess.run(["cp", "-al", was, to], stderr=subprocess.DEVNULL).returncode:
+        shutil.rmtree(to, ignore_errors=True)
+        shutil.copytree(was, to)
+
+
+class Ran:
+    """What a command printed, its status, and the seconds of a processor that it and what it started took."""
+
+    def __init__(self, words, folder):
+        with tempfile.TemporaryFile("w+", errors="replace") as out:
+            how = {"cwd": folder, "stdin": subprocess.DEVNULL, "stdout": out, "stderr": subprocess.STDOUT}
+            started = subprocess.Popen([*rtlib().guarded(), *words], **how)
+            _, status, used = os.wait4(started.pid, 0)
+            started.returncode = os.waitstatus_to_exitcode(status)
+            out.seek(0)
+            self.text = out.read()
+        self.status, self.seconds = started.returncode, used.ru_utime + used.ru_stime
+        self.lines = self.text.rstrip("\n").split("\n")

@@ -20,14 +20,14 @@ use Rattle.sqlite.specs.State.{State as SqlState, Shown}
 use Rattle.sqlite.specs.Tree.{Trees}
 use Rattle.sqlite.proofs.Callers.{IsPlain, command_of, reads_as}
 use Rattle.sqlite_resolve.specs.Compile.{first}
-use Rattle.opc_tables.specs.Order.{text_cmp}
-use Rattle.opc_tables.specs.Steps.{NeverWrites}
-use Rattle.opc_tables.proofs.Asked.{Asked, IsAsked, columns, never_writes, told, told_all}
-use Rattle.opc_tables.proofs.Queries.{selecting, alone, answered, shown}
-use Rattle.opc_tables.proofs.Quiet.{ShowsNothing, understood_quiet}
-use Rattle.opc_tables.proofs.Values.{equal_texts, and_true}
-use Rattle.opc_tables.proofs.Numbered.{number_cmp}
-use Rattle.opc_tables.proofs.Listed.{listed, listed_numbers}
+use Rattle.opc_statements.specs.Order.{text_cmp}
+use Rattle.opc_statements.specs.Steps.{NeverWrites}
+use Rattle.opc_statements.proofs.Asked.{Asked, IsAsked, columns, never_writes, told, told_all}
+use Rattle.opc_statements.proofs.Queries.{selecting, alone, answered, shown}
+use Rattle.opc_statements.proofs.Quiet.{ShowsNothing, understood_quiet}
+use Rattle.opc_statements.proofs.Values.{equal_texts, and_true}
+use Rattle.opc_statements.proofs.Numbered.{number_cmp}
+use Rattle.opc_statements.proofs.Listed.{listed, listed_numbers}
 use Rattle.sqlite_keyed.proofs.ListLemmas.{filter_all, all_of}
 use Rattle.opc_board.specs.declared.rows.ConsoleRow.{ConsoleRow}
 use Rattle.opc_board.specs.declared.rows.DeviceRow.{DeviceRow}

@@ -10,10 +10,10 @@ use Rattle.sqlite_schema.specs.Names.{same_name}
 use Rattle.sqlite_tied.specs.Compute.{everything}
 use Rattle.sqlite_trees.specs.declared.store.Store.{Ghosts}
 use Rattle.sqlite_value.specs.Keys.{joined}
-use Rattle.opc_tables.specs.Steps.{Puts}
-use Rattle.opc_tables.proofs.Keyed.{Keyed, IsKeyed, AreUnderstood, is_idle, removes, puts}
-use Rattle.opc_tables.proofs.Steps.{cast_int}
-use Rattle.opc_tables.proofs.Values.{equal_texts, and_true}
+use Rattle.opc_statements.specs.Steps.{Puts}
+use Rattle.opc_statements.proofs.Keyed.{Keyed, IsKeyed, AreUnderstood, is_idle, removes, puts}
+use Rattle.opc_statements.proofs.Steps.{cast_int}
+use Rattle.opc_statements.proofs.Values.{equal_texts, and_true}
 use Rattle.opc_names.specs.declared.auth.Auth.TheVariants.{Info}
 use Rattle.opc_policy.specs.declared.mode.Mode.TheVariants.{Optional}
 use Rattle.opc_board.specs.declared.rows.ConsoleRow.{ConsoleRow}
@@ -26,7 +26,7 @@ use Rattle.opc_stored.specs.Represented.{Represents, Tabulates, console_row}
 use Rattle.opc_stored.proofs.Cast.{cast_text_or_null}
 use Rattle.opc_stored.proofs.Keys.{console_total}
 use Rattle.opc_stored.proofs.Ordered.{with_console_ordered, without_console_ordered}
-use Rattle.opc_stored.proofs.Spared.{with_consoles as spares_consoles}
+use Rattle.opc_stored.proofs.OtherTables.{with_consoles as spares_consoles}
 
 abbrev pub consoles : Keyed ConsoleRow
 consoles = record {

@@ -9,9 +9,9 @@ use Rattle.sqlite.specs.Listing.{understood}
 use Rattle.sqlite.specs.State.{State as SqlState, Executes}
 use Rattle.sqlite.specs.Table.{Table}
 use Rattle.sqlite.proofs.Callers.{IsPlain, command_of}
-use Rattle.opc_tables.proofs.Steps.{cast_int}
-use Rattle.opc_tables.proofs.Queries.{selecting, alone}
-use Rattle.opc_tables.proofs.Written.{sets}
+use Rattle.opc_statements.proofs.Steps.{cast_int}
+use Rattle.opc_statements.proofs.Queries.{selecting, alone}
+use Rattle.opc_statements.proofs.Written.{sets}
 use Rattle.opc_stored.specs.Tables.{the_schema}
 use Rattle.opc_state.specs.State.{State}
 use Rattle.sqlite_rules.specs.Action.{works, work_by, pairs, deed_for}
@@ -23,7 +23,7 @@ use Rattle.sqlite_value.specs.Keys.{joined}
 use Rattle.opc_state.specs.Changes.{with_halted}
 use Rattle.opc_stored.specs.Placed.{board_at}
 use Rattle.opc_stored.specs.Represented.{Tabulates, contents_of, halted_row}
-use Rattle.opc_stored.proofs.Spared.{with_board}
+use Rattle.opc_stored.proofs.OtherTables.{with_board}
 
 abbrev one : List Term
 one = col 0 0 ∷ []

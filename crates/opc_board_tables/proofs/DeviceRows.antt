@@ -10,10 +10,10 @@ use Rattle.sqlite_schema.specs.Names.{same_name}
 use Rattle.sqlite_tied.specs.Compute.{everything}
 use Rattle.sqlite_trees.specs.declared.store.Store.{Ghosts}
 use Rattle.sqlite_value.specs.Keys.{joined}
-use Rattle.opc_tables.specs.Steps.{Puts}
-use Rattle.opc_tables.proofs.Keyed.{Keyed, IsKeyed, AreUnderstood, is_idle, removes, puts}
-use Rattle.opc_tables.proofs.Steps.{cast_int}
-use Rattle.opc_tables.proofs.Values.{equal_texts, and_true}
+use Rattle.opc_statements.specs.Steps.{Puts}
+use Rattle.opc_statements.proofs.Keyed.{Keyed, IsKeyed, AreUnderstood, is_idle, removes, puts}
+use Rattle.opc_statements.proofs.Steps.{cast_int}
+use Rattle.opc_statements.proofs.Values.{equal_texts, and_true}
 use Rattle.opc_board.specs.declared.rows.DeviceRow.{DeviceRow}
 use Rattle.opc_state.specs.State.{State}
 use Rattle.opc_state.specs.Changes.{with_devices}
@@ -24,7 +24,7 @@ use Rattle.opc_stored.specs.Represented.{Represents, Tabulates, device_row}
 use Rattle.opc_stored.proofs.Cast.{cast_text_or_null}
 use Rattle.opc_stored.proofs.Keys.{device_total}
 use Rattle.opc_stored.proofs.Ordered.{with_device_ordered, without_device_ordered}
-use Rattle.opc_stored.proofs.Spared.{with_devices as spares_devices}
+use Rattle.opc_stored.proofs.OtherTables.{with_devices as spares_devices}
 
 abbrev pub devices : Keyed DeviceRow
 devices = record {

@@ -25,14 +25,14 @@ use Rattle.sqlite.specs.Cast.{cast_row}
 use Rattle.sqlite.proofs.Callers.{IsPlain, command_of}
 use Rattle.sqlite_trees.specs.Tree.{put_row}
 use Rattle.sqlite_keyed.proofs.ListLemmas.{filter-map, filter_same}
-use Rattle.opc_tables.specs.Order.{Rises}
-use Rattle.opc_tables.specs.Rows.{IsKept}
-use Rattle.opc_tables.proofs.Steps.{cast_null, cast_int}
-use Rattle.opc_tables.proofs.Queries.{selecting, alone, passes}
-use Rattle.opc_tables.proofs.Sets.{others, replaced_after}
-use Rattle.opc_tables.proofs.Values.{equal_numbers, same_numbers, and_true}
-use Rattle.opc_tables.proofs.Written.{adds_at, takes_numbers}
-use Rattle.opc_tables.proofs.Numbered.{put_at, rising_kept}
+use Rattle.opc_statements.specs.Order.{Rises}
+use Rattle.opc_statements.specs.Rows.{IsKept}
+use Rattle.opc_statements.proofs.Steps.{cast_null, cast_int}
+use Rattle.opc_statements.proofs.Queries.{selecting, alone, passes}
+use Rattle.opc_statements.proofs.Sets.{others, replaced_after}
+use Rattle.opc_statements.proofs.Values.{equal_numbers, same_numbers, and_true}
+use Rattle.opc_statements.proofs.Written.{adds_at, takes_numbers}
+use Rattle.opc_statements.proofs.Numbered.{put_at, rising_kept}
 use Rattle.opc_board.specs.declared.rows.ReplyRow.{ReplyRow}
 use Rattle.opc_state.specs.Members.{reply_cmp, without_reply, with_reply}
 use Rattle.opc_state.specs.State.{State}
@@ -41,7 +41,7 @@ use Rattle.opc_stored.proofs.Keys.{reply_total}
 use Rattle.opc_stored.specs.Tables.{the_schema}
 use Rattle.opc_stored.specs.Placed.{replies_at}
 use Rattle.opc_stored.specs.Represented.{Tabulates, contents_of, reply_row, reply_values}
-use Rattle.opc_stored.proofs.Spared.{with_replies as spares_replies}
+use Rattle.opc_stored.proofs.OtherTables.{with_replies as spares_replies}
 
 abbrev pub insert_reply : List ℕ
 insert_reply = codes "INSERT INTO replies VALUES (?1, ?2)"

@@ -2,7 +2,7 @@
 ghost use Rattle.std.specs.Prelude.{◌≡◌, false, IfOk};
 ghost use Rattle.sqlite.specs.Held.{state};
 ghost use Rattle.sqlite.specs.State.{HasCleanDisk};
-ghost use Rattle.opc_tables.specs.Steps.{Looks};
+ghost use Rattle.opc_statements.specs.Steps.{Looks};
 ghost use Rattle.opc_board.specs.History.{without_history};
 ghost use Rattle.opc_stored.specs.Represented.{Represents};
 

@@ -2,7 +2,7 @@
 ghost use Rattle.std.specs.Prelude.{◌≡◌, OnOk, false, IfOk, pos};
 ghost use Rattle.sqlite.specs.Held.{state};
 ghost use Rattle.sqlite.specs.State.{HasCleanDisk};
-ghost use Rattle.opc_tables.specs.Steps.{Stays, Looks};
+ghost use Rattle.opc_statements.specs.Steps.{Stays, Looks};
 ghost use Rattle.std.specs.Option.{option_copied};
 ghost use Rattle.opc_stored.specs.Represented.{auth_number, mode_letter, Represents, console_row};
 ghost use Rattle.opc_state.specs.Changes.{with_consoles};
@@ -20,10 +20,10 @@ use opc_names::name::ConsoleName;
 use opc_policy::mode::Mode;
 use opc_policy::source::StoreFault;
 use opc_rows::Rows;
+use opc_statements::{put, run};
 use opc_stored::columns::{Keeps, all_in, name_in, name_or_none_in, value_in};
 use opc_stored::faults::unreadable;
 use opc_stored::queries::read;
-use opc_tables::{put, run};
 use sqlite::{Alter, Connection, Error, Row, Transaction, params};
 use std::alloc::Global;
 

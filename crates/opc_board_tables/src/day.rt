@@ -2,16 +2,16 @@
 ghost use Rattle.std.specs.Prelude.{◌≡◌, ◌∷◌, [], OnOk, false, Bool, IfOk};
 ghost use Rattle.sqlite.specs.Held.{state};
 ghost use Rattle.sqlite.specs.State.{HasCleanDisk};
-ghost use Rattle.opc_tables.specs.Steps.{Stays, Looks};
+ghost use Rattle.opc_statements.specs.Steps.{Stays, Looks};
 ghost use Rattle.opc_state.specs.Changes.{with_halted};
 ghost use Rattle.opc_stored.specs.Changes.{Becomes};
 ghost use Rattle.opc_stored.specs.Represented.{Represents, halted_row};
 
 use opc_policy::source::StoreFault;
+use opc_statements::run;
 use opc_stored::columns::value_in;
 use opc_stored::faults::unreadable;
 use opc_stored::queries::read;
-use opc_tables::run;
 use sqlite::{Alter, Connection, Error, Row, Transaction, params};
 
 pub fn set_halted<S: Alter>(tx: &mut Transaction<'_, S>, halted: bool) -> Result<(), Error>

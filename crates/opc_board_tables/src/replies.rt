@@ -2,7 +2,7 @@
 ghost use Rattle.std.specs.Prelude.{◌≡◌, OnOk, false, IfOk};
 ghost use Rattle.sqlite.specs.Held.{state};
 ghost use Rattle.sqlite.specs.State.{HasCleanDisk};
-ghost use Rattle.opc_tables.specs.Steps.{Stays, Looks};
+ghost use Rattle.opc_statements.specs.Steps.{Stays, Looks};
 ghost use Rattle.opc_state.specs.Changes.{with_replies};
 ghost use Rattle.opc_state.specs.Members.{with_reply, without_reply};
 ghost use Rattle.opc_stored.specs.Changes.{Becomes};
@@ -12,9 +12,9 @@ use opc_board::rows::ReplyRow;
 use opc_names::reply_id::ReplyId;
 use opc_policy::source::StoreFault;
 use opc_rows::Rows;
+use opc_statements::run;
 use opc_stored::columns::{Keeps, all_in, reply_in, reply_number};
 use opc_stored::queries::read;
-use opc_tables::run;
 use sqlite::{Alter, Connection, Error, Row, Transaction, params};
 use std::alloc::Global;
 

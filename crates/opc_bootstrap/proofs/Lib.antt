@@ -1,1 +1,1 @@
-pub mod Founding
+pub mod PolicyRows

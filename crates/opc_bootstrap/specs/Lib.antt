@@ -1,2 +1,2 @@
-pub mod Founded
+pub mod RowEdits
 pub use Rattle.opc_machine.specs.Bootstrap

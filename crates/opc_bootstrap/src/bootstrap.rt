@@ -7,8 +7,8 @@ ghost use Rattle.opc_board.specs.History.{without_history};
 ghost use Rattle.opc_state.specs.Asked.{Answers};
 ghost use Rattle.opc_state.specs.State.{Fits, State, has_users};
 ghost use Rattle.opc_state.specs.Changes.{IsKept, all_edited};
-ghost use Rattle.opc_bootstrap.specs.Founded.{AreEditsOf, HaveNothingNew, IsFounded, edit_of, edits_of};
-ghost use Rattle.opc_machine.specs.Bootstrap.{bootstrapped, console_after, consoles_after, founding, loses_master, policy_after};
+ghost use Rattle.opc_bootstrap.specs.RowEdits.{AreEditsOf, HaveNothingNew, IsBootstrap, edit_of, edits_of};
+ghost use Rattle.opc_machine.specs.Bootstrap.{bootstrapped, console_after, consoles_after, with_rows, loses_master, policy_after};
 
 use opc_board::board::Board;
 use opc_machine::fault;
@@ -138,10 +138,10 @@ fn edits_from(
 }
 
 // The edits that rows make of what is stored, or why they are refused.
-fn founding(alloc: Global, stored: Stored, rows: &[Row]) -> Result<Vec<Edit>, Fault>
-    ensures made { IfOk result (λ edits. (s : State) → stored.policy ≡ s.policy → stored.board ≡ without_history s.board → founding rows.now s ≡ Ok (all_edited edits.items s)) }
+fn edits_of_rows(alloc: Global, stored: Stored, rows: &[Row]) -> Result<Vec<Edit>, Fault>
+    ensures made { IfOk result (λ edits. (s : State) → stored.policy ≡ s.policy → stored.board ≡ without_history s.board → with_rows rows.now s ≡ Ok (all_edited edits.items s)) }
     ensures idle { IfOk result (λ edits. (s : State) → stored.board ≡ without_history s.board → HaveNothingNew rows.now s → edits.items ≡ []) }
-    ensures refused { IfErr result (λ f. f ≢ why.NoMemory → (s : State) → stored.policy ≡ s.policy → stored.board ≡ without_history s.board → founding rows.now s ≡ Err f) }
+    ensures refused { IfErr result (λ f. f ≢ why.NoMemory → (s : State) → stored.policy ≡ s.policy → stored.board ≡ without_history s.board → with_rows rows.now s ≡ Err f) }
 {
     let Stored {
         mut policy,
@@ -179,7 +179,7 @@ fn edits_on<T: Tables>(tables: &mut T, alloc: Global, rows: &[Row]) -> Result<Ve
     ensures refused { T.is_sure tables.new → (s : State) → T.represents tables.old s → IfErr result (λ f. f ≢ why.NoMemory → f ≢ why.Store → bootstrapped rows.now s ≡ Err f) }
 {
     match stored_on(tables, alloc) {
-        Ok(Some(stored)) => founding(alloc, stored, rows),
+        Ok(Some(stored)) => edits_of_rows(alloc, stored, rows),
         Ok(None) => Err(Fault::NotEmpty),
         Err(fault) => Err(fault::of_store(fault)),
     }
@@ -190,7 +190,7 @@ fn found<T: Tables>(tables: &mut T, alloc: Global, edits: Vec<Edit>) -> Result<(
     ensures sure { T.is_sure tables.new → T.is_sure tables.old }
     ensures idle { edits.items ≡ [] → (left : State) → T.may_leave tables.new left → T.may_leave tables.old left }
     ensures founds { T.is_sure tables.new → (s : State) → T.represents tables.old s → (rows : List TheRow) → bootstrapped rows s ≡ Ok (all_edited edits.items s)
-        → OnOk result (IsFounded T.represents T.may_leave tables.new s rows) }
+        → OnOk result (IsBootstrap T.represents T.may_leave tables.new s rows) }
     ensures refused { IfErr result (λ f. (f ≡ why.NoMemory) ⊎ (f ≡ why.Store)) }
     ensures unchanged { T.is_sure tables.new → (s : State) → T.represents tables.old s → OnErr result (T.represents tables.new s) }
     ensures crash { T.is_sure tables.new → (s : State) → T.represents tables.old s → (left : State) → T.may_leave tables.new left → T.may_leave tables.old left ⊎ (left ≡ all_edited edits.items s) }
@@ -211,7 +211,7 @@ fn found<T: Tables>(tables: &mut T, alloc: Global, edits: Vec<Edit>) -> Result<(
 /// Takes the rows of a first policy, where no user is stored.
 pub fn bootstrap<T: Tables>(tables: &mut T, alloc: Global, rows: &[Row]) -> Result<(), Fault>
     ensures sure { T.is_sure tables.new → T.is_sure tables.old }
-    ensures done { T.is_sure tables.new → (s : State) → T.represents tables.old s → OnOk result (IsFounded T.represents T.may_leave tables.new s rows.now) }
+    ensures done { T.is_sure tables.new → (s : State) → T.represents tables.old s → OnOk result (IsBootstrap T.represents T.may_leave tables.new s rows.now) }
     ensures refused { T.is_sure tables.new → (s : State) → T.represents tables.old s → IfErr result (λ f. f ≢ why.NoMemory → f ≢ why.Store → bootstrapped rows.now s ≡ Err f) }
     ensures unchanged { T.is_sure tables.new → (s : State) → T.represents tables.old s → OnErr result (T.represents tables.new s) }
     ensures crash { T.is_sure tables.new → (s : State) → T.represents tables.old s → (left : State) → T.may_leave tables.new left → T.may_leave tables.old left ⊎ (bootstrapped rows.now s ≡ Ok left) }

@@ -4,7 +4,7 @@ use Rattle.opc_policy.specs.declared.need.Need.{Need}
 use Rattle.opc_policy.specs.declared.unit_kind.UnitKindAt.{UnitKindAt}
 use Rattle.opc_reader.specs.declared.command.Command.{Command}
 use Rattle.opc_reader.specs.declared.command.Command.TheVariants as command
-use Rattle.opc_table.specs.Table.{need}
+use Rattle.opc_needs.specs.Table.{need}
 use Rattle.opc_board.specs.Effect.{is_session_command}
 
 pub needs_no_session : (c : Command) (kind : UnitKindAt) (n : Need) → need c kind ≡ Some n → is_session_command c ≡ false

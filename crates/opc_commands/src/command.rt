@@ -7,7 +7,7 @@ ghost use Rattle.opc_reader.specs.Reading.{reading};
 ghost use Rattle.opc_state.specs.Asked.{Answers};
 ghost use Rattle.opc_state.specs.State.{State};
 ghost use Rattle.opc_state.specs.Changes.{IsKept};
-ghost use Rattle.opc_machine.specs.Commands.{board_command as board_outcome, command_outcome, denial_fault, event_outcome, is_password, kind_named, known_by, logoff as logoff_outcome, logon_fault, logon as logon_outcome, needless as needless_outcome, typed as typed_outcome, need_of};
+ghost use Rattle.opc_machine.specs.Commands.{board_command as board_outcome, command_outcome, denial_fault, event_outcome, is_password, kind_named, known_by, logoff as logoff_outcome, logon_fault, logon as logon_outcome, without_need as needless_outcome, typed as typed_outcome, need_of};
 ghost use Rattle.opc_machine.specs.Deeds.{IsOutcome};
 
 use crate::effects::{act_on, come_on, log_off, log_on};
@@ -16,8 +16,9 @@ use opc_board::event::Event;
 use opc_board::fault::BoardFault;
 use opc_board::rows::ConsoleRow;
 use opc_machine::fault;
-use opc_machine::outcome::{Deed, Denial, Found, denied, done};
+use opc_machine::outcome::{Decided, Deed, Denial, denied, done};
 use opc_names::name::{ConsoleName, UserId};
+use opc_needs::need;
 use opc_policy::fault::Fault;
 use opc_policy::need::Need;
 use opc_policy::rule::Rule;
@@ -30,7 +31,6 @@ use opc_reader::line::{ReadFault, read_command};
 use opc_rulings::console::console_at;
 use opc_rulings::ruling::{logon_ruling_on, ruling_on, shown_lines};
 use opc_state::tables::Tables;
-use opc_table::need;
 use sha2::{Digest, Sha256};
 use std::alloc::Global;
 
@@ -80,7 +80,7 @@ fn board_command<T: Tables>(
     console: &ConsoleRow,
     command: &Command<'_>,
     need: &Need,
-) -> Found
+) -> Decided
     requires console { console_at board console.now.name ≡ Some console.now }
     requires command { is_session_command command.now ≡ false }
     ensures kept { IsKept T.is_sure T.represents T.may_leave tables.old tables.new }
@@ -138,7 +138,7 @@ fn logon<T: Tables>(
     console: &ConsoleRow,
     id: &UserId,
     password: &Password,
-) -> Found
+) -> Decided
     requires { console_at board console.now.name ≡ Some console.now }
     ensures kept { IsKept T.is_sure T.represents T.may_leave tables.old tables.new }
     ensures outcome { Answers (T.is_sure tables.new) (T.represents tables.old) result (λ s o. board ≡ without_history s.board → IsOutcome s (logon_outcome s console.now id.now password.now) o) }
@@ -158,7 +158,7 @@ fn logon<T: Tables>(
     }
 }
 
-fn logoff(alloc: Global, board: Board, console: &ConsoleRow) -> Found
+fn logoff(alloc: Global, board: Board, console: &ConsoleRow) -> Decided
     requires { console_at board console.now.name ≡ Some console.now }
     ensures { (s : State) → IfOk result (λ o. board ≡ without_history s.board → IsOutcome s (logoff_outcome s console.now) o) }
 {
@@ -170,13 +170,13 @@ fn logoff(alloc: Global, board: Board, console: &ConsoleRow) -> Found
 }
 
 // LOGON and LOGOFF, which need nothing.
-fn needless<T: Tables>(
+fn without_need<T: Tables>(
     tables: &mut T,
     alloc: Global,
     board: Board,
     console: &ConsoleRow,
     command: &Command<'_>,
-) -> Found
+) -> Decided
     requires { console_at board console.now.name ≡ Some console.now }
     ensures kept { IsKept T.is_sure T.represents T.may_leave tables.old tables.new }
     ensures outcome { Answers (T.is_sure tables.new) (T.represents tables.old) result (λ s o. board ≡ without_history s.board → IsOutcome s (needless_outcome s console.now command.now) o) }
@@ -201,14 +201,14 @@ fn typed<T: Tables>(
     board: Board,
     console: &ConsoleRow,
     command: &Command<'_>,
-) -> Found
+) -> Decided
     requires { console_at board console.now.name ≡ Some console.now }
     ensures kept { IsKept T.is_sure T.represents T.may_leave tables.old tables.new }
     ensures outcome { Answers (T.is_sure tables.new) (T.represents tables.old) result (λ s o. board ≡ without_history s.board → IsOutcome s (typed_outcome s console.now command.now (need_of s.board command.now)) o) }
 {
     match need(command, kind_named(&board, command)) {
         Some(need) => board_command(tables, alloc, board, console, command, &need),
-        None => needless(tables, alloc, board, console, command),
+        None => without_need(tables, alloc, board, console, command),
     }
 }
 
@@ -219,7 +219,7 @@ pub fn command_on<T: Tables>(
     board: Board,
     console: &ConsoleName,
     text: &str,
-) -> Found
+) -> Decided
     ensures kept { IsKept T.is_sure T.represents T.may_leave tables.old tables.new }
     ensures outcome { Answers (T.is_sure tables.new) (T.represents tables.old) result (λ s o. board ≡ without_history s.board → IsOutcome s (command_outcome s console.now text.now) o) }
 {
@@ -236,7 +236,7 @@ pub fn command_on<T: Tables>(
 }
 
 /// What an event comes to, on the live board.
-pub fn event_on(alloc: Global, board: Board, event: &Event) -> Found
+pub fn event_on(alloc: Global, board: Board, event: &Event) -> Decided
     ensures { (s : State) → IfOk result (λ o. board ≡ without_history s.board → IsOutcome s (event_outcome s event.now) o) }
 {
     match come_on(alloc, board, event) {

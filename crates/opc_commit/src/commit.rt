@@ -2,7 +2,7 @@
 ghost use Rattle.std.specs.Prelude.{◌≡◌, OnOk, OnErr, IsTrue, false};
 ghost use Rattle.sqlite.specs.Held.{state};
 ghost use Rattle.sqlite.specs.State.{HasCleanDisk, Survives};
-ghost use Rattle.opc_tables.specs.Steps.{Stays};
+ghost use Rattle.opc_statements.specs.Steps.{Stays};
 ghost use Rattle.opc_state.specs.Changes.{edited, all_edited, changed_by};
 ghost use Rattle.opc_stored.specs.Represented.{Represents, AreTablesOf};
 ghost use Rattle.opc_stored.specs.Changes.{Becomes};

@@ -27,8 +27,8 @@ use Rattle.opc_state.specs.Facts.{IsPolicy, IsState}
 use Rattle.opc_state.specs.Members.{with_batch}
 use Rattle.opc_state.specs.State.{State, has_users}
 use Rattle.opc_machine.specs.Administration.{admin_outcome, board_changed, changed, policy_changed}
-use Rattle.opc_machine.specs.Bootstrap.{console_after, consoles_after, founded, founding, loses_master, mastered, policy_after}
-use Rattle.opc_machine.specs.Commands.{acted, allowed, board_command, command_in, command_outcome, console_for, event_outcome, is_password, known_by, let_on, logoff, logon, need_of, needless, nobody_on, typed}
+use Rattle.opc_machine.specs.Bootstrap.{console_after, consoles_after, with_rows_of, with_rows, loses_master, mastered, policy_after}
+use Rattle.opc_machine.specs.Commands.{acted, allowed, board_command, command_in, command_outcome, console_for, event_outcome, is_password, known_by, let_on, logoff, logon, need_of, without_need, nobody_on, typed}
 use Rattle.opc_machine.specs.Imports.{batch_line, batch_of, batch_outcome, import_outcome, same_rows}
 use Rattle.opc_machine.specs.Inputs.{Input}
 use Rattle.opc_machine.specs.Inputs as input
@@ -87,7 +87,7 @@ logoff_kept s c facts =
     then_kept (refuse_if fault.NotOn None (is_none c.user)) (λ _. does (record s { board = logged_off c.name s.board }) [] None)
     (λ _ _. with_board_kept s (logged_off c.name s.board) facts (changed_kept s.policy c.name (λ (d : ConsoleRow). record d { user = None }) s.board (λ d. refl) (λ d was. tt) (facts.board, facts.logons)))
 
-needless_kept : (s : State) (c : ConsoleRow) (k : Command) → IsState s → IfDoes (needless s c k)
+needless_kept : (s : State) (c : ConsoleRow) (k : Command) → IsState s → IfDoes (without_need s c k)
 needless_kept s c (command.Logon id password) facts = logon_kept s c id.value password.value facts
 needless_kept s c command.Logoff facts = logoff_kept s c facts
 needless_kept s c other facts = facts
@@ -106,19 +106,19 @@ event_kept_in s e facts = acted_kept s None (event_effect s.board e) (λ act. []
 
 -- administration and imports
 
-abbrev IfFounded : Result State Fault → Type 0
-IfFounded (Ok s) = IsState s
-IfFounded (Err f) = Unit {0}
+abbrev IfTaken : Result State Fault → Type 0
+IfTaken (Ok s) = IsState s
+IfTaken (Err f) = Unit {0}
 
-founded_kept : (s : State) (b : BoardRows) (r : Result Policy Fault) → IfMade (λ q. IsPolicy q × IsKeptBoard q b) r → IfFounded (founded s b r)
-founded_kept s b (Ok p) kept = go (loses_master s.board b)
+with_rows_kept : (s : State) (b : BoardRows) (r : Result Policy Fault) → IfMade (λ q. IsPolicy q × IsKeptBoard q b) r → IfTaken (with_rows_of s b r)
+with_rows_kept s b (Ok p) kept = go (loses_master s.board b)
   where
-    go : (lost : Bool) → IfFounded (mastered lost (record s { policy = p; board = b }))
+    go : (lost : Bool) → IfTaken (mastered lost (record s { policy = p; board = b }))
     go true = tt
     go false = record { board = kept.1.0; policy = kept.0; logons = kept.1.1 }
-founded_kept s b (Err f) kept = tt
+with_rows_kept s b (Err f) kept = tt
 
-or_kept : (r : Result State Fault) (f : State → Outcome) → IfFounded r → ((t : State) → IsState t → IfDoes (f t)) → IfDoes (or_refused r >>= f)
+or_kept : (r : Result State Fault) (f : State → Outcome) → IfTaken r → ((t : State) → IsState t → IfDoes (f t)) → IfDoes (or_refused r >>= f)
 or_kept (Ok t) f kept h = h t kept
 or_kept (Err fault) f kept h = tt
 
@@ -126,7 +126,7 @@ admin_kept : (s : State) (name : List ℕ) (o : Operation) → IsState s → IfD
 admin_kept s name o facts =
     then_kept (console_asking s name) (λ c. refuse_if (right_fault o) None (not (may_change s c o)) >>= λ _. or_refused (changed s o) >>= λ new. does new [] None)
     (λ c _. then_kept (refuse_if (right_fault o) None (not (may_change s c o))) (λ _. or_refused (changed s o) >>= λ new. does new [] None)
-    (λ _ _. or_kept (changed s o) (λ new. does new [] None) (founded_kept s (board_changed o s.board) (policy_changed s.board o s.policy) (policy_kept s.board o s.policy facts.policy (facts.board, facts.logons))) (λ t kept. kept)))
+    (λ _ _. or_kept (changed s o) (λ new. does new [] None) (with_rows_kept s (board_changed o s.board) (policy_changed s.board o s.policy) (policy_kept s.board o s.policy facts.policy (facts.board, facts.logons))) (λ t kept. kept)))
 
 consoles_kept : (p : Policy) (all : List Row) (b : BoardRows) → IsKeptBoard p b → IsKeptBoard p (consoles_after all b)
 consoles_kept p [] b kept = kept
@@ -136,8 +136,8 @@ consoles_kept p (row ∷ more) b kept = consoles_kept p more (console_after row 
     one (rows.Console name auth mode) = defined_kept p name auth mode b kept
     one other = kept
 
-founding_kept : (all : List Row) (s : State) → IsState s → IfFounded (founding all s)
-founding_kept all s facts = founded_kept s (consoles_after all s.board) (policy_after all s.policy) (go (policy_after all s.policy) (rows_kept all s.policy facts.policy))
+with_all_rows_kept : (all : List Row) (s : State) → IsState s → IfTaken (with_rows all s)
+with_all_rows_kept all s facts = with_rows_kept s (consoles_after all s.board) (policy_after all s.policy) (go (policy_after all s.policy) (rows_kept all s.policy facts.policy))
   where
     go : (r : Result Policy Fault) → IfMade (λ q. IsPolicy q × Extends s.policy q) r → IfMade (λ q. IsPolicy q × IsKeptBoard q (consoles_after all s.board)) r
     go (Ok q) h = (h.0, board_on s.policy q h.1 (consoles_after all s.board) (consoles_kept s.policy all s.board (facts.board, facts.logons)))
@@ -145,7 +145,7 @@ founding_kept all s facts = founded_kept s (consoles_after all s.board) (policy_
 
 batch_kept : (s : State) (number : ℕ) (all : List Row) (kept : Option Batch) → IsState s → IfDoes (batch_outcome s number all kept)
 batch_kept s number all None facts =
-    or_kept (founding all s) (λ new. does (record new { batches = with_batch (record { number = number; rows = all }) new.batches }) (batch_line number (codes "KEPT") ∷ []) None) (founding_kept all s facts)
+    or_kept (with_rows all s) (λ new. does (record new { batches = with_batch (record { number = number; rows = all }) new.batches }) (batch_line number (codes "KEPT") ∷ []) None) (with_all_rows_kept all s facts)
     (λ t held. record { board = held.board; policy = held.policy; logons = held.logons })
 batch_kept s number all (Some kept) facts = go (same_rows kept.rows all)
   where
@@ -199,13 +199,13 @@ runs_keep s (r ∷ requests) (answer ∷ answers) new facts runs = runs_keep run
 ok_state : (s t : State) → (let r : Result State Fault = Ok s in r) ≡ Ok t → s ≡ t
 ok_state s t h = search (rules, h)
 
-reached : (new : State) (r : Result State Fault) → IfFounded r → r ≡ Ok new → IsState new
+reached : (new : State) (r : Result State Fault) → IfTaken r → r ≡ Ok new → IsState new
 reached new (Ok t) kept is = subst IsState (ok_state t new is) kept
 reached new (Err f) kept is = absurd (search (rules, is))
 
 pub bootstraps_keep : BootstrapsKeepFacts
-bootstraps_keep more s new facts made = go (has_users s.policy) (founding more s) (founding_kept more s facts) made
+bootstraps_keep more s new facts made = go (has_users s.policy) (with_rows more s) (with_all_rows_kept more s facts) made
   where
-    go : (b : Bool) (r : Result State Fault) → IfFounded r → (if b then Err fault.NotEmpty else r) ≡ Ok new → IsState new
+    go : (b : Bool) (r : Result State Fault) → IfTaken r → (if b then Err fault.NotEmpty else r) ≡ Ok new → IsState new
     go true r kept is = absurd (search (rules, is))
     go false r kept is = reached new r kept is

@@ -6,7 +6,7 @@ ghost use Rattle.opc_board.specs.Texts.{text_or};
 ghost use Rattle.opc_state.specs.Asked.{Answers};
 ghost use Rattle.opc_state.specs.State.{State};
 ghost use Rattle.opc_state.specs.Changes.{IsKept};
-ghost use Rattle.opc_bootstrap.specs.Founded.{HaveNothingNew, IsFounded};
+ghost use Rattle.opc_bootstrap.specs.RowEdits.{HaveNothingNew, IsBootstrap};
 ghost use Rattle.opc_machine.specs.Bootstrap.{bootstrapped};
 ghost use Rattle.opc_machine.specs.Inputs.{Input, console_of, input_of};
 ghost use Rattle.opc_machine.specs.Machine.{IsGivenUp, account_row, is_warned, outcome as outcome_of, user_acting};
@@ -20,7 +20,7 @@ use opc_board::text::KeptText;
 use opc_bootstrap::bootstrap::bootstrap;
 use opc_commands::command::{command_on, event_on};
 use opc_machine::fault;
-use opc_machine::outcome::{Deed, Denial, Found};
+use opc_machine::outcome::{Decided, Deed, Denial};
 use opc_machine::request::{Answer, Request};
 use opc_names::name::{ConsoleName, Name, NameKind, UserId};
 use opc_policy::fault::Fault;
@@ -160,7 +160,7 @@ fn given_up(fault: StoreFault) -> Answer
 }
 
 // What a request comes to, on the live board; writes nothing.
-fn outcome_on<T: Tables>(tables: &mut T, alloc: Global, board: Board, request: &Request) -> Found
+fn outcome_on<T: Tables>(tables: &mut T, alloc: Global, board: Board, request: &Request) -> Decided
     ensures kept { IsKept T.is_sure T.represents T.may_leave tables.old tables.new }
     ensures outcome { Answers (T.is_sure tables.new) (T.represents tables.old) result (λ s o. board ≡ without_history s.board → IsOutcome s (outcome_of s (input_of request.now)) o) }
 {
@@ -246,7 +246,7 @@ impl<T: Tables> Gate<T> {
     /// nothing.
     pub fn bootstrap(&mut self, alloc: Global, rows: &[Row]) -> Result<(), Fault>
         ensures sure { T.is_sure self.new → T.is_sure self.old }
-        ensures done { T.is_sure self.new → (s : State) → T.represents self.old s → OnOk result (IsFounded T.represents T.may_leave self.new s rows.now) }
+        ensures done { T.is_sure self.new → (s : State) → T.represents self.old s → OnOk result (IsBootstrap T.represents T.may_leave self.new s rows.now) }
         ensures refused { T.is_sure self.new → (s : State) → T.represents self.old s → IfErr result (λ f. f ≢ why.NoMemory → f ≢ why.Store → bootstrapped rows.now s ≡ Err f) }
         ensures unchanged { T.is_sure self.new → (s : State) → T.represents self.old s → OnErr result (T.represents self.new s) }
         ensures crash { T.is_sure self.new → (s : State) → T.represents self.old s → (left : State) → T.may_leave self.new left → T.may_leave self.old left ⊎ (bootstrapped rows.now s ≡ Ok left) }

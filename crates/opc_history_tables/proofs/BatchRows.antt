@@ -25,14 +25,14 @@ use Rattle.sqlite.specs.Cast.{cast_row}
 use Rattle.sqlite.proofs.Callers.{IsPlain, command_of}
 use Rattle.sqlite_trees.specs.Tree.{put_row}
 use Rattle.sqlite_keyed.proofs.ListLemmas.{filter-map, filter_same}
-use Rattle.opc_tables.specs.Order.{Rises}
-use Rattle.opc_tables.specs.Rows.{IsKept}
-use Rattle.opc_tables.proofs.Steps.{cast_null, cast_int}
-use Rattle.opc_tables.proofs.Queries.{selecting, alone, passes}
-use Rattle.opc_tables.proofs.Sets.{others, replaced_after}
-use Rattle.opc_tables.proofs.Values.{equal_numbers, same_numbers, and_true}
-use Rattle.opc_tables.proofs.Written.{adds_at, takes_numbers}
-use Rattle.opc_tables.proofs.Numbered.{put_at, rising_kept}
+use Rattle.opc_statements.specs.Order.{Rises}
+use Rattle.opc_statements.specs.Rows.{IsKept}
+use Rattle.opc_statements.proofs.Steps.{cast_null, cast_int}
+use Rattle.opc_statements.proofs.Queries.{selecting, alone, passes}
+use Rattle.opc_statements.proofs.Sets.{others, replaced_after}
+use Rattle.opc_statements.proofs.Values.{equal_numbers, same_numbers, and_true}
+use Rattle.opc_statements.proofs.Written.{adds_at, takes_numbers}
+use Rattle.opc_statements.proofs.Numbered.{put_at, rising_kept}
 use Rattle.opc_state.specs.declared.change.Batch.{Batch}
 use Rattle.opc_state.specs.Members.{batch_cmp, with_batch}
 use Rattle.opc_import.specs.Lines.{policy_text}
@@ -42,7 +42,7 @@ use Rattle.opc_stored.proofs.Keys.{batch_total}
 use Rattle.opc_stored.specs.Tables.{the_schema}
 use Rattle.opc_stored.specs.Placed.{batches_at}
 use Rattle.opc_stored.specs.Represented.{Tabulates, contents_of, batch_row, batch_values}
-use Rattle.opc_stored.proofs.Spared.{with_batches as spares_batches}
+use Rattle.opc_stored.proofs.OtherTables.{with_batches as spares_batches}
 
 -- the others
 abbrev pub without_batch : ℕ → List Batch → List Batch

@@ -19,14 +19,14 @@ use Rattle.sqlite.specs.Tree.{Trees}
 use Rattle.sqlite.proofs.Callers.{IsPlain, command_of, reads_as}
 use Rattle.sqlite_keyed.proofs.ListLemmas.{filter_all, all_of}
 use Rattle.sqlite_resolve.specs.Compile.{first}
-use Rattle.opc_tables.specs.Rows.{numbered_rows}
-use Rattle.opc_tables.specs.Steps.{NeverWrites}
-use Rattle.opc_tables.proofs.Queries.{selecting, paging, alone, answered, paged, shown, Lists}
-use Rattle.opc_tables.proofs.Quiet.{ShowsNothing, understood_quiet}
-use Rattle.opc_tables.proofs.Values.{equal_numbers, number_past, and_true}
-use Rattle.opc_tables.proofs.Numbered.{number_cmp}
-use Rattle.opc_tables.proofs.Listed.{listed_numbers}
-use Rattle.opc_tables.proofs.Places.{placed, place_cmp, placed_row, placed_rows, placed_rises, placed_members, placed_past}
+use Rattle.opc_statements.specs.Rows.{numbered_rows}
+use Rattle.opc_statements.specs.Steps.{NeverWrites}
+use Rattle.opc_statements.proofs.Queries.{selecting, paging, alone, answered, paged, shown, Lists}
+use Rattle.opc_statements.proofs.Quiet.{ShowsNothing, understood_quiet}
+use Rattle.opc_statements.proofs.Values.{equal_numbers, number_past, and_true}
+use Rattle.opc_statements.proofs.Numbered.{number_cmp}
+use Rattle.opc_statements.proofs.Listed.{listed_numbers}
+use Rattle.opc_statements.proofs.Places.{placed, place_cmp, placed_row, placed_rows, placed_rises, placed_members, placed_past}
 use Rattle.opc_state.specs.declared.account.AccountRow.{AccountRow}
 use Rattle.opc_state.specs.declared.change.Batch.{Batch}
 use Rattle.opc_state.specs.Members.{batch_cmp}

@@ -3,7 +3,7 @@ use Rattle.std.proofs.Common.{◌≡◌, ℕ, ◌+◌, ◌<◌, ◌^◌, ℤ, po
 use Rattle.sqlite.specs.declared.types.Value.TheVariants.{Null}
 use Rattle.sqlite.specs.Term.{lit, col}
 use Rattle.sqlite.specs.State.{State as SqlState, Executes}
-use Rattle.opc_tables.proofs.LastNumber.{number_is}
+use Rattle.opc_statements.proofs.LastNumber.{number_is}
 use Rattle.opc_board.specs.declared.rows.ReplyRow.{ReplyRow}
 use Rattle.opc_board.specs.declared.rows.MessageRow.{MessageRow}
 use Rattle.opc_state.specs.declared.account.AccountRow.{AccountRow}

@@ -12,10 +12,10 @@ use Rattle.sqlite.specs.Cast.{cast_row}
 use Rattle.sqlite.specs.Edit.{next_rowid}
 use Rattle.sqlite.proofs.Callers.{IsPlain, command_of}
 use Rattle.sqlite_trees.specs.Tree.{put_row}
-use Rattle.opc_tables.specs.Rows.{numbered_rows}
-use Rattle.opc_tables.proofs.Steps.{cast_null, cast_int}
-use Rattle.opc_tables.proofs.Written.{adds_at_end}
-use Rattle.opc_tables.proofs.Numbered.{put_next}
+use Rattle.opc_statements.specs.Rows.{numbered_rows}
+use Rattle.opc_statements.proofs.Steps.{cast_null, cast_int}
+use Rattle.opc_statements.proofs.Written.{adds_at_end}
+use Rattle.opc_statements.proofs.Numbered.{put_next}
 use Rattle.opc_board.specs.declared.rows.ReplyRow.{ReplyRow}
 use Rattle.opc_board.specs.declared.rows.MessageRow.{MessageRow}
 use Rattle.opc_state.specs.declared.account.AccountRow.{AccountRow}
@@ -24,7 +24,7 @@ use Rattle.opc_state.specs.Changes.{with_answered, with_log, with_messages, with
 use Rattle.opc_stored.specs.Tables.{the_schema}
 use Rattle.opc_stored.specs.Placed.{answered_at, log_at, messages_at, account_at}
 use Rattle.opc_stored.specs.Represented.{Tabulates, contents_of, answered_values, log_values, message_values, account_values}
-use Rattle.opc_stored.proofs.Spared.{with_answered as spares_answered, with_log as spares_log, with_messages as spares_messages, with_account as spares_account}
+use Rattle.opc_stored.proofs.OtherTables.{with_answered as spares_answered, with_log as spares_log, with_messages as spares_messages, with_account as spares_account}
 
 -- one more, behind those that are there
 behind : {X : Type 0} (values : X → Row) (xs : List X) (x : X) (rows new : List Row) → rows ≡ numbered_rows values 1 xs → new ≡ put_row (Int (next_rowid rows) ∷ values x) rows → new ≡ numbered_rows values 1 (xs ++ x ∷ [])

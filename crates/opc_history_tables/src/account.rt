@@ -2,7 +2,7 @@
 ghost use Rattle.std.specs.Prelude.{◌≡◌, OnOk, ◌-◌, ◌^◌, false, pos, min, IfOk};
 ghost use Rattle.sqlite.specs.Held.{state};
 ghost use Rattle.sqlite.specs.State.{HasCleanDisk};
-ghost use Rattle.opc_tables.specs.Steps.{Stays, Looks};
+ghost use Rattle.opc_statements.specs.Steps.{Stays, Looks};
 ghost use Rattle.opc_stored.specs.Changes.{Becomes};
 ghost use Rattle.opc_state.specs.Changes.{with_account_row, with_account};
 ghost use Rattle.opc_history_tables.specs.Loads.{account_page};
@@ -11,10 +11,10 @@ ghost use Rattle.opc_stored.specs.Represented.{Represents, account_shown};
 use opc_policy::source::StoreFault;
 use opc_rows::Rows;
 use opc_state::account::AccountRow;
+use opc_statements::numbers::last_number;
+use opc_statements::run;
 use opc_stored::columns::{Keeps, all_in, text_in, value_in};
 use opc_stored::queries::read;
-use opc_tables::numbers::last_number;
-use opc_tables::run;
 use sqlite::{Alter, Connection, Error, ErrorCode, Row, Transaction, params};
 use std::alloc::Global;
 

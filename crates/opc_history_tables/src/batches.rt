@@ -2,7 +2,7 @@
 ghost use Rattle.std.specs.Prelude.{◌≡◌, OnOk, false, IfOk};
 ghost use Rattle.sqlite.specs.Held.{state};
 ghost use Rattle.sqlite.specs.State.{HasCleanDisk};
-ghost use Rattle.opc_tables.specs.Steps.{Stays, Looks};
+ghost use Rattle.opc_statements.specs.Steps.{Stays, Looks};
 ghost use Rattle.opc_state.specs.Changes.{with_batches};
 ghost use Rattle.opc_state.specs.Members.{with_batch};
 ghost use Rattle.opc_stored.specs.Changes.{Becomes};
@@ -14,9 +14,9 @@ use opc_import::kind::MOST_ROWS;
 use opc_import::write::write_policy;
 use opc_policy::source::StoreFault;
 use opc_state::change::Batch;
+use opc_statements::run;
 use opc_stored::columns::text_in;
 use opc_stored::queries::read;
-use opc_tables::run;
 use sqlite::{Alter, Connection, Error, ErrorCode, Transaction, params};
 use std::alloc::Global;
 

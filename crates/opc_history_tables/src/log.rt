@@ -2,7 +2,7 @@
 ghost use Rattle.std.specs.Prelude.{◌≡◌, ◌++◌, ◌∷◌, [], OnOk, false, IfOk};
 ghost use Rattle.sqlite.specs.Held.{state};
 ghost use Rattle.sqlite.specs.State.{HasCleanDisk};
-ghost use Rattle.opc_tables.specs.Steps.{Stays, Looks};
+ghost use Rattle.opc_statements.specs.Steps.{Stays, Looks};
 ghost use Rattle.opc_state.specs.Changes.{with_log};
 ghost use Rattle.opc_stored.specs.Changes.{Becomes};
 ghost use Rattle.opc_stored.specs.Represented.{Represents, log_shown};
@@ -10,10 +10,10 @@ ghost use Rattle.opc_stored.specs.Represented.{Represents, log_shown};
 use opc_board::text::KeptText;
 use opc_policy::source::StoreFault;
 use opc_rows::Rows;
+use opc_statements::numbers::last_number;
+use opc_statements::run;
 use opc_stored::columns::{Keeps, all_in, text_in};
 use opc_stored::queries::read;
-use opc_tables::numbers::last_number;
-use opc_tables::run;
 use sqlite::{Alter, Connection, Error, Row, Transaction, params};
 use std::alloc::Global;
 

@@ -18,7 +18,7 @@ use Rattle.opc_state.specs.Members.{with_batch}
 use Rattle.opc_state.specs.State.{State}
 use Rattle.opc_machine.specs.declared.request.Answer.TheVariants.{Done}
 use Rattle.opc_machine.specs.Administration.{admin_outcome, changed}
-use Rattle.opc_machine.specs.Bootstrap.{founding}
+use Rattle.opc_machine.specs.Bootstrap.{with_rows}
 use Rattle.opc_laws.specs.ChangingLaws.{MayAsk, AdministersOnlyWhereAllowed, AdministersWhereverAllowed, ListsProfiles, ListsExactlyProfilesShown, ListsProfilesWhereverAsked, ListsAccountOnlyWhereShown, ListsAccountWhereverShown, IsKeptAgain, IsTakenWhole, ImportsOnlyWhereAllowed, ImportsWhereverAllowed, RepeatsWhereverAllowed}
 use Rattle.opc_machine.specs.Commands.{console_for}
 use Rattle.opc_machine.specs.Imports.{batch_line, batch_of, batch_outcome, import_outcome, same_rows}
@@ -175,12 +175,12 @@ module _ (s : State) (number : ℕ) (all : List Row) (lines : List Line) (new : 
       let is = again_is s number all kept deed h in
       inl (record { kept = kept; found = at; matches = is.0; told = told ∙ ap (λ (d : Deed). d.lines) is.1; same = ends (ap (λ (d : Deed). d.rule) is.1) ∙ ap (λ (d : Deed). d.state) is.1 })
   batch_is None at deed h told ends =
-      let m = bind_ok (or_refused (founding all s)) (λ next. does (record next { batches = with_batch (record { number = number; rows = all }) next.batches }) (batch_line number (codes "KEPT") ∷ []) None) deed h in
+      let m = bind_ok (or_refused (with_rows all s)) (λ next. does (record next { batches = with_batch (record { number = number; rows = all }) next.batches }) (batch_line number (codes "KEPT") ∷ []) None) deed h in
       let is = ok_is _ deed m.2 in
       inr (record {
         unknown = at;
         next = m.0;
-        taken = or_refused_ok (founding all s) m.0 m.1;
+        taken = or_refused_ok (with_rows all s) m.0 m.1;
         told = told ∙ ap (λ (d : Deed). d.lines) (sym is);
         becomes = ends (ap (λ (d : Deed). d.rule) (sym is)) ∙ ap (λ (d : Deed). d.state) (sym is);
       })

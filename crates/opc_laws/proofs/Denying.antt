@@ -23,7 +23,7 @@ use Rattle.opc_state.specs.declared.change.Batch.{Batch}
 use Rattle.opc_state.specs.Members.{with_batch, without_user, without_connect, without_profile, without_permission}
 use Rattle.opc_state.specs.State.{State}
 use Rattle.opc_machine.specs.Administration.{admin_outcome, changed, policy_changed, board_changed, definition, has_name, is_connected, is_in_use, is_permitted, unless_in_use}
-use Rattle.opc_machine.specs.Bootstrap.{founded, founding, loses_master, mastered, policy_after, then_policy, consoles_after}
+use Rattle.opc_machine.specs.Bootstrap.{with_rows_of, with_rows, loses_master, mastered, policy_after, then_policy, consoles_after}
 use Rattle.opc_machine.specs.Commands.{acted, console_for, denial_fault, event_outcome}
 use Rattle.opc_machine.specs.Imports.{batch_line, batch_of, batch_outcome, import_outcome, same_rows}
 use Rattle.opc_machine.specs.Inputs.{Input}
@@ -104,13 +104,13 @@ rows_none : (all : List Row) (p : Policy) → IsNoneOfAuthority (policy_after al
 rows_none [] p = tt
 rows_none (row ∷ more) p = then_none (after_row row p) (λ q. policy_after more q) (row_none row p) (λ q. rows_none more q)
 
-founded_none : (s : State) (b : BoardRows) (r : Result Policy Fault) → IsNoneOfAuthority r → IsNoneOfAuthority (founded s b r)
-founded_none s b (Ok p) none = go (loses_master s.board b)
+with_rows_none : (s : State) (b : BoardRows) (r : Result Policy Fault) → IsNoneOfAuthority r → IsNoneOfAuthority (with_rows_of s b r)
+with_rows_none s b (Ok p) none = go (loses_master s.board b)
   where
     go : (lost : Bool) → IsNoneOfAuthority (mastered lost (record s { policy = p; board = b }))
     go true = λ h. h
     go false = tt
-founded_none s b (Err f) none = none
+with_rows_none s b (Err f) none = none
 
 right_none : (o : Operation) → IsOfAuthority (right_fault o) → ⊥
 right_none (operation.RAlter class pattern owner uacc warning) h = h
@@ -159,10 +159,10 @@ module _ (s : State) (r : Input) where
 admin_told : (s : State) (name : List ℕ) (o : Operation) → IfRefused (IsTold s (input.Admin name o)) (admin_outcome s name o)
 admin_told s name o =
     then_told P (console_asking s name) (λ c. refuse_if (right_fault o) None (not (may_change s c o)) >>= λ _. or_refused (changed s o) >>= λ new. does new [] None)
-    (asking_told s r name (λ why shut. shut))
+    (asking_told s r name (λ why told. told))
     (λ c _. then_told P (refuse_if (right_fault o) None (not (may_change s c o))) (λ _. or_refused (changed s o) >>= λ new. does new [] None)
     (refuse_told s r (right_fault o) (not (may_change s c o)) (right_none o))
-    (λ _ _. then_told P (or_refused (changed s o)) (λ new. does new [] None) (or_told s r (changed s o) (founded_none s (board_changed o s.board) (policy_changed s.board o s.policy) (policy_none s.board o s.policy))) (λ _ _. tt)))
+    (λ _ _. then_told P (or_refused (changed s o)) (λ new. does new [] None) (or_told s r (changed s o) (with_rows_none s (board_changed o s.board) (policy_changed s.board o s.policy) (policy_none s.board o s.policy))) (λ _ _. tt)))
   where
     r : Input
     r = input.Admin name o
@@ -173,12 +173,12 @@ admin_told s name o =
 profiles_told : (s : State) (name : List ℕ) (class : Class) → IfRefused (IsTold s (input.ListProfiles name class)) (profiles_outcome s name class)
 profiles_told s name class =
     then_told (IsTold s (input.ListProfiles name class)) (console_asking s name) (λ c. does s (map profile_line (filter (profile_shown s c) (of_class class s.policy.profiles))) None)
-    (asking_told s (input.ListProfiles name class) name (λ why shut. shut)) (λ _ _. tt)
+    (asking_told s (input.ListProfiles name class) name (λ why told. told)) (λ _ _. tt)
 
 account_told : (s : State) (name : List ℕ) (from count : ℕ) → IfRefused (IsTold s (input.ListAccount name from count)) (account_outcome s name from count)
 account_told s name from count =
     then_told (IsTold s r) (console_asking s name) (λ c. refuse_if fault.NotSpecial None (not (account_shown s c)) >>= λ _. does s (map account_line (asked_for from count s.account)) None)
-    (asking_told s r name (λ why shut. shut))
+    (asking_told s r name (λ why told. told))
     (λ c _. then_told (IsTold s r) (refuse_if fault.NotSpecial None (not (account_shown s c))) (λ _. does s (map account_line (asked_for from count s.account)) None)
     (refuse_told s r fault.NotSpecial (not (account_shown s c)) (λ h. h)) (λ _ _. tt))
   where
@@ -188,7 +188,7 @@ account_told s name from count =
 import_told : (s : State) (name : List ℕ) (number : ℕ) (all : List Row) → IfRefused (IsTold s (input.Import name number all)) (import_outcome s name number all)
 import_told s name number all =
     then_told (IsTold s r) (console_asking s name) (λ c. refuse_if fault.NotSpecial None (not (is_special (acting s c))) >>= λ _. batch_outcome s number all (batch_of s.batches number))
-    (asking_told s r name (λ why shut. shut))
+    (asking_told s r name (λ why told. told))
     (λ c _. then_told (IsTold s r) (refuse_if fault.NotSpecial None (not (is_special (acting s c)))) (λ _. batch_outcome s number all (batch_of s.batches number))
     (refuse_told s r fault.NotSpecial (not (is_special (acting s c))) (λ h. h)) (λ _ _. batch_told (batch_of s.batches number)))
   where
@@ -200,8 +200,8 @@ import_told s name number all =
     again false = λ h. absurd h
 
     batch_told : (kept : Option Batch) → IfRefused (IsTold s r) (batch_outcome s number all kept)
-    batch_told None = then_told (IsTold s r) (or_refused (founding all s)) (λ new. does (record new { batches = with_batch (record { number = number; rows = all }) new.batches }) (batch_line number (codes "KEPT") ∷ []) None)
-        (or_told s r (founding all s) (founded_none s (consoles_after all s.board) (policy_after all s.policy) (rows_none all s.policy))) (λ _ _. tt)
+    batch_told None = then_told (IsTold s r) (or_refused (with_rows all s)) (λ new. does (record new { batches = with_batch (record { number = number; rows = all }) new.batches }) (batch_line number (codes "KEPT") ∷ []) None)
+        (or_told s r (with_rows all s) (with_rows_none s (consoles_after all s.board) (policy_after all s.policy) (rows_none all s.policy))) (λ _ _. tt)
     batch_told (Some kept) = again (same_rows kept.rows all)
 
 event_told : (s : State) (e : Event) → IfRefused (IsTold s (input.Event e)) (event_outcome s e)

@@ -39,7 +39,7 @@ use Rattle.opc_machine.specs.declared.request.Answer.TheVariants.{Refused}
 use Rattle.opc_machine.specs.Faults.{line_fault, board_fault}
 use Rattle.opc_machine.specs.Outcome.{Denial, ◌>>=◌, does, found, refuse_if}
 use Rattle.opc_machine.specs.Rulings.{acting, groups_acting, is_required, is_revoked, access_ruling, denied_or, ruling, console_access, logon_ruling, shown}
-use Rattle.opc_machine.specs.Commands.{console_for, command_or, command_in, need_of, denial_fault, allowed, acted, board_command, nobody_on, known_by, logon_fault, let_on, logon, logoff, needless, typed, command_outcome}
+use Rattle.opc_machine.specs.Commands.{console_for, command_or, command_in, need_of, denial_fault, allowed, acted, board_command, nobody_on, known_by, logon_fault, let_on, logon, logoff, without_need, typed, command_outcome}
 use Rattle.opc_machine.specs.Machine.{IsGivenUp}
 use Rattle.opc_machine.specs.Inputs.{Input}
 use Rattle.opc_machine.specs.Inputs as input
@@ -198,7 +198,7 @@ module _ (s : State) (name text : List ℕ) where
       on true = λ h. absurd h
       on false = tt
 
-  needless_told : (c : ConsoleRow) (k : Command) → IsHeard s name text c k → IfRefused (IsTold s (input.Command name text)) (needless s c k)
+  needless_told : (c : ConsoleRow) (k : Command) → IsHeard s name text c k → IfRefused (IsTold s (input.Command name text)) (without_need s c k)
   needless_told c (command.Logon id password) heard = logon_told c id password heard
   needless_told c command.Logoff heard = logoff_told c
   needless_told c other heard = tt

@@ -14,7 +14,7 @@ use Rattle.opc_state.specs.State.{State}
 use Rattle.opc_machine.specs.declared.request.Answer.{Answer}
 use Rattle.opc_machine.specs.declared.request.Answer.TheVariants.{Done}
 use Rattle.opc_machine.specs.Administration.{changed}
-use Rattle.opc_machine.specs.Bootstrap.{founding}
+use Rattle.opc_machine.specs.Bootstrap.{with_rows}
 use Rattle.opc_machine.specs.Imports.{batch_line, batch_of, same_rows}
 use Rattle.opc_machine.specs.Inputs as input
 use Rattle.opc_machine.specs.Listings.{account_line, asked_for, profile_line}
@@ -82,7 +82,7 @@ pub record IsKeptAgain (s : State) (batch : ℕ) (rows : List Row) (lines : List
 pub record IsTakenWhole (s : State) (batch : ℕ) (rows : List Row) (lines : List Line) (new : State) : Type 0 where
   pub unknown : batch_of s.batches batch ≡ None
   pub next : State
-  pub taken : founding rows s ≡ Ok next
+  pub taken : with_rows rows s ≡ Ok next
   pub told : lines ≡ batch_line batch (codes "KEPT") ∷ []
   pub becomes : new ≡ record next { batches = with_batch (record { number = batch; rows = rows }) next.batches }
 
@@ -96,7 +96,7 @@ ImportsOnlyWhereAllowed =
 abbrev pub ImportsWhereverAllowed : Type 0
 ImportsWhereverAllowed =
     (s : State) (moment : ℕ) (name : List ℕ) (batch : ℕ) (rows : List Row) (console : ConsoleRow) (next : State) (answer : Answer) (new : State)
-    → MayAsk s name console → is_special (acting s console) ≡ true → batch_of s.batches batch ≡ None → founding rows s ≡ Ok next → Step s moment (input.Import name batch rows) answer new
+    → MayAsk s name console → is_special (acting s console) ≡ true → batch_of s.batches batch ≡ None → with_rows rows s ≡ Ok next → Step s moment (input.Import name batch rows) answer new
     → IsGivenUp answer ⊎ ((answer ≡ Done (batch_line batch (codes "KEPT") ∷ []) None) × (new ≡ record next { batches = with_batch (record { number = batch; rows = rows }) next.batches }))
 
 -- and with a number that is kept, nothing.

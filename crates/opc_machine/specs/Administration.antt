@@ -19,7 +19,7 @@ use Rattle.opc_board.specs.Consoles.{console_defined}
 use Rattle.opc_board.specs.Replies.{is_on}
 use Rattle.opc_state.specs.Members.{without_user, without_connect, without_profile, without_permission}
 use Rattle.opc_state.specs.State.{State}
-use Rattle.opc_machine.specs.Bootstrap.{founded}
+use Rattle.opc_machine.specs.Bootstrap.{with_rows_of}
 use Rattle.opc_machine.specs.Operations.{Operation}
 use Rattle.opc_machine.specs.Operations as operation
 use Rattle.opc_machine.specs.Outcome.{Outcome, ◌>>=◌, does, or_refused, refuse_if}
@@ -101,7 +101,7 @@ board_changed other b = b
 
 -- the state after an operation, unless the last online console with AUTH MASTER is lost by it
 abbrev pub changed : State → Operation → Result State Fault
-changed s o = founded s (board_changed o s.board) (policy_changed s.board o s.policy)
+changed s o = with_rows_of s (board_changed o s.board) (policy_changed s.board o s.policy)
 
 -- An operation of administration, asked at a console. It gives no line and has no rule.
 abbrev pub admin_outcome : State → List ℕ → Operation → Outcome

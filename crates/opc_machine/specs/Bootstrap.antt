@@ -37,14 +37,14 @@ abbrev pub mastered : Bool → State → Result State Fault
 mastered true s = Err LastMaster
 mastered false s = Ok s
 
-abbrev pub founded : State → BoardRows → Result Policy Fault → Result State Fault
-founded s board (Ok policy) = mastered (loses_master s.board board) (record s { policy = policy; board = board })
-founded s board (Err fault) = Err fault
+abbrev pub with_rows_of : State → BoardRows → Result Policy Fault → Result State Fault
+with_rows_of s board (Ok policy) = mastered (loses_master s.board board) (record s { policy = policy; board = board })
+with_rows_of s board (Err fault) = Err fault
 
 -- the state after rows, or why they are refused
-abbrev pub founding : List Row → State → Result State Fault
-founding more s = founded s (consoles_after more s.board) (policy_after more s.policy)
+abbrev pub with_rows : List Row → State → Result State Fault
+with_rows more s = with_rows_of s (consoles_after more s.board) (policy_after more s.policy)
 
 -- and that no user is stored yet
 abbrev pub bootstrapped : List Row → State → Result State Fault
-bootstrapped more s = if has_users s.policy then Err NotEmpty else founding more s
+bootstrapped more s = if has_users s.policy then Err NotEmpty else with_rows more s

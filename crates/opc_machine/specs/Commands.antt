@@ -18,7 +18,7 @@ use Rattle.opc_reader.specs.declared.command.Command.{Command}
 use Rattle.opc_reader.specs.declared.command.Command.TheVariants as command
 use Rattle.opc_reader.specs.declared.line.ReadFault.{ReadFault}
 use Rattle.opc_reader.specs.Reading.{reading}
-use Rattle.opc_table.specs.Table.{need}
+use Rattle.opc_needs.specs.Table.{need}
 use Rattle.opc_board.specs.declared.board.BoardRows.{BoardRows}
 use Rattle.opc_board.specs.declared.event.Event.{Event}
 use Rattle.opc_board.specs.declared.rows.ConsoleRow.{ConsoleRow}
@@ -128,14 +128,14 @@ logoff s c = do
   does (record s { board = logged_off c.name s.board }) [] None
 
 -- The commands that need nothing are LOGON and LOGOFF.
-abbrev pub needless : State → ConsoleRow → Command → Outcome
-needless s c (command.Logon id password) = logon s c id.value password.value
-needless s c command.Logoff = logoff s c
-needless s c other = does s [] None
+abbrev pub without_need : State → ConsoleRow → Command → Outcome
+without_need s c (command.Logon id password) = logon s c id.value password.value
+without_need s c command.Logoff = logoff s c
+without_need s c other = does s [] None
 
 abbrev pub typed : State → ConsoleRow → Command → Option Need → Outcome
 typed s c command (Some need) = board_command s c command need
-typed s c command None = needless s c command
+typed s c command None = without_need s c command
 
 -- A command typed at a console.
 abbrev pub command_outcome : State → List ℕ → List ℕ → Outcome

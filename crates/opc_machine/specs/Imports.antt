@@ -15,7 +15,7 @@ use Rattle.opc_state.specs.declared.change.Batch.{Batch}
 use Rattle.opc_state.specs.Difference.{same_flag, same_text}
 use Rattle.opc_state.specs.Members.{with_batch}
 use Rattle.opc_state.specs.State.{State}
-use Rattle.opc_machine.specs.Bootstrap.{founding}
+use Rattle.opc_machine.specs.Bootstrap.{with_rows}
 use Rattle.opc_machine.specs.Outcome.{Outcome, ◌>>=◌, does, or_refused, refuse_if, refused}
 use Rattle.opc_machine.specs.Rights.{console_asking, is_special}
 use Rattle.opc_machine.specs.Rulings.{acting}
@@ -53,7 +53,7 @@ batch_line number what = plain (codes "BATCH " ++ decimal number ++ codes " " ++
 -- a new number: the rows are taken one after another, all of them or none, and the batch is kept
 abbrev pub new_batch : State → ℕ → List Row → Outcome
 new_batch s number all = do
-  new ← or_refused (founding all s)
+  new ← or_refused (with_rows all s)
   does (record new { batches = with_batch (record { number = number; rows = all }) new.batches }) (batch_line number (codes "KEPT") ∷ []) None
 
 -- a number that is kept: nothing is done, where its rows are these

@@ -15,7 +15,7 @@ use Rattle.opc_policy.specs.declared.user.User.{User}
 use Rattle.opc_policy.specs.Members.{user_of, groups_of}
 use Rattle.opc_policy.specs.Rulings.{verdict, verdict_rule, by_verdict, ruling as policy_ruling}
 use Rattle.opc_policy.specs.Taken.{is_active}
-use Rattle.opc_table.specs.Table.{qualified}
+use Rattle.opc_needs.specs.Table.{qualified}
 use Rattle.opc_board.specs.declared.line.Item.{Item}
 use Rattle.opc_board.specs.declared.line.Item.TheVariants as item
 use Rattle.opc_board.specs.declared.line.Line.{Line}

@@ -15,11 +15,11 @@ use Rattle.sqlite.specs.State.{State as SqlState, Executes}
 use Rattle.sqlite.specs.Table.{Table}
 use Rattle.sqlite.specs.Tree.{Trees}
 use Rattle.sqlite.proofs.Callers.{IsPlain, command_of}
-use Rattle.opc_tables.specs.Order.{text_cmp}
-use Rattle.opc_tables.specs.Rows.{HasRows}
-use Rattle.opc_tables.proofs.Queries.{selecting, alone, passes}
-use Rattle.opc_tables.proofs.Values.{equal_texts, and_true}
-use Rattle.opc_tables.proofs.Written.{sets}
+use Rattle.opc_statements.specs.Order.{text_cmp}
+use Rattle.opc_statements.specs.Rows.{HasRows}
+use Rattle.opc_statements.proofs.Queries.{selecting, alone, passes}
+use Rattle.opc_statements.proofs.Values.{equal_texts, and_true}
+use Rattle.opc_statements.proofs.Written.{sets}
 use Rattle.opc_stored.specs.Tables.{the_schema}
 use Rattle.opc_state.specs.State.{State}
 use Rattle.std.proofs.lemmas.List.Sorted.{IsPermutation-middle, IsPermutation-trans}
@@ -36,7 +36,7 @@ use Rattle.opc_names.specs.Spellings.{class_text}
 use Rattle.opc_policy.specs.Taken.{with_active}
 use Rattle.opc_stored.specs.Placed.{classes_at}
 use Rattle.opc_stored.specs.Represented.{Tabulates, contents_of, flag, class_row}
-use Rattle.opc_stored.proofs.Spared.{with_classes}
+use Rattle.opc_stored.proofs.OtherTables.{with_classes}
 use Rattle.opc_stored.proofs.Filled.{cast_class}
 
 abbrev pub update_class : List ℕ

@@ -9,11 +9,11 @@ use Rattle.sqlite_schema.specs.Names.{same_name as same_table}
 use Rattle.sqlite_tied.specs.Compute.{everything}
 use Rattle.sqlite_trees.specs.declared.store.Store.{Ghosts}
 use Rattle.sqlite_value.specs.Keys.{joined}
-use Rattle.opc_tables.specs.Order.{text_cmp}
-use Rattle.opc_tables.specs.Steps.{Puts}
-use Rattle.opc_tables.proofs.Keyed.{Keyed, IsKeyed, AreUnderstood, is_idle, removes, puts}
-use Rattle.opc_tables.proofs.Sets.{inserted_same, then_eq}
-use Rattle.opc_tables.proofs.Values.{equal_texts, and_true}
+use Rattle.opc_statements.specs.Order.{text_cmp}
+use Rattle.opc_statements.specs.Steps.{Puts}
+use Rattle.opc_statements.proofs.Keyed.{Keyed, IsKeyed, AreUnderstood, is_idle, removes, puts}
+use Rattle.opc_statements.proofs.Sets.{inserted_same, then_eq}
+use Rattle.opc_statements.proofs.Values.{equal_texts, and_true}
 use Rattle.opc_policy.specs.declared.connect.Connect.{Connect}
 use Rattle.opc_policy.specs.Members.{connect_cmp, name_cmp, with_connect}
 use Rattle.opc_state.specs.State.{State}
@@ -24,7 +24,7 @@ use Rattle.opc_stored.specs.Placed.{connects_at}
 use Rattle.opc_stored.specs.Represented.{Represents, Tabulates, connect_row}
 use Rattle.opc_stored.proofs.Keys.{connect_total, same_connect}
 use Rattle.opc_stored.proofs.Ordered.{with_connect_ordered, without_connect_ordered}
-use Rattle.opc_stored.proofs.Spared.{with_connects as spares_connects}
+use Rattle.opc_stored.proofs.OtherTables.{with_connects as spares_connects}
 
 abbrev pub connects : Keyed Connect
 connects = record {

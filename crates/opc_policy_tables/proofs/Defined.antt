@@ -2,8 +2,8 @@
 use Rattle.std.proofs.Common.{◌≡◌, ℕ, ◌+◌, ◌<◌, List, [], ◌∷◌, take, length, get_or, cond, Option, Some, None, refl, sym, ap, ap₂, ◌∙◌, Less}
 use Rattle.std.specs.List.{AllByRecursion}
 use Rattle.std.specs.Option.{option_map_or}
-use Rattle.opc_tables.specs.Order.{Rises}
-use Rattle.opc_tables.proofs.Putting.{comes_last, next}
+use Rattle.opc_statements.specs.Order.{Rises}
+use Rattle.opc_statements.proofs.Putting.{comes_last, next}
 use Rattle.opc_policy.specs.declared.profile.Profile.{Profile}
 use Rattle.opc_policy.specs.Profiles.{profile_cmp, profile_of, with_profile, with_definition}
 use Rattle.opc_stored.proofs.Keys.{profile_total}

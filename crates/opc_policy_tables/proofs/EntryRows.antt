@@ -25,13 +25,13 @@ use Rattle.sqlite_schema.specs.declared.schema.Keys.TheVariants.{Enforced}
 use Rattle.sqlite_value.specs.Keys.{joined, first_key}
 use Rattle.sqlite_value.specs.declared.keys.Collation.TheVariants.{Binary}
 use Rattle.sqlite_keyed.proofs.ListLemmas.{filter_same, all_weaker, all_map, all_unmap, any_from_none, IsPermutation-same}
-use Rattle.opc_tables.specs.Order.{Rises}
-use Rattle.opc_tables.specs.Rows.{HasRows}
-use Rattle.opc_tables.proofs.Steps.{cast_null}
-use Rattle.opc_tables.proofs.Rows.{all_along}
-use Rattle.opc_tables.proofs.Sets.{others, replaced_is, one_at}
-use Rattle.opc_tables.proofs.Parts.{none_picked, found_one}
-use Rattle.opc_tables.proofs.Written.{Sets, Adds, adds, takes, sets}
+use Rattle.opc_statements.specs.Order.{Rises}
+use Rattle.opc_statements.specs.Rows.{HasRows}
+use Rattle.opc_statements.proofs.Steps.{cast_null}
+use Rattle.opc_statements.proofs.Rows.{all_along}
+use Rattle.opc_statements.proofs.Sets.{others, replaced_is, one_at}
+use Rattle.opc_statements.proofs.Parts.{none_picked, found_one}
+use Rattle.opc_statements.proofs.Written.{Sets, Adds, adds, takes, sets}
 use Rattle.opc_names.specs.declared.class.Class.{Class}
 use Rattle.opc_names.specs.Spellings.{class_text}
 use Rattle.opc_policy.specs.declared.entry.Entry.{Entry}
@@ -46,7 +46,7 @@ use Rattle.opc_stored.specs.Made.{IsMade}
 use Rattle.opc_stored.specs.Tables.{the_schema}
 use Rattle.opc_stored.specs.Placed.{entries_at}
 use Rattle.opc_stored.specs.Represented.{Tabulates, contents_of, profile_row, entry_row, entry_rows}
-use Rattle.opc_stored.proofs.Spared.{with_entries as spares_entries}
+use Rattle.opc_stored.proofs.OtherTables.{with_entries as spares_entries}
 use Rattle.opc_stored.proofs.Keys.{entry_total}
 use Rattle.opc_stored.proofs.ProfileTexts.{entry_terms, of_entry, insert_entry, insert_entry_is, insert_entry_plain, update_entry, update_entry_is, update_entry_plain, delete_entry, delete_entry_is, delete_entry_plain, has_profile, has_entry, entry_key, entry_below, entry_key_below, picks_profile, entry_cast}
 use Rattle.opc_stored.proofs.AccessLists.{split, Split, is_of_means, listing, same_profiles, parted_entries, entries_hit, entries_rest, no_entries, all_entries}

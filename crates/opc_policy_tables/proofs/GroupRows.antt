@@ -10,10 +10,10 @@ use Rattle.sqlite_schema.specs.Names.{same_name as same_table}
 use Rattle.sqlite_tied.specs.Compute.{everything}
 use Rattle.sqlite_trees.specs.declared.store.Store.{Ghosts}
 use Rattle.sqlite_value.specs.Keys.{joined}
-use Rattle.opc_tables.specs.Steps.{Puts}
-use Rattle.opc_tables.proofs.Keyed.{Keyed, IsKeyed, AreUnderstood, is_idle, removes, puts}
-use Rattle.opc_tables.proofs.Sets.{inserted_same}
-use Rattle.opc_tables.proofs.Values.{equal_texts, and_true}
+use Rattle.opc_statements.specs.Steps.{Puts}
+use Rattle.opc_statements.proofs.Keyed.{Keyed, IsKeyed, AreUnderstood, is_idle, removes, puts}
+use Rattle.opc_statements.proofs.Sets.{inserted_same}
+use Rattle.opc_statements.proofs.Values.{equal_texts, and_true}
 use Rattle.opc_policy.specs.Members.{name_cmp, with_group}
 use Rattle.opc_state.specs.State.{State}
 use Rattle.opc_state.specs.Changes.{with_groups}
@@ -23,7 +23,7 @@ use Rattle.opc_stored.specs.Placed.{grp_at}
 use Rattle.opc_stored.specs.Represented.{Represents, Tabulates, group_row}
 use Rattle.opc_stored.proofs.Keys.{group_total, same_name}
 use Rattle.opc_stored.proofs.Ordered.{with_group_ordered, without_group_ordered}
-use Rattle.opc_stored.proofs.Spared.{with_grp}
+use Rattle.opc_stored.proofs.OtherTables.{with_grp}
 
 abbrev pub groups : Keyed (List ℕ)
 groups = record {

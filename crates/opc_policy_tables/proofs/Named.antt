@@ -2,7 +2,7 @@
 use Rattle.std.proofs.Common.{◌≡◌, ℕ, zero, suc, ◌+◌, ◌<◌, List, [], ◌∷◌, ◌++◌, map, take, length, get_or, refl, sym, ap, ap₂, subst, ◌∙◌, add-one}
 use Rattle.std.proofs.lemmas.List.{map-append}
 use Rattle.sqlite.specs.Order.{Row}
-use Rattle.opc_tables.proofs.Decoded.{at}
+use Rattle.opc_statements.proofs.Decoded.{at}
 use Rattle.opc_policy.specs.declared.connect.Connect.{Connect}
 use Rattle.opc_stored.specs.Represented.{connect_row}
 

@@ -16,11 +16,11 @@ use Rattle.sqlite.specs.State.{State as SqlState, Shown}
 use Rattle.sqlite.specs.Tree.{Trees}
 use Rattle.sqlite.proofs.Callers.{IsPlain, command_of, reads_as}
 use Rattle.sqlite_resolve.specs.Compile.{first}
-use Rattle.opc_tables.specs.Order.{Rises, text_cmp}
-use Rattle.opc_tables.specs.Steps.{NeverWrites}
-use Rattle.opc_tables.proofs.Queries.{selecting, alone, answered, passes, shown}
-use Rattle.opc_tables.proofs.Quiet.{ShowsNothing, understood_quiet}
-use Rattle.opc_tables.proofs.Listed.{listed, listed_part}
+use Rattle.opc_statements.specs.Order.{Rises, text_cmp}
+use Rattle.opc_statements.specs.Steps.{NeverWrites}
+use Rattle.opc_statements.proofs.Queries.{selecting, alone, answered, passes, shown}
+use Rattle.opc_statements.proofs.Quiet.{ShowsNothing, understood_quiet}
+use Rattle.opc_statements.proofs.Listed.{listed, listed_part}
 use Rattle.sqlite_keyed.proofs.ListLemmas.{filter_all, all_of}
 use Rattle.opc_names.specs.declared.class.Class.{Class}
 use Rattle.opc_names.specs.declared.class.Class.TheVariants.{Console, Opercmds}
@@ -36,7 +36,7 @@ use Rattle.opc_policy.specs.Members.{name_cmp, user_cmp, connect_cmp}
 use Rattle.opc_policy.specs.Profiles.{class_cmp, pattern_cmp, profile_cmp, profile_of, is_of}
 use Rattle.opc_stored.proofs.ProfileTexts.{has_profile, profile_key, picks_profile}
 use Rattle.opc_stored.proofs.AccessLists.{split, list_hit, is_of_means}
-use Rattle.opc_tables.proofs.Parts.{found_one}
+use Rattle.opc_statements.proofs.Parts.{found_one}
 use Rattle.opc_state.specs.State.{State}
 use Rattle.opc_stored.specs.State.{IsOrdered}
 use Rattle.opc_stored.specs.Tables.{the_schema}

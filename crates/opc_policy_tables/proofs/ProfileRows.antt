@@ -28,15 +28,15 @@ use Rattle.sqlite_schema.specs.declared.schema.Keys.TheVariants.{Enforced}
 use Rattle.sqlite_value.specs.Keys.{plain, joined, first_key}
 use Rattle.sqlite_value.specs.declared.keys.Collation.TheVariants.{Binary}
 use Rattle.sqlite_keyed.proofs.ListLemmas.{IsPermutation-flat_map, filter-map, filter_same, filter_none, all_weaker, all_both, all-filter, all-map, all_map, all_unmap}
-use Rattle.opc_tables.specs.Order.{Rises}
-use Rattle.opc_tables.specs.Rows.{HasRows}
-use Rattle.opc_tables.proofs.Steps.{cast_null, nothing_goes}
-use Rattle.opc_tables.proofs.Rows.{all_along, all_pass, taken_all}
-use Rattle.opc_tables.proofs.Queries.{Lists, passes}
-use Rattle.opc_tables.proofs.Edits.{ids_same, other_than}
-use Rattle.opc_tables.proofs.Parts.{keeps_all, picked, none_picked}
-use Rattle.opc_tables.proofs.Calm.{HasNoChild, calm_step}
-use Rattle.opc_tables.proofs.Written.{Sets, adds, takes_by, sets_by}
+use Rattle.opc_statements.specs.Order.{Rises}
+use Rattle.opc_statements.specs.Rows.{HasRows}
+use Rattle.opc_statements.proofs.Steps.{cast_null, nothing_goes}
+use Rattle.opc_statements.proofs.Rows.{all_along, all_pass, taken_all}
+use Rattle.opc_statements.proofs.Queries.{Lists, passes}
+use Rattle.opc_statements.proofs.Edits.{ids_same, other_than}
+use Rattle.opc_statements.proofs.Parts.{keeps_all, picked, none_picked}
+use Rattle.opc_statements.proofs.Calm.{HasNoChild, calm_step}
+use Rattle.opc_statements.proofs.Written.{Sets, adds, takes_by, sets_by}
 use Rattle.opc_names.specs.declared.class.Class.{Class}
 use Rattle.opc_names.specs.Names.{IsPattern}
 use Rattle.opc_names.specs.Laws.{KeysDiffer}
@@ -53,7 +53,7 @@ use Rattle.opc_stored.specs.Tables.{the_schema}
 use Rattle.opc_stored.specs.Placed.{profiles_at, entries_at}
 use Rattle.opc_stored.specs.Represented.{Represents, Tabulates, contents_of, profile_row, entry_row, entry_rows}
 use Rattle.opc_stored.proofs.Ordered.{definition_kept}
-use Rattle.opc_stored.proofs.Spared.{with_profiles as spares_profiles, with_entries as spares_entries}
+use Rattle.opc_stored.proofs.OtherTables.{with_profiles as spares_profiles, with_entries as spares_entries}
 use Rattle.opc_policy_tables.proofs.Restated.{with_other_entries, with_other_profiles}
 use Rattle.opc_stored.proofs.ProfileTexts.{entry_terms, insert_entry, insert_entry_is, insert_entry_plain, entry_cast, profile_terms, of_profile, insert_profile, insert_profile_is, insert_profile_plain, update_profile, update_profile_is, update_profile_plain, delete_profile, delete_profile_is, delete_profile_plain, delete_entries, delete_entries_is, delete_entries_plain, has_profile, profile_key, profile_below, key_below, picks_profile, profile_cast}
 use Rattle.opc_stored.proofs.AccessLists.{is_of_means, split, entries_left, profiles_left, entries_lack, keeping, same_entries, profile_replaced, comes_in}

@@ -2,7 +2,7 @@
 use Rattle.std.proofs.Common.{List}
 use Rattle.sqlite.specs.Order.{Row}
 use Rattle.sqlite.specs.Effect.{Database}
-use Rattle.opc_tables.specs.Rows.{HasRows}
+use Rattle.opc_statements.specs.Rows.{HasRows}
 use Rattle.opc_stored.specs.Contents.{Contents}
 use Rattle.opc_stored.specs.Made.{IsMade}
 

@@ -9,8 +9,8 @@ use Rattle.sqlite.specs.declared.error.Error.{Error}
 use Rattle.sqlite.proofs.Callers.{unchanged_then}
 use Rattle.sqlite.proofs.StateLemmas.{survives_then}
 use Rattle.std.specs.Result.{IsErr}
-use Rattle.opc_tables.specs.Steps.{Looks, NeverWrites}
-use Rattle.opc_tables.proofs.Reading.{reads_survive, reads_same, reads_was_open}
+use Rattle.opc_statements.specs.Steps.{Looks, NeverWrites}
+use Rattle.opc_statements.proofs.Reading.{reads_survive, reads_same, reads_was_open}
 
 on_ok : {X E : Type 0} {P : Type 0} (r : Result X E) → P → OnOk r P
 on_ok (Ok x) p = p

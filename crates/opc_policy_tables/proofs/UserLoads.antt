@@ -22,13 +22,13 @@ use Rattle.sqlite.specs.Listing.{understood, reads_listing}
 use Rattle.sqlite.specs.State.{State as SqlState, Shown}
 use Rattle.sqlite.specs.Tree.{Trees}
 use Rattle.sqlite.proofs.Callers.{IsPlain, command_of, reads_as}
-use Rattle.opc_tables.specs.Order.{text_cmp}
-use Rattle.opc_tables.specs.Steps.{NeverWrites}
-use Rattle.opc_tables.proofs.Queries.{selecting, paging, alone, answered, paged, passes, shown}
-use Rattle.opc_tables.proofs.Quiet.{ShowsNothing, understood_quiet}
-use Rattle.opc_tables.proofs.Values.{equal_texts, and_true}
-use Rattle.opc_tables.proofs.Sets.{text_total}
-use Rattle.opc_tables.proofs.Listed.{listed}
+use Rattle.opc_statements.specs.Order.{text_cmp}
+use Rattle.opc_statements.specs.Steps.{NeverWrites}
+use Rattle.opc_statements.proofs.Queries.{selecting, paging, alone, answered, paged, passes, shown}
+use Rattle.opc_statements.proofs.Quiet.{ShowsNothing, understood_quiet}
+use Rattle.opc_statements.proofs.Values.{equal_texts, and_true}
+use Rattle.opc_statements.proofs.Sets.{text_total}
+use Rattle.opc_statements.proofs.Listed.{listed}
 use Rattle.sqlite_keyed.proofs.ListLemmas.{filter_all, all_of}
 use Rattle.sqlite_resolve.specs.Compile.{first}
 use Rattle.opc_policy.specs.declared.user.User.{User}

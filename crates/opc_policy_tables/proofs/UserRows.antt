@@ -14,10 +14,10 @@ use Rattle.sqlite_schema.specs.Names.{same_name}
 use Rattle.sqlite_tied.specs.Compute.{everything}
 use Rattle.sqlite_trees.specs.declared.store.Store.{Ghosts}
 use Rattle.sqlite_value.specs.Keys.{joined}
-use Rattle.opc_tables.specs.Steps.{Puts}
-use Rattle.opc_tables.proofs.Keyed.{Keyed, IsKeyed, AreUnderstood, is_idle, removes, puts}
-use Rattle.opc_tables.proofs.Steps.{cast_int}
-use Rattle.opc_tables.proofs.Values.{equal_texts, and_true}
+use Rattle.opc_statements.specs.Steps.{Puts}
+use Rattle.opc_statements.proofs.Keyed.{Keyed, IsKeyed, AreUnderstood, is_idle, removes, puts}
+use Rattle.opc_statements.proofs.Steps.{cast_int}
+use Rattle.opc_statements.proofs.Values.{equal_texts, and_true}
 use Rattle.opc_policy.specs.declared.user.User.{User}
 use Rattle.opc_policy.specs.Members.{user_cmp, with_user}
 use Rattle.opc_state.specs.State.{State}
@@ -28,7 +28,7 @@ use Rattle.opc_stored.specs.Placed.{usr_at}
 use Rattle.opc_stored.specs.Represented.{Represents, Tabulates, or_null, user_row}
 use Rattle.opc_stored.proofs.Keys.{user_total}
 use Rattle.opc_stored.proofs.Ordered.{with_user_ordered, without_user_ordered}
-use Rattle.opc_stored.proofs.Spared.{with_usr}
+use Rattle.opc_stored.proofs.OtherTables.{with_usr}
 
 abbrev pub users : Keyed User
 users = record {

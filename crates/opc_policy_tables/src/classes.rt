@@ -2,7 +2,7 @@
 ghost use Rattle.std.specs.Prelude.{◌≡◌, OnOk, false, [], ◌∷◌, Bool, IfOk};
 ghost use Rattle.sqlite.specs.Held.{state};
 ghost use Rattle.sqlite.specs.State.{HasCleanDisk};
-ghost use Rattle.opc_tables.specs.Steps.{Stays, Looks};
+ghost use Rattle.opc_statements.specs.Steps.{Stays, Looks};
 ghost use Rattle.opc_policy.specs.Taken.{with_active, is_active};
 ghost use Rattle.opc_stored.specs.Changes.{Becomes};
 ghost use Rattle.opc_names.specs.declared.class.Class.{Class as TheClass};
@@ -11,10 +11,10 @@ ghost use Rattle.opc_stored.specs.Represented.{Represents, class_row};
 use opc_names::class::Class;
 use opc_policy::policy::ActiveClasses;
 use opc_policy::source::StoreFault;
+use opc_statements::run;
 use opc_stored::columns::value_in;
 use opc_stored::faults::unreadable;
 use opc_stored::queries::read;
-use opc_tables::run;
 use sqlite::{Alter, Connection, Error, Row, Transaction, params};
 
 pub fn set_active<S: Alter>(

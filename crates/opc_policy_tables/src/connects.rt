@@ -2,7 +2,7 @@
 ghost use Rattle.std.specs.Prelude.{◌≡◌, OnOk, false, List, IfOk, map};
 ghost use Rattle.sqlite.specs.Held.{state};
 ghost use Rattle.sqlite.specs.State.{HasCleanDisk};
-ghost use Rattle.opc_tables.specs.Steps.{Stays, Looks};
+ghost use Rattle.opc_statements.specs.Steps.{Stays, Looks};
 ghost use Rattle.opc_policy.specs.Members.{with_connect, groups_of};
 ghost use Rattle.opc_stored.specs.Changes.{Becomes};
 ghost use Rattle.opc_state.specs.Changes.{with_connects};
@@ -14,9 +14,9 @@ use opc_names::name::{GroupName, UserId};
 use opc_policy::connect::Connect;
 use opc_policy::source::StoreFault;
 use opc_rows::Rows;
+use opc_statements::{put, run};
 use opc_stored::columns::{Keeps, all_in, name_in};
 use opc_stored::queries::read;
-use opc_tables::{put, run};
 use sqlite::{Alter, Connection, Error, Row, Transaction, params};
 use std::alloc::Global;
 

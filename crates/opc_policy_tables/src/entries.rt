@@ -2,8 +2,8 @@
 ghost use Rattle.std.specs.Prelude.{◌≡◌, ◌∷◌, ◌++◌, List, ℕ, IfOk, OnOk, map, false, Some};
 ghost use Rattle.sqlite.specs.Held.{state};
 ghost use Rattle.sqlite.specs.State.{HasCleanDisk};
-ghost use Rattle.opc_tables.specs.Order.{Rises};
-ghost use Rattle.opc_tables.specs.Steps.{Stays, Looks};
+ghost use Rattle.opc_statements.specs.Order.{Rises};
+ghost use Rattle.opc_statements.specs.Steps.{Stays, Looks};
 ghost use Rattle.opc_policy.specs.Access.{entry_cmp};
 ghost use Rattle.opc_policy.specs.Profiles.{profile_of, with_permission};
 ghost use Rattle.opc_state.specs.Changes.{with_profiles};
@@ -24,10 +24,10 @@ use opc_names::name::Pattern;
 use opc_policy::entries::Entries;
 use opc_policy::entry::{Entry, EntryId};
 use opc_policy::source::StoreFault;
+use opc_statements::run;
 use opc_stored::columns::value_in;
 use opc_stored::faults::unreadable;
 use opc_stored::queries::read;
-use opc_tables::run;
 use sqlite::{Alter, Connection, Error, Row, Transaction, params};
 use std::alloc::Global;
 

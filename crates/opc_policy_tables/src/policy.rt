@@ -2,8 +2,8 @@
 ghost use Rattle.std.specs.Prelude.{◌≡◌, false, IfOk};
 ghost use Rattle.sqlite.specs.Held.{state};
 ghost use Rattle.sqlite.specs.State.{HasCleanDisk};
-ghost use Rattle.opc_tables.specs.Order.{Rises};
-ghost use Rattle.opc_tables.specs.Steps.{Looks};
+ghost use Rattle.opc_statements.specs.Order.{Rises};
+ghost use Rattle.opc_statements.specs.Steps.{Looks};
 ghost use Rattle.opc_policy.specs.Members.{name_cmp, user_cmp, connect_cmp};
 ghost use Rattle.opc_policy.specs.Profiles.{profile_cmp};
 ghost use Rattle.opc_stored.specs.Represented.{Represents};

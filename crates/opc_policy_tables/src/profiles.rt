@@ -2,7 +2,7 @@
 ghost use Rattle.std.specs.Prelude.{◌≡◌, ◌≢◌, ◌∷◌, List, IfOk, OnOk, None, map, false, [], Some, IsTrue};
 ghost use Rattle.sqlite.specs.Held.{state};
 ghost use Rattle.sqlite.specs.State.{HasCleanDisk};
-ghost use Rattle.opc_tables.specs.Steps.{Stays, Looks};
+ghost use Rattle.opc_statements.specs.Steps.{Stays, Looks};
 ghost use Rattle.opc_names.specs.Names.{IsPattern};
 ghost use Rattle.opc_policy.specs.Profiles.{profile_of, with_definition};
 ghost use Rattle.opc_state.specs.Changes.{with_profiles};
@@ -25,10 +25,10 @@ use opc_names::name::Pattern;
 use opc_policy::entries::Entries;
 use opc_policy::profile::Profile;
 use opc_policy::source::StoreFault;
+use opc_statements::run;
 use opc_stored::columns::{name_in, value_in};
 use opc_stored::faults::unreadable;
 use opc_stored::queries::read;
-use opc_tables::run;
 use sqlite::{Alter, Connection, Error, Row, Transaction, params};
 use std::alloc::Global;
 

@@ -3,7 +3,7 @@ ghost use Rattle.std.specs.Prelude.{◌≡◌, ◌++◌, false, IfOk, OnOk, map}
 ghost use Rattle.std.specs.List.{flat_map};
 ghost use Rattle.sqlite.specs.Held.{state};
 ghost use Rattle.sqlite.specs.State.{HasCleanDisk};
-ghost use Rattle.opc_tables.specs.Steps.{Looks};
+ghost use Rattle.opc_statements.specs.Steps.{Looks};
 ghost use Rattle.opc_policy.specs.declared.policy.Policy.{Policy as ThePolicy};
 ghost use Rattle.opc_policy.specs.declared.row.Row.{Row as TheRow};
 ghost use Rattle.opc_policy_tables.specs.PolicyFile.{rows_of, row_of_group, row_of_user, row_of_connect, row_of_console, row_of_profile, row_of_entry, permits_of};

@@ -2,7 +2,7 @@
 ghost use Rattle.std.specs.Prelude.{◌≡◌, OnOk, ℕ, false, List, Option, IfOk};
 ghost use Rattle.sqlite.specs.Held.{state};
 ghost use Rattle.sqlite.specs.State.{HasCleanDisk};
-ghost use Rattle.opc_tables.specs.Steps.{Stays, Looks};
+ghost use Rattle.opc_statements.specs.Steps.{Stays, Looks};
 ghost use Rattle.std.specs.Option.{option_copied};
 ghost use Rattle.opc_policy.specs.Members.{with_user, user_of};
 ghost use Rattle.opc_stored.specs.Changes.{Becomes};
@@ -17,10 +17,10 @@ use opc_names::name::UserId;
 use opc_policy::source::StoreFault;
 use opc_policy::user::User;
 use opc_rows::Rows;
+use opc_statements::{put, run};
 use opc_stored::columns::{Keeps, all_in, name_in, value_in};
 use opc_stored::faults::unreadable;
 use opc_stored::queries::read;
-use opc_tables::{put, run};
 use sqlite::{Alter, Connection, Error, Row, Transaction, params};
 use std::alloc::Global;
 

@@ -6,8 +6,8 @@ use Rattle.std.proofs.lemmas.Cmp.{tied_itself, nat_list_cmp_total}
 use Rattle.std.proofs.lemmas.List.Elements.{All-from_recursion, All-cons}
 use Rattle.std.proofs.lemmas.List.Kept.{AllPairs-cons}
 use Rattle.sqlite_trees.specs.Tree.{IsAscending}
-use Rattle.opc_tables.specs.Order.{Rises}
-use Rattle.opc_tables.specs.Taken.{taken_for}
+use Rattle.opc_statements.specs.Order.{Rises}
+use Rattle.opc_statements.specs.Taken.{taken_for}
 use Rattle.opc_names.specs.Order.{sort_key}
 use Rattle.opc_names.specs.Names.{IsPattern}
 use Rattle.opc_policy.specs.declared.profile.Profile.{Profile}

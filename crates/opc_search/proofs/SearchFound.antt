@@ -1,8 +1,8 @@
 -- What the search found for one head, with its access list.
 use Rattle.std.proofs.Common.{◌≡◌, ◌∙◌, ℕ, List, find, filter, length, Option, Some, None, option_map, refl, sym, ap, subst}
 use Rattle.sqlite_keyed.proofs.ListLemmas.{all-filter}
-use Rattle.opc_tables.specs.Taken.{taken_for}
-use Rattle.opc_tables.proofs.Parts.{found_one}
+use Rattle.opc_statements.specs.Taken.{taken_for}
+use Rattle.opc_statements.proofs.Parts.{found_one}
 use Rattle.opc_names.specs.declared.class.Class.{Class}
 use Rattle.opc_policy.specs.declared.entry.Entry.{Entry}
 use Rattle.opc_policy.specs.declared.profile.Profile.{Profile}

@@ -25,14 +25,14 @@ use Rattle.sqlite.specs.State.{State as SqlState, Shown, Begins, IsUnchanged}
 use Rattle.sqlite.specs.Tree.{Trees}
 use Rattle.sqlite.proofs.Callers.{IsPlain, command_of, reads_as, begins_as}
 use Rattle.sqlite_resolve.specs.Compile.{first}
-use Rattle.opc_tables.specs.Order.{text_cmp}
-use Rattle.opc_tables.specs.Steps.{NeverWrites}
-use Rattle.opc_tables.specs.Taken.{taken_for}
-use Rattle.opc_tables.proofs.Queries.{selecting, alone, answered, passes, shown}
-use Rattle.opc_tables.proofs.Quiet.{ShowsNothing, understood_quiet}
-use Rattle.opc_tables.proofs.Values.{equal_texts, and_true}
-use Rattle.opc_tables.proofs.Listed.{listed}
-use Rattle.opc_tables.proofs.Streams.{HasTaken, TakesOn, takes_on, taken_all}
+use Rattle.opc_statements.specs.Order.{text_cmp}
+use Rattle.opc_statements.specs.Steps.{NeverWrites}
+use Rattle.opc_statements.specs.Taken.{taken_for}
+use Rattle.opc_statements.proofs.Queries.{selecting, alone, answered, passes, shown}
+use Rattle.opc_statements.proofs.Quiet.{ShowsNothing, understood_quiet}
+use Rattle.opc_statements.proofs.Values.{equal_texts, and_true}
+use Rattle.opc_statements.proofs.Listed.{listed}
+use Rattle.opc_statements.proofs.Streams.{HasTaken, TakesOn, takes_on, taken_all}
 use Rattle.opc_names.specs.declared.class.Class.{Class}
 use Rattle.opc_names.specs.declared.class.Class.TheVariants.{Console, Opercmds}
 use Rattle.opc_names.specs.Authority.{same_class}

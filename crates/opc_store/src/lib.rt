@@ -3,5 +3,5 @@
 
 pub mod opening;
 pub mod store;
-mod tied;
+mod tables;
 mod whole;

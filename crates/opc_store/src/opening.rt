@@ -9,7 +9,7 @@ ghost use Rattle.sqlite.specs.Tree.{Trees};
 ghost use Rattle.sqlite.specs.WalFiles.{image_at};
 ghost use Rattle.sqlite.specs.WalReads.{AreClean};
 ghost use Rattle.sqlite.specs.State.{HasCleanDisk, Survives};
-ghost use Rattle.opc_tables.specs.Shapes.{no_schema};
+ghost use Rattle.opc_statements.specs.Shapes.{no_schema};
 ghost use Rattle.opc_state.specs.State.{empty};
 ghost use Rattle.opc_stored.specs.Represented.{Represents, AreTablesOf};
 ghost use Rattle.opc_stored.specs.Ours.{has_our_name, NamesVersion};

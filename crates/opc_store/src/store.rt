@@ -3,7 +3,7 @@ ghost use Rattle.std.specs.Prelude.{◌≡◌, length, IfOk, ◌+◌};
 ghost use Rattle.sqlite.specs.Held.{state};
 ghost use Rattle.sqlite.specs.Steps.{over_memory};
 ghost use Rattle.sqlite.specs.State.{HasCleanDisk};
-ghost use Rattle.opc_tables.specs.Steps.{Looks};
+ghost use Rattle.opc_statements.specs.Steps.{Looks};
 ghost use Rattle.opc_board.specs.Facts.{console_at};
 ghost use Rattle.opc_policy.specs.Taken.{is_active};
 ghost use Rattle.opc_policy.specs.Profiles.{profile_of};

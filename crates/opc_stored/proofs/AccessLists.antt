@@ -14,9 +14,9 @@ use Rattle.std.proofs.lemmas.Map.Lookups.{exact_bytes}
 use Rattle.std.proofs.lemmas.Slice.Eq.{bytes_eq-Decides}
 use Rattle.sqlite.specs.Order.{Row}
 use Rattle.sqlite_keyed.proofs.ListLemmas.{filter-map, filter_same, filter_none, all_weaker, all_both, all-map, all-flat_map, IsPermutation-same}
-use Rattle.opc_tables.specs.Order.{Rises}
-use Rattle.opc_tables.proofs.Sets.{others, replaced_is}
-use Rattle.opc_tables.proofs.Parts.{Parts, parts, keeps_all, picked, others_of, none_picked}
+use Rattle.opc_statements.specs.Order.{Rises}
+use Rattle.opc_statements.proofs.Sets.{others, replaced_is}
+use Rattle.opc_statements.proofs.Parts.{Parts, parts, keeps_all, picked, others_of, none_picked}
 use Rattle.opc_names.specs.declared.class.Class.{Class}
 use Rattle.opc_names.specs.declared.class.Class.TheVariants.{Console, Opercmds}
 use Rattle.opc_names.specs.Authority.{same_class}

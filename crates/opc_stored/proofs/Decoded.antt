@@ -9,8 +9,8 @@ use Rattle.sqlite.specs.Order.{Row, column}
 use Rattle.sqlite.specs.Tree.{Trees}
 use Rattle.sqlite_keyed.specs.Lists.{sort_by}
 use Rattle.sqlite_keyed.proofs.ListLemmas.{map_back, map-map, map_same, all-map, all-flat_map, all_of, all_both, ascending-map}
-use Rattle.opc_tables.specs.Order.{Rises}
-use Rattle.opc_tables.proofs.Sorting.{decoded_as, decoded_is, decoded_part, places_back}
+use Rattle.opc_statements.specs.Order.{Rises}
+use Rattle.opc_statements.proofs.Sorting.{decoded_as, decoded_is, decoded_part, places_back}
 use Rattle.opc_names.specs.declared.auth.Auth.{Auth}
 use Rattle.opc_names.specs.declared.auth.Auth.TheVariants as auth
 use Rattle.opc_names.specs.declared.class.Class.{Class}

@@ -11,15 +11,15 @@ use Rattle.sqlite.specs.Listing.{understood}
 use Rattle.sqlite.specs.State.{State as SqlState, Executes}
 use Rattle.sqlite.specs.Cast.{cast_row}
 use Rattle.sqlite.proofs.Callers.{IsPlain, command_of}
-use Rattle.opc_tables.proofs.Steps.{cast_null, cast_int}
-use Rattle.opc_tables.proofs.Written.{adds}
+use Rattle.opc_statements.proofs.Steps.{cast_null, cast_int}
+use Rattle.opc_statements.proofs.Written.{adds}
 use Rattle.opc_stored.specs.Tables.{the_schema}
 use Rattle.opc_stored.specs.Made.{IsMade}
 use Rattle.opc_stored.specs.Contents.{Contents}
 use Rattle.opc_names.specs.declared.class.Class.{Class}
 use Rattle.opc_stored.specs.Placed.{meta_at, classes_at, board_at}
 use Rattle.opc_stored.specs.Represented.{class_row, version_row, halted_row}
-use Rattle.opc_stored.proofs.Spared.{with_meta, with_classes, with_board}
+use Rattle.opc_stored.proofs.OtherTables.{with_meta, with_classes, with_board}
 
 abbrev pub insert_version : List ℕ
 insert_version = codes "INSERT INTO meta VALUES (?1)"

@@ -9,7 +9,7 @@ pub mod Ordered
 pub mod Pieces
 pub mod PolicyRead
 pub mod ProfileTexts
-pub mod Spared
+pub mod OtherTables
 pub mod Texts
-pub mod Turns
+pub mod EditsInOrder
 pub mod VersionLoads

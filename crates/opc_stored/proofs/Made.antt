@@ -4,8 +4,8 @@ use Rattle.sqlite_trees.specs.declared.store.Store.{Ghosts}
 use Rattle.sqlite.specs.Effect.{Database}
 use Rattle.sqlite.specs.Batch.{RunInTurn, ExecutesAllInside}
 use Rattle.sqlite.specs.Held.{Held, state}
-use Rattle.opc_tables.specs.Shapes.{no_schema}
-use Rattle.opc_tables.proofs.Making.{creates, Turn, turn, no_rows, IsBare, bare_then, bare_first}
+use Rattle.opc_statements.specs.Shapes.{no_schema}
+use Rattle.opc_statements.proofs.Making.{creates, Turn, turn, no_rows, IsBare, bare_then, bare_first}
 use Rattle.opc_stored.specs.Made.{IsMade, nothing}
 use Rattle.opc_stored.specs.Tables.{schema_1, schema_2, schema_3, schema_4, schema_5, schema_6, schema_7, schema_8, schema_9, schema_10, schema_11, schema_12, schema_13, schema_14, schema_15, schema_16, the_schema, meta_table, classes_table, consoles_table, units_table, devices_table, replies_table, answered_table, log_table, messages_table, board_table, account_table, batches_table, grp_table, usr_table, connects_table, profiles_table, entries_table}
 use Rattle.opc_stored.proofs.Texts.{create_meta, meta_defined, create_classes, classes_defined, create_consoles, consoles_defined, create_units, units_defined, create_devices, devices_defined, create_replies, replies_defined, create_answered, answered_defined, create_log, log_defined, create_messages, messages_defined, create_board, board_defined, create_account, account_defined, create_batches, batches_defined, create_grp, grp_defined, create_usr, usr_defined, create_connects, connects_defined, create_profiles, profiles_defined, create_entries, entries_defined}

@@ -2,9 +2,9 @@
 use Rattle.std.proofs.Common.{◌≡◌, ℕ, Bool, List, [], ◌++◌, ◌∷◌, Option, Some, None, sym, subst, refl, arith}
 use Rattle.std.specs.Option.{option_map_or}
 use Rattle.sqlite_keyed.proofs.ListLemmas.{ascending-filter, all-filter}
-use Rattle.opc_tables.specs.Order.{Rises}
-use Rattle.opc_tables.proofs.Sets.{replaced_rises, all_replaced, inserted_same}
-use Rattle.opc_tables.proofs.Parts.{found_one}
+use Rattle.opc_statements.specs.Order.{Rises}
+use Rattle.opc_statements.proofs.Sets.{replaced_rises, all_replaced, inserted_same}
+use Rattle.opc_statements.proofs.Parts.{found_one}
 use Rattle.opc_names.specs.declared.class.Class.{Class}
 use Rattle.opc_names.specs.Names.{IsPattern}
 use Rattle.opc_policy.specs.declared.connect.Connect.{Connect}

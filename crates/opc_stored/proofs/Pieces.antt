@@ -5,7 +5,7 @@ use Rattle.sqlite_tied.specs.Compute.{everything}
 use Rattle.sqlite.specs.Command.TheVariants.{CreateTable}
 use Rattle.sqlite.specs.Listing.{understood}
 use Rattle.sqlite.proofs.Callers.{IsPlain, command_of, statement_of}
-use Rattle.opc_tables.specs.Shapes.{no_schema}
+use Rattle.opc_statements.specs.Shapes.{no_schema}
 use Rattle.opc_stored.specs.Tables.{schema_1, schema_2, schema_3, schema_4, schema_5, schema_6, schema_7, schema_8, schema_9, schema_10, schema_11, schema_12, schema_13, schema_14, schema_15, schema_16}
 use Rattle.opc_stored.proofs.Texts.{create_meta, create_classes, create_consoles, create_units, create_devices, create_replies, create_answered, create_log, create_messages, create_board, create_account, create_batches, create_grp, create_usr, create_connects, create_profiles, create_entries}
 

@@ -17,10 +17,10 @@ use Rattle.sqlite.specs.Listing.{understood}
 use Rattle.sqlite.specs.Tree.{Trees}
 use Rattle.sqlite.specs.Cast.{cast_row}
 use Rattle.sqlite.proofs.Callers.{IsPlain, command_of}
-use Rattle.opc_tables.specs.Order.{text_cmp}
-use Rattle.opc_tables.proofs.Steps.{cast_int}
-use Rattle.opc_tables.proofs.Queries.{selecting, alone, passes}
-use Rattle.opc_tables.proofs.Values.{equal_texts, and_true}
+use Rattle.opc_statements.specs.Order.{text_cmp}
+use Rattle.opc_statements.proofs.Steps.{cast_int}
+use Rattle.opc_statements.proofs.Queries.{selecting, alone, passes}
+use Rattle.opc_statements.proofs.Values.{equal_texts, and_true}
 use Rattle.opc_names.specs.declared.class.Class.{Class}
 use Rattle.opc_names.specs.declared.class.Class.TheVariants.{Console, Opercmds}
 use Rattle.opc_names.specs.Authority.{same_class}

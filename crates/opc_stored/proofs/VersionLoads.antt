@@ -13,10 +13,10 @@ use Rattle.sqlite.specs.Listing.{understood, reads_listing}
 use Rattle.sqlite.specs.State.{State as SqlState, Shown}
 use Rattle.sqlite.specs.Tree.{Trees}
 use Rattle.sqlite.proofs.Callers.{IsPlain, command_of, reads_as}
-use Rattle.opc_tables.specs.Steps.{NeverWrites}
-use Rattle.opc_tables.proofs.Queries.{selecting, alone, answered, shown}
-use Rattle.opc_tables.proofs.Quiet.{ShowsNothing, understood_quiet}
-use Rattle.opc_tables.proofs.Listed.{listed}
+use Rattle.opc_statements.specs.Steps.{NeverWrites}
+use Rattle.opc_statements.proofs.Queries.{selecting, alone, answered, shown}
+use Rattle.opc_statements.proofs.Quiet.{ShowsNothing, understood_quiet}
+use Rattle.opc_statements.proofs.Listed.{listed}
 use Rattle.sqlite_resolve.specs.Compile.{first}
 use Rattle.opc_stored.specs.Tables.{the_schema}
 use Rattle.opc_state.specs.State.{State}

@@ -2,7 +2,7 @@
 use Rattle.std.specs.Prelude.{◌≡◌, List}
 use Rattle.sqlite_value.specs.Order.{Row}
 use Rattle.sqlite_trees.specs.Tree.{Trees}
-use Rattle.opc_tables.specs.Rows.{HasRows}
+use Rattle.opc_statements.specs.Rows.{HasRows}
 
 -- The rows that each table has. Where the key is a number, the number stands first, as the rowid, and its own column is NULL.
 pub record Contents : Type 0 where

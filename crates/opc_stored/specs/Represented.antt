@@ -32,7 +32,7 @@ use Rattle.opc_state.specs.declared.account.AccountRow.{AccountRow}
 use Rattle.opc_state.specs.declared.change.Batch.{Batch}
 use Rattle.opc_state.specs.State.{State}
 use Rattle.opc_import.specs.Lines.{policy_text}
-use Rattle.opc_tables.specs.Rows.{numbered_row, numbered_rows}
+use Rattle.opc_statements.specs.Rows.{numbered_row, numbered_rows}
 use Rattle.opc_stored.specs.Contents.{Contents, Holds}
 use Rattle.opc_stored.specs.Made.{IsMade}
 use Rattle.opc_stored.specs.State.{IsOrdered}

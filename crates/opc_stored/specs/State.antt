@@ -11,7 +11,7 @@ use Rattle.opc_policy.specs.Profiles.{profile_cmp}
 use Rattle.opc_state.specs.declared.change.Batch.{Batch}
 use Rattle.opc_state.specs.Members.{unit_cmp, device_cmp, console_cmp, reply_cmp, batch_cmp}
 use Rattle.opc_state.specs.State.{State}
-use Rattle.opc_tables.specs.Order.{Rises}
+use Rattle.opc_statements.specs.Order.{Rises}
 
 -- the places of its members are numbers that a table can hold
 abbrev pub CanBeNumbered : {X : Type 0} → List X → Type 0

@@ -5,7 +5,7 @@ use Rattle.sqlite.specs.Table.{Table}
 use Rattle.sqlite.specs.Schema.{Schema}
 use Rattle.sqlite.specs.Kind.TheVariants.{Integer, Text, Blob}
 use Rattle.sqlite_catalog.specs.Change.{created}
-use Rattle.opc_tables.specs.Shapes.{column_of, reference_to, table_of, no_schema}
+use Rattle.opc_statements.specs.Shapes.{column_of, reference_to, table_of, no_schema}
 
 abbrev pub meta_table : Table
 meta_table = table_of (codes "meta") (column_of Integer true (codes "version") ∷ []) None ([]) ([]) ([])

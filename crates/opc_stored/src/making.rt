@@ -2,13 +2,13 @@
 ghost use Rattle.std.specs.Prelude.{◌≡◌, OnOk, OnErr, IsTrue, false};
 ghost use Rattle.sqlite.specs.Held.{state};
 ghost use Rattle.sqlite.specs.State.{HasCleanDisk, Survives};
-ghost use Rattle.opc_tables.specs.Shapes.{no_schema};
-ghost use Rattle.opc_tables.specs.Steps.{Stays};
+ghost use Rattle.opc_statements.specs.Shapes.{no_schema};
+ghost use Rattle.opc_statements.specs.Steps.{Stays};
 ghost use Rattle.opc_stored.specs.Made.{IsMade, nothing};
 ghost use Rattle.opc_state.specs.State.{empty};
 ghost use Rattle.opc_stored.specs.Represented.{Represents, AreTablesOf};
 
-use opc_tables::run;
+use opc_statements::run;
 use sqlite::{Alter, Connection, Error, Transaction, params};
 
 /// Makes the tables in a database where nothing is defined, without rows.

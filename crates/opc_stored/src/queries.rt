@@ -2,7 +2,7 @@
 ghost use Rattle.std.specs.Prelude.{◌≡◌, false, IfOk};
 ghost use Rattle.sqlite.specs.Held.{state};
 ghost use Rattle.sqlite.specs.State.{HasCleanDisk, Shown};
-ghost use Rattle.opc_tables.specs.Steps.{Looks, NeverWrites};
+ghost use Rattle.opc_statements.specs.Steps.{Looks, NeverWrites};
 ghost use Rattle.sqlite.specs.Values.{bound};
 
 use crate::faults::fault;
@@ -10,7 +10,7 @@ use opc_policy::source::StoreFault;
 use sqlite::types::ValueRef;
 use sqlite::{Alter, Connection, Row};
 
-/// The rows of a query, outside any transaction, as `opc_tables::read` gives them. A failure is told as the store's.
+/// The rows of a query, outside any transaction, as `opc_statements::read` gives them. A failure is told as the store's.
 pub fn read<S: Alter>(
     conn: &mut Connection<S>,
     sql: &str,
@@ -22,7 +22,7 @@ pub fn read<S: Alter>(
     ensures looks { Looks S.Store conn.old conn.new result }
     ensures shown { HasCleanDisk (state S.Store conn.new) → IfOk result (λ rows. Shown sql.now (bound params.now) (state S.Store conn.old) (state S.Store conn.new) rows.items) }
 {
-    match opc_tables::read(conn, sql, params) {
+    match opc_statements::read(conn, sql, params) {
         Ok(rows) => Ok(rows),
         Err(error) => Err(fault(error)),
     }

@@ -4,11 +4,11 @@ ghost use Rattle.sqlite.specs.Held.{state};
 ghost use Rattle.sqlite.specs.State.{HasCleanDisk, FailsToQuery};
 ghost use Rattle.sqlite.specs.declared.error.Error.TheVariants.{SqliteFailure};
 ghost use Rattle.sqlite.specs.declared.error.ErrorCode.TheVariants.{OutOfMemory};
-ghost use Rattle.opc_tables.specs.Steps.{Looks};
+ghost use Rattle.opc_statements.specs.Steps.{Looks};
 ghost use Rattle.opc_stored.specs.Ours.{NamesVersion, version_of, version_query};
 ghost use Rattle.opc_stored.specs.Represented.{Represents};
 
-use opc_tables::read;
+use opc_statements::read;
 use sqlite::{Alter, Connection, Error, ErrorCode, Row};
 
 /// The version that the one row of meta names, or 0.

@@ -1,7 +1,7 @@
 use Rattle.std.proofs.Common.{◌∙◌, refl, is_eq}
 use Rattle.std.proofs.lemmas.Option.{slice_get_read, slice_get_past}
-use Rattle.opc_tables.specs.Order.{text_cmp}
-use Rattle.opc_tables.proofs.Decoded.{first_found, none_found}
+use Rattle.opc_statements.specs.Order.{text_cmp}
+use Rattle.opc_statements.proofs.Decoded.{first_found, none_found}
 use Rattle.opc_stored.specs.Represented.{console_row}
 use Rattle.opc_board_tables.proofs.BoardLoads.{console_quiet, shows_console, console_found}
 use Rattle.opc_board_tables.proofs.consoles.console_on.Goals as goal

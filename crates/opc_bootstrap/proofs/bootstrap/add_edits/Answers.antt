@@ -1,5 +1,5 @@
 use Rattle.std.proofs.Common.{arith}
-use Rattle.opc_bootstrap.proofs.Founding.{edits_more}
+use Rattle.opc_bootstrap.proofs.PolicyRows.{edits_more}
 use Rattle.opc_bootstrap.proofs.bootstrap.add_edits.Goals as goal
 
 pub loop-row-preserved : goal.loop-row-preserved

@@ -1,5 +1,5 @@
 use Rattle.std.proofs.Common.{◌≡◌, ◌++◌, take}
-use Rattle.opc_bootstrap.specs.Founded.{edits_of}
+use Rattle.opc_bootstrap.specs.RowEdits.{edits_of}
 use Rattle.opc_bootstrap.proofs.bootstrap.add_edits.Given as goal
 
 abbrev pub invariant-loop-row : goal.invariant-loop-row

@@ -1,5 +1,5 @@
 use Rattle.std.proofs.Common.{arith}
-use Rattle.opc_bootstrap.proofs.Founding.{consoles_more}
+use Rattle.opc_bootstrap.proofs.PolicyRows.{consoles_more}
 use Rattle.opc_bootstrap.proofs.bootstrap.define_all.Goals as goal
 
 pub loop-row-preserved : goal.loop-row-preserved

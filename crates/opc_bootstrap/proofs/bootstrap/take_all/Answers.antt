@@ -1,6 +1,6 @@
 use Rattle.std.proofs.Common.{arith}
 use Rattle.std.proofs.lemmas.Result.{err_from_is_err_and}
-use Rattle.opc_bootstrap.proofs.Founding.{policy_more, policy_stops}
+use Rattle.opc_bootstrap.proofs.PolicyRows.{policy_more, policy_stops}
 use Rattle.opc_bootstrap.proofs.bootstrap.take_all.Goals as goal
 
 pub loop-row-preserved : goal.loop-row-preserved

@@ -1,5 +1,5 @@
 use Rattle.std.proofs.Common.{◌≡◌, Some, ap, sym, ◌∙◌}
-use Rattle.opc_table.specs.Table.{need}
+use Rattle.opc_needs.specs.Table.{need}
 use Rattle.opc_machine.specs.Commands.{need_of}
 use Rattle.opc_commands.proofs.Needs.{typed_with}
 use Rattle.opc_commands.proofs.Sessions.{needs_no_session}

@@ -1,7 +1,7 @@
 use Rattle.std.proofs.Common.{◌∙◌, arith}
 use Rattle.sqlite.specs.declared.error.Error.{Error}
-use Rattle.opc_tables.proofs.Turns.{stays_then}
-use Rattle.opc_stored.proofs.Turns.{next_turn}
+use Rattle.opc_statements.proofs.StepsInOrder.{stays_then}
+use Rattle.opc_stored.proofs.EditsInOrder.{next_turn}
 use Rattle.opc_commit.proofs.commit.apply_all.Goals as goal
 
 pub loop-edit-preserved : goal.loop-edit-preserved

@@ -2,10 +2,10 @@ use Rattle.std.proofs.Common.{◌≡◌, drop, Ok, Result}
 use Rattle.sqlite.specs.declared.error.Error.{Error}
 use Rattle.sqlite.specs.Held.{state}
 use Rattle.sqlite.specs.State.{HasCleanDisk}
-use Rattle.opc_tables.specs.Steps.{Stays}
+use Rattle.opc_statements.specs.Steps.{Stays}
 use Rattle.opc_stored.specs.Represented.{Represents}
 use Rattle.opc_state.specs.Changes.{all_edited}
-use Rattle.opc_stored.proofs.Turns.{IsOnTheWay}
+use Rattle.opc_stored.proofs.EditsInOrder.{IsOnTheWay}
 use Rattle.opc_commit.proofs.commit.apply_all.Given as goal
 
 abbrev pub invariant-loop-edit : goal.invariant-loop-edit

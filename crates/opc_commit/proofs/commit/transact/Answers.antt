@@ -4,7 +4,7 @@ use Rattle.sqlite.specs.Held.{Held, state}
 use Rattle.sqlite.specs.State.{HasCleanDisk, Survives}
 use Rattle.sqlite.specs.Tree.{Trees}
 use Rattle.sqlite.proofs.StateLemmas.{survives_then, survives_weaker}
-use Rattle.opc_tables.proofs.Work.{Leaves, transacted, crashes}
+use Rattle.opc_statements.proofs.Work.{Leaves, transacted, crashes}
 use Rattle.opc_stored.specs.Represented.{Represents, AreTablesOf}
 use Rattle.opc_stored.proofs.Opened.{alone_from}
 use Rattle.opc_state.specs.Changes.{changed_by, all_edited}

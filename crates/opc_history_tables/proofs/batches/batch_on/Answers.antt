@@ -1,7 +1,7 @@
 use Rattle.std.proofs.Common.{◌∙◌, ◌==◌, ap, refl}
 use Rattle.std.proofs.lemmas.Option.{slice_get_read, slice_get_past}
 use Rattle.sqlite.specs.Order.{Row, column}
-use Rattle.opc_tables.proofs.Decoded.{first_told, none_told}
+use Rattle.opc_statements.proofs.Decoded.{first_told, none_told}
 use Rattle.opc_import.specs.Lines.{policy_text}
 use Rattle.opc_history_tables.proofs.HistoryLoads.{batch_quiet, batch_shown, shows_batch}
 use Rattle.opc_history_tables.proofs.batches.batch_on.Goals as goal

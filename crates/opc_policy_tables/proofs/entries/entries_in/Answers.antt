@@ -1,5 +1,5 @@
 use Rattle.std.proofs.Common.{◌∙◌}
-use Rattle.opc_tables.proofs.Putting.{more_put}
+use Rattle.opc_statements.proofs.Putting.{more_put}
 use Rattle.opc_policy.specs.Access.{entry_cmp}
 use Rattle.opc_stored.specs.Represented.{entry_row}
 use Rattle.opc_stored.proofs.Keys.{entry_total}

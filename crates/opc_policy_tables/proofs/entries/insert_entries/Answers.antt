@@ -5,9 +5,9 @@ use Rattle.opc_policy.specs.declared.entry.Entry.{Entry}
 use Rattle.opc_stored.specs.Made.{IsMade}
 use Rattle.opc_stored.specs.Represented.{entry_row}
 use Rattle.sqlite.specs.declared.error.Error.{Error}
-use Rattle.opc_tables.proofs.Turns.{stays_then}
+use Rattle.opc_statements.proofs.StepsInOrder.{stays_then}
 use Rattle.opc_policy_tables.proofs.ProfileRows.{entries_so_far}
-use Rattle.opc_stored.proofs.Turns.{one_more}
+use Rattle.opc_stored.proofs.EditsInOrder.{one_more}
 use Rattle.opc_policy_tables.proofs.entries.insert_entries.Goals as goal
 
 pub loop-entry-preserved : goal.loop-entry-preserved

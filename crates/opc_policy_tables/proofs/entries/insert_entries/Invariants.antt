@@ -2,7 +2,7 @@ use Rattle.std.proofs.Common.{◌≡◌, ◌++◌, map, take, Ok, Result}
 use Rattle.sqlite.specs.declared.error.Error.{Error}
 use Rattle.sqlite.specs.Held.{state}
 use Rattle.sqlite.specs.State.{HasCleanDisk}
-use Rattle.opc_tables.specs.Steps.{Stays}
+use Rattle.opc_statements.specs.Steps.{Stays}
 use Rattle.opc_stored.specs.Contents.{Contents}
 use Rattle.opc_stored.specs.Made.{IsMade}
 use Rattle.opc_stored.specs.Represented.{entry_row}

@@ -1,5 +1,5 @@
 use Rattle.std.proofs.Common.{◌≡◌, length, take}
-use Rattle.opc_tables.specs.Order.{Rises}
+use Rattle.opc_statements.specs.Order.{Rises}
 use Rattle.opc_policy.specs.Profiles.{profile_cmp}
 use Rattle.opc_policy_tables.proofs.policy.profiles_of.Given as goal
 

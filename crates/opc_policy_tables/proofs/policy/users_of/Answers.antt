@@ -1,6 +1,6 @@
 use Rattle.std.proofs.Common.{◌∙◌, sym}
 use Rattle.std.proofs.lemmas.List.{map-id}
-use Rattle.opc_tables.proofs.Putting.{more_put}
+use Rattle.opc_statements.proofs.Putting.{more_put}
 use Rattle.opc_policy.specs.Members.{user_cmp}
 use Rattle.opc_stored.proofs.Keys.{user_total}
 use Rattle.opc_policy_tables.proofs.policy.users_of.Goals as goal

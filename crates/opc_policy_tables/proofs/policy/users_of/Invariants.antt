@@ -1,5 +1,5 @@
 use Rattle.std.proofs.Common.{◌≡◌, take}
-use Rattle.opc_tables.specs.Order.{Rises}
+use Rattle.opc_statements.specs.Order.{Rises}
 use Rattle.opc_policy.specs.Members.{user_cmp}
 use Rattle.opc_policy_tables.proofs.policy.users_of.Given as goal
 

@@ -3,8 +3,8 @@ use Rattle.std.proofs.lemmas.Option.{slice_get_read, slice_get_past}
 use Rattle.sqlite.specs.Effect.{Database}
 use Rattle.sqlite.specs.Held.{state}
 use Rattle.sqlite.specs.State.{HasCleanDisk}
-use Rattle.opc_tables.proofs.Decoded.{first_is, none_found}
-use Rattle.opc_tables.proofs.Looking.{looked}
+use Rattle.opc_statements.proofs.Decoded.{first_is, none_found}
+use Rattle.opc_statements.proofs.Looking.{looked}
 use Rattle.opc_policy.specs.Profiles.{is_of}
 use Rattle.opc_stored.specs.Represented.{Represents, profile_row}
 use Rattle.opc_policy_tables.proofs.PolicyLoads.{profile_quiet, shows_profile, own_key}

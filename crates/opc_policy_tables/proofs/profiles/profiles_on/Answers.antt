@@ -2,7 +2,7 @@ use Rattle.std.proofs.Common.{◌∙◌, arith}
 use Rattle.sqlite.specs.Held.{state}
 use Rattle.sqlite.specs.State.{HasCleanDisk}
 use Rattle.sqlite.specs.Effect.{Database}
-use Rattle.opc_tables.proofs.Looking.{looks_then, looked}
+use Rattle.opc_statements.proofs.Looking.{looks_then, looked}
 use Rattle.opc_stored.specs.Represented.{Represents}
 use Rattle.opc_stored.proofs.Decoded.{each_found}
 use Rattle.opc_policy_tables.proofs.PolicyLoads.{profiles_quiet, shows_profiles}

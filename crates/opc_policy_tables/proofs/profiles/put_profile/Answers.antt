@@ -1,7 +1,7 @@
 use Rattle.std.proofs.Common.{arith}
 use Rattle.sqlite.specs.Held.{state}
 use Rattle.sqlite.specs.State.{HasCleanDisk}
-use Rattle.opc_tables.proofs.Sets.{pairs_rise}
+use Rattle.opc_statements.proofs.Sets.{pairs_rise}
 use Rattle.opc_policy.specs.Access.{entry_cmp}
 use Rattle.opc_stored.proofs.Ordered.{definition_ordered}
 use Rattle.opc_policy_tables.proofs.ProfileRows.{profile_comes}

@@ -4,7 +4,7 @@ use Rattle.sqlite.specs.Effect.{Database}
 use Rattle.sqlite.specs.Held.{state}
 use Rattle.sqlite.specs.State.{HasCleanDisk}
 use Rattle.sqlite.specs.declared.error.Error.{Error}
-use Rattle.opc_tables.proofs.Looking.{looks_then, looks_as, looked}
+use Rattle.opc_statements.proofs.Looking.{looks_then, looks_as, looked}
 use Rattle.opc_stored.specs.Represented.{Represents, profile_row}
 use Rattle.opc_policy_tables.proofs.Streaming.{looks_on}
 use Rattle.opc_policy_tables.proofs.WholeRows.{one_more_whole}

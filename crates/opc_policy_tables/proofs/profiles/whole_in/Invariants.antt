@@ -2,7 +2,7 @@ use Rattle.std.proofs.Common.{◌≡◌, List, map, take, Ok, Result, IsTrue, fa
 use Rattle.sqlite.specs.declared.error.Error.{Error}
 use Rattle.sqlite.specs.Held.{state}
 use Rattle.sqlite.specs.State.{HasCleanDisk}
-use Rattle.opc_tables.specs.Steps.{Looks}
+use Rattle.opc_statements.specs.Steps.{Looks}
 use Rattle.opc_policy.specs.declared.profile.Profile.{Profile}
 use Rattle.opc_stored.specs.Represented.{Represents, profile_row}
 use Rattle.opc_policy_tables.specs.Among.{AreAmong}

@@ -1,7 +1,7 @@
 use Rattle.std.proofs.Common.{◌∙◌, refl}
 use Rattle.std.proofs.lemmas.Option.{slice_get_read, slice_get_past}
 use Rattle.std.specs.Str.{bytes_eq}
-use Rattle.opc_tables.proofs.Decoded.{first_found, none_found}
+use Rattle.opc_statements.proofs.Decoded.{first_found, none_found}
 use Rattle.opc_stored.specs.Represented.{user_row}
 use Rattle.opc_policy_tables.proofs.UserLoads.{user_quiet, shows_user}
 use Rattle.opc_policy_tables.proofs.users.user_on.Goals as goal

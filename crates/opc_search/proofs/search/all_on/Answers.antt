@@ -3,7 +3,7 @@ use Rattle.sqlite.specs.Effect.{Database}
 use Rattle.sqlite.specs.Held.{state}
 use Rattle.sqlite.specs.State.{HasCleanDisk}
 use Rattle.sqlite_keyed.proofs.ListLemmas.{all-filter}
-use Rattle.opc_tables.proofs.Looking.{looked}
+use Rattle.opc_statements.proofs.Looking.{looked}
 use Rattle.opc_names.specs.Authority.{same_class}
 use Rattle.opc_policy.specs.declared.profile.Profile.{Profile}
 use Rattle.opc_policy.specs.Deciding.{of_class}

@@ -1,7 +1,7 @@
 use Rattle.std.proofs.Common.{◌≡◌, ◌≤◌, length, false, Err, Result}
 use Rattle.sqlite.specs.Held.{state}
 use Rattle.sqlite.specs.State.{HasCleanDisk}
-use Rattle.opc_tables.specs.Steps.{Looks}
+use Rattle.opc_statements.specs.Steps.{Looks}
 use Rattle.opc_policy.specs.Deciding.{of_class}
 use Rattle.opc_policy.proofs.ByHeads.{Asked}
 use Rattle.opc_state.specs.State.{State}

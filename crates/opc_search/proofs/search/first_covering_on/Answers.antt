@@ -6,8 +6,8 @@ use Rattle.sqlite.specs.Values.{bound}
 use Rattle.sqlite.specs.State.{HasCleanDisk}
 use Rattle.sqlite.proofs.StateLemmas.{survives_then}
 use Rattle.sqlite.proofs.Callers.{given_begin, unchanged_then}
-use Rattle.opc_tables.proofs.Reading.{reads_survive}
-use Rattle.opc_tables.proofs.Streams.{none_taken}
+use Rattle.opc_statements.proofs.Reading.{reads_survive}
+use Rattle.opc_statements.proofs.Streams.{none_taken}
 use Rattle.opc_policy.specs.declared.profile.Profile.{Profile}
 use Rattle.opc_policy.proofs.FirstCovering.{covered_text, uncovered_text}
 use Rattle.opc_stored.specs.Represented.{profile_row}

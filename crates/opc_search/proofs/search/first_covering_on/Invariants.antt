@@ -4,7 +4,7 @@ use Rattle.sqlite.specs.State.{HasCleanDisk, IsUnchanged, Survives}
 use Rattle.sqlite.specs.Held.{state}
 use Rattle.sqlite.specs.Given.{HasGiven}
 use Rattle.sqlite.specs.Values.{bound}
-use Rattle.opc_tables.proofs.Streams.{HasTaken}
+use Rattle.opc_statements.proofs.Streams.{HasTaken}
 use Rattle.opc_policy.specs.declared.profile.Profile.{Profile}
 use Rattle.opc_state.specs.State.{State}
 use Rattle.opc_stored.specs.Represented.{Represents, profile_row}

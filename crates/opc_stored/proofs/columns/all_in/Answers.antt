@@ -1,5 +1,5 @@
 use Rattle.std.proofs.Common.{◌∙◌}
-use Rattle.opc_tables.proofs.Decoded.{more_taken}
+use Rattle.opc_statements.proofs.Decoded.{more_taken}
 use Rattle.opc_stored.proofs.columns.all_in.Goals as goal
 
 pub loop-row-preserved : goal.loop-row-preserved

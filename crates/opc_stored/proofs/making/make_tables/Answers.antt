@@ -4,10 +4,10 @@ use Rattle.sqlite.specs.Held.{state}
 use Rattle.sqlite.specs.State.{HasCleanDisk, Survives}
 use Rattle.sqlite.specs.Tree.{Trees}
 use Rattle.sqlite.proofs.StateLemmas.{survives_then, survives_weaker}
-use Rattle.opc_tables.proofs.Work.{Leaves, crashes}
+use Rattle.opc_statements.proofs.Work.{Leaves, crashes}
 use Rattle.opc_stored.specs.Represented.{Represents, AreTablesOf}
 use Rattle.opc_stored.proofs.Opened.{alone_from}
-use Rattle.opc_tables.specs.Shapes.{no_schema}
+use Rattle.opc_statements.specs.Shapes.{no_schema}
 use Rattle.opc_state.specs.State.{empty}
 use Rattle.opc_stored.proofs.making.make_tables.Goals as goal
 

@@ -5,7 +5,7 @@ use Rattle.sqlite.specs.State.{HasCleanDisk}
 use Rattle.sqlite.specs.Files.{file_state}
 use Rattle.sqlite_catalog.proofs.ReadLemmas.{lists_once}
 use Rattle.sqlite_trees.specs.Objects.{catalog_tree}
-use Rattle.opc_tables.specs.Shapes.{no_schema}
+use Rattle.opc_statements.specs.Shapes.{no_schema}
 use Rattle.opc_stored.specs.Represented.{AreTablesOf}
 use Rattle.sqlite.proofs.StateLemmas.{survives_weaker}
 use Rattle.opc_stored.specs.Ours.{has_our_name}

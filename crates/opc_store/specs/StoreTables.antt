@@ -1,0 +1,21 @@
+-- What a connection is to the machine that keeps its state by it.
+use Rattle.std.specs.Prelude.{IsTrue}
+use Rattle.sqlite_trees.specs.declared.store.Store.{Ghosts}
+use Rattle.sqlite_trees.specs.Tree.{Trees}
+use Rattle.sqlite.specs.Held.{Held, state}
+use Rattle.sqlite.specs.State.{HasCleanDisk}
+use Rattle.opc_state.specs.State.{State}
+use Rattle.opc_stored.specs.Represented.{Represents, AreTablesOf}
+
+module _ {S : Type 0} (g : Ghosts S) where
+  -- the tables represent the state, as long as the connection is open
+  abbrev pub RepresentsIfOpen : Held S → State → Type 0
+  RepresentsIfOpen h s = IsTrue (state g h).is_open → Represents (state g h).now s
+
+  -- the disk has returned what was written, and nobody else writes the tables
+  abbrev pub IsSure : Held S → Type 0
+  IsSure h = HasCleanDisk (state g h)
+
+  -- a crash may leave tables of the state, where the disk returns what was written
+  abbrev pub MayLeave : Held S → State → Type 0
+  MayLeave h s = IsSure h × (trees : Trees) × (state g h).may_leave trees × AreTablesOf trees s

@@ -1,6 +1,10 @@
-pub mod BoardLoads
+pub mod ConsoleLoads
 pub mod ConsoleRows
+pub mod DayLoads
 pub mod DayRows
+pub mod DeviceLoads
 pub mod DeviceRows
+pub mod ReplyLoads
 pub mod ReplyRows
+pub mod UnitLoads
 pub mod UnitRows

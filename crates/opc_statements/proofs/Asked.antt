@@ -1,7 +1,8 @@
 -- A SELECT on one table: what is asked, and which rows it tells.
-use Rattle.std.proofs.Common.{◌≡◌, ℕ, zero, suc, ◌+◌, List, [], ◌∷◌, ◌++◌, map, drop, filter, Bool, true, false, not, ◌&&◌, ◌==◌, refl, ap, ap₂, subst, ◌∙◌, Ordering, Less}
+use Rattle.std.proofs.Common.{◌≡◌, ℕ, zero, suc, ◌+◌, List, [], ◌∷◌, ◌++◌, map, drop, filter, Bool, true, false, not, ◌&&◌, ◌==◌, refl, ap, ap₂, subst, ◌∙◌, Ordering, Less, Equal, Greater}
 use Rattle.std.proofs.lemmas.Bool.{and_parts}
 use Rattle.std.specs.List.{list_all}
+use Rattle.std.specs.Ordering.{ordering_then}
 use Rattle.sqlite.specs.declared.types.Value.{Value}
 use Rattle.sqlite.specs.declared.types.Value.TheVariants.{Null}
 use Rattle.sqlite.specs.Order.{Row, column}
@@ -16,21 +17,37 @@ use Rattle.sqlite.specs.Effect.{Database, Answers, Reads, ReadsFirst}
 use Rattle.sqlite.specs.Listing.{understood, reads_listing}
 use Rattle.sqlite.specs.State.{State, Shown, Begins}
 use Rattle.sqlite.proofs.Callers.{IsPlain, command_of, reads_as, begins_as}
-use Rattle.sqlite_keyed.proofs.ListLemmas.{filter_all, all_of}
+use Rattle.sqlite_keyed.proofs.ListLemmas.{filter_all, all_of, map_same}
 use Rattle.sqlite_resolve.specs.Compile.{first}
 use Rattle.sqlite_schema.specs.declared.program.Program.{Program}
+use Rattle.sqlite_value.specs.declared.keys.Collation.TheVariants.{Binary}
 use Rattle.sqlite_value.specs.declared.keys.Key.{Key}
+use Rattle.sqlite_value.specs.Keys.{ascending}
 use Rattle.opc_statements.specs.Order.{Rises}
-use Rattle.opc_statements.specs.Rows.{HasRows}
+use Rattle.opc_statements.specs.Rows.{HasRows, numbered_rows}
 use Rattle.opc_statements.specs.Steps.{NeverWrites}
 use Rattle.opc_statements.proofs.Listed.{listed, listed_numbers, listed_part}
-use Rattle.opc_statements.proofs.Queries.{selecting, alone, answered, passes, shown}
+use Rattle.opc_statements.proofs.Places.{placed, place_cmp, placed_row, placed_rows, placed_rises, placed_members}
+use Rattle.opc_statements.proofs.Queries.{Lists, Pages, selecting, paging, alone, answered, paged, passes, shown}
 use Rattle.opc_statements.proofs.Quiet.{ShowsNothing, understood_quiet}
 
 -- so many columns, from this one on, where 0 is the rowid
 abbrev pub columns : ℕ → ℕ → List Term
 columns at zero = []
 columns at (suc n) = col 1 at ∷ columns (at + 1) n
+
+-- ORDER BY so many columns, from this one on
+abbrev pub by_columns : ℕ → ℕ → List (Term × Key)
+by_columns at zero = []
+by_columns at (suc n) = (col 1 at, ascending Binary) ∷ by_columns (at + 1) n
+
+-- what is before by two columns comes first
+pub then_less : (a b : Ordering) → ordering_then a b ≡ Less → ordering_then a (ordering_then b Equal) ≡ Less
+then_less Less b h = refl
+then_less Equal Less h = refl
+then_less Equal Equal h = absurd cc
+then_less Equal Greater h = absurd cc
+then_less Greater b h = absurd cc
 
 abbrev pub Selects : Query → Command → Type 0
 Selects q (Select p names) = p ≡ alone q
@@ -63,6 +80,9 @@ module _ (schema : Schema) (text : List ℕ) (q : Query) where
     pub begins : (old : State) → old.now.schema ≡ schema → (rows : List Row) → Begins text params old rows → (tail : List Row) × Answers old.now (alone q) params (rows ++ tail)
     begins old has rows h =
         first_is (command_of (understood schema text)) old.now params rows is.selects (begins_as text params old old schema has (command_of (understood schema text)) refl is.plain is.unlisted rows h)
+
+pub never_writes : {schema : Schema} {text : List ℕ} {q : Query} → Asks schema text q → NeverWrites text
+never_writes {schema} {text} {q} is = understood_quiet text is.shows
 
 -- ---- what is read of a row
 
@@ -125,8 +145,9 @@ query a = selecting a.tree a.tests a.project a.order
 abbrev pub IsAsked : Asked → Type 0
 IsAsked a = Asks a.schema a.text (query a)
 
-pub never_writes : (a : Asked) → IsAsked a → NeverWrites a.text
-never_writes a is = understood_quiet a.text is.shows
+-- the text has LIMIT, too
+abbrev pub IsPaged : Asked → Term → Type 0
+IsPaged a limit = Asks a.schema a.text (paging a.tree a.tests a.project a.order limit)
 
 -- it reads no rowid
 abbrev pub is_of_values : Asked → Bool
@@ -139,14 +160,33 @@ module _ (a : Asked) (params : Row) where
   abbrev pub tells : Row → Output
   tells r = shown a.tree a.tests a.project a.order (λ _. []) params r
 
+  pub pages : (limit : Term) → IsPaged a limit → (old new : State) → old.now.schema ≡ a.schema → (rows : List Row) → Shown a.text params old new rows → Pages a.tree a.tests a.project a.order old.now.trees params limit rows
+  pages limit is old new has rows h =
+      paged a.tree a.tests a.project a.order old.now.trees params old.now.schema limit rows (answers a.schema a.text (paging a.tree a.tests a.project a.order limit) is params old new has rows h)
+
   -- a table whose key is the rowid: rows with their numbers
-  module _ {X : Type 0} (row : X → Row) (cmp : X → X → Ordering) (p : X → Bool) (passing : (x : X) → picks (row x) ≡ p x)
-      (less : (x y : X) → cmp x y ≡ Less → output_cmp (query a) (tells (row x)) (tells (row y)) ≡ Less) where
-    pub told_numbers : IsAsked a → (old new : State) → old.now.schema ≡ a.schema → (xs : List X) → Rises cmp xs → old.now.trees a.tree ≡ map row xs → (rows : List Row) → Shown a.text params old new rows
-        → rows ≡ map (λ x. (tells (row x)).1) (filter p xs)
-    told_numbers is old new has xs up had rows h =
-        let lists = answered a.tree a.tests a.project a.order old.now.trees params old.now.schema rows (answers a.schema a.text (query a) is params old new has rows h) in
-        listed_numbers row cmp a.tree a.tests a.project a.order params (λ x. tells (row x)) p old.now.trees passing (λ _. refl) less xs rows up had lists
+  module _ {X : Type 0} (row : X → Row) (cmp : X → X → Ordering) (less : (x y : X) → cmp x y ≡ Less → output_cmp (query a) (tells (row x)) (tells (row y)) ≡ Less) where
+    module _ (p : X → Bool) (passing : (x : X) → picks (row x) ≡ p x) where
+      pub numbers_listed : (db : Trees) (xs : List X) → Rises cmp xs → db a.tree ≡ map row xs → (rows : List Row) → Lists a.tree a.tests a.project a.order db params rows → rows ≡ map (λ x. (tells (row x)).1) (filter p xs)
+      numbers_listed db xs up had rows lists = listed_numbers row cmp a.tree a.tests a.project a.order params (λ x. tells (row x)) p db passing (λ _. refl) less xs rows up had lists
+
+      pub told_numbers : IsAsked a → (old new : State) → old.now.schema ≡ a.schema → (xs : List X) → Rises cmp xs → old.now.trees a.tree ≡ map row xs → (rows : List Row) → Shown a.text params old new rows
+          → rows ≡ map (λ x. (tells (row x)).1) (filter p xs)
+      told_numbers is old new has xs up had rows h = numbers_listed old.now.trees xs up had rows (answered a.tree a.tests a.project a.order old.now.trees params old.now.schema rows (answers a.schema a.text (query a) is params old new has rows h))
+
+    -- where each row passes
+    pub told_all_numbers : ((x : X) → picks (row x) ≡ true) → IsAsked a → (old new : State) → old.now.schema ≡ a.schema → (xs : List X) → Rises cmp xs → old.now.trees a.tree ≡ map row xs → (rows : List Row) → Shown a.text params old new rows
+        → rows ≡ map (λ x. (tells (row x)).1) xs
+    told_all_numbers each is old new has xs up had rows h =
+        told_numbers (λ _. true) each is old new has xs up had rows h ∙ ap (map (λ x. (tells (row x)).1)) (filter_all (λ (x : X). true) xs (all_of (λ (x : X). true ≡ true) (λ _. refl) xs))
+
+  -- a table whose rows are numbered by their places, all of it
+  pub told_places : {X : Type 0} (values shape : X → Row) → ((p : ℕ × X) → (tells (placed_row values p)).1 ≡ shape p.1) → ((p q : ℕ × X) → place_cmp p q ≡ Less → output_cmp (query a) (tells (placed_row values p)) (tells (placed_row values q)) ≡ Less)
+      → ((p : ℕ × X) → picks (placed_row values p) ≡ true) → IsAsked a → (old new : State) → old.now.schema ≡ a.schema → (xs : List X) → old.now.trees a.tree ≡ numbered_rows values 1 xs
+      → (rows : List Row) → Shown a.text params old new rows → rows ≡ map shape xs
+  told_places {X} values shape shows less each is old new has xs had rows h =
+      told_all_numbers (placed_row values) place_cmp less each is old new has (placed 1 xs) (placed_rises 1 xs) (had ∙ placed_rows values 1 xs) rows h
+      ∙ (map_same (λ (p : ℕ × X). (tells (placed_row values p)).1) (λ (p : ℕ × X). shape p.1) shows (placed 1 xs) ∙ placed_members shape 1 xs)
 
   -- any other: rows of values
   module _ (values : is_of_values a ≡ true) where

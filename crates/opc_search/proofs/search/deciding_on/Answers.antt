@@ -3,7 +3,7 @@ use Rattle.sqlite.specs.Effect.{Database}
 use Rattle.opc_policy.proofs.ByHeads.{asked_start, asked_last, asked_next}
 use Rattle.opc_stored.specs.Represented.{Represents}
 use Rattle.opc_search.proofs.FirstDeciding.{are_profiles}
-use Rattle.opc_policy_tables.proofs.Streaming.{looks_start, looks_on, looks_off, looked_on}
+use Rattle.opc_statements.proofs.Looking.{looks_start, looks_on, looks_off, looked_on}
 use Rattle.opc_search.proofs.search.deciding_on.Invariants.{nothing}
 use Rattle.opc_search.proofs.search.deciding_on.Goals as goal
 

@@ -1,0 +1,23 @@
+-- What the query on units reads.
+use Rattle.std.proofs.Common.{◌≡◌, List, [], map, codes, refl}
+use Rattle.sqlite.specs.Order.{Row}
+use Rattle.sqlite.specs.Listing.{understood}
+use Rattle.sqlite.specs.State.{State as SqlState, Shown}
+use Rattle.sqlite_tied.specs.Compute.{everything}
+use Rattle.sqlite_value.proofs.OrderLemmas.{value_cmp-Text}
+use Rattle.opc_statements.proofs.Asked.{Asked, IsAsked, by_columns, columns, told_all}
+use Rattle.opc_state.specs.Members.{unit_cmp}
+use Rattle.opc_state.specs.State.{State}
+use Rattle.opc_stored.specs.Tables.{the_schema}
+use Rattle.opc_stored.specs.Represented.{Represents, unit_row}
+
+abbrev pub units : Asked
+units = record { schema = the_schema; text = codes "SELECT name, kind, member, cancelable, stopping, last FROM units ORDER BY name"; tree = 5; tests = []; project = columns 1 6; order = by_columns 1 1 }
+
+pub units_asked : IsAsked units
+unfolding understood everything
+units_asked = record { selects = refl; unlisted = refl; plain = (refl, refl); shows = λ schema base. refl }
+
+pub units_told : (old new : SqlState) (s : State) → Represents old.now s → (rows : List Row) → Shown units.text [] old new rows → rows ≡ map unit_row s.board.units
+units_told old new s was =
+    told_all units [] refl unit_row unit_cmp (λ _. refl) (λ x y h. rw (value_cmp-Text x.name y.name, h)) (λ _. refl) units_asked old new was.rows.schema s.board.units was.ordered.units was.rows.holds.units

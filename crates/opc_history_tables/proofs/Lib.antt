@@ -1,4 +1,10 @@
+pub mod AccountLoads
+pub mod AccountRows
+pub mod AnsweredLoads
+pub mod AnsweredRows
+pub mod BatchLoads
 pub mod BatchRows
-pub mod HistoryLoads
-pub mod HistoryNumbers
-pub mod HistoryRows
+pub mod LogLoads
+pub mod LogRows
+pub mod MessageLoads
+pub mod MessageRows

@@ -118,7 +118,7 @@ module _ {X : Type 0} (k : Keyed X) where
 
 -- ---- why
 
-stored : (columns : List Column) (values : Row) → StoresAsIs columns values → cast_all columns values ≡ values
+pub stored : (columns : List Column) (values : Row) → StoresAsIs columns values → cast_all columns values ≡ values
 stored [] values h = refl
 stored (c ∷ cs) [] h = refl
 stored (c ∷ cs) (v ∷ values) h = ap₂ (λ (a : Value) (r : Row). a ∷ r) h.0 (stored cs values h.1)

@@ -23,4 +23,5 @@ pub mod Sorting
 pub mod LastNumber
 pub mod Places
 pub mod Keyed
+pub mod Histories
 pub mod Asked

@@ -2,11 +2,12 @@ use Rattle.std.proofs.Common.{◌≡◌, ◌∙◌, ◌-◌, ◌^◌, pos, min, 
 use Rattle.std.proofs.Math.Facts.{to_z-of_z}
 use Rattle.opc_history_tables.specs.Loads.{account_page}
 use Rattle.opc_stored.specs.Represented.{account_shown}
-use Rattle.opc_history_tables.proofs.HistoryLoads.{account_quiet, account_asked, shows_account, within_table}
+use Rattle.opc_statements.proofs.Asked.{never_writes}
+use Rattle.opc_history_tables.proofs.AccountLoads.{account_asked, account_params, account_told, within_table}
 use Rattle.opc_history_tables.proofs.account.account_on.Goals as goal
 
 pub read-requires-clause-quiet : goal.read-requires-clause-quiet
-read-requires-clause-quiet g c = account_quiet
+read-requires-clause-quiet g c = never_writes account_asked
 
 pub returns-clause-found : goal.returns-clause-found
 returns-clause-found g c clean s was =
@@ -15,7 +16,7 @@ returns-clause-found g c clean s was =
     let asked = rw (c.params-to_sql.ensures, c.params-to_sql-2.ensures) at (c.in_ok-rows.ensures.shown clean) in
     let same : c.last_before-last.result ≡ pos last = c.last_before-last.ensures in
     let given : to_z w64 (of_z w64 c.last_before-last.result) ≡ pos last = search (rules, to_z-of_z, same) in
-    let shown = account_asked _ _ _ last c.args.count _ given asked in
-    let are = shows_account _ _ s was.rows last c.args.count _ shown in
+    let shown = account_params _ _ _ last c.args.count _ given asked in
+    let are = account_told _ _ s was last c.args.count _ shown in
     let page = ap (λ l. map account_shown (take c.args.count l)) (within_table (c.args.from - 1) (2 ^ 63 - 1) s.account (omega (arith, short))) in
     c.all_in.ensures (account_page c.args.from c.args.count s.account) (c.as_slice.ensures.value ∙ (are ∙ page))

@@ -1,8 +1,6 @@
 use Rattle.std.proofs.Common.{◌≡◌, pos, rules, to_z, of_z, w64}
 use Rattle.std.proofs.Math.Facts.{to_z-of_z}
-use Rattle.opc_history_tables.proofs.HistoryNumbers.{account_fits}
-use Rattle.opc_history_tables.proofs.HistoryRows.{adds_account, account_given}
-use Rattle.opc_stored.proofs.Ordered.{account_ordered}
+use Rattle.opc_history_tables.proofs.AccountRows.{account_added, account_given}
 use Rattle.opc_history_tables.proofs.account.add_row.Goals as goal
 
 pub returns-clause-done : goal.returns-clause-done
@@ -11,5 +9,4 @@ returns-clause-done g c clean s was =
     let same : c.in-Ok.moment ≡ pos c.args.row.now.moment = search rules in
     let moment : to_z w64 (of_z w64 c.in-Ok.moment) ≡ pos c.args.row.now.moment = search (rules, to_z-of_z, same) in
     let given = account_given _ c.args.row.now _ _ _ _ _ moment c.as_str.ensures c.as_str-2.ensures c.as_str-3.ensures c.as_str-4.ensures _ _ _ h in
-    let fits = account_fits _ _ _ s was.rows c.last_number-number.ensures.fits c.args.row.now given in
-    record { ordered = account_ordered s was.ordered c.args.row.now fits; rows = adds_account _ _ _ s was.rows c.args.row.now given }
+    account_added _ _ _ s was c.args.row.now given c.last_number-number.ensures.fits

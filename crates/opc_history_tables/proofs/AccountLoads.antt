@@ -1,0 +1,72 @@
+-- What the query on the account reads: a page past a number.
+use Rattle.std.proofs.Common.{◌≡◌, ℕ, ℤ, zero, suc, ◌-◌, ◌<◌, ◌≤◌, pos, min, length, List, [], ◌∷◌, map, filter, drop, take, codes, Bool, true, false, nat_lt, nat_le, refl, sym, ap, subst, ◌∙◌, arith}
+use Rattle.std.proofs.lemmas.List.{take-map}
+use Rattle.std.proofs.lemmas.Bool.Decides.{nat_tests}
+use Rattle.sqlite.specs.Order.{Row}
+use Rattle.sqlite.specs.declared.types.Value.TheVariants.{Int}
+use Rattle.sqlite.specs.Term.{col, op2}
+use Rattle.sqlite.specs.Listing.{understood}
+use Rattle.sqlite.specs.State.{State as SqlState, Shown}
+use Rattle.sqlite_sql.specs.declared.ops.BinaryOp.TheVariants.{Compare}
+use Rattle.sqlite_sql.specs.declared.ops.CompareOp.TheVariants.{Gt}
+use Rattle.sqlite_value.specs.declared.keys.Collation.TheVariants.{Binary}
+use Rattle.sqlite_tied.specs.Compute.{everything}
+use Rattle.opc_statements.proofs.Asked.{Asked, IsPaged, by_columns, columns, numbers_listed, pages}
+use Rattle.opc_statements.proofs.Numbered.{number_cmp}
+use Rattle.opc_statements.proofs.Places.{placed, place_cmp, placed_row, placed_rows, placed_rises, placed_past}
+use Rattle.opc_statements.proofs.Values.{number_past, and_true}
+use Rattle.opc_state.specs.declared.account.AccountRow.{AccountRow}
+use Rattle.opc_state.specs.State.{State}
+use Rattle.opc_stored.specs.Tables.{the_schema}
+use Rattle.opc_stored.specs.Represented.{Represents, account_values, account_shown}
+
+-- past the first parameter; as many as the second
+abbrev pub account : Asked
+account = record {
+  schema = the_schema;
+  text = codes "SELECT moment, console, usr, code, rule FROM account WHERE number > ?1 ORDER BY number LIMIT ?2";
+  tree = 14;
+  tests = op2 (Compare Gt Binary) (col 1 0) (col 0 0) ∷ [];
+  project = columns 2 5;
+  order = by_columns 0 1;
+}
+
+pub account_asked : IsPaged account (col 0 1)
+unfolding understood everything
+account_asked = record { selects = refl; unlisted = refl; plain = (refl, refl); shows = λ schema base. refl }
+
+abbrev page_params : ℕ → ℕ → Row
+page_params last count = Int (pos last) ∷ Int (pos count) ∷ []
+
+past_end : {X : Type 0} (n : ℕ) (xs : List X) → length xs ≤ n → (let none : List X = [] in drop n xs ≡ none)
+past_end zero [] h = refl
+past_end zero (x ∷ xs) h = absurd (omega arith)
+past_end (suc n) [] h = refl
+past_end (suc n) (x ∷ xs) h = past_end n xs (omega arith)
+
+-- no row is at a number that no table can hold
+pub within_table : {X : Type 0} (a top : ℕ) (xs : List X) → length xs ≤ top → drop (min a top) xs ≡ drop a xs
+within_table {X} a top xs short = go (nat_le a top) refl
+  where
+    go : (b : Bool) → nat_le a top ≡ b → drop (min a top) xs ≡ drop a xs
+    go true e =
+        let low : a ≤ top = grind (arith, nat_tests, e) in
+        let same : min a top ≡ a = omega arith in
+        ap (λ (n : ℕ). drop n xs) same
+    go false e =
+        let high : top < a = grind (arith, nat_tests, e) in
+        let same : min a top ≡ top = omega arith in
+        ap (λ (n : ℕ). drop n xs) same ∙ (past_end top xs short ∙ sym (past_end a xs (omega arith)))
+
+pub account_params : (old new : SqlState) (given : ℤ) (last count : ℕ) (rows : List Row) → given ≡ pos last → Shown account.text (Int given ∷ Int (pos count) ∷ []) old new rows → Shown account.text (page_params last count) old new rows
+account_params old new given last count rows same = subst (λ (n : ℤ). Shown account.text (Int n ∷ Int (pos count) ∷ []) old new rows) same
+
+pub account_told : (old new : SqlState) (s : State) → Represents old.now s → (last count : ℕ) (rows : List Row) → Shown account.text (page_params last count) old new rows → rows ≡ map account_shown (take count (drop last s.account))
+account_told old new s was last count rows h =
+    let params = page_params last count in
+    let xs = s.account in
+    let it = pages account params (col 0 1) account_asked old new was.rows.schema rows h in
+    let found : it.all ≡ map (λ (p : ℕ × AccountRow). account_shown p.1) (filter (λ (p : ℕ × AccountRow). nat_lt last p.0) (placed 1 xs)) =
+    numbers_listed account params (placed_row account_values) place_cmp (λ p q less. rw (number_cmp p.0 q.0, less)) (λ p. nat_lt last p.0) (λ p. and_true _ ∙ number_past p.0 last) old.now.trees (placed 1 xs) (placed_rises 1 xs) (was.rows.holds.account ∙ placed_rows account_values 1 xs) it.all it.lists in
+    let behind : suc last - 1 ≡ last = omega arith in
+    it.are ∙ (ap (take count) (found ∙ (placed_past account_shown last 1 xs ∙ ap (λ (n : ℕ). map account_shown (drop n xs)) behind)) ∙ take-map account_shown count (drop last xs))

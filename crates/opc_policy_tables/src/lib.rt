@@ -6,7 +6,5 @@ pub mod connects;
 pub mod entries;
 pub mod groups;
 pub mod levels;
-pub mod policy;
 pub mod profiles;
-pub mod rows;
 pub mod users;

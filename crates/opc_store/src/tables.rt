@@ -13,13 +13,13 @@ use opc_policy::source::StoreFault;
 use opc_policy::user::User;
 use opc_policy_tables::classes::active_on;
 use opc_policy_tables::connects::user_groups_on;
-use opc_policy_tables::policy::policy_on;
 use opc_policy_tables::users::{has_users_on, user_on};
 use opc_search::search::deciding_on;
 use opc_state::change::Change;
 use opc_state::tables::Tables;
 use opc_stored::faults::fault;
 use opc_stored::version::version_on;
+use opc_whole_policy::policy::policy_on;
 use sqlite::Alter;
 use std::alloc::Global;
 

@@ -3,7 +3,7 @@ ghost use Rattle.std.specs.Prelude.{◌≡◌, false, IfOk};
 ghost use Rattle.sqlite.specs.Held.{state};
 ghost use Rattle.sqlite.specs.State.{HasCleanDisk};
 ghost use Rattle.opc_statements.specs.Steps.{Looks};
-ghost use Rattle.opc_policy_tables.specs.PolicyFile.{rows_of};
+ghost use Rattle.opc_whole_policy.specs.PolicyFile.{rows_of};
 ghost use Rattle.opc_stored.specs.Represented.{Represents};
 
 use opc_board::board::BoardRows;
@@ -14,7 +14,7 @@ use opc_history_tables::log::log_on;
 use opc_history_tables::messages::messages_on;
 use opc_policy::row::Row;
 use opc_policy::source::StoreFault;
-use opc_policy_tables::rows::policy_rows_on;
+use opc_whole_policy::rows::policy_rows_on;
 use sqlite::{Alter, Connection};
 use std::alloc::Global;
 

@@ -1,6 +1,6 @@
 use Rattle.std.proofs.Common.{ap, ◌∙◌}
 use Rattle.sqlite.specs.Order.{Row, column}
-use Rattle.opc_policy_tables.proofs.Named.{more_named}
+use Rattle.opc_policy_tables.proofs.ConnectLoads.{more_named}
 use Rattle.opc_policy_tables.proofs.connects.groups_in.Goals as goal
 
 pub loop-row-preserved : goal.loop-row-preserved

@@ -4,10 +4,9 @@ use Rattle.sqlite.specs.Effect.{Database}
 use Rattle.sqlite.specs.Held.{state}
 use Rattle.sqlite.specs.State.{HasCleanDisk}
 use Rattle.sqlite.specs.declared.error.Error.{Error}
-use Rattle.opc_statements.proofs.Looking.{looks_then, looks_as, looked}
+use Rattle.opc_statements.proofs.Looking.{looks_then, looks_as, looked, looks_on}
 use Rattle.opc_stored.specs.Represented.{Represents, profile_row}
-use Rattle.opc_policy_tables.proofs.Streaming.{looks_on}
-use Rattle.opc_policy_tables.proofs.WholeRows.{one_more_whole}
+use Rattle.opc_policy_tables.proofs.ProfileLoads.{one_more_whole}
 use Rattle.opc_policy_tables.proofs.profiles.whole_in.Goals as goal
 
 pub loop-row-preserved : goal.loop-row-preserved

@@ -3,7 +3,7 @@ use Rattle.std.proofs.lemmas.List.{map-id}
 use Rattle.opc_statements.proofs.Putting.{more_put}
 use Rattle.opc_policy.specs.Members.{user_cmp}
 use Rattle.opc_stored.proofs.Keys.{user_total}
-use Rattle.opc_policy_tables.proofs.policy.users_of.Goals as goal
+use Rattle.opc_whole_policy.proofs.policy.users_of.Goals as goal
 
 pub loop-user-preserved : goal.loop-user-preserved
 loop-user-preserved c up =

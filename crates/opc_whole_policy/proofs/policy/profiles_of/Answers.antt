@@ -2,8 +2,8 @@ use Rattle.std.proofs.Common.{◌≡◌, ◌∙◌, take, length, sym, ap, arith
 use Rattle.std.proofs.lemmas.Iterator.Adapters.{YieldsList-from_vec}
 use Rattle.std.proofs.lemmas.Iterator.Consumers.{YieldsList-turn, YieldsList-end}
 use Rattle.std.proofs.lemmas.List.{take_all, length_push}
-use Rattle.opc_policy_tables.proofs.Defined.{more_defined}
-use Rattle.opc_policy_tables.proofs.policy.profiles_of.Goals as goal
+use Rattle.opc_whole_policy.proofs.Defined.{more_defined}
+use Rattle.opc_whole_policy.proofs.policy.profiles_of.Goals as goal
 
 pub loop-profile-init : goal.loop-profile-init
 loop-profile-init c up = c.new-profiles.ensures

@@ -3,7 +3,7 @@ use Rattle.std.proofs.lemmas.List.{map-id}
 use Rattle.opc_statements.proofs.Putting.{more_inserted}
 use Rattle.opc_policy.specs.Members.{connect_cmp}
 use Rattle.opc_stored.proofs.Keys.{connect_total, same_connect}
-use Rattle.opc_policy_tables.proofs.policy.connects_of.Goals as goal
+use Rattle.opc_whole_policy.proofs.policy.connects_of.Goals as goal
 
 pub loop-connect-preserved : goal.loop-connect-preserved
 loop-connect-preserved c up =

@@ -6,14 +6,9 @@ ghost use Rattle.sqlite.specs.State.{HasCleanDisk};
 ghost use Rattle.opc_statements.specs.Steps.{Looks};
 ghost use Rattle.opc_policy.specs.declared.policy.Policy.{Policy as ThePolicy};
 ghost use Rattle.opc_policy.specs.declared.row.Row.{Row as TheRow};
-ghost use Rattle.opc_policy_tables.specs.PolicyFile.{rows_of, row_of_group, row_of_user, row_of_connect, row_of_console, row_of_profile, row_of_entry, permits_of};
+ghost use Rattle.opc_whole_policy.specs.PolicyFile.{rows_of, row_of_group, row_of_user, row_of_connect, row_of_console, row_of_profile, row_of_entry, permits_of};
 ghost use Rattle.opc_stored.specs.Represented.{Represents};
 
-use crate::classes::actives_on;
-use crate::connects::connects_on;
-use crate::groups::groups_on;
-use crate::profiles::profiles_on;
-use crate::users::users_on;
 use opc_board::rows::ConsoleRow;
 use opc_names::class::Class;
 use opc_names::name::{GroupName, Pattern};
@@ -24,6 +19,11 @@ use opc_policy::profile::Profile;
 use opc_policy::row::Row;
 use opc_policy::source::StoreFault;
 use opc_policy::user::User;
+use opc_policy_tables::classes::actives_on;
+use opc_policy_tables::connects::connects_on;
+use opc_policy_tables::groups::groups_on;
+use opc_policy_tables::profiles::profiles_on;
+use opc_policy_tables::users::users_on;
 use sqlite::{Alter, Connection};
 use std::alloc::{AllocError, Global};
 

@@ -8,11 +8,6 @@ ghost use Rattle.opc_policy.specs.Members.{name_cmp, user_cmp, connect_cmp};
 ghost use Rattle.opc_policy.specs.Profiles.{profile_cmp};
 ghost use Rattle.opc_stored.specs.Represented.{Represents};
 
-use crate::classes::actives_on;
-use crate::connects::connects_on;
-use crate::groups::groups_on;
-use crate::profiles::profiles_on;
-use crate::users::users_on;
 use opc_names::name::GroupName;
 use opc_policy::connect::{Connect, Connects};
 use opc_policy::groups::Groups;
@@ -22,6 +17,11 @@ use opc_policy::profiles::Profiles;
 use opc_policy::source::StoreFault;
 use opc_policy::user::User;
 use opc_policy::users::Users;
+use opc_policy_tables::classes::actives_on;
+use opc_policy_tables::connects::connects_on;
+use opc_policy_tables::groups::groups_on;
+use opc_policy_tables::profiles::profiles_on;
+use opc_policy_tables::users::users_on;
 use sqlite::{Alter, Connection};
 use std::alloc::{AllocError, Global};
 

@@ -3,7 +3,7 @@ use Rattle.std.proofs.lemmas.List.{map-id}
 use Rattle.opc_statements.proofs.Putting.{more_inserted}
 use Rattle.opc_policy.specs.Members.{name_cmp}
 use Rattle.opc_stored.proofs.Keys.{group_total, same_name}
-use Rattle.opc_policy_tables.proofs.policy.groups_of.Goals as goal
+use Rattle.opc_whole_policy.proofs.policy.groups_of.Goals as goal
 
 pub loop-name-preserved : goal.loop-name-preserved
 loop-name-preserved c up =

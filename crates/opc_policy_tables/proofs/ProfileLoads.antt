@@ -1,0 +1,96 @@
+-- What the queries on profiles read.
+use Rattle.std.proofs.Common.{◌≡◌, ℕ, zero, suc, ◌+◌, ◌<◌, List, [], ◌∷◌, ◌++◌, map, filter, take, length, get_or, codes, refl, sym, ap, ap₂, subst, subst₂, ◌∙◌, arith, add-one, Less, Some}
+use Rattle.sqlite.specs.Order.{Row}
+use Rattle.sqlite.specs.declared.types.Value.TheVariants.{Null}
+use Rattle.sqlite.specs.Listing.{understood}
+use Rattle.sqlite.specs.Query.{output_cmp}
+use Rattle.sqlite.specs.State.{State as SqlState, Shown}
+use Rattle.sqlite_tied.specs.Compute.{everything}
+use Rattle.sqlite_value.proofs.OrderLemmas.{value_cmp-Text, value_cmp-Blob}
+use Rattle.opc_statements.specs.Order.{text_cmp}
+use Rattle.opc_statements.proofs.Asked.{Asked, IsAsked, by_columns, columns, query, tells, then_less, told, told_all}
+use Rattle.opc_statements.proofs.Keyed.{same_columns}
+use Rattle.opc_names.specs.declared.class.Class.{Class}
+use Rattle.opc_names.specs.declared.class.Class.TheVariants.{Console, Opercmds}
+use Rattle.opc_names.specs.Order.{sort_key}
+use Rattle.opc_names.specs.Spellings.{class_text}
+use Rattle.opc_policy.specs.declared.profile.Profile.{Profile}
+use Rattle.opc_policy.specs.Profiles.{class_cmp, pattern_cmp, profile_cmp, profile_of, is_of}
+use Rattle.opc_state.specs.State.{State}
+use Rattle.opc_stored.specs.State.{IsOrdered}
+use Rattle.opc_stored.specs.Tables.{the_schema}
+use Rattle.opc_stored.specs.Represented.{Represents, profile_row}
+use Rattle.opc_stored.proofs.AccessLists.{split, is_of_means}
+use Rattle.opc_stored.proofs.ProfileTexts.{profile_key, picks_profile}
+use Rattle.opc_policy_tables.specs.Among.{AreAmong}
+
+-- ---- all of them
+
+-- in the order of their class and their sort key
+abbrev pub profiles : Asked
+profiles = record {
+  schema = the_schema;
+  text = codes "SELECT class, pattern, owner, uacc, warning, skey, head FROM profiles ORDER BY class, skey";
+  tree = 22;
+  tests = [];
+  project = columns 1 7;
+  order = by_columns 1 1 ++ by_columns 6 1;
+}
+
+pub profiles_asked : IsAsked profiles
+unfolding understood everything
+profiles_asked = record { selects = refl; unlisted = refl; plain = (refl, refl); shows = λ schema base. refl }
+
+pub class_texts : (a b : Class) → text_cmp (class_text a) (class_text b) ≡ class_cmp a b
+class_texts Console Console = refl
+class_texts Console Opercmds = refl
+class_texts Opercmds Console = refl
+class_texts Opercmds Opercmds = refl
+
+pub profiles_rise : (x y : Profile) → profile_cmp x y ≡ Less → output_cmp (query profiles) (tells profiles [] (Null ∷ profile_row x)) (tells profiles [] (Null ∷ profile_row y)) ≡ Less
+profiles_rise x y h = rw (value_cmp-Text (class_text x.class) (class_text y.class), class_texts x.class y.class, value_cmp-Blob (sort_key x.pattern) (sort_key y.pattern)) (then_less (class_cmp x.class y.class) (pattern_cmp x.pattern y.pattern) h)
+
+pub profiles_told : (old new : SqlState) (s : State) → Represents old.now s → (rows : List Row) → Shown profiles.text [] old new rows → rows ≡ map profile_row s.policy.profiles
+profiles_told old new s was = told_all profiles [] refl profile_row profile_cmp (λ _. refl) profiles_rise (λ _. refl) profiles_asked old new was.rows.schema s.policy.profiles was.ordered.profiles was.rows.holds.profiles
+
+-- ---- that of a class and a pattern
+
+abbrev pub profile : Asked
+profile = record profiles { text = codes "SELECT class, pattern, owner, uacc, warning, skey, head FROM profiles WHERE class = ?1 AND pattern = ?2 ORDER BY class, skey"; tests = same_columns 0 2 }
+
+pub profile_asked : IsAsked profile
+unfolding understood everything
+profile_asked = record { selects = refl; unlisted = refl; plain = (refl, refl); shows = λ schema base. refl }
+
+pub profile_told : (old new : SqlState) (s : State) → Represents old.now s → (class : Class) (pattern : List ℕ) (rows : List Row) → Shown profile.text (profile_key class pattern) old new rows → rows ≡ map profile_row (filter (is_of class pattern) s.policy.profiles)
+profile_told old new s was class pattern =
+    told profile (profile_key class pattern) refl profile_row profile_cmp (λ _. refl) profiles_rise (is_of class pattern) (picks_profile class pattern) profile_asked old new was.rows.schema s.policy.profiles was.ordered.profiles was.rows.holds.profiles
+
+-- the profile that is found is that of its own class and pattern
+pub own_key : (s : State) → IsOrdered s → (class : Class) (pattern : List ℕ) (p : Profile) → profile_of s.policy.profiles class pattern ≡ Some p → profile_of s.policy.profiles p.class p.pattern ≡ Some p
+own_key s ordered class pattern p here =
+    let means = is_of_means class pattern p (split class pattern s.policy.profiles p ordered.profiles here).passes in
+    subst₂ (λ (k : Class) (n : List ℕ). profile_of s.policy.profiles k n ≡ Some p) (sym means.0) (sym means.1) here
+
+-- ---- with their access lists, one after another
+
+module _ (ps : List Profile) where
+  -- the profile of the row at this place
+  record IsHere (xs : List Profile) (i : ℕ) (y : Row) : Type 0 where
+    x : Profile
+    is : y ≡ profile_row x
+    found : profile_of ps x.class x.pattern ≡ Some x
+    more : take (suc i) xs ≡ take i xs ++ x ∷ []
+
+  here : (xs : List Profile) → AreAmong ps xs → (i : ℕ) (d : Row) → i < length (map profile_row xs) → IsHere xs i (get_or (map profile_row xs) i d)
+  here [] all i d low = absurd (omega arith)
+  here (x ∷ xs) all zero d low = record { x = x; is = refl; found = all.0; more = refl }
+  here (x ∷ xs) all (suc i) d low = let it = here xs all.1 i d (omega arith) in record { x = it.x; is = it.is; found = it.found; more = ap (λ (l : List Profile). x ∷ l) it.more }
+
+  -- one more is what was kept, up to here
+  pub one_more_whole : (xs : List Profile) → AreAmong ps xs → (rows : List Row) (vs : List Profile) (i : ℕ) (y : Row) (v : Profile) → rows ≡ map profile_row xs → i < length rows → y ≡ get_or rows i y
+      → ((x : Profile) → y ≡ profile_row x → profile_of ps x.class x.pattern ≡ Some x → v ≡ x) → vs ≡ take i xs → vs ++ v ∷ [] ≡ take (i + 1) xs
+  one_more_whole xs all rows vs i y v are low is decodes so_far =
+      let it = here xs all i y (subst (λ (l : List Row). i < length l) are low) in
+      let row : y ≡ profile_row it.x = is ∙ (ap (λ (l : List Row). get_or l i y) are ∙ it.is) in
+      ap₂ (λ (a : List Profile) (b : Profile). a ++ b ∷ []) so_far (decodes it.x row it.found) ∙ (sym it.more ∙ ap (λ k. take k xs) (sym (add-one i)))

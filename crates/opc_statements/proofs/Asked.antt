@@ -1,5 +1,5 @@
 -- A SELECT on one table: what is asked, and which rows it tells.
-use Rattle.std.proofs.Common.{◌≡◌, ℕ, zero, suc, ◌+◌, List, [], ◌∷◌, ◌++◌, map, drop, filter, Bool, true, false, not, ◌&&◌, ◌==◌, refl, ap, ap₂, subst, ◌∙◌, Ordering, Less, Equal, Greater}
+use Rattle.std.proofs.Common.{◌≡◌, ℕ, zero, suc, ◌+◌, List, [], ◌∷◌, ◌++◌, map, drop, filter, Bool, true, false, not, ◌&&◌, ◌==◌, refl, sym, ap, ap₂, subst, ◌∙◌, Ordering, Less, Equal, Greater}
 use Rattle.std.proofs.lemmas.Bool.{and_parts}
 use Rattle.std.specs.List.{list_all}
 use Rattle.std.specs.Ordering.{ordering_then}
@@ -209,6 +209,13 @@ module _ (a : Asked) (params : Row) where
         pub told : IsAsked a → (old new : State) → old.now.schema ≡ a.schema → (xs : List X) → Rises cmp xs → HasRows (map row xs) (old.now.trees a.tree) → (rows : List Row) → Shown a.text params old new rows
             → rows ≡ map row (filter p xs)
         told is old new has xs up had rows h = answer_is old.now xs up had rows (answers a.schema a.text (query a) is params old new has rows h)
+
+        -- the first rows of the answer
+        pub told_first : IsAsked a → (old : State) → old.now.schema ≡ a.schema → (xs : List X) → Rises cmp xs → HasRows (map row xs) (old.now.trees a.tree) → (rows : List Row) → Begins a.text params old rows
+            → (tail : List Row) × (map row (filter p xs) ≡ rows ++ tail)
+        told_first is old has xs up had rows h =
+            let it = begins a.schema a.text (query a) is params old has rows h in
+            (it.0, sym (answer_is old.now xs up had (rows ++ it.0) it.1))
 
       -- where each row passes
       pub told_all : ((x : X) → picks (Null ∷ row x) ≡ true) → IsAsked a → (old new : State) → old.now.schema ≡ a.schema → (xs : List X) → Rises cmp xs → HasRows (map row xs) (old.now.trees a.tree)

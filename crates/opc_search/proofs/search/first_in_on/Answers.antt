@@ -2,6 +2,7 @@ use Rattle.std.proofs.Common.{◌≡◌, ◌∙◌, List, Some, None, length, sy
 use Rattle.sqlite.specs.Held.{state}
 use Rattle.sqlite.specs.State.{HasCleanDisk}
 use Rattle.sqlite.specs.Effect.{Database}
+use Rattle.opc_statements.proofs.Asked.{never_writes}
 use Rattle.opc_statements.proofs.Looking.{looked}
 use Rattle.opc_policy.specs.declared.profile.Profile.{Profile}
 use Rattle.opc_policy.specs.Deciding.{of_class, deciding}
@@ -9,11 +10,11 @@ use Rattle.opc_policy.specs.Examined.{read_until, with_head}
 use Rattle.opc_stored.specs.Represented.{Represents}
 use Rattle.opc_search.specs.Search.{chosen}
 use Rattle.opc_search.proofs.SearchFound.{found_none, found_some, whole}
-use Rattle.opc_search.proofs.SearchLoads.{head_quiet, chosen_by_head, selects_chosen}
+use Rattle.opc_search.proofs.SearchLoads.{by_head_asked, chosen_by_head, selects_chosen}
 use Rattle.opc_search.proofs.search.first_in_on.Goals as goal
 
 pub first_covering_on-requires-clause-quiet : goal.first_covering_on-requires-clause-quiet
-first_covering_on-requires-clause-quiet g c = head_quiet
+first_covering_on-requires-clause-quiet g c = never_writes by_head_asked
 
 pub returns-in_default-clause-first : goal.returns-in_default-clause-first
 returns-in_default-clause-first g c clean s was =

@@ -2,6 +2,7 @@ use Rattle.std.proofs.Common.{◌≡◌, ◌∙◌, Some, None, length, sym, ap,
 use Rattle.sqlite.specs.Held.{state}
 use Rattle.sqlite.specs.State.{HasCleanDisk}
 use Rattle.sqlite.specs.Effect.{Database}
+use Rattle.opc_statements.proofs.Asked.{never_writes}
 use Rattle.opc_statements.proofs.Looking.{looked}
 use Rattle.opc_policy.specs.declared.profile.Profile.{Profile}
 use Rattle.opc_policy.specs.Deciding.{of_class}
@@ -9,11 +10,11 @@ use Rattle.opc_policy.specs.Examined.{read_until}
 use Rattle.opc_state.specs.State.{State}
 use Rattle.opc_stored.specs.Represented.{Represents}
 use Rattle.opc_search.proofs.SearchFound.{found_none, found_some, whole}
-use Rattle.opc_search.proofs.SearchLoads.{class_quiet, selects_class}
+use Rattle.opc_search.proofs.SearchLoads.{by_class_asked, selects_class}
 use Rattle.opc_search.proofs.search.first_on.Goals as goal
 
 pub first_covering_on-requires-clause-quiet : goal.first_covering_on-requires-clause-quiet
-first_covering_on-requires-clause-quiet g c = class_quiet
+first_covering_on-requires-clause-quiet g c = never_writes by_class_asked
 
 pub returns-in_default-clause-first : goal.returns-in_default-clause-first
 returns-in_default-clause-first g c clean s was =

@@ -1,5 +1,5 @@
 -- The table of answered replies, and what its statement makes of a state.
-use Rattle.std.proofs.Common.{◌≡◌, ℕ, ◌<◌, ◌^◌, pos, List, [], ◌∷◌, ◌++◌, codes, Ok, refl}
+use Rattle.std.proofs.Common.{◌≡◌, ℕ, ◌<◌, ◌^◌, pos, [], ◌∷◌, ◌++◌, codes, Ok, refl}
 use Rattle.sqlite.specs.Listing.{understood}
 use Rattle.sqlite.specs.State.{State as SqlState, Executes}
 use Rattle.sqlite_tied.specs.Compute.{everything}

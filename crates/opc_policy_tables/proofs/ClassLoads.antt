@@ -1,5 +1,5 @@
 -- What the query on a class reads.
-use Rattle.std.proofs.Common.{◌≡◌, ℕ, List, [], ◌∷◌, map, filter, codes, Bool, refl, ◌∙◌, Ordering, is_eq}
+use Rattle.std.proofs.Common.{◌≡◌, List, [], ◌∷◌, map, filter, codes, Bool, refl, ◌∙◌, Ordering, is_eq}
 use Rattle.sqlite.specs.Order.{Row}
 use Rattle.sqlite.specs.declared.types.Value.TheVariants.{Text}
 use Rattle.sqlite.specs.Listing.{understood}

@@ -41,7 +41,7 @@ pub profiles_asked : IsAsked profiles
 unfolding understood everything
 profiles_asked = record { selects = refl; unlisted = refl; plain = (refl, refl); shows = λ schema base. refl }
 
-pub class_texts : (a b : Class) → text_cmp (class_text a) (class_text b) ≡ class_cmp a b
+class_texts : (a b : Class) → text_cmp (class_text a) (class_text b) ≡ class_cmp a b
 class_texts Console Console = refl
 class_texts Console Opercmds = refl
 class_texts Opercmds Console = refl

@@ -1,11 +1,11 @@
 -- What the queries of the search read: the profiles of a class, of all heads or of one, in the order of their keys.
-use Rattle.std.proofs.Common.{◌≡◌, inl, inr, ℕ, List, [], ◌∷◌, ◌++◌, map, filter, find, codes, Bool, true, refl, sym, ap₂, subst, ◌∙◌, ◌&&◌, append_assoc, Some, None, is_eq}
+use Rattle.std.proofs.Common.{◌≡◌, inl, inr, ℕ, List, [], ◌∷◌, ◌++◌, map, filter, find, Bool, true, refl, sym, ap₂, subst, ◌∙◌, ◌&&◌, append_assoc, Some, None, is_eq}
 use Rattle.std.specs.Str.{bytes_eq}
 use Rattle.std.proofs.lemmas.Map.Text.{is_eq-slice_cmp}
 use Rattle.sqlite_trees.specs.declared.store.Store.{Ghosts}
 use Rattle.sqlite.specs.Order.{Row}
-use Rattle.sqlite.specs.declared.types.Value.TheVariants.{Null, Text}
-use Rattle.sqlite.specs.Effect.{Database, Answers}
+use Rattle.sqlite.specs.declared.types.Value.TheVariants.{Text}
+use Rattle.sqlite.specs.Effect.{Database}
 use Rattle.sqlite.specs.Held.{Held, state}
 use Rattle.sqlite.specs.Given.{HasGiven, HasBegun}
 use Rattle.sqlite.specs.Ops.{binary, is_true}
@@ -34,7 +34,7 @@ use Rattle.opc_policy.specs.Profiles.{profile_cmp}
 use Rattle.opc_policy.proofs.FirstCovering.{filter_both}
 use Rattle.opc_policy_tables.proofs.ProfileLoads.{profiles, profiles_rise}
 use Rattle.opc_state.specs.State.{State}
-use Rattle.opc_search.specs.declared.search.TheConstants.{BY_HEAD}
+use Rattle.opc_search.specs.declared.search.TheConstants.{BY_CLASS, BY_HEAD}
 use Rattle.opc_search.specs.Search.{chosen, Selects}
 use Rattle.opc_stored.specs.Represented.{Represents, profile_row}
 
@@ -77,7 +77,7 @@ module _ (class : Class) (head : List ℕ) where
 -- ---- of a class
 
 abbrev pub by_class : Asked
-by_class = record profiles { text = codes "SELECT class, pattern, owner, uacc, warning, skey, head FROM profiles WHERE class = ?1 ORDER BY class, skey"; tests = same_columns 0 1 }
+by_class = record profiles { text = BY_CLASS.now; tests = same_columns 0 1 }
 
 pub by_class_asked : IsAsked by_class
 unfolding understood everything

@@ -31,6 +31,10 @@ use std::alloc::Global;
 const BY_HEAD: &str =
     "SELECT class, pattern, owner, uacc, warning, skey, head FROM profiles WHERE class = ?1 AND head = ?2 ORDER BY class, skey";
 
+/// The profiles of a class, in the order of their keys.
+const BY_CLASS: &str =
+    "SELECT class, pattern, owner, uacc, warning, skey, head FROM profiles WHERE class = ?1 ORDER BY class, skey";
+
 /// The first profile that covers a resource, of those that a query selects, but for its access list, and how many were
 /// read for it. The rows are taken one at a time, and left at the first cover.
 fn first_covering_on<S: Alter>(
@@ -121,13 +125,7 @@ pub fn first_on<S: Alter>(
     ensures rows { HasCleanDisk (state S.Store conn.new) → (s : _) → Represents (state S.Store conn.old).now s → IfOk result (λ taken.
         taken.rows ≡ length (read_until taken.profile (of_class class s.policy.profiles))) }
 {
-    let taken = first_covering_on(
-        alloc,
-        conn,
-        "SELECT class, pattern, owner, uacc, warning, skey, head FROM profiles WHERE class = ?1 ORDER BY class, skey",
-        params![class.text()],
-        resource,
-    )?;
+    let taken = first_covering_on(alloc, conn, BY_CLASS, params![class.text()], resource)?;
     let Taken { profile, rows } = taken;
     let Some(profile) = profile else {
         return Ok(Taken {
@@ -153,11 +151,7 @@ pub fn all_on<S: Alter>(
     ensures looks { Looks S.Store conn.old conn.new result }
     ensures found { HasCleanDisk (state S.Store conn.new) → (s : _) → Represents (state S.Store conn.old).now s → IfOk result (λ v. v.items ≡ of_class class s.policy.profiles) }
 {
-    let rows = read(
-        conn,
-        "SELECT class, pattern, owner, uacc, warning, skey, head FROM profiles WHERE class = ?1 ORDER BY class, skey",
-        params![class.text()],
-    )?;
+    let rows = read(conn, BY_CLASS, params![class.text()])?;
     whole_in(alloc, conn, rows.as_slice())
 }
 

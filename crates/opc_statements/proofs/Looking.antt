@@ -1,11 +1,11 @@
 -- Queries, one after another, and what one whose rows are taken one at a time keeps.
-use Rattle.std.proofs.Common.{◌≡◌, ◌⊎◌, ◌∙◌, ℕ, List, inl, inr, Ok, Err, Result, OnOk, IsTrue, refl, sym, subst, arith}
+use Rattle.std.proofs.Common.{◌≡◌, ◌∙◌, ℕ, List, inl, Ok, Err, Result, OnOk, IsTrue, refl, sym, subst, arith}
 use Rattle.std.specs.Result.{IsErr}
 use Rattle.sqlite_trees.specs.declared.store.Store.{Ghosts}
 use Rattle.sqlite.specs.Order.{Row}
 use Rattle.sqlite.specs.Effect.{Database}
 use Rattle.sqlite.specs.Held.{Held, state}
-use Rattle.sqlite.specs.State.{HasCleanDisk, Survives, IsUnchanged, Fails, FailsToQuery, CommitsShowing}
+use Rattle.sqlite.specs.State.{HasCleanDisk, Survives, IsUnchanged, FailsToQuery, CommitsShowing}
 use Rattle.sqlite.specs.declared.error.Error.{Error}
 use Rattle.sqlite.proofs.Callers.{unchanged_then}
 use Rattle.sqlite.proofs.StateLemmas.{survives_then}
@@ -111,17 +111,3 @@ module _ {S : Type 0} (g : Ghosts S) where
           was_open = λ clean is_open. reads_was_open sql params (state g a) (state g b) quiet settled is_open none (λ rows. rows) tt (failed clean);
           same = λ clean is_open. reads_same sql params (state g a) (state g b) quiet settled is_open none (λ rows. rows) tt (failed clean);
         }
-
-    -- a row was not given
-    pub looks_stopped : {X E : Type 0} (r : Result X E) → IsErr r → (mid b : Held S) (e : Error) → Survives (state g a) (state g mid) (λ _. ⊥) → (HasCleanDisk (state g mid) → IsUnchanged (state g a) (state g mid))
-        → Survives (state g mid) (state g b) (λ _. ⊥) → (HasCleanDisk (state g b) → Fails (state g mid) (state g b) ⊥ e ⊎ IsUnchanged (state g mid) (state g b)) → Looks g a b r
-    looks_stopped r is_err mid b e first same last kept = record {
-      survives = survives_then (state g a) (state g mid) (state g b) _ _ (λ _. ⊥) (λ _ db none. none) (λ _ db none. none) first last;
-      opened = λ clean. not_ok _ r is_err;
-      was_open = λ clean is_open. (same (omega (arith, last.clean))).0.was_open;
-      same = λ clean is_open. go (same (omega (arith, last.clean))) is_open (kept clean);
-    }
-      where
-        go : IsUnchanged (state g a) (state g mid) → IsTrue (state g b).is_open → Fails (state g mid) (state g b) ⊥ e ⊎ IsUnchanged (state g mid) (state g b) → (state g b).now ≡ (state g a).now
-        go was is_open (inl failed) = (failed.3.undone is_open).0 ∙ (was.0.committed_is ∙ sym (settled was.0.was_open))
-        go was is_open (inr unchanged) = unchanged.0.now_is ∙ was.0.now_is

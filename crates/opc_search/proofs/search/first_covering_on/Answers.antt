@@ -14,7 +14,7 @@ use Rattle.opc_stored.specs.Represented.{profile_row}
 use Rattle.opc_stored.specs.Content.{bare}
 use Rattle.opc_search.specs.Search.{covers}
 use Rattle.opc_search.proofs.SearchLoads.{begun_quiet, next_profile, no_profile}
-use Rattle.opc_statements.proofs.Looking.{looks_unchanged, looks_moved, looks_at, looks_refused, looks_stopped}
+use Rattle.opc_statements.proofs.Looking.{looks_moved, looks_at, looks_refused}
 use Rattle.opc_search.proofs.search.first_covering_on.Goals as goal
 
 pub returns-in-Err-clause-looks : goal.returns-in-Err-clause-looks

@@ -8,6 +8,7 @@ ghost use Rattle.opc_policy.specs.Members.{name_cmp, user_cmp, connect_cmp};
 ghost use Rattle.opc_policy.specs.Profiles.{profile_cmp};
 ghost use Rattle.opc_stored.specs.Represented.{Represents};
 
+use crate::lists::lists_on;
 use opc_names::name::GroupName;
 use opc_policy::connect::{Connect, Connects};
 use opc_policy::groups::Groups;
@@ -17,11 +18,6 @@ use opc_policy::profiles::Profiles;
 use opc_policy::source::StoreFault;
 use opc_policy::user::User;
 use opc_policy::users::Users;
-use opc_policy_tables::classes::actives_on;
-use opc_policy_tables::connects::connects_on;
-use opc_policy_tables::groups::groups_on;
-use opc_policy_tables::profiles::profiles_on;
-use opc_policy_tables::users::users_on;
 use sqlite::{Alter, Connection};
 use std::alloc::{AllocError, Global};
 
@@ -73,16 +69,12 @@ pub fn policy_on<S: Alter>(alloc: Global, conn: &mut Connection<S>) -> Result<Po
     ensures looks { Looks S.Store conn.old conn.new result }
     ensures found { HasCleanDisk (state S.Store conn.new) → (s : _) → Represents (state S.Store conn.old).now s → IfOk result (λ v. v ≡ s.policy) }
 {
-    let users = users_on(alloc, conn)?;
-    let groups = groups_on(alloc, conn)?;
-    let connects = connects_on(alloc, conn)?;
-    let profiles = profiles_on(alloc, conn)?;
-    let active = actives_on(conn)?;
+    let lists = lists_on(alloc, conn)?;
     Ok(Policy {
-        users: users_of(alloc, users.as_slice())?,
-        groups: groups_of(alloc, groups.as_slice())?,
-        connects: connects_of(alloc, connects.as_slice())?,
-        profiles: profiles_of(alloc, profiles)?,
-        active,
+        users: users_of(alloc, lists.users.as_slice())?,
+        groups: groups_of(alloc, lists.groups.as_slice())?,
+        connects: connects_of(alloc, lists.connects.as_slice())?,
+        profiles: profiles_of(alloc, lists.profiles)?,
+        active: lists.active,
     })
 }

@@ -9,21 +9,16 @@ ghost use Rattle.opc_policy.specs.declared.row.Row.{Row as TheRow};
 ghost use Rattle.opc_whole_policy.specs.PolicyFile.{rows_of, row_of_group, row_of_user, row_of_connect, row_of_console, row_of_profile, row_of_entry, permits_of};
 ghost use Rattle.opc_stored.specs.Represented.{Represents};
 
+use crate::lists::{Lists, lists_on};
 use opc_board::rows::ConsoleRow;
 use opc_names::class::Class;
 use opc_names::name::{GroupName, Pattern};
 use opc_policy::connect::Connect;
 use opc_policy::entry::Entry;
-use opc_policy::policy::ActiveClasses;
 use opc_policy::profile::Profile;
 use opc_policy::row::Row;
 use opc_policy::source::StoreFault;
 use opc_policy::user::User;
-use opc_policy_tables::classes::actives_on;
-use opc_policy_tables::connects::connects_on;
-use opc_policy_tables::groups::groups_on;
-use opc_policy_tables::profiles::profiles_on;
-use opc_policy_tables::users::users_on;
 use sqlite::{Alter, Connection};
 use std::alloc::{AllocError, Global};
 
@@ -131,33 +126,25 @@ fn add_permits(rows: &mut Vec<Row>, profiles: &[Profile]) -> Result<(), AllocErr
 }
 
 /// The rows of a policy file, of lists of what it tells.
-fn rows_of(
-    alloc: Global,
-    active: ActiveClasses,
-    groups: &[GroupName],
-    users: &[User],
-    connects: &[Connect],
-    consoles: &[ConsoleRow],
-    profiles: &[Profile],
-) -> Result<Vec<Row>, AllocError>
-    ensures { let policy : ThePolicy = record { users = users.now; groups = groups.now; connects = connects.now; profiles = profiles.now; active = active } in
+fn rows_of(alloc: Global, lists: &Lists, consoles: &[ConsoleRow]) -> Result<Vec<Row>, AllocError>
+    ensures { let policy : ThePolicy = record { users = lists.now.users; groups = lists.now.groups; connects = lists.now.connects; profiles = lists.now.profiles.items; active = lists.now.active } in
         IfOk result (λ v. v.items ≡ rows_of policy consoles.now) }
 {
     let mut rows = Vec::new(alloc);
     rows.push(Row::Class {
         class: Class::Console,
-        active: active.console,
+        active: lists.active.console,
     })?;
     rows.push(Row::Class {
         class: Class::Opercmds,
-        active: active.opercmds,
+        active: lists.active.opercmds,
     })?;
-    add_all(&mut rows, groups)?;
-    add_all(&mut rows, users)?;
-    add_all(&mut rows, connects)?;
+    add_all(&mut rows, lists.groups.as_slice())?;
+    add_all(&mut rows, lists.users.as_slice())?;
+    add_all(&mut rows, lists.connects.as_slice())?;
     add_all(&mut rows, consoles)?;
-    add_all(&mut rows, profiles)?;
-    add_permits(&mut rows, profiles)?;
+    add_all(&mut rows, lists.profiles.as_slice())?;
+    add_permits(&mut rows, lists.profiles.as_slice())?;
     Ok(rows)
 }
 
@@ -172,19 +159,7 @@ pub fn policy_rows_on<S: Alter>(
     ensures looks { Looks S.Store conn.old conn.new result }
     ensures found { HasCleanDisk (state S.Store conn.new) → (s : _) → Represents (state S.Store conn.old).now s → IfOk result (λ v. v.items ≡ rows_of s.policy consoles.now) }
 {
-    let active = actives_on(conn)?;
-    let groups = groups_on(alloc, conn)?;
-    let users = users_on(alloc, conn)?;
-    let connects = connects_on(alloc, conn)?;
-    let profiles = profiles_on(alloc, conn)?;
-    let rows = rows_of(
-        alloc,
-        active,
-        groups.as_slice(),
-        users.as_slice(),
-        connects.as_slice(),
-        consoles,
-        profiles.as_slice(),
-    )?;
+    let lists = lists_on(alloc, conn)?;
+    let rows = rows_of(alloc, &lists, consoles)?;
     Ok(rows)
 }

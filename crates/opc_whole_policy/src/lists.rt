@@ -1,0 +1,48 @@
+//! The lists that the tables of a policy keep.
+ghost use Rattle.std.specs.Prelude.{◌≡◌, false, IfOk};
+ghost use Rattle.sqlite.specs.Held.{state};
+ghost use Rattle.sqlite.specs.State.{HasCleanDisk};
+ghost use Rattle.opc_statements.specs.Steps.{Looks};
+ghost use Rattle.opc_stored.specs.Represented.{Represents};
+ghost use Rattle.opc_whole_policy.specs.Lists.{AreListsOf};
+
+use opc_names::name::GroupName;
+use opc_policy::connect::Connect;
+use opc_policy::policy::ActiveClasses;
+use opc_policy::profile::Profile;
+use opc_policy::source::StoreFault;
+use opc_policy::user::User;
+use opc_policy_tables::classes::actives_on;
+use opc_policy_tables::connects::connects_on;
+use opc_policy_tables::groups::groups_on;
+use opc_policy_tables::profiles::profiles_on;
+use opc_policy_tables::users::users_on;
+use opc_rows::Rows;
+use sqlite::{Alter, Connection};
+use std::alloc::Global;
+
+/// The lists of a policy, each in its order.
+#[derive(Drop)]
+pub struct Lists {
+    pub active: ActiveClasses,
+    pub groups: Rows<GroupName>,
+    pub users: Rows<User>,
+    pub connects: Rows<Connect>,
+    pub profiles: Vec<Profile>,
+}
+
+/// The lists of the policy, each asked for once.
+pub fn lists_on<S: Alter>(alloc: Global, conn: &mut Connection<S>) -> Result<Lists, StoreFault>
+    requires { conn.old.in_transaction ≡ false }
+    ensures mode { conn.new.in_transaction ≡ false }
+    ensures looks { Looks S.Store conn.old conn.new result }
+    ensures found { HasCleanDisk (state S.Store conn.new) → (s : _) → Represents (state S.Store conn.old).now s → IfOk result (λ v. AreListsOf s.policy v) }
+{
+    Ok(Lists {
+        active: actives_on(conn)?,
+        groups: groups_on(alloc, conn)?,
+        users: users_on(alloc, conn)?,
+        connects: connects_on(alloc, conn)?,
+        profiles: profiles_on(alloc, conn)?,
+    })
+}

@@ -15,13 +15,14 @@ use Rattle.opc_statements.proofs.Values.{equal_texts, and_true}
 use Rattle.opc_board.specs.declared.rows.ConsoleRow.{ConsoleRow}
 use Rattle.opc_state.specs.Members.{console_cmp}
 use Rattle.opc_state.specs.State.{State}
+use Rattle.opc_stored.specs.Placed.{consoles_at}
 use Rattle.opc_stored.specs.Tables.{the_schema}
 use Rattle.opc_stored.specs.Represented.{Represents, console_row}
 
 -- ---- all of them
 
 abbrev pub consoles : Asked
-consoles = record { schema = the_schema; text = codes "SELECT name, auth, mode, online, usr, monitor FROM consoles ORDER BY name"; tree = 3; tests = []; project = columns 1 6; order = by_columns 1 1 }
+consoles = record { schema = the_schema; text = codes "SELECT name, auth, mode, online, usr, monitor FROM consoles ORDER BY name"; tree = consoles_at.tree; tests = []; project = columns 1 6; order = by_columns 1 1 }
 
 pub consoles_asked : IsAsked consoles
 unfolding understood everything

@@ -45,7 +45,7 @@ texts : AreUnderstood consoles
 unfolding understood everything
 texts = record { insert_is = refl; update_is = refl; delete_is = refl; insert_plain = (refl, refl); update_plain = (refl, refl); delete_plain = (refl, refl) }
 
-idle : (is_idle the_schema 3 true ≡ true) × (is_idle the_schema 3 false ≡ true)
+idle : (is_idle the_schema consoles_at.tree true ≡ true) × (is_idle the_schema consoles_at.tree false ≡ true)
 unfolding same_name joined
 idle = (refl, refl)
 

@@ -6,11 +6,12 @@ use Rattle.sqlite.specs.State.{State as SqlState, Shown}
 use Rattle.sqlite_tied.specs.Compute.{everything}
 use Rattle.opc_statements.proofs.Asked.{Asked, IsAsked, by_columns, columns, told_all}
 use Rattle.opc_state.specs.State.{State}
+use Rattle.opc_stored.specs.Placed.{board_at}
 use Rattle.opc_stored.specs.Tables.{the_schema}
 use Rattle.opc_stored.specs.Represented.{Represents, flag, halted_row}
 
 abbrev pub day : Asked
-day = record { schema = the_schema; text = codes "SELECT halted FROM board ORDER BY halted"; tree = 13; tests = []; project = columns 1 1; order = by_columns 1 1 }
+day = record { schema = the_schema; text = codes "SELECT halted FROM board ORDER BY halted"; tree = board_at.tree; tests = []; project = columns 1 1; order = by_columns 1 1 }
 
 pub day_asked : IsAsked day
 unfolding understood everything

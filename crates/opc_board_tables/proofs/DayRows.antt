@@ -31,7 +31,7 @@ one = col 0 0 ∷ []
 abbrev pub update_halted : List ℕ
 update_halted = codes "UPDATE board SET halted = ?1"
 
-set_is : command_of (understood the_schema update_halted) ≡ Update 9 (alone (selecting 13 [] (col 1 0 ∷ col 1 0 ∷ one) []))
+set_is : command_of (understood the_schema update_halted) ≡ Update 9 (alone (selecting board_at.tree [] (col 1 0 ∷ col 1 0 ∷ one) []))
 unfolding understood everything
 set_is = refl
 
@@ -39,11 +39,11 @@ set_plain : IsPlain (understood the_schema update_halted)
 unfolding understood everything
 set_plain = (refl, refl)
 
-idle_board : (olds news : List Row) → works the_schema Enforced 0 13 olds news ≡ []
+idle_board : (olds news : List Row) → works the_schema Enforced 0 board_at.tree olds news ≡ []
 unfolding same_name joined
 idle_board olds news = go (length news == 0)
   where
-    go : (b : Bool) → flat_map (λ (child : Table). filter_map (λ (ref : Reference). work_by 0 13 (pairs olds news) child ref (deed_for Enforced b ref) (parent_key the_schema.tables ref)) child.references) the_schema.tables ≡ []
+    go : (b : Bool) → flat_map (λ (child : Table). filter_map (λ (ref : Reference). work_by 0 board_at.tree (pairs olds news) child ref (deed_for Enforced b ref) (parent_key the_schema.tables ref)) child.references) the_schema.tables ≡ []
     go true = refl
     go false = refl
 

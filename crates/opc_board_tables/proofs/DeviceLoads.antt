@@ -8,11 +8,12 @@ use Rattle.sqlite_value.proofs.OrderLemmas.{value_cmp-Text}
 use Rattle.opc_statements.proofs.Asked.{Asked, IsAsked, by_columns, columns, told_all}
 use Rattle.opc_state.specs.Members.{device_cmp}
 use Rattle.opc_state.specs.State.{State}
+use Rattle.opc_stored.specs.Placed.{devices_at}
 use Rattle.opc_stored.specs.Tables.{the_schema}
 use Rattle.opc_stored.specs.Represented.{Represents, device_row}
 
 abbrev pub devices : Asked
-devices = record { schema = the_schema; text = codes "SELECT number, online, volume, unit FROM devices ORDER BY number"; tree = 7; tests = []; project = columns 1 4; order = by_columns 1 1 }
+devices = record { schema = the_schema; text = codes "SELECT number, online, volume, unit FROM devices ORDER BY number"; tree = devices_at.tree; tests = []; project = columns 1 4; order = by_columns 1 1 }
 
 pub devices_asked : IsAsked devices
 unfolding understood everything

@@ -43,7 +43,7 @@ texts : AreUnderstood devices
 unfolding understood everything
 texts = record { insert_is = refl; update_is = refl; delete_is = refl; insert_plain = (refl, refl); update_plain = (refl, refl); delete_plain = (refl, refl) }
 
-idle : (is_idle the_schema 7 true ≡ true) × (is_idle the_schema 7 false ≡ true)
+idle : (is_idle the_schema devices_at.tree true ≡ true) × (is_idle the_schema devices_at.tree false ≡ true)
 unfolding same_name joined
 idle = (refl, refl)
 

@@ -9,11 +9,12 @@ use Rattle.opc_statements.proofs.Asked.{Asked, IsAsked, by_columns, told_all_num
 use Rattle.opc_statements.proofs.Numbered.{number_cmp}
 use Rattle.opc_state.specs.Members.{reply_cmp}
 use Rattle.opc_state.specs.State.{State}
+use Rattle.opc_stored.specs.Placed.{replies_at}
 use Rattle.opc_stored.specs.Tables.{the_schema}
 use Rattle.opc_stored.specs.Represented.{Represents, reply_row, reply_shown}
 
 abbrev pub replies : Asked
-replies = record { schema = the_schema; text = codes "SELECT id, text FROM replies ORDER BY id"; tree = 9; tests = []; project = col 1 0 ∷ col 1 2 ∷ []; order = by_columns 0 1 }
+replies = record { schema = the_schema; text = codes "SELECT id, text FROM replies ORDER BY id"; tree = replies_at.tree; tests = []; project = col 1 0 ∷ col 1 2 ∷ []; order = by_columns 0 1 }
 
 pub replies_asked : IsAsked replies
 unfolding understood everything

@@ -63,7 +63,7 @@ insert_plain : IsPlain (understood the_schema insert_reply)
 unfolding understood everything
 insert_plain = (refl, refl)
 
-delete_is : command_of (understood the_schema delete_reply) ≡ Delete 5 (alone (selecting 9 tests (col 1 0 ∷ []) []))
+delete_is : command_of (understood the_schema delete_reply) ≡ Delete 5 (alone (selecting replies_at.tree tests (col 1 0 ∷ []) []))
 unfolding understood everything
 delete_is = refl
 
@@ -74,27 +74,27 @@ delete_plain = (refl, refl)
 cast : (r : ReplyRow) → cast_row replies_at (reply_row r) ≡ reply_row r
 cast r = ap₂ (λ v (row : Row). v ∷ row) (cast_int _) (ap₂ (λ v (row : Row). v ∷ row) cast_null refl)
 
-idle : (olds news : List Row) → works the_schema Enforced 0 9 olds news ≡ []
+idle : (olds news : List Row) → works the_schema Enforced 0 replies_at.tree olds news ≡ []
 unfolding same_name joined
 idle olds news = go (length news == 0)
   where
-    go : (b : Bool) → flat_map (λ (child : Table). filter_map (λ (ref : Reference). work_by 0 9 (pairs olds news) child ref (deed_for Enforced b ref) (parent_key the_schema.tables ref)) child.references) the_schema.tables ≡ []
+    go : (b : Bool) → flat_map (λ (child : Table). filter_map (λ (ref : Reference). work_by 0 replies_at.tree (pairs olds news) child ref (deed_for Enforced b ref) (parent_key the_schema.tables ref)) child.references) the_schema.tables ≡ []
     go true = refl
     go false = refl
 
-meets : (id : ℕ) (db : Trees) (r : ReplyRow) → passes 9 tests (col 1 0 ∷ []) [] db (Int (pos id) ∷ []) (reply_row r) ≡ (r.id == id)
+meets : (id : ℕ) (db : Trees) (r : ReplyRow) → passes replies_at.tree tests (col 1 0 ∷ []) [] db (Int (pos id) ∷ []) (reply_row r) ≡ (r.id == id)
 meets id db r = and_true _ ∙ equal_numbers r.id id
 
-left : (id : ℕ) (db : Trees) (rs : List ReplyRow) → filter (λ row. not (passes 9 tests (col 1 0 ∷ []) [] db (Int (pos id) ∷ []) row)) (map reply_row rs) ≡ map reply_row (without_reply id rs)
+left : (id : ℕ) (db : Trees) (rs : List ReplyRow) → filter (λ row. not (passes replies_at.tree tests (col 1 0 ∷ []) [] db (Int (pos id) ∷ []) row)) (map reply_row rs) ≡ map reply_row (without_reply id rs)
 left id db rs = filter-map _ reply_row rs ∙ ap (map reply_row) (filter_same _ _ (λ r. ap not (meets id db r)) rs)
 
 pub removes_reply : (old new : SqlState) (count : ℕ) (s : State) → Tabulates old.now s → Rises reply_cmp s.board.replies → (id : ℕ) → Executes delete_reply (Int (pos id) ∷ []) old new (Ok count)
     → Tabulates new.now (with_replies (without_reply id s.board.replies) s)
 removes_reply old new count s was up id h =
     let it = takes_numbers the_schema delete_reply 5 replies_at (Int (pos id) ∷ []) delete_plain refl old new was.schema count tests delete_is (λ rows. idle _ []) h in
-    let kept : IsKept (old.now.trees 9) = subst IsKept (sym was.holds.replies) (rising_kept reply_values (λ (r : ReplyRow). r.id) s.board.replies up) in
+    let kept : IsKept (old.now.trees replies_at.tree) = subst IsKept (sym was.holds.replies) (rising_kept reply_values (λ (r : ReplyRow). r.id) s.board.replies up) in
     spares_replies (contents_of s) old.now new.now was it.spares _
-    (it.rows kept ∙ (ap (filter (λ row. not (passes 9 tests (col 1 0 ∷ []) [] old.now.trees (Int (pos id) ∷ []) row))) was.holds.replies ∙ left id old.now.trees s.board.replies))
+    (it.rows kept ∙ (ap (filter (λ row. not (passes replies_at.tree tests (col 1 0 ∷ []) [] old.now.trees (Int (pos id) ∷ []) row))) was.holds.replies ∙ left id old.now.trees s.board.replies))
 
 without_is : (r : ReplyRow) (rs : List ReplyRow) → without_reply r.id rs ≡ others reply_cmp reply_total r rs
 without_is r rs = filter_same _ _ (λ q. ap not (sym (same_numbers q.id r.id))) rs

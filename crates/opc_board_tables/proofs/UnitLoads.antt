@@ -8,11 +8,12 @@ use Rattle.sqlite_value.proofs.OrderLemmas.{value_cmp-Text}
 use Rattle.opc_statements.proofs.Asked.{Asked, IsAsked, by_columns, columns, told_all}
 use Rattle.opc_state.specs.Members.{unit_cmp}
 use Rattle.opc_state.specs.State.{State}
+use Rattle.opc_stored.specs.Placed.{units_at}
 use Rattle.opc_stored.specs.Tables.{the_schema}
 use Rattle.opc_stored.specs.Represented.{Represents, unit_row}
 
 abbrev pub units : Asked
-units = record { schema = the_schema; text = codes "SELECT name, kind, member, cancelable, stopping, last FROM units ORDER BY name"; tree = 5; tests = []; project = columns 1 6; order = by_columns 1 1 }
+units = record { schema = the_schema; text = codes "SELECT name, kind, member, cancelable, stopping, last FROM units ORDER BY name"; tree = units_at.tree; tests = []; project = columns 1 6; order = by_columns 1 1 }
 
 pub units_asked : IsAsked units
 unfolding understood everything

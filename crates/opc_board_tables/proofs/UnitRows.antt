@@ -44,7 +44,7 @@ texts : AreUnderstood units
 unfolding understood everything
 texts = record { insert_is = refl; update_is = refl; delete_is = refl; insert_plain = (refl, refl); update_plain = (refl, refl); delete_plain = (refl, refl) }
 
-idle : (is_idle the_schema 5 true ≡ true) × (is_idle the_schema 5 false ≡ true)
+idle : (is_idle the_schema units_at.tree true ≡ true) × (is_idle the_schema units_at.tree false ≡ true)
 unfolding same_name joined
 idle = (refl, refl)
 

@@ -17,6 +17,7 @@ use Rattle.opc_statements.proofs.Places.{placed, place_cmp, placed_row, placed_r
 use Rattle.opc_statements.proofs.Values.{number_past, and_true}
 use Rattle.opc_state.specs.declared.account.AccountRow.{AccountRow}
 use Rattle.opc_state.specs.State.{State}
+use Rattle.opc_stored.specs.Placed.{account_at}
 use Rattle.opc_stored.specs.Tables.{the_schema}
 use Rattle.opc_stored.specs.Represented.{Represents, account_values, account_shown}
 
@@ -25,7 +26,7 @@ abbrev pub account : Asked
 account = record {
   schema = the_schema;
   text = codes "SELECT moment, console, usr, code, rule FROM account WHERE number > ?1 ORDER BY number LIMIT ?2";
-  tree = 14;
+  tree = account_at.tree;
   tests = op2 (Compare Gt Binary) (col 1 0) (col 0 0) ∷ [];
   project = columns 2 5;
   order = by_columns 0 1;

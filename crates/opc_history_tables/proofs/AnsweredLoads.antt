@@ -7,11 +7,12 @@ use Rattle.sqlite_tied.specs.Compute.{everything}
 use Rattle.opc_statements.proofs.Asked.{Asked, IsAsked, by_columns, columns, told_places}
 use Rattle.opc_statements.proofs.Numbered.{number_cmp}
 use Rattle.opc_state.specs.State.{State}
+use Rattle.opc_stored.specs.Placed.{answered_at}
 use Rattle.opc_stored.specs.Tables.{the_schema}
 use Rattle.opc_stored.specs.Represented.{Represents, answered_values, reply_shown}
 
 abbrev pub answered : Asked
-answered = record { schema = the_schema; text = codes "SELECT id, text FROM answered ORDER BY number"; tree = 10; tests = []; project = columns 2 2; order = by_columns 0 1 }
+answered = record { schema = the_schema; text = codes "SELECT id, text FROM answered ORDER BY number"; tree = answered_at.tree; tests = []; project = columns 2 2; order = by_columns 0 1 }
 
 pub answered_asked : IsAsked answered
 unfolding understood everything

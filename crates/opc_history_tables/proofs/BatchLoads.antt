@@ -16,6 +16,7 @@ use Rattle.opc_import.specs.Lines.{policy_text}
 use Rattle.opc_state.specs.declared.change.Batch.{Batch}
 use Rattle.opc_state.specs.Members.{batch_cmp}
 use Rattle.opc_state.specs.State.{State}
+use Rattle.opc_stored.specs.Placed.{batches_at}
 use Rattle.opc_stored.specs.Tables.{the_schema}
 use Rattle.opc_stored.specs.Represented.{Represents, batch_row}
 
@@ -23,7 +24,7 @@ abbrev pub batch : Asked
 batch = record {
   schema = the_schema;
   text = codes "SELECT rows FROM batches WHERE number = ?1 ORDER BY number";
-  tree = 15;
+  tree = batches_at.tree;
   tests = op2 (Compare Eq Binary) (col 1 0) (col 0 0) ∷ [];
   project = columns 2 1;
   order = by_columns 0 1;

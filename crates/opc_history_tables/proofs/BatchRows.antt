@@ -68,7 +68,7 @@ insert_plain : IsPlain (understood the_schema insert_batch)
 unfolding understood everything
 insert_plain = (refl, refl)
 
-delete_is : command_of (understood the_schema delete_batch) ≡ Delete 11 (alone (selecting 15 tests (col 1 0 ∷ []) []))
+delete_is : command_of (understood the_schema delete_batch) ≡ Delete 11 (alone (selecting batches_at.tree tests (col 1 0 ∷ []) []))
 unfolding understood everything
 delete_is = refl
 
@@ -79,27 +79,27 @@ delete_plain = (refl, refl)
 cast : (r : Batch) → cast_row batches_at (batch_row r) ≡ batch_row r
 cast r = ap₂ (λ v (row : Row). v ∷ row) (cast_int _) (ap₂ (λ v (row : Row). v ∷ row) cast_null refl)
 
-idle : (olds news : List Row) → works the_schema Enforced 0 15 olds news ≡ []
+idle : (olds news : List Row) → works the_schema Enforced 0 batches_at.tree olds news ≡ []
 unfolding same_name joined
 idle olds news = go (length news == 0)
   where
-    go : (b : Bool) → flat_map (λ (child : Table). filter_map (λ (ref : Reference). work_by 0 15 (pairs olds news) child ref (deed_for Enforced b ref) (parent_key the_schema.tables ref)) child.references) the_schema.tables ≡ []
+    go : (b : Bool) → flat_map (λ (child : Table). filter_map (λ (ref : Reference). work_by 0 batches_at.tree (pairs olds news) child ref (deed_for Enforced b ref) (parent_key the_schema.tables ref)) child.references) the_schema.tables ≡ []
     go true = refl
     go false = refl
 
-meets : (id : ℕ) (db : Trees) (r : Batch) → passes 15 tests (col 1 0 ∷ []) [] db (Int (pos id) ∷ []) (batch_row r) ≡ (r.number == id)
+meets : (id : ℕ) (db : Trees) (r : Batch) → passes batches_at.tree tests (col 1 0 ∷ []) [] db (Int (pos id) ∷ []) (batch_row r) ≡ (r.number == id)
 meets id db r = and_true _ ∙ equal_numbers r.number id
 
-left : (id : ℕ) (db : Trees) (rs : List Batch) → filter (λ row. not (passes 15 tests (col 1 0 ∷ []) [] db (Int (pos id) ∷ []) row)) (map batch_row rs) ≡ map batch_row (without_batch id rs)
+left : (id : ℕ) (db : Trees) (rs : List Batch) → filter (λ row. not (passes batches_at.tree tests (col 1 0 ∷ []) [] db (Int (pos id) ∷ []) row)) (map batch_row rs) ≡ map batch_row (without_batch id rs)
 left id db rs = filter-map _ batch_row rs ∙ ap (map batch_row) (filter_same _ _ (λ r. ap not (meets id db r)) rs)
 
 pub removes_batch : (old new : SqlState) (count : ℕ) (s : State) → Tabulates old.now s → Rises batch_cmp s.batches → (id : ℕ) → Executes delete_batch (Int (pos id) ∷ []) old new (Ok count)
     → Tabulates new.now (with_batches (without_batch id s.batches) s)
 removes_batch old new count s was up id h =
     let it = takes_numbers the_schema delete_batch 11 batches_at (Int (pos id) ∷ []) delete_plain refl old new was.schema count tests delete_is (λ rows. idle _ []) h in
-    let kept : IsKept (old.now.trees 15) = subst IsKept (sym was.holds.batches) (rising_kept batch_values (λ (r : Batch). r.number) s.batches up) in
+    let kept : IsKept (old.now.trees batches_at.tree) = subst IsKept (sym was.holds.batches) (rising_kept batch_values (λ (r : Batch). r.number) s.batches up) in
     spares_batches (contents_of s) old.now new.now was it.spares _
-    (it.rows kept ∙ (ap (filter (λ row. not (passes 15 tests (col 1 0 ∷ []) [] old.now.trees (Int (pos id) ∷ []) row))) was.holds.batches ∙ left id old.now.trees s.batches))
+    (it.rows kept ∙ (ap (filter (λ row. not (passes batches_at.tree tests (col 1 0 ∷ []) [] old.now.trees (Int (pos id) ∷ []) row))) was.holds.batches ∙ left id old.now.trees s.batches))
 
 without_is : (r : Batch) (rs : List Batch) → without_batch r.number rs ≡ others batch_cmp batch_total r rs
 without_is r rs = filter_same _ _ (λ q. ap not (sym (same_numbers q.number r.number))) rs

@@ -7,11 +7,12 @@ use Rattle.sqlite_tied.specs.Compute.{everything}
 use Rattle.opc_statements.proofs.Asked.{Asked, IsAsked, by_columns, columns, told_places}
 use Rattle.opc_statements.proofs.Numbered.{number_cmp}
 use Rattle.opc_state.specs.State.{State}
+use Rattle.opc_stored.specs.Placed.{log_at}
 use Rattle.opc_stored.specs.Tables.{the_schema}
 use Rattle.opc_stored.specs.Represented.{Represents, log_values, log_shown}
 
 abbrev pub log : Asked
-log = record { schema = the_schema; text = codes "SELECT text FROM log ORDER BY number"; tree = 11; tests = []; project = columns 2 1; order = by_columns 0 1 }
+log = record { schema = the_schema; text = codes "SELECT text FROM log ORDER BY number"; tree = log_at.tree; tests = []; project = columns 2 1; order = by_columns 0 1 }
 
 pub log_asked : IsAsked log
 unfolding understood everything

@@ -7,11 +7,12 @@ use Rattle.sqlite_tied.specs.Compute.{everything}
 use Rattle.opc_statements.proofs.Asked.{Asked, IsAsked, by_columns, columns, told_places}
 use Rattle.opc_statements.proofs.Numbered.{number_cmp}
 use Rattle.opc_state.specs.State.{State}
+use Rattle.opc_stored.specs.Placed.{messages_at}
 use Rattle.opc_stored.specs.Tables.{the_schema}
 use Rattle.opc_stored.specs.Represented.{Represents, message_values, message_shown}
 
 abbrev pub messages : Asked
-messages = record { schema = the_schema; text = codes "SELECT usr, text FROM messages ORDER BY number"; tree = 12; tests = []; project = columns 2 2; order = by_columns 0 1 }
+messages = record { schema = the_schema; text = codes "SELECT usr, text FROM messages ORDER BY number"; tree = messages_at.tree; tests = []; project = columns 2 2; order = by_columns 0 1 }
 
 pub messages_asked : IsAsked messages
 unfolding understood everything

@@ -15,11 +15,12 @@ use Rattle.opc_names.specs.declared.class.Class.TheVariants.{Console, Opercmds}
 use Rattle.opc_names.specs.Spellings.{class_text}
 use Rattle.opc_policy.specs.Taken.{is_active}
 use Rattle.opc_state.specs.State.{State}
+use Rattle.opc_stored.specs.Placed.{classes_at}
 use Rattle.opc_stored.specs.Tables.{the_schema}
 use Rattle.opc_stored.specs.Represented.{Represents, class_row}
 
 abbrev pub class : Asked
-class = record { schema = the_schema; text = codes "SELECT class, active FROM classes WHERE class = ?1 ORDER BY class"; tree = 1; tests = same_columns 0 1; project = columns 1 2; order = by_columns 1 1 }
+class = record { schema = the_schema; text = codes "SELECT class, active FROM classes WHERE class = ?1 ORDER BY class"; tree = classes_at.tree; tests = same_columns 0 1; project = columns 1 2; order = by_columns 1 1 }
 
 pub class_asked : IsAsked class
 unfolding understood everything

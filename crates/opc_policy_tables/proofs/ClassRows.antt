@@ -48,7 +48,7 @@ two = col 0 0 ∷ col 0 1 ∷ []
 abbrev tests : List Term
 tests = op2 (Compare Eq Binary) (col 1 1) (col 0 0) ∷ []
 
-update_is : command_of (understood the_schema update_class) ≡ Update 1 (alone (selecting 1 tests (col 1 0 ∷ col 1 0 ∷ two) []))
+update_is : command_of (understood the_schema update_class) ≡ Update 1 (alone (selecting classes_at.tree tests (col 1 0 ∷ col 1 0 ∷ two) []))
 unfolding understood everything
 update_is = refl
 
@@ -65,15 +65,15 @@ is_of class x = is_eq (text_cmp (class_text x.0) (class_text class))
 picks : (class : Class) (x : Class × Bool) → has_key class (class_row x) ≡ is_of class x
 picks class x = and_true _ ∙ equal_texts (class_text x.0) (class_text class)
 
-below : (x : Class × Bool) (db : Trees) (r : Row) → passes 1 tests (col 1 0 ∷ col 1 0 ∷ two) [] db (class_row x) r ≡ has_key x.0 (drop 1 r)
+below : (x : Class × Bool) (db : Trees) (r : Row) → passes classes_at.tree tests (col 1 0 ∷ col 1 0 ∷ two) [] db (class_row x) r ≡ has_key x.0 (drop 1 r)
 below x db [] = refl
 below x db (v ∷ r) = refl
 
-idle : (olds news : List Row) → works the_schema Enforced 0 1 olds news ≡ []
+idle : (olds news : List Row) → works the_schema Enforced 0 classes_at.tree olds news ≡ []
 unfolding same_name joined
 idle olds news = go (length news == 0)
   where
-    go : (b : Bool) → flat_map (λ (child : Table). filter_map (λ (ref : Reference). work_by 0 1 (pairs olds news) child ref (deed_for Enforced b ref) (parent_key the_schema.tables ref)) child.references) the_schema.tables ≡ []
+    go : (b : Bool) → flat_map (λ (child : Table). filter_map (λ (ref : Reference). work_by 0 classes_at.tree (pairs olds news) child ref (deed_for Enforced b ref) (parent_key the_schema.tables ref)) child.references) the_schema.tables ≡ []
     go true = refl
     go false = refl
 

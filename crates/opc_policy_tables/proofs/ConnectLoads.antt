@@ -16,13 +16,14 @@ use Rattle.opc_statements.proofs.Values.{equal_texts, and_true}
 use Rattle.opc_policy.specs.declared.connect.Connect.{Connect}
 use Rattle.opc_policy.specs.Members.{name_cmp, connect_cmp}
 use Rattle.opc_state.specs.State.{State}
+use Rattle.opc_stored.specs.Placed.{connects_at}
 use Rattle.opc_stored.specs.Tables.{the_schema}
 use Rattle.opc_stored.specs.Represented.{Represents, connect_row}
 
 -- ---- all of them
 
 abbrev pub connects : Asked
-connects = record { schema = the_schema; text = codes "SELECT usr, grp FROM connects ORDER BY usr, grp"; tree = 20; tests = []; project = columns 1 2; order = by_columns 1 2 }
+connects = record { schema = the_schema; text = codes "SELECT usr, grp FROM connects ORDER BY usr, grp"; tree = connects_at.tree; tests = []; project = columns 1 2; order = by_columns 1 2 }
 
 pub connects_asked : IsAsked connects
 unfolding understood everything

@@ -16,6 +16,7 @@ use Rattle.opc_policy.specs.Access.{entry_cmp}
 use Rattle.opc_policy.specs.Profiles.{profile_of, is_of}
 use Rattle.opc_state.specs.State.{State}
 use Rattle.opc_stored.specs.State.{IsOrdered}
+use Rattle.opc_stored.specs.Placed.{entries_at}
 use Rattle.opc_stored.specs.Tables.{the_schema}
 use Rattle.opc_stored.specs.Represented.{Represents, entry_row, entry_rows}
 use Rattle.opc_stored.proofs.AccessLists.{split, list_hit}
@@ -25,7 +26,7 @@ abbrev pub entries : Asked
 entries = record {
   schema = the_schema;
   text = codes "SELECT class, pattern, id, level FROM entries WHERE class = ?1 AND pattern = ?2 ORDER BY id";
-  tree = 26;
+  tree = entries_at.tree;
   tests = same_columns 0 2;
   project = columns 1 4;
   order = by_columns 3 1;

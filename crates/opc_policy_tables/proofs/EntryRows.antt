@@ -24,7 +24,7 @@ use Rattle.sqlite_schema.specs.declared.schema.Constraint.TheVariants.{ForeignKe
 use Rattle.sqlite_schema.specs.declared.schema.Keys.TheVariants.{Enforced}
 use Rattle.sqlite_value.specs.Keys.{joined, first_key}
 use Rattle.sqlite_value.specs.declared.keys.Collation.TheVariants.{Binary}
-use Rattle.sqlite_keyed.proofs.ListLemmas.{filter_same, all_weaker, all_map, all_unmap, any_from_none, IsPermutation-same}
+use Rattle.sqlite_keyed.proofs.ListLemmas.{filter_same, all_weaker, all_map, all_unmap, any_from_none, IsPermutation-same, all-slice_get}
 use Rattle.opc_statements.specs.Order.{Rises}
 use Rattle.opc_statements.specs.Rows.{HasRows}
 use Rattle.opc_statements.proofs.Steps.{cast_null}
@@ -44,7 +44,7 @@ use Rattle.opc_state.specs.Changes.{with_profiles}
 use Rattle.opc_stored.specs.Contents.{Contents}
 use Rattle.opc_stored.specs.Made.{IsMade}
 use Rattle.opc_stored.specs.Tables.{the_schema}
-use Rattle.opc_stored.specs.Placed.{entries_at}
+use Rattle.opc_stored.specs.Placed.{profiles_at, entries_at}
 use Rattle.opc_stored.specs.Represented.{Tabulates, contents_of, profile_row, entry_row, entry_rows}
 use Rattle.opc_stored.proofs.OtherTables.{with_entries as spares_entries}
 use Rattle.opc_stored.proofs.Keys.{entry_total}
@@ -54,11 +54,11 @@ use Rattle.opc_stored.proofs.AccessLists.{split, Split, is_of_means, listing, sa
 same_rows : (xs ys rows : List Row) → IsPermutation xs ys → HasRows xs rows → HasRows ys rows
 same_rows xs ys rows same h = record { each = IsPermutation-trans _ _ _ (IsPermutation-sym _ _ same) h.each; kept = h.kept }
 
-idle : (olds news : List Row) → works the_schema Enforced 0 26 olds news ≡ []
+idle : (olds news : List Row) → works the_schema Enforced 0 entries_at.tree olds news ≡ []
 unfolding same_name joined
 idle olds news = go (length news == 0)
   where
-    go : (b : Bool) → flat_map (λ (child : Table). filter_map (λ (ref : Reference). work_by 0 26 (pairs olds news) child ref (deed_for Enforced b ref) (parent_key the_schema.tables ref)) child.references) the_schema.tables ≡ []
+    go : (b : Bool) → flat_map (λ (child : Table). filter_map (λ (ref : Reference). work_by 0 entries_at.tree (pairs olds news) child ref (deed_for Enforced b ref) (parent_key the_schema.tables ref)) child.references) the_schema.tables ≡ []
     go true = refl
     go false = refl
 
@@ -77,21 +77,21 @@ module _ (old new : SqlState) (count : ℕ) (s : State) (was : Tabulates old.now
   pub entry_goes : Rises profile_cmp s.policy.profiles → Executes delete_entry (entry_key class pattern id) old new (Ok count) → Tabulates new.now (with_profiles (without_permission class pattern id s.policy.profiles) s)
   entry_goes up h = go (profile_of s.policy.profiles class pattern) refl
     where
-      left : HasRows (filter (λ v. not (has_entry class pattern id v)) (flat_map entry_rows s.policy.profiles)) (new.now.trees 26)
+      left : HasRows (filter (λ v. not (has_entry class pattern id v)) (flat_map entry_rows s.policy.profiles)) (new.now.trees entries_at.tree)
       left = (takes the_schema delete_entry 16 entries_at (entry_key class pattern id) delete_entry_plain refl old new was.schema count of_entry (has_entry class pattern id) delete_entry_is (entry_key_below class pattern id (col 1 0 ∷ []) old.now.trees) (λ rows. idle _ []) h).rows _ was.holds.entries
 
-      spared : (rows : List Row) → HasRows rows (new.now.trees 26) → IsMade (record (contents_of s) { entries = rows }) new.now
+      spared : (rows : List Row) → HasRows rows (new.now.trees entries_at.tree) → IsMade (record (contents_of s) { entries = rows }) new.now
       spared rows has = spares_entries (contents_of s) old.now new.now was (takes the_schema delete_entry 16 entries_at (entry_key class pattern id) delete_entry_plain refl old new was.schema count of_entry (has_entry class pattern id) delete_entry_is (entry_key_below class pattern id (col 1 0 ∷ []) old.now.trees) (λ rows. idle _ []) h).spares rows has
 
       go : (o : Option Profile) → profile_of s.policy.profiles class pattern ≡ o → Tabulates new.now (with_profiles (without_permission class pattern id s.policy.profiles) s)
       go None absent =
           let same : without_permission class pattern id s.policy.profiles ≡ s.policy.profiles = ap (λ (o : Option Profile). option_map_or (λ (p : Profile). with_profile (record p { entries = without_entry id p.entries }) s.policy.profiles) o s.policy.profiles) absent in
-          subst (λ (l : List Profile). Tabulates new.now (with_profiles l s)) (sym same) (spared _ (subst (λ (l : List Row). HasRows l (new.now.trees 26)) (all_entries class pattern id s.policy.profiles absent) left))
+          subst (λ (l : List Profile). Tabulates new.now (with_profiles l s)) (sym same) (spared _ (subst (λ (l : List Row). HasRows l (new.now.trees entries_at.tree)) (all_entries class pattern id s.policy.profiles absent) left))
       go (Some p) here =
           let it = split class pattern s.policy.profiles p up here in
           let same : without_permission class pattern id s.policy.profiles ≡ with_profile (listing class pattern s.policy.profiles p it (without_entry id)) s.policy.profiles =
           ap (λ (o : Option Profile). option_map_or (λ (p : Profile). with_profile (record p { entries = without_entry id p.entries }) s.policy.profiles) o s.policy.profiles) here in
-          let rows = subst (λ (l : List Row). HasRows l (new.now.trees 26)) (entries_rest class pattern id s.policy.profiles p it ∙ sym (parted_entries class pattern s.policy.profiles p it (without_entry id))) left in
+          let rows = subst (λ (l : List Row). HasRows l (new.now.trees entries_at.tree)) (entries_rest class pattern id s.policy.profiles p it ∙ sym (parted_entries class pattern s.policy.profiles p it (without_entry id))) left in
           subst (λ (l : List Profile). Tabulates new.now (with_profiles l s)) (sym same) (subst (λ (c : Contents). IsMade c new.now) (sym (same_contents s class pattern p it (without_entry id))) (spared _ rows))
 
 -- ---- an entry is put
@@ -122,27 +122,27 @@ module _ (class : Class) (pattern : List ℕ) (ps : List Profile) (p : Profile) 
 
 -- The database obeys its foreign keys, so the profile of an entry that is there is there.
 refers : (db : Trees) (row : Row) → list_all (has_parent the_schema.tables db row) entries_at.references
-    ≡ ((has_null (1 ∷ 2 ∷ []) row || list_any (λ parent. equal Binary (column parent 1) (column row 1) && (equal Binary (column parent 2) (column row 2) && true)) (db 22)) && true)
+    ≡ ((has_null (1 ∷ 2 ∷ []) row || list_any (λ parent. equal Binary (column parent 1) (column row 1) && (equal Binary (column parent 2) (column row 2) && true)) (db profiles_at.tree)) && true)
 unfolding same_name joined first_key
 refers db row = refl
 
 abbrev is_child : Trees → Row → Bool
-is_child db v = (is_null (column v 0) || (is_null (column v 1) || false)) || list_any (λ parent. equal Binary (column parent 1) (column v 0) && (equal Binary (column parent 2) (column v 1) && true)) (db 22)
+is_child db v = (is_null (column v 0) || (is_null (column v 1) || false)) || list_any (λ parent. equal Binary (column parent 1) (column v 0) && (equal Binary (column parent 2) (column v 1) && true)) (db profiles_at.tree)
 
 child_is : (db : Trees) (row : Row) → list_all (has_parent the_schema.tables db row) entries_at.references ≡ true → is_child db (drop 1 row) ≡ true
 child_is db [] hit = (and_parts _ _ (sym (refers db []) ∙ hit)).0
 child_is db (v ∷ row) hit = (and_parts _ _ (sym (refers db (v ∷ row)) ∙ hit)).0
 
 no_parent : (class : Class) (pattern : List ℕ) (e : Entry) (ps : List Profile) → profile_of ps class pattern ≡ None → (db : Database) → IsDatabase db → db.schema ≡ the_schema → (rest : List Row)
-    → HasRows (entry_row class pattern e ∷ rest) (db.trees 26) → HasRows (map profile_row ps) (db.trees 22) → ⊥
+    → HasRows (entry_row class pattern e ∷ rest) (db.trees entries_at.tree) → HasRows (map profile_row ps) (db.trees profiles_at.tree) → ⊥
 no_parent class pattern e ps absent db sound is rest has profiles =
     let keys : Keeps ForeignKey the_schema db.trees = subst (λ (sc : Schema). Keeps ForeignKey sc db.trees) is (sound.obeys.rules ForeignKey) in
-    let each = all_weaker _ (λ row. is_child db.trees (drop 1 row) ≡ true) (child_is db.trees) (db.trees 26) keys.1.1.1.1.1.1.1.1.1.1.1.1.1.1.1.1.0 in
-    let values = all_along (λ v. is_child db.trees v ≡ true) _ _ (IsPermutation-sym _ _ has.each) (all_map (λ v. is_child db.trees v ≡ true) (λ (r : Row). drop 1 r) (db.trees 26) each) in
+    let each = all_weaker _ (λ row. is_child db.trees (drop 1 row) ≡ true) (child_is db.trees) (db.trees entries_at.tree) (all-slice_get (λ (t : Table). AllByRecursion (λ row. list_all (has_parent the_schema.tables db.trees row) t.references ≡ true) (db.trees t.tree)) the_schema.tables 16 entries_at refl keys) in
+    let values = all_along (λ v. is_child db.trees v ≡ true) _ _ (IsPermutation-sym _ _ has.each) (all_map (λ v. is_child db.trees v ≡ true) (λ (r : Row). drop 1 r) (db.trees entries_at.tree) each) in
     let there : is_child db.trees (entry_row class pattern e) ≡ true = values.0 in
     let lack = all_map (λ v. has_profile class pattern v ≡ false) profile_row ps (all_weaker _ _ (λ p miss. picks_profile class pattern p ∙ miss) ps (none_picked profile_cmp (is_of class pattern) ps absent)) in
-    let none = all_weaker _ _ (λ row miss. lacks_parent class pattern row miss) (db.trees 22) (all_unmap (λ v. has_profile class pattern v ≡ false) (λ (r : Row). drop 1 r) (db.trees 22) (all_along (λ v. has_profile class pattern v ≡ false) _ _ profiles.each lack)) in
-    let nowhere : list_any (λ parent. equal Binary (column parent 1) (Text (class_text class)) && (equal Binary (column parent 2) (Text pattern) && true)) (db.trees 22) ≡ false = any_from_none _ (db.trees 22) none in
+    let none = all_weaker _ _ (λ row miss. lacks_parent class pattern row miss) (db.trees profiles_at.tree) (all_unmap (λ v. has_profile class pattern v ≡ false) (λ (r : Row). drop 1 r) (db.trees profiles_at.tree) (all_along (λ v. has_profile class pattern v ≡ false) _ _ profiles.each lack)) in
+    let nowhere : list_any (λ parent. equal Binary (column parent 1) (Text (class_text class)) && (equal Binary (column parent 2) (Text pattern) && true)) (db.trees profiles_at.tree) ≡ false = any_from_none _ (db.trees profiles_at.tree) none in
     absurd cc
   where
     lacks_parent : (class : Class) (pattern : List ℕ) (row : Row) → has_profile class pattern (drop 1 row) ≡ false → (equal Binary (column row 1) (Text (class_text class)) && (equal Binary (column row 2) (Text pattern) && true)) ≡ false
@@ -163,14 +163,14 @@ module _ (old new : SqlState) (count : ℕ) (s : State) (class : Class) (pattern
     counted : count ≡ length (filter (has_entry class pattern e.id) (flat_map entry_rows ps))
     counted = it.count_is _ was.holds.entries
 
-    both : HasRows (map (λ (v : Row). entry_row class pattern e) (filter (has_entry class pattern e.id) (flat_map entry_rows ps)) ++ filter (λ v. not (has_entry class pattern e.id v)) (flat_map entry_rows ps)) (new.now.trees 26)
+    both : HasRows (map (λ (v : Row). entry_row class pattern e) (filter (has_entry class pattern e.id) (flat_map entry_rows ps)) ++ filter (λ v. not (has_entry class pattern e.id v)) (flat_map entry_rows ps)) (new.now.trees entries_at.tree)
     both = it.rows _ was.holds.entries
 
-    none_of : (hit rest : List Row) → length hit ≡ 0 → HasRows (map (λ (v : Row). entry_row class pattern e) hit ++ rest) (new.now.trees 26) → HasRows rest (new.now.trees 26)
+    none_of : (hit rest : List Row) → length hit ≡ 0 → HasRows (map (λ (v : Row). entry_row class pattern e) hit ++ rest) (new.now.trees entries_at.tree) → HasRows rest (new.now.trees entries_at.tree)
     none_of [] rest none has = has
     none_of (x ∷ hit) rest none has = absurd (omega arith)
 
-    one_of : (hit rest : List Row) → length hit ≡ 1 → HasRows (map (λ (v : Row). entry_row class pattern e) hit ++ rest) (new.now.trees 26) → HasRows (entry_row class pattern e ∷ rest) (new.now.trees 26)
+    one_of : (hit rest : List Row) → length hit ≡ 1 → HasRows (map (λ (v : Row). entry_row class pattern e) hit ++ rest) (new.now.trees entries_at.tree) → HasRows (entry_row class pattern e ∷ rest) (new.now.trees entries_at.tree)
     one_of [] rest one has = absurd (omega arith)
     one_of (x ∷ []) rest one has = has
     one_of (x ∷ y ∷ hit) rest one has = absurd (omega arith)
@@ -205,7 +205,7 @@ module _ (old new : SqlState) (count : ℕ) (s : State) (class : Class) (pattern
         it : Adds the_schema entries_at (entry_row class pattern e) old.now.trees new.now
         it = adds the_schema insert_entry 16 entries_at (entry_row class pattern e) insert_entry_plain refl old new was.schema count (lit Null ∷ entry_terms) 5 insert_entry_is (record { uncounted = refl; stampless = refl }) (entry_row class pattern e) refl (ap₂ (λ v (r : Row). v ∷ r) cast_null (entry_cast class pattern e Null)) h
 
-        more : HasRows (entry_row class pattern e ∷ filter (λ v. not (has_entry class pattern e.id v)) (flat_map entry_rows ps)) (new.now.trees 26)
+        more : HasRows (entry_row class pattern e ∷ filter (λ v. not (has_entry class pattern e.id v)) (flat_map entry_rows ps)) (new.now.trees entries_at.tree)
         more = it.rows _ was.holds.entries
 
         made : IsMade (record (contents_of s) { entries = entry_row class pattern e ∷ filter (λ v. not (has_entry class pattern e.id v)) (flat_map entry_rows ps) }) new.now

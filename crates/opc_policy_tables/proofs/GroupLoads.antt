@@ -8,11 +8,12 @@ use Rattle.sqlite_value.proofs.OrderLemmas.{value_cmp-Text}
 use Rattle.opc_statements.proofs.Asked.{Asked, IsAsked, by_columns, columns, told_all}
 use Rattle.opc_policy.specs.Members.{name_cmp}
 use Rattle.opc_state.specs.State.{State}
+use Rattle.opc_stored.specs.Placed.{grp_at}
 use Rattle.opc_stored.specs.Tables.{the_schema}
 use Rattle.opc_stored.specs.Represented.{Represents, group_row}
 
 abbrev pub groups : Asked
-groups = record { schema = the_schema; text = codes "SELECT name FROM grp ORDER BY name"; tree = 16; tests = []; project = columns 1 1; order = by_columns 1 1 }
+groups = record { schema = the_schema; text = codes "SELECT name FROM grp ORDER BY name"; tree = grp_at.tree; tests = []; project = columns 1 1; order = by_columns 1 1 }
 
 pub groups_asked : IsAsked groups
 unfolding understood everything

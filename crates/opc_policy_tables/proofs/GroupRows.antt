@@ -42,7 +42,7 @@ texts : AreUnderstood groups
 unfolding understood everything
 texts = record { insert_is = refl; update_is = refl; delete_is = refl; insert_plain = (refl, refl); update_plain = (refl, refl); delete_plain = (refl, refl) }
 
-idle : (is_idle the_schema 16 true ≡ true) × (is_idle the_schema 16 false ≡ true)
+idle : (is_idle the_schema grp_at.tree true ≡ true) × (is_idle the_schema grp_at.tree false ≡ true)
 unfolding same_table joined
 idle = (refl, refl)
 

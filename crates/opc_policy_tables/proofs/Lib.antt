@@ -8,6 +8,5 @@ pub mod GroupLoads
 pub mod GroupRows
 pub mod ProfileLoads
 pub mod ProfileRows
-pub mod Restated
 pub mod UserLoads
 pub mod UserRows

@@ -18,6 +18,7 @@ use Rattle.opc_policy.specs.declared.profile.Profile.{Profile}
 use Rattle.opc_policy.specs.Profiles.{class_cmp, pattern_cmp, profile_cmp, profile_of, is_of}
 use Rattle.opc_state.specs.State.{State}
 use Rattle.opc_stored.specs.State.{IsOrdered}
+use Rattle.opc_stored.specs.Placed.{profiles_at}
 use Rattle.opc_stored.specs.Tables.{the_schema}
 use Rattle.opc_stored.specs.Represented.{Represents, profile_row}
 use Rattle.opc_stored.proofs.AccessLists.{split, is_of_means}
@@ -31,7 +32,7 @@ abbrev pub profiles : Asked
 profiles = record {
   schema = the_schema;
   text = codes "SELECT class, pattern, owner, uacc, warning, skey, head FROM profiles ORDER BY class, skey";
-  tree = 22;
+  tree = profiles_at.tree;
   tests = [];
   project = columns 1 7;
   order = by_columns 1 1 ++ by_columns 6 1;

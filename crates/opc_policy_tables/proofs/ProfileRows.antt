@@ -33,7 +33,8 @@ use Rattle.opc_statements.specs.Rows.{HasRows}
 use Rattle.opc_statements.proofs.Steps.{cast_null, nothing_goes}
 use Rattle.opc_statements.proofs.Rows.{all_along, all_pass, taken_all}
 use Rattle.opc_statements.proofs.Queries.{Lists, passes}
-use Rattle.opc_statements.proofs.Edits.{ids_same, other_than}
+use Rattle.opc_statements.proofs.Edits.{ids_same}
+use Rattle.opc_statements.proofs.OtherTables.{other_at}
 use Rattle.opc_statements.proofs.Parts.{keeps_all, picked, none_picked}
 use Rattle.opc_statements.proofs.Calm.{HasNoChild, calm_step}
 use Rattle.opc_statements.proofs.Written.{Sets, adds, takes_by, sets_by}
@@ -53,8 +54,7 @@ use Rattle.opc_stored.specs.Tables.{the_schema}
 use Rattle.opc_stored.specs.Placed.{profiles_at, entries_at}
 use Rattle.opc_stored.specs.Represented.{Represents, Tabulates, contents_of, profile_row, entry_row, entry_rows}
 use Rattle.opc_stored.proofs.Ordered.{definition_kept}
-use Rattle.opc_stored.proofs.OtherTables.{with_profiles as spares_profiles, with_entries as spares_entries}
-use Rattle.opc_policy_tables.proofs.Restated.{with_other_entries, with_other_profiles}
+use Rattle.opc_stored.proofs.OtherTables.{with_profiles as spares_profiles, with_entries as spares_entries, spares_all}
 use Rattle.opc_stored.proofs.ProfileTexts.{entry_terms, insert_entry, insert_entry_is, insert_entry_plain, entry_cast, profile_terms, of_profile, insert_profile, insert_profile_is, insert_profile_plain, update_profile, update_profile_is, update_profile_plain, delete_profile, delete_profile_is, delete_profile_plain, delete_entries, delete_entries_is, delete_entries_plain, has_profile, profile_key, profile_below, key_below, picks_profile, profile_cast}
 use Rattle.opc_stored.proofs.AccessLists.{is_of_means, split, entries_left, profiles_left, entries_lack, keeping, same_entries, profile_replaced, comes_in}
 
@@ -64,13 +64,13 @@ same_rows xs ys rows same h = record { each = IsPermutation-trans _ _ _ (IsPermu
 -- ---- what rows of profiles that go set off: nothing, where no entry is left of them
 
 pub record IsOnEntries (olds : List Row) (w : Work) : Type 0 where
-  pub tree : w.child.tree ≡ 26
+  pub tree : w.child.tree ≡ entries_at.tree
   pub columns : w.ref.columns ≡ 1 ∷ 2 ∷ []
   pub places : w.places ≡ 1 ∷ 2 ∷ []
   pub order : w.order ≡ plain
   pub moves : w.moves ≡ pairs olds []
 
-profile_works : (olds : List Row) (w : Work) → Has (works the_schema Enforced 0 22 olds []) w → IsOnEntries olds w
+profile_works : (olds : List Row) (w : Work) → Has (works the_schema Enforced 0 profiles_at.tree olds []) w → IsOnEntries olds w
 unfolding same_name joined
 profile_works olds w h = elim (cases_Bool (list_any (loses plain (1 ∷ 2 ∷ [])) (pairs olds []))) [
   | inl some ↦ (elim (rw some at h) [ inl e ↦ record { tree = ap (λ (x : Work). x.child.tree) e; columns = ap (λ (x : Work). x.ref.columns) e; places = ap (λ (x : Work). x.places) e; order = ap (λ (x : Work). x.order) e; moves = ap (λ (x : Work). x.moves) e } | inr nothing ↦ absurd nothing ])
@@ -123,60 +123,60 @@ module _ (old new : SqlState) (count : ℕ) (s : State) (class : Class) (pattern
   abbrev pub left : List Profile
   left = without_profile class pattern s.policy.profiles
 
-  idle_entries : (olds news : List Row) → works the_schema Enforced 0 26 olds news ≡ []
+  idle_entries : (olds news : List Row) → works the_schema Enforced 0 entries_at.tree olds news ≡ []
   unfolding same_name joined
   idle_entries olds news = go (length news == 0)
     where
-      go : (b : Bool) → flat_map (λ (child : Table). filter_map (λ (ref : Reference). work_by 0 26 (pairs olds news) child ref (deed_for Enforced b ref) (parent_key the_schema.tables ref)) child.references) the_schema.tables ≡ []
+      go : (b : Bool) → flat_map (λ (child : Table). filter_map (λ (ref : Reference). work_by 0 entries_at.tree (pairs olds news) child ref (deed_for Enforced b ref) (parent_key the_schema.tables ref)) child.references) the_schema.tables ≡ []
       go true = refl
       go false = refl
 
   pub list_goes : Tabulates old.now s → Executes delete_entries (profile_key class pattern) old new (Ok count) → IsMade (record (contents_of s) { entries = flat_map entry_rows left }) new.now
   list_goes was h =
-      let it = takes_by the_schema delete_entries 16 entries_at (profile_key class pattern) delete_entries_plain refl old new was.schema count of_profile (has_profile class pattern) delete_entries_is (key_below 26 class pattern (col 1 0 ∷ []) old.now.trees)
+      let it = takes_by the_schema delete_entries 16 entries_at (profile_key class pattern) delete_entries_plain refl old new was.schema count of_profile (has_profile class pattern) delete_entries_is (key_below entries_at.tree class pattern (col 1 0 ∷ []) old.now.trees)
       (λ rows lists writes. one_step the_schema Enforced old.now.trees new.now.trees (edit_of old.now.trees entries_at (ids_of rows) Given 0 []) (idle_entries _ []) writes) h in
-      spares_entries (contents_of s) old.now new.now was it.spares _ (subst (λ (l : List Row). HasRows l (new.now.trees 26)) (entries_left class pattern s.policy.profiles) (it.rows _ was.holds.entries))
+      spares_entries (contents_of s) old.now new.now was it.spares _ (subst (λ (l : List Row). HasRows l (new.now.trees entries_at.tree)) (entries_left class pattern s.policy.profiles) (it.rows _ was.holds.entries))
 
   module _ (was : IsMade (record (contents_of s) { entries = flat_map entry_rows left }) old.now) where
     abbrev going : List Row → Edit
     going rows = edit_of old.now.trees profiles_at (ids_of rows) Given 0 []
 
-    all_keyed : (rows : List Row) → Lists 22 of_profile (col 1 0 ∷ []) [] old.now.trees (profile_key class pattern) rows → AllByRecursion (HasKey class pattern) (taken_by old.now.trees (going rows))
+    all_keyed : (rows : List Row) → Lists profiles_at.tree of_profile (col 1 0 ∷ []) [] old.now.trees (profile_key class pattern) rows → AllByRecursion (HasKey class pattern) (taken_by old.now.trees (going rows))
     all_keyed rows lists =
         let stored = was.holds.profiles in
-        let meets = passes 22 of_profile (col 1 0 ∷ []) [] old.now.trees (profile_key class pattern) in
-        let each = all_both _ _ (HasKey class pattern) (λ r hit is. keyed class pattern r is (sym (key_below 22 class pattern (col 1 0 ∷ []) old.now.trees r) ∙ hit)) (filter meets (old.now.trees 22))
-        (all_pass meets (old.now.trees 22)) (all-filter (λ r. IsProfile (drop 1 r)) meets (old.now.trees 22) (all_profiles s.policy.profiles (old.now.trees 22) stored)) in
-        taken_all (HasKey class pattern) meets (old.now.trees 22) (ids_of rows) stored.kept each (ids_same the_schema profiles_at of_profile [] (profile_key class pattern) old.now.trees new.now rows lists)
+        let meets = passes profiles_at.tree of_profile (col 1 0 ∷ []) [] old.now.trees (profile_key class pattern) in
+        let each = all_both _ _ (HasKey class pattern) (λ r hit is. keyed class pattern r is (sym (key_below profiles_at.tree class pattern (col 1 0 ∷ []) old.now.trees r) ∙ hit)) (filter meets (old.now.trees profiles_at.tree))
+        (all_pass meets (old.now.trees profiles_at.tree)) (all-filter (λ r. IsProfile (drop 1 r)) meets (old.now.trees profiles_at.tree) (all_profiles s.policy.profiles (old.now.trees profiles_at.tree) stored)) in
+        taken_all (HasKey class pattern) meets (old.now.trees profiles_at.tree) (ids_of rows) stored.kept each (ids_same the_schema profiles_at of_profile [] (profile_key class pattern) old.now.trees new.now rows lists)
 
-    no_entry : (r : Row) → Has (old.now.trees 26) r → lacks class pattern r ≡ false
+    no_entry : (r : Row) → Has (old.now.trees entries_at.tree) r → lacks class pattern r ≡ false
     no_entry r here =
-        let all = all_unmap (λ v. has_profile class pattern v ≡ false) (λ (r : Row). drop 1 r) (old.now.trees 26) (all_along (λ v. has_profile class pattern v ≡ false) _ _ was.holds.entries.each (entries_lack class pattern s.policy.profiles)) in
-        sym (lacks_is class pattern r) ∙ all_has (λ r. has_profile class pattern (drop 1 r) ≡ false) (old.now.trees 26) r all here
+        let all = all_unmap (λ v. has_profile class pattern v ≡ false) (λ (r : Row). drop 1 r) (old.now.trees entries_at.tree) (all_along (λ v. has_profile class pattern v ≡ false) _ _ was.holds.entries.each (entries_lack class pattern s.policy.profiles)) in
+        sym (lacks_is class pattern r) ∙ all_has (λ r. has_profile class pattern (drop 1 r) ≡ false) (old.now.trees entries_at.tree) r all here
 
-    calm : (rows : List Row) → Lists 22 of_profile (col 1 0 ∷ []) [] old.now.trees (profile_key class pattern) rows → (now : Trees) → Applies the_schema Enforced old.now.trees (going rows) now
-        → (w : Work) → Has (works the_schema Enforced 0 22 (taken_by old.now.trees (going rows)) []) w → HasNoChild now w
+    calm : (rows : List Row) → Lists profiles_at.tree of_profile (col 1 0 ∷ []) [] old.now.trees (profile_key class pattern) rows → (now : Trees) → Applies the_schema Enforced old.now.trees (going rows) now
+        → (w : Work) → Has (works the_schema Enforced 0 profiles_at.tree (taken_by old.now.trees (going rows)) []) w → HasNoChild now w
     calm rows lists now applied w has = λ r here.
         let on = profile_works (taken_by old.now.trees (going rows)) w has in
-        let same : now 26 ≡ old.now.trees 26 = other_than 26 22 refl applied.tables.1.1.1.1.1.1.1.1.1.1.1.1.1.1.1.1.0 in
-        let at : now w.child.tree ≡ old.now.trees 26 = ap now on.tree ∙ same in
+        let same : now entries_at.tree ≡ old.now.trees entries_at.tree = other_at profiles_at.tree old.now.trees now 16 entries_at the_schema.tables refl refl applied.tables in
+        let at : now w.child.tree ≡ old.now.trees entries_at.tree = ap now on.tree ∙ same in
         no_child class pattern (taken_by old.now.trees (going rows)) w r on (all_keyed rows lists) (no_entry r (subst (λ (l : List Row). Has l r) at here))
 
     pub profile_goes : Executes delete_profile (profile_key class pattern) old new (Ok count) → Tabulates new.now (with_profiles left s)
     profile_goes h =
-        let it = takes_by the_schema delete_profile 15 profiles_at (profile_key class pattern) delete_profile_plain refl old new was.schema count of_profile (has_profile class pattern) delete_profile_is (key_below 22 class pattern (col 1 0 ∷ []) old.now.trees)
+        let it = takes_by the_schema delete_profile 15 profiles_at (profile_key class pattern) delete_profile_plain refl old new was.schema count of_profile (has_profile class pattern) delete_profile_is (key_below profiles_at.tree class pattern (col 1 0 ∷ []) old.now.trees)
         (λ rows lists writes. calm_step the_schema Enforced old.now.trees new.now.trees (going rows) (calm rows lists) writes) h in
         spares_profiles (record (contents_of s) { entries = flat_map entry_rows left }) old.now new.now was it.spares _
-        (subst (λ (l : List Row). HasRows l (new.now.trees 22)) (profiles_left class pattern s.policy.profiles) (it.rows _ was.holds.profiles))
+        (subst (λ (l : List Row). HasRows l (new.now.trees profiles_at.tree)) (profiles_left class pattern s.policy.profiles) (it.rows _ was.holds.profiles))
 
 -- ---- a profile is put
 
 -- where each row that goes is replaced, nothing acts
-idle_update : (olds news : List Row) → (length news == 0) ≡ false → works the_schema Enforced 0 22 olds news ≡ []
+idle_update : (olds news : List Row) → (length news == 0) ≡ false → works the_schema Enforced 0 profiles_at.tree olds news ≡ []
 unfolding same_name joined
 idle_update olds news some = go (length news == 0) some
   where
-    go : (b : Bool) → b ≡ false → flat_map (λ (child : Table). filter_map (λ (ref : Reference). work_by 0 22 (pairs olds news) child ref (deed_for Enforced b ref) (parent_key the_schema.tables ref)) child.references) the_schema.tables ≡ []
+    go : (b : Bool) → b ≡ false → flat_map (λ (child : Table). filter_map (λ (ref : Reference). work_by 0 profiles_at.tree (pairs olds news) child ref (deed_for Enforced b ref) (parent_key the_schema.tables ref)) child.references) the_schema.tables ≡ []
     go true h = absurd cc
     go false h = refl
 
@@ -192,7 +192,7 @@ module _ (old new : SqlState) (count : ℕ) (s : State) (x : Profile) where
 
   step : (rows : List Row) → WritesEdit the_schema Enforced old.now.trees (record { table = profiles_at; gone = ids_of rows; news = map (λ (r : Row). cast_row profiles_at (drop 1 r)) rows }) (Ok new.now.trees)
       → Applies the_schema Enforced old.now.trees (record { table = profiles_at; gone = ids_of rows; news = map (λ (r : Row). cast_row profiles_at (drop 1 r)) rows }) new.now.trees
-  step [] writes = one_step the_schema Enforced old.now.trees new.now.trees (record { table = profiles_at; gone = []; news = [] }) (nothing_goes the_schema Enforced 22 []) writes
+  step [] writes = one_step the_schema Enforced old.now.trees new.now.trees (record { table = profiles_at; gone = []; news = [] }) (nothing_goes the_schema Enforced profiles_at.tree []) writes
   step (r ∷ rows) writes =
       let news = map (λ (q : Row). cast_row profiles_at (drop 1 q)) (r ∷ rows) in
       let edit : Edit = record { table = profiles_at; gone = ids_of (r ∷ rows); news = news } in
@@ -215,9 +215,9 @@ module _ (old new : SqlState) (count : ℕ) (s : State) (x : Profile) where
             let parts = split x.class x.pattern ps p up here in
             let defined : with_definition x ps ≡ with_profile (keeping x.class x.pattern x refl refl ps p) ps = ap (λ (o : Option Profile). with_profile (record x { entries = option_map_or (λ (q : Profile). q.entries) o x.entries }) ps) here in
             let rows = same_rows _ _ _ (profile_replaced x.class x.pattern x refl refl ps p here parts) (it.rows _ was.holds.profiles) in
-            let entries : HasRows (flat_map entry_rows (with_profile (keeping x.class x.pattern x refl refl ps p) ps)) (old.now.trees 26) = subst (λ (l : List Row). HasRows l (old.now.trees 26)) (sym (same_entries x.class x.pattern x refl refl ps p here parts)) was.holds.entries in
+            let entries : HasRows (flat_map entry_rows (with_profile (keeping x.class x.pattern x refl refl ps p) ps)) (old.now.trees entries_at.tree) = subst (λ (l : List Row). HasRows l (old.now.trees entries_at.tree)) (sym (same_entries x.class x.pattern x refl refl ps p here parts)) was.holds.entries in
             let c : Contents = record (contents_of s) { entries = flat_map entry_rows (with_profile (keeping x.class x.pattern x refl refl ps p) ps) } in
-            let before : IsMade c old.now = with_other_entries (contents_of s) old.now was _ entries in
+            let before : IsMade c old.now = spares_entries (contents_of s) old.now old.now was (spares_all _ _ entries_at was) _ entries in
             subst (λ (l : List Profile). Tabulates new.now (with_profiles l s)) (sym defined) (spares_profiles c old.now new.now before it.spares _ rows)
 
     pub profile_there : count ≢ 0 → (p : Profile) × (found ≡ Some p)
@@ -231,7 +231,7 @@ module _ (old new : SqlState) (count : ℕ) (s : State) (x : Profile) where
     pub profile_missed : count ≡ 0 → (found ≡ None) × Tabulates new.now s
     profile_missed none = (
       go found refl,
-      spares_profiles (contents_of s) old.now new.now was it.spares _ (subst (λ (l : List Row). HasRows l (new.now.trees 22)) unchanged (it.rows _ was.holds.profiles)),
+      spares_profiles (contents_of s) old.now new.now was it.spares _ (subst (λ (l : List Row). HasRows l (new.now.trees profiles_at.tree)) unchanged (it.rows _ was.holds.profiles)),
     )
       where
         go : (o : Option Profile) → found ≡ o → o ≡ None
@@ -263,12 +263,12 @@ pub profile_comes : (db : Database) (s : State) (x : Profile) → KeysDiffer →
 profile_comes db s x differ valid patterns up absent was =
     let ps = s.policy.profiles in
     let same = comes_in x.class x.pattern x refl refl ps differ valid patterns absent up in
-    let profiles : HasRows (map profile_row (with_profile x ps)) (db.trees 22) = same_rows _ _ _ (IsPermutation-map profile_row _ _ same) was.holds.profiles in
-    let entries : HasRows (flat_map entry_rows (with_profile x ps)) (db.trees 26) = same_rows _ _ _ (IsPermutation-flat_map entry_rows _ _ same) was.holds.entries in
+    let profiles : HasRows (map profile_row (with_profile x ps)) (db.trees profiles_at.tree) = same_rows _ _ _ (IsPermutation-map profile_row _ _ same) was.holds.profiles in
+    let entries : HasRows (flat_map entry_rows (with_profile x ps)) (db.trees entries_at.tree) = same_rows _ _ _ (IsPermutation-flat_map entry_rows _ _ same) was.holds.entries in
     let c : Contents = record (contents_of s) { profiles = profile_row x ∷ map profile_row ps; entries = entry_rows x ++ flat_map entry_rows ps } in
-    let one = with_other_profiles c db was _ profiles in
+    let one = spares_profiles c db db was (spares_all c db profiles_at was) _ profiles in
     let d : Contents = record c { profiles = map profile_row (with_profile x ps) } in
-    let two : Tabulates db (with_profiles (with_profile x ps) s) = with_other_entries d db one _ entries in
+    let two : Tabulates db (with_profiles (with_profile x ps) s) = spares_entries d db db one (spares_all d db entries_at one) _ entries in
     let defined : with_definition x ps ≡ with_profile x ps = ap (λ (o : Option Profile). with_profile (record x { entries = option_map_or (λ (q : Profile). q.entries) o x.entries }) ps) absent in
     subst (λ (l : List Profile). Tabulates db (with_profiles l s)) (sym defined) two
 
@@ -288,4 +288,4 @@ entries_so_far db c class pattern so_far e more is was =
     let joined : map row so_far ++ row e ∷ c.entries ≡ map row more ++ c.entries =
     sym (append_assoc (map row so_far) (row e ∷ []) c.entries) ∙ (ap (λ (l : List Row). l ++ c.entries) (sym (map-append row so_far (e ∷ []))) ∙ ap (λ (l : List Entry). map row l ++ c.entries) (sym is)) in
     let d : Contents = record c { entries = row e ∷ (map row so_far ++ c.entries) } in
-    with_other_entries d db was _ (subst (λ (l : List Row). HasRows l (db.trees 26)) joined (same_rows _ _ _ moved was.holds.entries))
+    spares_entries d db db was (spares_all d db entries_at was) _ (subst (λ (l : List Row). HasRows l (db.trees entries_at.tree)) joined (same_rows _ _ _ moved was.holds.entries))

@@ -23,13 +23,14 @@ use Rattle.opc_statements.proofs.Values.{equal_texts, and_true}
 use Rattle.opc_policy.specs.declared.user.User.{User}
 use Rattle.opc_policy.specs.Members.{user_cmp}
 use Rattle.opc_state.specs.State.{State, has_users, is_some_user}
+use Rattle.opc_stored.specs.Placed.{usr_at}
 use Rattle.opc_stored.specs.Tables.{the_schema}
 use Rattle.opc_stored.specs.Represented.{Represents, user_row}
 
 -- ---- all of them
 
 abbrev pub users : Asked
-users = record { schema = the_schema; text = codes "SELECT id, special, auditor, revoked, digest FROM usr ORDER BY id"; tree = 18; tests = []; project = columns 1 5; order = by_columns 1 1 }
+users = record { schema = the_schema; text = codes "SELECT id, special, auditor, revoked, digest FROM usr ORDER BY id"; tree = usr_at.tree; tests = []; project = columns 1 5; order = by_columns 1 1 }
 
 pub users_asked : IsAsked users
 unfolding understood everything

@@ -1,7 +1,6 @@
 -- What an edit of a table makes of the values that it has.
-use Rattle.std.proofs.Common.{◌≡◌, ◌≢◌, ℕ, nat_eq, ℤ, List, [], ◌∷◌, ◌++◌, map, drop, filter, not, Bool, true, false, refl, sym, ap, subst, ◌∙◌, IsTrue, IsPermutation, arith, length}
+use Rattle.std.proofs.Common.{◌≡◌, ℕ, ℤ, List, [], ◌∷◌, ◌++◌, map, drop, filter, not, Bool, true, refl, sym, ap, subst, ◌∙◌, IsTrue, IsPermutation, length}
 use Rattle.std.proofs.lemmas.List.{length-map, map-append}
-use Rattle.std.proofs.lemmas.Bool.Decides.{nat_tests}
 use Rattle.std.proofs.lemmas.List.Sorted.{IsPermutation-trans, IsPermutation-cons, IsPermutation-map, IsPermutation-append, length_permutation}
 use Rattle.sqlite.specs.declared.types.Value.TheVariants.{Null, Int}
 use Rattle.sqlite.specs.Order.{Row}
@@ -26,12 +25,6 @@ use Rattle.opc_statements.proofs.Queries.{Lists, passes, shown}
 use Rattle.opc_statements.specs.Rows.{IsKept, HasRows}
 use Rattle.opc_statements.proofs.Steps.{Edits, nothing_goes}
 use Rattle.opc_statements.proofs.Rows.{put_all_fresh, put_all_kept, left_is, filter_kept}
-
-pub other_than : {P : Type 0} (a b : ℕ) → nat_eq a b ≡ false → (a ≢ b → P) → P
-other_than a b differ h = h (λ e. grind (arith, nat_tests))
-
-pub moved : (values now next : List Row) → next ≡ now → HasRows values now → HasRows values next
-moved values now next is h = subst (HasRows values) (sym is) h
 
 module _ (schema : Schema) (table : Table) (source : Row) (old : Trees) (new : Database) (edits : Edits schema (edit_of old table [] Chosen 0 (source ∷ [])) old new) where
   pub applied : Applies schema Enforced old (edit_of old table [] Chosen 0 (source ∷ [])) new.trees

@@ -25,3 +25,4 @@ pub mod Places
 pub mod Keyed
 pub mod Histories
 pub mod Asked
+pub mod OtherTables

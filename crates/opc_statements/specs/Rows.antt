@@ -1,9 +1,10 @@
 -- When a table has one row for each of some values, and no other.
-use Rattle.std.specs.Prelude.{ℕ, ◌+◌, pos, List, [], ◌∷◌, map, drop, IsTrue, IsPermutation}
+use Rattle.std.specs.Prelude.{◌≡◌, Option, Some, None, ℕ, ◌+◌, pos, List, [], ◌∷◌, map, drop, IsTrue, IsPermutation}
 use Rattle.sqlite_value.specs.declared.value.Value.TheVariants.{Int}
 use Rattle.std.specs.List.{AllByRecursion}
 use Rattle.sqlite_value.specs.Order.{Row}
-use Rattle.sqlite_trees.specs.Tree.{IsTable, rowid}
+use Rattle.sqlite_schema.specs.declared.schema.Table.{Table}
+use Rattle.sqlite_trees.specs.Tree.{IsTable, Trees, rowid}
 use Rattle.sqlite_trees.specs.View.{is_int}
 
 -- the rows have rowids of their own
@@ -24,3 +25,11 @@ numbered_row values number x = Int (pos number) ∷ values x
 abbrev pub numbered_rows : {X : Type 0} → (X → Row) → ℕ → List X → List Row
 numbered_rows values number [] = []
 numbered_rows values number (x ∷ xs) = numbered_row values number x ∷ numbered_rows values (number + 1) xs
+
+abbrev pub FilledBy : Option ℕ → List Row → List Row → Type 0
+FilledBy (Some place) values rows = rows ≡ values
+FilledBy None values rows = HasRows values rows
+
+-- The table has these rows and no other: in this order, as they are, where its key is a number, and else one row for each.
+abbrev pub IsFilled : Table → List Row → Trees → Type 0
+IsFilled table values trees = FilledBy table.key values (trees table.tree)

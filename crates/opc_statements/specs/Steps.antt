@@ -1,5 +1,5 @@
 -- What a step of a transaction does to a connection.
-use Rattle.std.specs.Prelude.{◌≡◌, ◌≢◌, ℕ, List, IsTrue, Result, Ok, OnOk}
+use Rattle.std.specs.Prelude.{◌≡◌, ◌≢◌, ℕ, List, [], ◌∷◌, IsTrue, Result, Ok, OnOk}
 use Rattle.sqlite_trees.specs.declared.store.Store.{Ghosts}
 use Rattle.sqlite.specs.Order.{Row}
 use Rattle.sqlite.specs.State.{HasCleanDisk, Survives, KeepsCommit, Executes}
@@ -25,6 +25,11 @@ module _ {S : Type 0} (g : Ghosts S) where
     pub inside : IsTrue old.in_transaction
     pub still : IsTrue new.in_transaction
     pub executes : Executes sql params (state g old) (state g new) (Ok count)
+
+  -- the statements ran, one after another, without parameters
+  abbrev pub RanAll : List (List ℕ) → Held S → Held S → Type 0
+  RanAll [] old new = new ≡ old
+  RanAll (sql ∷ more) old new = (mid : Held S) × (count : ℕ) × Ran sql [] old mid count × RanAll more mid new
 
   -- The first statement ran; where it found no row, the second ran behind it, with the same parameters, and else nothing did.
   pub record Puts (update insert : List ℕ) (params : Row) (old new : Held S) : Type 0 where

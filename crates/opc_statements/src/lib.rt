@@ -3,11 +3,11 @@
 
 pub mod numbers;
 
-ghost use Rattle.std.specs.Prelude.{◌≡◌, false, IfOk, IfErr, OnOk};
+ghost use Rattle.std.specs.Prelude.{◌≡◌, false, map, IfOk, IfErr, OnOk};
 ghost use Rattle.sqlite.specs.Held.{state};
 ghost use Rattle.sqlite.specs.Values.{bound};
 ghost use Rattle.sqlite.specs.State.{HasCleanDisk, Shown, FailsToQuery};
-ghost use Rattle.opc_statements.specs.Steps.{Stays, Ran, Puts, Looks, NeverWrites};
+ghost use Rattle.opc_statements.specs.Steps.{Stays, Ran, RanAll, Puts, Looks, NeverWrites};
 
 use sqlite::types::ValueRef;
 use sqlite::{Alter, Connection, Error, Row, Transaction};
@@ -23,6 +23,18 @@ pub fn run<S: Alter>(
     ensures ran { HasCleanDisk (state S.Store tx.new.conn.now) → IfOk result (Ran S.Store sql.now (bound params.now) tx.old.conn.now tx.new.conn.now) }
 {
     tx.execute(sql, params)
+}
+
+/// Runs statements without parameters, one after another.
+pub fn run_all<S: Alter>(tx: &mut Transaction<'_, S>, statements: &[&str]) -> Result<(), Error>
+    ensures same_reference { tx.new.conn.ghost_name ≡ tx.old.conn.ghost_name }
+    ensures stays { Stays S.Store tx.old.conn.now tx.new.conn.now result }
+    ensures ran { HasCleanDisk (state S.Store tx.new.conn.now) → OnOk result (RanAll S.Store (map (λ s. s.now) statements.now) tx.old.conn.now tx.new.conn.now) }
+{
+    for statement in statements {
+        run(tx, statement, &[])?;
+    }
+    Ok(())
 }
 
 /// Puts a row at its key: `update` sets it where it is there, and `insert` adds it where it is not. Both take all of `params`.

@@ -46,6 +46,7 @@ use Rattle.opc_state.specs.State.{State}
 use Rattle.opc_stored.specs.Content.{bare, text_said, number_said, flag_said, text_or_none, bytes_or_none, class_said, level_of, profile_said, entry_said, is_entry_of, entries_in, profiles_in}
 use Rattle.opc_stored.specs.State.{IsOrdered, IsReadBack}
 use Rattle.opc_stored.specs.Contents.{Holds}
+use Rattle.opc_stored.specs.Placed.{classes_at, consoles_at, units_at, devices_at, replies_at, answered_at, log_at, messages_at, board_at, account_at, batches_at, grp_at, usr_at, connects_at, profiles_at, entries_at}
 use Rattle.opc_stored.specs.Represented.{contents_of, AreTablesOf, flag, or_null, text_or_null, class_row, halted_row, group_row, user_row, connect_row, profile_row, entry_row, entry_rows, auth_number, mode_letter, console_row, kind_letter, kind_member, unit_row, device_row, answered_values, log_values, message_values, account_values, reply_row, batch_row}
 use Rattle.opc_stored.proofs.AccessLists.{split, list_hit}
 use Rattle.opc_stored.proofs.Keys.{group_total, user_total, connect_total, profile_total, entry_total, unit_total, device_total, console_total, class_total}
@@ -224,7 +225,7 @@ module _ (trees : Trees) (s : State) (ordered : IsOrdered s) (holds : Holds tree
   -- the entries that the test picks are those of the profile
   listed_here : (p : Profile) → profile_of ps p.class p.pattern ≡ Some p → Rises entry_cmp p.entries → entries_in trees p.class p.pattern ≡ p.entries
   listed_here p here up =
-      decoded_part entry_cmp entry_total (entry_row p.class p.pattern) entry_said (entry_back p.class p.pattern) (is_entry_of p.class p.pattern) (flat_map entry_rows ps) p.entries (trees 26) up
+      decoded_part entry_cmp entry_total (entry_row p.class p.pattern) entry_said (entry_back p.class p.pattern) (is_entry_of p.class p.pattern) (flat_map entry_rows ps) p.entries (trees entries_at.tree) up
       (own_entries p.class p.pattern ps p ordered.profiles here) holds.entries
 
   filled : (qs : List Profile) → AllByRecursion (λ (p : Profile). profile_of ps p.class p.pattern ≡ Some p) qs → AllByRecursion (λ (p : Profile). Rises entry_cmp p.entries) qs
@@ -239,7 +240,7 @@ module _ (trees : Trees) (s : State) (ordered : IsOrdered s) (holds : Holds tree
   pub profiles_are : profiles_in trees ≡ ps
   profiles_are =
       let tells : map profile_said (map profile_row ps) ≡ map bare ps = map-map profile_said profile_row ps ∙ map_same _ _ profile_back ps in
-      let sorted = decoded_as profile_cmp profile_total profile_said (map profile_row ps) (map bare ps) (trees 22) (bare_rise ps ordered.profiles) tells holds.profiles in
+      let sorted = decoded_as profile_cmp profile_total profile_said (map profile_row ps) (map bare ps) (trees profiles_at.tree) (bare_rise ps ordered.profiles) tells holds.profiles in
       ap (map (λ (p : Profile). record p { entries = entries_in trees p.class p.pattern })) sorted ∙ filled ps (each_found ps ordered.profiles) ordered.entries
 
 -- ---- the state that the rows tell
@@ -270,72 +271,72 @@ by_flag_total = on_total bool_number nat_cmp_total
 abbrev told : Trees → State
 told t = record {
   policy = record {
-    users = sort_by user_cmp (map (λ (r : Row). user_said (drop 1 r)) (t 18));
-    groups = sort_by name_cmp (map (λ (r : Row). group_said (drop 1 r)) (t 16));
-    connects = sort_by connect_cmp (map (λ (r : Row). connect_said (drop 1 r)) (t 20));
+    users = sort_by user_cmp (map (λ (r : Row). user_said (drop 1 r)) (t usr_at.tree));
+    groups = sort_by name_cmp (map (λ (r : Row). group_said (drop 1 r)) (t grp_at.tree));
+    connects = sort_by connect_cmp (map (λ (r : Row). connect_said (drop 1 r)) (t connects_at.tree));
     profiles = profiles_in t;
-    active = actives_said (sort_by by_class (map (λ (r : Row). class_row_said (drop 1 r)) (t 1)));
+    active = actives_said (sort_by by_class (map (λ (r : Row). class_row_said (drop 1 r)) (t classes_at.tree)));
   };
   board = record {
-    units = sort_by unit_cmp (map (λ (r : Row). unit_said (drop 1 r)) (t 5));
-    devices = sort_by device_cmp (map (λ (r : Row). device_said (drop 1 r)) (t 7));
-    consoles = sort_by console_cmp (map (λ (r : Row). console_said (drop 1 r)) (t 3));
-    replies = map reply_said (t 9);
-    answered = map answered_said (t 10);
-    log = map log_said (t 11);
-    messages = map message_said (t 12);
-    halted = first_flag (sort_by by_flag (map (λ (r : Row). halted_said (drop 1 r)) (t 13)));
+    units = sort_by unit_cmp (map (λ (r : Row). unit_said (drop 1 r)) (t units_at.tree));
+    devices = sort_by device_cmp (map (λ (r : Row). device_said (drop 1 r)) (t devices_at.tree));
+    consoles = sort_by console_cmp (map (λ (r : Row). console_said (drop 1 r)) (t consoles_at.tree));
+    replies = map reply_said (t replies_at.tree);
+    answered = map answered_said (t answered_at.tree);
+    log = map log_said (t log_at.tree);
+    messages = map message_said (t messages_at.tree);
+    halted = first_flag (sort_by by_flag (map (λ (r : Row). halted_said (drop 1 r)) (t board_at.tree)));
   };
-  account = map account_said (t 14);
-  batches = map batch_said (t 15);
+  account = map account_said (t account_at.tree);
+  batches = map batch_said (t batches_at.tree);
 }
 
 module _ (t : Trees) (s : State) (h : AreTablesOf t s) where
   o : IsOrdered s
   o = h.ordered
 
-  users_are : sort_by user_cmp (map (λ (r : Row). user_said (drop 1 r)) (t 18)) ≡ s.policy.users
-  users_are = decoded_is user_cmp user_total user_row user_said user_back s.policy.users (t 18) o.users h.holds.usr
+  users_are : sort_by user_cmp (map (λ (r : Row). user_said (drop 1 r)) (t usr_at.tree)) ≡ s.policy.users
+  users_are = decoded_is user_cmp user_total user_row user_said user_back s.policy.users (t usr_at.tree) o.users h.holds.usr
 
-  groups_are : sort_by name_cmp (map (λ (r : Row). group_said (drop 1 r)) (t 16)) ≡ s.policy.groups
-  groups_are = decoded_is name_cmp group_total group_row group_said (λ g. refl) s.policy.groups (t 16) o.groups h.holds.grp
+  groups_are : sort_by name_cmp (map (λ (r : Row). group_said (drop 1 r)) (t grp_at.tree)) ≡ s.policy.groups
+  groups_are = decoded_is name_cmp group_total group_row group_said (λ g. refl) s.policy.groups (t grp_at.tree) o.groups h.holds.grp
 
-  connects_are : sort_by connect_cmp (map (λ (r : Row). connect_said (drop 1 r)) (t 20)) ≡ s.policy.connects
-  connects_are = decoded_is connect_cmp connect_total connect_row connect_said connect_back s.policy.connects (t 20) o.connects h.holds.connects
+  connects_are : sort_by connect_cmp (map (λ (r : Row). connect_said (drop 1 r)) (t connects_at.tree)) ≡ s.policy.connects
+  connects_are = decoded_is connect_cmp connect_total connect_row connect_said connect_back s.policy.connects (t connects_at.tree) o.connects h.holds.connects
 
-  actives_are : actives_said (sort_by by_class (map (λ (r : Row). class_row_said (drop 1 r)) (t 1))) ≡ s.policy.active
+  actives_are : actives_said (sort_by by_class (map (λ (r : Row). class_row_said (drop 1 r)) (t classes_at.tree))) ≡ s.policy.active
   actives_are =
       let both : List (Class × Bool) = (Console, s.policy.active.console) ∷ (Opercmds, s.policy.active.opercmds) ∷ [] in
-      ap actives_said (decoded_is by_class by_class_total class_row class_row_said class_row_back both (t 1) ((refl, tt), (tt, tt)) h.holds.classes)
+      ap actives_said (decoded_is by_class by_class_total class_row class_row_said class_row_back both (t classes_at.tree) ((refl, tt), (tt, tt)) h.holds.classes)
 
-  units_are : sort_by unit_cmp (map (λ (r : Row). unit_said (drop 1 r)) (t 5)) ≡ s.board.units
-  units_are = decoded_is unit_cmp unit_total unit_row unit_said unit_back s.board.units (t 5) o.units h.holds.units
+  units_are : sort_by unit_cmp (map (λ (r : Row). unit_said (drop 1 r)) (t units_at.tree)) ≡ s.board.units
+  units_are = decoded_is unit_cmp unit_total unit_row unit_said unit_back s.board.units (t units_at.tree) o.units h.holds.units
 
-  devices_are : sort_by device_cmp (map (λ (r : Row). device_said (drop 1 r)) (t 7)) ≡ s.board.devices
-  devices_are = decoded_is device_cmp device_total device_row device_said device_back s.board.devices (t 7) o.devices h.holds.devices
+  devices_are : sort_by device_cmp (map (λ (r : Row). device_said (drop 1 r)) (t devices_at.tree)) ≡ s.board.devices
+  devices_are = decoded_is device_cmp device_total device_row device_said device_back s.board.devices (t devices_at.tree) o.devices h.holds.devices
 
-  consoles_are : sort_by console_cmp (map (λ (r : Row). console_said (drop 1 r)) (t 3)) ≡ s.board.consoles
-  consoles_are = decoded_is console_cmp console_total console_row console_said console_back s.board.consoles (t 3) o.consoles h.holds.consoles
+  consoles_are : sort_by console_cmp (map (λ (r : Row). console_said (drop 1 r)) (t consoles_at.tree)) ≡ s.board.consoles
+  consoles_are = decoded_is console_cmp console_total console_row console_said console_back s.board.consoles (t consoles_at.tree) o.consoles h.holds.consoles
 
-  replies_are : map reply_said (t 9) ≡ s.board.replies
+  replies_are : map reply_said (t replies_at.tree) ≡ s.board.replies
   replies_are = ap (map reply_said) h.holds.replies ∙ map_back reply_row reply_said (λ r. refl) s.board.replies
 
-  answered_are : map answered_said (t 10) ≡ s.board.answered
+  answered_are : map answered_said (t answered_at.tree) ≡ s.board.answered
   answered_are = ap (map answered_said) h.holds.answered ∙ places_back answered_values answered_said (λ n r. refl) 1 s.board.answered
 
-  log_is : map log_said (t 11) ≡ s.board.log
+  log_is : map log_said (t log_at.tree) ≡ s.board.log
   log_is = ap (map log_said) h.holds.log ∙ places_back log_values log_said (λ n r. refl) 1 s.board.log
 
-  messages_are : map message_said (t 12) ≡ s.board.messages
+  messages_are : map message_said (t messages_at.tree) ≡ s.board.messages
   messages_are = ap (map message_said) h.holds.messages ∙ places_back message_values message_said (λ n r. refl) 1 s.board.messages
 
-  halted_is : first_flag (sort_by by_flag (map (λ (r : Row). halted_said (drop 1 r)) (t 13))) ≡ s.board.halted
-  halted_is = ap first_flag (decoded_is by_flag by_flag_total halted_row halted_said flag_back (s.board.halted ∷ []) (t 13) (tt, tt) h.holds.board)
+  halted_is : first_flag (sort_by by_flag (map (λ (r : Row). halted_said (drop 1 r)) (t board_at.tree))) ≡ s.board.halted
+  halted_is = ap first_flag (decoded_is by_flag by_flag_total halted_row halted_said flag_back (s.board.halted ∷ []) (t board_at.tree) (tt, tt) h.holds.board)
 
-  account_is : map account_said (t 14) ≡ s.account
+  account_is : map account_said (t account_at.tree) ≡ s.account
   account_is = ap (map account_said) h.holds.account ∙ places_back account_values account_said (λ n r. refl) 1 s.account
 
-  batches_are : map batch_said (t 15) ≡ s.batches
+  batches_are : map batch_said (t batches_at.tree) ≡ s.batches
   batches_are = ap (map batch_said) h.holds.batches ∙ batches_back s.batches o.read_back
 
   policy_is : (told t).policy ≡ s.policy

@@ -6,10 +6,9 @@ pub mod Keys
 pub mod Made
 pub mod Opened
 pub mod Ordered
-pub mod Pieces
 pub mod PolicyRead
 pub mod ProfileTexts
 pub mod OtherTables
-pub mod Texts
 pub mod EditsInOrder
 pub mod VersionLoads
+pub mod Texts

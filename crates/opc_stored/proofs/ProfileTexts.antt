@@ -59,7 +59,7 @@ insert_profile_plain = (refl, refl)
 abbrev pub update_profile : List ℕ
 update_profile = codes "UPDATE profiles SET class = ?1, pattern = ?2, owner = ?3, uacc = ?4, warning = ?5, skey = ?6, head = ?7 WHERE class = ?1 AND pattern = ?2"
 
-pub update_profile_is : command_of (understood the_schema update_profile) ≡ Update 15 (alone (selecting 22 of_profile (col 1 0 ∷ col 1 0 ∷ profile_terms) []))
+pub update_profile_is : command_of (understood the_schema update_profile) ≡ Update 15 (alone (selecting profiles_at.tree of_profile (col 1 0 ∷ col 1 0 ∷ profile_terms) []))
 unfolding understood everything
 update_profile_is = refl
 
@@ -70,7 +70,7 @@ update_profile_plain = (refl, refl)
 abbrev pub delete_profile : List ℕ
 delete_profile = codes "DELETE FROM profiles WHERE class = ?1 AND pattern = ?2"
 
-pub delete_profile_is : command_of (understood the_schema delete_profile) ≡ Delete 15 (alone (selecting 22 of_profile (col 1 0 ∷ []) []))
+pub delete_profile_is : command_of (understood the_schema delete_profile) ≡ Delete 15 (alone (selecting profiles_at.tree of_profile (col 1 0 ∷ []) []))
 unfolding understood everything
 delete_profile_is = refl
 
@@ -92,7 +92,7 @@ insert_entry_plain = (refl, refl)
 abbrev pub update_entry : List ℕ
 update_entry = codes "UPDATE entries SET class = ?1, pattern = ?2, id = ?3, level = ?4 WHERE class = ?1 AND pattern = ?2 AND id = ?3"
 
-pub update_entry_is : command_of (understood the_schema update_entry) ≡ Update 16 (alone (selecting 26 of_entry (col 1 0 ∷ col 1 0 ∷ entry_terms) []))
+pub update_entry_is : command_of (understood the_schema update_entry) ≡ Update 16 (alone (selecting entries_at.tree of_entry (col 1 0 ∷ col 1 0 ∷ entry_terms) []))
 unfolding understood everything
 update_entry_is = refl
 
@@ -103,7 +103,7 @@ update_entry_plain = (refl, refl)
 abbrev pub delete_entry : List ℕ
 delete_entry = codes "DELETE FROM entries WHERE class = ?1 AND pattern = ?2 AND id = ?3"
 
-pub delete_entry_is : command_of (understood the_schema delete_entry) ≡ Delete 16 (alone (selecting 26 of_entry (col 1 0 ∷ []) []))
+pub delete_entry_is : command_of (understood the_schema delete_entry) ≡ Delete 16 (alone (selecting entries_at.tree of_entry (col 1 0 ∷ []) []))
 unfolding understood everything
 delete_entry_is = refl
 
@@ -114,7 +114,7 @@ delete_entry_plain = (refl, refl)
 abbrev pub delete_entries : List ℕ
 delete_entries = codes "DELETE FROM entries WHERE class = ?1 AND pattern = ?2"
 
-pub delete_entries_is : command_of (understood the_schema delete_entries) ≡ Delete 16 (alone (selecting 26 of_profile (col 1 0 ∷ []) []))
+pub delete_entries_is : command_of (understood the_schema delete_entries) ≡ Delete 16 (alone (selecting entries_at.tree of_profile (col 1 0 ∷ []) []))
 unfolding understood everything
 delete_entries_is = refl
 
@@ -138,7 +138,7 @@ profile_key class pattern = Text (class_text class) ∷ Text pattern ∷ []
 abbrev pub entry_key : Class → List ℕ → List ℕ → Row
 entry_key class pattern id = Text (class_text class) ∷ Text pattern ∷ Text id ∷ []
 
-pub profile_below : (p : Profile) (project : List Term) (db : Trees) (r : Row) → passes 22 of_profile project [] db (profile_row p) r ≡ has_profile p.class p.pattern (drop 1 r)
+pub profile_below : (p : Profile) (project : List Term) (db : Trees) (r : Row) → passes profiles_at.tree of_profile project [] db (profile_row p) r ≡ has_profile p.class p.pattern (drop 1 r)
 profile_below p project db [] = refl
 profile_below p project db (v0 ∷ []) = refl
 profile_below p project db (v0 ∷ v1 ∷ r) = refl
@@ -148,13 +148,13 @@ key_below tree class pattern project db [] = refl
 key_below tree class pattern project db (v0 ∷ []) = refl
 key_below tree class pattern project db (v0 ∷ v1 ∷ r) = refl
 
-pub entry_below : (class : Class) (pattern : List ℕ) (e : Entry) (project : List Term) (db : Trees) (r : Row) → passes 26 of_entry project [] db (entry_row class pattern e) r ≡ has_entry class pattern e.id (drop 1 r)
+pub entry_below : (class : Class) (pattern : List ℕ) (e : Entry) (project : List Term) (db : Trees) (r : Row) → passes entries_at.tree of_entry project [] db (entry_row class pattern e) r ≡ has_entry class pattern e.id (drop 1 r)
 entry_below class pattern e project db [] = refl
 entry_below class pattern e project db (v0 ∷ []) = refl
 entry_below class pattern e project db (v0 ∷ v1 ∷ []) = refl
 entry_below class pattern e project db (v0 ∷ v1 ∷ v2 ∷ r) = refl
 
-pub entry_key_below : (class : Class) (pattern id : List ℕ) (project : List Term) (db : Trees) (r : Row) → passes 26 of_entry project [] db (entry_key class pattern id) r ≡ has_entry class pattern id (drop 1 r)
+pub entry_key_below : (class : Class) (pattern id : List ℕ) (project : List Term) (db : Trees) (r : Row) → passes entries_at.tree of_entry project [] db (entry_key class pattern id) r ≡ has_entry class pattern id (drop 1 r)
 entry_key_below class pattern id project db [] = refl
 entry_key_below class pattern id project db (v0 ∷ []) = refl
 entry_key_below class pattern id project db (v0 ∷ v1 ∷ []) = refl

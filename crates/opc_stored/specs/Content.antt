@@ -15,6 +15,7 @@ use Rattle.opc_policy.specs.declared.entry.Entry.{Entry}
 use Rattle.opc_policy.specs.declared.profile.Profile.{Profile}
 use Rattle.opc_policy.specs.Access.{entry_cmp}
 use Rattle.opc_policy.specs.Profiles.{profile_cmp}
+use Rattle.opc_stored.specs.Placed.{entries_at, profiles_at}
 
 -- a value of another kind says nothing
 abbrev pub text_said : Value → List ℕ
@@ -63,9 +64,9 @@ is_entry_of class pattern v = same_class (class_said (column v 0)) class && byte
 
 -- the access list of the profile of a class and a pattern, in the order of its ids
 abbrev pub entries_in : Trees → Class → List ℕ → List Entry
-entries_in trees class pattern = sort_by entry_cmp (map entry_said (filter (is_entry_of class pattern) (values_of (trees 26))))
+entries_in trees class pattern = sort_by entry_cmp (map entry_said (filter (is_entry_of class pattern) (values_of (trees entries_at.tree))))
 
 -- the profiles, in their order, with their access lists
 abbrev pub profiles_in : Trees → List Profile
 profiles_in trees =
-    map (λ (p : Profile). record p { entries = entries_in trees p.class p.pattern }) (sort_by profile_cmp (map (λ (r : Row). profile_said (drop 1 r)) (trees 22)))
+    map (λ (p : Profile). record p { entries = entries_in trees p.class p.pattern }) (sort_by profile_cmp (map (λ (r : Row). profile_said (drop 1 r)) (trees profiles_at.tree)))

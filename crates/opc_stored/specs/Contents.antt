@@ -1,8 +1,9 @@
 -- The rows of all tables, in values.
-use Rattle.std.specs.Prelude.{◌≡◌, List}
+use Rattle.std.specs.Prelude.{List}
 use Rattle.sqlite_value.specs.Order.{Row}
 use Rattle.sqlite_trees.specs.Tree.{Trees}
-use Rattle.opc_statements.specs.Rows.{HasRows}
+use Rattle.opc_statements.specs.Rows.{IsFilled}
+use Rattle.opc_stored.specs.Placed.{meta_at, classes_at, consoles_at, units_at, devices_at, replies_at, answered_at, log_at, messages_at, board_at, account_at, batches_at, grp_at, usr_at, connects_at, profiles_at, entries_at}
 
 -- The rows that each table has. Where the key is a number, the number stands first, as the rowid, and its own column is NULL.
 pub record Contents : Type 0 where
@@ -24,22 +25,22 @@ pub record Contents : Type 0 where
   pub profiles : List Row
   pub entries : List Row
 
--- Each table has one row for each of these, and no other. No order of rows enters, but where the key is a number.
+-- Each table has these rows, and no other.
 pub record Holds (trees : Trees) (c : Contents) : Type 0 where
-  pub meta : HasRows c.meta (trees 0)
-  pub classes : HasRows c.classes (trees 1)
-  pub consoles : HasRows c.consoles (trees 3)
-  pub units : HasRows c.units (trees 5)
-  pub devices : HasRows c.devices (trees 7)
-  pub replies : trees 9 ≡ c.replies
-  pub answered : trees 10 ≡ c.answered
-  pub log : trees 11 ≡ c.log
-  pub messages : trees 12 ≡ c.messages
-  pub board : HasRows c.board (trees 13)
-  pub account : trees 14 ≡ c.account
-  pub batches : trees 15 ≡ c.batches
-  pub grp : HasRows c.grp (trees 16)
-  pub usr : HasRows c.usr (trees 18)
-  pub connects : HasRows c.connects (trees 20)
-  pub profiles : HasRows c.profiles (trees 22)
-  pub entries : HasRows c.entries (trees 26)
+  pub meta : IsFilled meta_at c.meta trees
+  pub classes : IsFilled classes_at c.classes trees
+  pub consoles : IsFilled consoles_at c.consoles trees
+  pub units : IsFilled units_at c.units trees
+  pub devices : IsFilled devices_at c.devices trees
+  pub replies : IsFilled replies_at c.replies trees
+  pub answered : IsFilled answered_at c.answered trees
+  pub log : IsFilled log_at c.log trees
+  pub messages : IsFilled messages_at c.messages trees
+  pub board : IsFilled board_at c.board trees
+  pub account : IsFilled account_at c.account trees
+  pub batches : IsFilled batches_at c.batches trees
+  pub grp : IsFilled grp_at c.grp trees
+  pub usr : IsFilled usr_at c.usr trees
+  pub connects : IsFilled connects_at c.connects trees
+  pub profiles : IsFilled profiles_at c.profiles trees
+  pub entries : IsFilled entries_at c.entries trees

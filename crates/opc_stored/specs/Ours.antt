@@ -1,5 +1,5 @@
 -- Which names are those of our tables, and which version such tables are of.
-use Rattle.std.specs.Prelude.{◌≡◌, ℕ, pos, Bool, ◌||◌, ◌&&◌, is_some, List, [], ◌∷◌, codes}
+use Rattle.std.specs.Prelude.{◌≡◌, ℕ, pos, Bool, ◌||◌, ◌&&◌, is_some, List, [], ◌∷◌, map, codes}
 use Rattle.std.specs.List.{list_any}
 use Rattle.sqlite_schema.specs.Names.{same_name}
 use Rattle.sqlite_schema.specs.declared.schema.Table.{Table}
@@ -10,10 +10,10 @@ use Rattle.sqlite.specs.Order.{Row, column}
 use Rattle.sqlite.specs.State.{State, Shown}
 use Rattle.sqlite.specs.declared.types.Value.{Value}
 use Rattle.sqlite.specs.declared.types.Value.TheVariants.{Int}
+use Rattle.opc_stored.specs.Tables.{the_tables}
 
 abbrev pub our_names : List (List ℕ)
-our_names =
-    codes "meta" ∷ codes "classes" ∷ codes "consoles" ∷ codes "units" ∷ codes "devices" ∷ codes "replies" ∷ codes "answered" ∷ codes "log" ∷ codes "messages" ∷ codes "board" ∷ codes "account" ∷ codes "batches" ∷ codes "grp" ∷ codes "usr" ∷ codes "connects" ∷ codes "profiles" ∷ codes "entries" ∷ []
+our_names = map (λ (t : Table). t.name) the_tables
 
 -- in any case of its letters
 abbrev pub is_ours : List ℕ → Bool

@@ -1,5 +1,5 @@
 -- The tables, as the statements that make them define them, version 2.
-use Rattle.std.specs.Prelude.{true, false, [], ◌∷◌, Some, None, codes}
+use Rattle.std.specs.Prelude.{true, false, List, [], ◌∷◌, fold, Some, None, codes}
 use Rattle.sqlite_schema.specs.declared.schema.Action.TheVariants.{NoAction, Cascade}
 use Rattle.sqlite.specs.Table.{Table}
 use Rattle.sqlite.specs.Schema.{Schema}
@@ -58,55 +58,12 @@ profiles_table = table_of (codes "profiles") (column_of Text true (codes "class"
 abbrev pub entries_table : Table
 entries_table = table_of (codes "entries") (column_of Text true (codes "class") ∷ column_of Text true (codes "pattern") ∷ column_of Text true (codes "id") ∷ column_of Integer true (codes "level") ∷ []) None (1 ∷ 2 ∷ 3 ∷ []) ((1 ∷ 2 ∷ 3 ∷ []) ∷ []) (reference_to (1 ∷ 2 ∷ []) (codes "profiles") Cascade ∷ [])
 
--- A table is at the tree after those of the tables before it, each of which has one for itself and one for each key that is not its
--- rowid. Those that a later version makes anew stand last.
-abbrev pub schema_1 : Schema
-schema_1 = created no_schema meta_table
-
-abbrev pub schema_2 : Schema
-schema_2 = created schema_1 classes_table
-
-abbrev pub schema_3 : Schema
-schema_3 = created schema_2 consoles_table
-
-abbrev pub schema_4 : Schema
-schema_4 = created schema_3 units_table
-
-abbrev pub schema_5 : Schema
-schema_5 = created schema_4 devices_table
-
-abbrev pub schema_6 : Schema
-schema_6 = created schema_5 replies_table
-
-abbrev pub schema_7 : Schema
-schema_7 = created schema_6 answered_table
-
-abbrev pub schema_8 : Schema
-schema_8 = created schema_7 log_table
-
-abbrev pub schema_9 : Schema
-schema_9 = created schema_8 messages_table
-
-abbrev pub schema_10 : Schema
-schema_10 = created schema_9 board_table
-
-abbrev pub schema_11 : Schema
-schema_11 = created schema_10 account_table
-
-abbrev pub schema_12 : Schema
-schema_12 = created schema_11 batches_table
-
-abbrev pub schema_13 : Schema
-schema_13 = created schema_12 grp_table
-
-abbrev pub schema_14 : Schema
-schema_14 = created schema_13 usr_table
-
-abbrev pub schema_15 : Schema
-schema_15 = created schema_14 connects_table
-
-abbrev pub schema_16 : Schema
-schema_16 = created schema_15 profiles_table
+-- In the order in which they are made. A table is at the tree after those of the tables before it, each of which has one for itself
+-- and one for each key that is not its rowid. Those that a later version makes anew stand last.
+abbrev pub the_tables : List Table
+the_tables =
+    meta_table ∷ classes_table ∷ consoles_table ∷ units_table ∷ devices_table ∷ replies_table ∷ answered_table ∷ log_table ∷ messages_table
+    ∷ board_table ∷ account_table ∷ batches_table ∷ grp_table ∷ usr_table ∷ connects_table ∷ profiles_table ∷ entries_table ∷ []
 
 abbrev pub the_schema : Schema
-the_schema = created schema_16 entries_table
+the_schema = fold created no_schema the_tables

@@ -8,8 +8,29 @@ ghost use Rattle.opc_stored.specs.Made.{IsMade, nothing};
 ghost use Rattle.opc_state.specs.State.{empty};
 ghost use Rattle.opc_stored.specs.Represented.{Represents, AreTablesOf};
 
-use opc_statements::run;
+use opc_statements::{run, run_all};
 use sqlite::{Alter, Connection, Error, Transaction, params};
+
+/// The statements that make the tables, each after those that it refers to.
+const TABLES: [&str; 17] = [
+    "CREATE TABLE meta (version INTEGER NOT NULL) STRICT",
+    "CREATE TABLE classes (class TEXT NOT NULL PRIMARY KEY, active INTEGER NOT NULL) STRICT",
+    "CREATE TABLE consoles (name TEXT NOT NULL PRIMARY KEY, auth INTEGER NOT NULL, mode TEXT NOT NULL, online INTEGER NOT NULL, usr TEXT, monitor INTEGER NOT NULL) STRICT",
+    "CREATE TABLE units (name TEXT NOT NULL PRIMARY KEY, kind TEXT NOT NULL, member TEXT, cancelable INTEGER NOT NULL, stopping INTEGER NOT NULL, last TEXT) STRICT",
+    "CREATE TABLE devices (number TEXT NOT NULL PRIMARY KEY, online INTEGER NOT NULL, volume TEXT, unit TEXT) STRICT",
+    "CREATE TABLE replies (id INTEGER PRIMARY KEY, text TEXT NOT NULL) STRICT",
+    "CREATE TABLE answered (number INTEGER PRIMARY KEY, id INTEGER NOT NULL, text TEXT NOT NULL) STRICT",
+    "CREATE TABLE log (number INTEGER PRIMARY KEY, text TEXT NOT NULL) STRICT",
+    "CREATE TABLE messages (number INTEGER PRIMARY KEY, usr TEXT NOT NULL, text TEXT NOT NULL) STRICT",
+    "CREATE TABLE board (halted INTEGER NOT NULL) STRICT",
+    "CREATE TABLE account (number INTEGER PRIMARY KEY, moment INTEGER NOT NULL, console TEXT NOT NULL, usr TEXT NOT NULL, code TEXT NOT NULL, rule TEXT NOT NULL) STRICT",
+    "CREATE TABLE batches (number INTEGER PRIMARY KEY, rows TEXT NOT NULL) STRICT",
+    "CREATE TABLE grp (name TEXT NOT NULL PRIMARY KEY) STRICT",
+    "CREATE TABLE usr (id TEXT NOT NULL PRIMARY KEY, special INTEGER NOT NULL, auditor INTEGER NOT NULL, revoked INTEGER NOT NULL, digest BLOB) STRICT",
+    "CREATE TABLE connects (usr TEXT NOT NULL REFERENCES usr, grp TEXT NOT NULL REFERENCES grp, PRIMARY KEY (usr, grp)) STRICT",
+    "CREATE TABLE profiles (class TEXT NOT NULL, pattern TEXT NOT NULL, owner TEXT NOT NULL REFERENCES usr, uacc INTEGER NOT NULL, warning INTEGER NOT NULL, skey BLOB NOT NULL, head TEXT NOT NULL, PRIMARY KEY (class, pattern), UNIQUE (class, skey), UNIQUE (class, head, skey)) STRICT",
+    "CREATE TABLE entries (class TEXT NOT NULL, pattern TEXT NOT NULL, id TEXT NOT NULL, level INTEGER NOT NULL, PRIMARY KEY (class, pattern, id), FOREIGN KEY (class, pattern) REFERENCES profiles ON DELETE CASCADE) STRICT",
+];
 
 /// Makes the tables in a database where nothing is defined, without rows.
 pub fn create_tables<S: Alter>(tx: &mut Transaction<'_, S>) -> Result<(), Error>
@@ -17,26 +38,7 @@ pub fn create_tables<S: Alter>(tx: &mut Transaction<'_, S>) -> Result<(), Error>
     ensures stays { Stays S.Store tx.old.conn.now tx.new.conn.now result }
     ensures made { HasCleanDisk (state S.Store tx.new.conn.now) → OnOk result (tx.old.conn.now.schema ≡ no_schema → IsMade nothing (state S.Store tx.new.conn.now).now) }
 {
-    tx.execute_batch(
-        "CREATE TABLE meta (version INTEGER NOT NULL) STRICT; \
-         CREATE TABLE classes (class TEXT NOT NULL PRIMARY KEY, active INTEGER NOT NULL) STRICT; \
-         CREATE TABLE consoles (name TEXT NOT NULL PRIMARY KEY, auth INTEGER NOT NULL, mode TEXT NOT NULL, online INTEGER NOT NULL, usr TEXT, monitor INTEGER NOT NULL) STRICT; \
-         CREATE TABLE units (name TEXT NOT NULL PRIMARY KEY, kind TEXT NOT NULL, member TEXT, cancelable INTEGER NOT NULL, stopping INTEGER NOT NULL, last TEXT) STRICT; \
-         CREATE TABLE devices (number TEXT NOT NULL PRIMARY KEY, online INTEGER NOT NULL, volume TEXT, unit TEXT) STRICT; \
-         CREATE TABLE replies (id INTEGER PRIMARY KEY, text TEXT NOT NULL) STRICT; \
-         CREATE TABLE answered (number INTEGER PRIMARY KEY, id INTEGER NOT NULL, text TEXT NOT NULL) STRICT; \
-         CREATE TABLE log (number INTEGER PRIMARY KEY, text TEXT NOT NULL) STRICT; \
-         CREATE TABLE messages (number INTEGER PRIMARY KEY, usr TEXT NOT NULL, text TEXT NOT NULL) STRICT; \
-         CREATE TABLE board (halted INTEGER NOT NULL) STRICT; \
-         CREATE TABLE account (number INTEGER PRIMARY KEY, moment INTEGER NOT NULL, console TEXT NOT NULL, usr TEXT NOT NULL, code TEXT NOT NULL, rule TEXT NOT NULL) STRICT; \
-         CREATE TABLE batches (number INTEGER PRIMARY KEY, rows TEXT NOT NULL) STRICT; \
-         CREATE TABLE grp (name TEXT NOT NULL PRIMARY KEY) STRICT; \
-         CREATE TABLE usr (id TEXT NOT NULL PRIMARY KEY, special INTEGER NOT NULL, auditor INTEGER NOT NULL, revoked INTEGER NOT NULL, digest BLOB) STRICT; \
-         CREATE TABLE connects (usr TEXT NOT NULL REFERENCES usr, grp TEXT NOT NULL REFERENCES grp, PRIMARY KEY (usr, grp)) STRICT; \
-         CREATE TABLE profiles (class TEXT NOT NULL, pattern TEXT NOT NULL, owner TEXT NOT NULL REFERENCES usr, uacc INTEGER NOT NULL, warning INTEGER NOT NULL, skey BLOB NOT NULL, head TEXT NOT NULL, PRIMARY KEY (class, pattern), UNIQUE (class, skey), UNIQUE (class, head, skey)) STRICT; \
-         CREATE TABLE entries (class TEXT NOT NULL, pattern TEXT NOT NULL, id TEXT NOT NULL, level INTEGER NOT NULL, PRIMARY KEY (class, pattern, id), FOREIGN KEY (class, pattern) REFERENCES profiles ON DELETE CASCADE) STRICT",
-    )?;
-    Ok(())
+    run_all(tx, &TABLES)
 }
 
 /// The rows that are always there: the version, the classes and the day.

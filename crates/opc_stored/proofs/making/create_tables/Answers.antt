@@ -1,5 +1,6 @@
-use Rattle.opc_stored.proofs.Made.{makes_inside}
+use Rattle.opc_stored.proofs.Made.{makes_tables}
+use Rattle.opc_stored.proofs.Texts.{texts, defined}
 use Rattle.opc_stored.proofs.making.create_tables.Goals as goal
 
 pub returns-clause-made : goal.returns-clause-made
-returns-clause-made g c clean none = makes_inside g.S.Store c.args.tx.now.conn.now c.execute_batch.new.self.conn.now none (c.in_ok-execute_batch.ensures.ran clean)
+returns-clause-made g c clean = makes_tables g.S.Store texts c.args.tx.now.conn.now c.run_all.new.tx.conn.now c.run_all.result (c.run_all.ensures.ran clean) defined

@@ -1,10 +1,8 @@
 //! The board without its histories, read back.
-ghost use Rattle.std.specs.Prelude.{◌≡◌, false, IfOk};
-ghost use Rattle.sqlite.specs.Held.{state};
-ghost use Rattle.sqlite.specs.State.{HasCleanDisk};
+ghost use Rattle.std.specs.Prelude.{◌≡◌, false};
 ghost use Rattle.opc_statements.specs.Steps.{Looks};
 ghost use Rattle.opc_board.specs.History.{without_history};
-ghost use Rattle.opc_stored.specs.Represented.{Represents};
+ghost use Rattle.opc_stored.specs.Asked.{Finds};
 
 use crate::consoles::consoles_on;
 use crate::day::halted_on;
@@ -26,7 +24,7 @@ pub fn live_rows_on<S: Alter>(
     requires { conn.old.in_transaction ≡ false }
     ensures mode { conn.new.in_transaction ≡ false }
     ensures looks { Looks S.Store conn.old conn.new result }
-    ensures found { HasCleanDisk (state S.Store conn.new) → (s : _) → Represents (state S.Store conn.old).now s → IfOk result (λ v. v ≡ without_history s.board) }
+    ensures found { Finds S.Store conn.old conn.new result (λ s v. v ≡ without_history s.board) }
 {
     let units = units_on(alloc, conn)?;
     let devices = devices_on(alloc, conn)?;
@@ -50,7 +48,7 @@ pub fn live_board_on<S: Alter>(alloc: Global, conn: &mut Connection<S>) -> Resul
     requires { conn.old.in_transaction ≡ false }
     ensures mode { conn.new.in_transaction ≡ false }
     ensures looks { Looks S.Store conn.old conn.new result }
-    ensures found { HasCleanDisk (state S.Store conn.new) → (s : _) → Represents (state S.Store conn.old).now s → IfOk result (λ v. v ≡ without_history s.board) }
+    ensures found { Finds S.Store conn.old conn.new result (λ s v. v ≡ without_history s.board) }
 {
     let rows = live_rows_on(alloc, conn)?;
     match Board::of(rows) {

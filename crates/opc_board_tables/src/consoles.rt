@@ -1,13 +1,11 @@
 //! The table of consoles.
-ghost use Rattle.std.specs.Prelude.{◌≡◌, OnOk, false, IfOk, pos};
-ghost use Rattle.sqlite.specs.Held.{state};
-ghost use Rattle.sqlite.specs.State.{HasCleanDisk};
+ghost use Rattle.std.specs.Prelude.{◌≡◌, false, IfOk, pos};
 ghost use Rattle.opc_statements.specs.Steps.{Stays, Looks};
 ghost use Rattle.std.specs.Option.{option_copied};
-ghost use Rattle.opc_stored.specs.Represented.{auth_number, mode_letter, Represents, console_row};
+ghost use Rattle.opc_stored.specs.Asked.{Finds, Makes};
+ghost use Rattle.opc_stored.specs.Represented.{auth_number, mode_letter, console_row};
 ghost use Rattle.opc_state.specs.Changes.{with_consoles};
 ghost use Rattle.opc_state.specs.Members.{with_console, without_console};
-ghost use Rattle.opc_stored.specs.Changes.{Becomes};
 ghost use Rattle.opc_board.specs.Facts.{console_at};
 ghost use Rattle.sqlite.specs.Order.{column};
 ghost use Rattle.sqlite.specs.declared.types.Value.TheVariants.{Int, Text};
@@ -48,7 +46,7 @@ impl Keeps<ConsoleRow> for ConsoleTable {
 pub fn put_console<S: Alter>(tx: &mut Transaction<'_, S>, console: &ConsoleRow) -> Result<(), Error>
     ensures same_reference { tx.new.conn.ghost_name ≡ tx.old.conn.ghost_name }
     ensures stays { Stays S.Store tx.old.conn.now tx.new.conn.now result }
-    ensures done { HasCleanDisk (state S.Store tx.new.conn.now) → OnOk result (Becomes (λ s. with_consoles (with_console console.now s.board.consoles) s) (state S.Store tx.old.conn.now).now (state S.Store tx.new.conn.now).now) }
+    ensures done { Makes S.Store tx.old.conn.now tx.new.conn.now result (λ s. with_consoles (with_console console.now s.board.consoles) s) }
 {
     put(
         tx,
@@ -71,7 +69,7 @@ pub fn remove_console<S: Alter>(
 ) -> Result<(), Error>
     ensures same_reference { tx.new.conn.ghost_name ≡ tx.old.conn.ghost_name }
     ensures stays { Stays S.Store tx.old.conn.now tx.new.conn.now result }
-    ensures done { HasCleanDisk (state S.Store tx.new.conn.now) → OnOk result (Becomes (λ s. with_consoles (without_console name.now s.board.consoles) s) (state S.Store tx.old.conn.now).now (state S.Store tx.new.conn.now).now) }
+    ensures done { Makes S.Store tx.old.conn.now tx.new.conn.now result (λ s. with_consoles (without_console name.now s.board.consoles) s) }
 {
     run(
         tx,
@@ -154,7 +152,7 @@ pub fn consoles_on<S: Alter>(
     requires { conn.old.in_transaction ≡ false }
     ensures mode { conn.new.in_transaction ≡ false }
     ensures looks { Looks S.Store conn.old conn.new result }
-    ensures found { HasCleanDisk (state S.Store conn.new) → (s : _) → Represents (state S.Store conn.old).now s → IfOk result (λ v. v ≡ s.board.consoles) }
+    ensures found { Finds S.Store conn.old conn.new result (λ s v. v ≡ s.board.consoles) }
 {
     let rows = read(
         conn,
@@ -172,7 +170,7 @@ pub fn console_on<S: Alter>(
     requires { conn.old.in_transaction ≡ false }
     ensures mode { conn.new.in_transaction ≡ false }
     ensures looks { Looks S.Store conn.old conn.new result }
-    ensures found { HasCleanDisk (state S.Store conn.new) → (s : _) → Represents (state S.Store conn.old).now s → IfOk result (λ v. v ≡ console_at s.board name.now) }
+    ensures found { Finds S.Store conn.old conn.new result (λ s v. v ≡ console_at s.board name.now) }
 {
     let rows = read(
         conn,

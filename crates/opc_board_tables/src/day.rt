@@ -1,11 +1,9 @@
 //! The table of the day, which may be halted.
-ghost use Rattle.std.specs.Prelude.{◌≡◌, ◌∷◌, [], OnOk, false, Bool, IfOk};
-ghost use Rattle.sqlite.specs.Held.{state};
-ghost use Rattle.sqlite.specs.State.{HasCleanDisk};
+ghost use Rattle.std.specs.Prelude.{◌≡◌, ◌∷◌, [], false, Bool, IfOk};
 ghost use Rattle.opc_statements.specs.Steps.{Stays, Looks};
 ghost use Rattle.opc_state.specs.Changes.{with_halted};
-ghost use Rattle.opc_stored.specs.Changes.{Becomes};
-ghost use Rattle.opc_stored.specs.Represented.{Represents, halted_row};
+ghost use Rattle.opc_stored.specs.Asked.{Finds, Makes};
+ghost use Rattle.opc_stored.specs.Represented.{halted_row};
 
 use opc_policy::source::StoreFault;
 use opc_statements::run;
@@ -17,7 +15,7 @@ use sqlite::{Alter, Connection, Error, Row, Transaction, params};
 pub fn set_halted<S: Alter>(tx: &mut Transaction<'_, S>, halted: bool) -> Result<(), Error>
     ensures same_reference { tx.new.conn.ghost_name ≡ tx.old.conn.ghost_name }
     ensures stays { Stays S.Store tx.old.conn.now tx.new.conn.now result }
-    ensures done { HasCleanDisk (state S.Store tx.new.conn.now) → OnOk result (Becomes (with_halted halted) (state S.Store tx.old.conn.now).now (state S.Store tx.new.conn.now).now) }
+    ensures done { Makes S.Store tx.old.conn.now tx.new.conn.now result (with_halted halted) }
 {
     run(tx, "UPDATE board SET halted = ?1", params![halted])?;
     Ok(())
@@ -28,7 +26,7 @@ pub fn halted_on<S: Alter>(conn: &mut Connection<S>) -> Result<bool, StoreFault>
     requires { conn.old.in_transaction ≡ false }
     ensures mode { conn.new.in_transaction ≡ false }
     ensures looks { Looks S.Store conn.old conn.new result }
-    ensures found { HasCleanDisk (state S.Store conn.new) → (s : _) → Represents (state S.Store conn.old).now s → IfOk result (λ v. v ≡ s.board.halted) }
+    ensures found { Finds S.Store conn.old conn.new result (λ s v. v ≡ s.board.halted) }
 {
     let rows = read(conn, "SELECT halted FROM board ORDER BY halted", &[])?;
     halted_in(rows.as_slice())

@@ -1,13 +1,11 @@
 //! The table of devices.
-ghost use Rattle.std.specs.Prelude.{◌≡◌, OnOk, IfOk, false};
-ghost use Rattle.sqlite.specs.Held.{state};
-ghost use Rattle.sqlite.specs.State.{HasCleanDisk};
+ghost use Rattle.std.specs.Prelude.{◌≡◌, false};
 ghost use Rattle.opc_statements.specs.Steps.{Stays, Looks};
 ghost use Rattle.std.specs.Option.{option_copied};
 ghost use Rattle.opc_state.specs.Changes.{with_devices};
 ghost use Rattle.opc_state.specs.Members.{with_device, without_device};
-ghost use Rattle.opc_stored.specs.Changes.{Becomes};
-ghost use Rattle.opc_stored.specs.Represented.{device_row, Represents};
+ghost use Rattle.opc_stored.specs.Asked.{Finds, Makes};
+ghost use Rattle.opc_stored.specs.Represented.{device_row};
 
 use opc_board::rows::DeviceRow;
 use opc_names::name::Device;
@@ -38,7 +36,7 @@ impl Keeps<DeviceRow> for DeviceTable {
 pub fn put_device<S: Alter>(tx: &mut Transaction<'_, S>, device: &DeviceRow) -> Result<(), Error>
     ensures same_reference { tx.new.conn.ghost_name ≡ tx.old.conn.ghost_name }
     ensures stays { Stays S.Store tx.old.conn.now tx.new.conn.now result }
-    ensures done { HasCleanDisk (state S.Store tx.new.conn.now) → OnOk result (Becomes (λ s. with_devices (with_device device.now s.board.devices) s) (state S.Store tx.old.conn.now).now (state S.Store tx.new.conn.now).now) }
+    ensures done { Makes S.Store tx.old.conn.now tx.new.conn.now result (λ s. with_devices (with_device device.now s.board.devices) s) }
 {
     put(
         tx,
@@ -56,7 +54,7 @@ pub fn put_device<S: Alter>(tx: &mut Transaction<'_, S>, device: &DeviceRow) -> 
 pub fn remove_device<S: Alter>(tx: &mut Transaction<'_, S>, number: &Device) -> Result<(), Error>
     ensures same_reference { tx.new.conn.ghost_name ≡ tx.old.conn.ghost_name }
     ensures stays { Stays S.Store tx.old.conn.now tx.new.conn.now result }
-    ensures done { HasCleanDisk (state S.Store tx.new.conn.now) → OnOk result (Becomes (λ s. with_devices (without_device number.now s.board.devices) s) (state S.Store tx.old.conn.now).now (state S.Store tx.new.conn.now).now) }
+    ensures done { Makes S.Store tx.old.conn.now tx.new.conn.now result (λ s. with_devices (without_device number.now s.board.devices) s) }
 {
     run(
         tx,
@@ -92,7 +90,7 @@ pub fn devices_on<S: Alter>(
     requires { conn.old.in_transaction ≡ false }
     ensures mode { conn.new.in_transaction ≡ false }
     ensures looks { Looks S.Store conn.old conn.new result }
-    ensures found { HasCleanDisk (state S.Store conn.new) → (s : _) → Represents (state S.Store conn.old).now s → IfOk result (λ v. v ≡ s.board.devices) }
+    ensures found { Finds S.Store conn.old conn.new result (λ s v. v ≡ s.board.devices) }
 {
     let rows = read(
         conn,

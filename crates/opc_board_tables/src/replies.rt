@@ -1,12 +1,10 @@
 //! The table of open replies.
-ghost use Rattle.std.specs.Prelude.{◌≡◌, OnOk, false, IfOk};
-ghost use Rattle.sqlite.specs.Held.{state};
-ghost use Rattle.sqlite.specs.State.{HasCleanDisk};
+ghost use Rattle.std.specs.Prelude.{◌≡◌, false};
 ghost use Rattle.opc_statements.specs.Steps.{Stays, Looks};
 ghost use Rattle.opc_state.specs.Changes.{with_replies};
 ghost use Rattle.opc_state.specs.Members.{with_reply, without_reply};
-ghost use Rattle.opc_stored.specs.Changes.{Becomes};
-ghost use Rattle.opc_stored.specs.Represented.{Represents, reply_shown};
+ghost use Rattle.opc_stored.specs.Asked.{Finds, Makes};
+ghost use Rattle.opc_stored.specs.Represented.{reply_shown};
 
 use opc_board::rows::ReplyRow;
 use opc_names::reply_id::ReplyId;
@@ -32,7 +30,7 @@ impl Keeps<ReplyRow> for ReplyTable {
 pub fn put_reply<S: Alter>(tx: &mut Transaction<'_, S>, reply: &ReplyRow) -> Result<(), Error>
     ensures same_reference { tx.new.conn.ghost_name ≡ tx.old.conn.ghost_name }
     ensures stays { Stays S.Store tx.old.conn.now tx.new.conn.now result }
-    ensures done { HasCleanDisk (state S.Store tx.new.conn.now) → OnOk result (Becomes (λ s. with_replies (with_reply reply.now s.board.replies) s) (state S.Store tx.old.conn.now).now (state S.Store tx.new.conn.now).now) }
+    ensures done { Makes S.Store tx.old.conn.now tx.new.conn.now result (λ s. with_replies (with_reply reply.now s.board.replies) s) }
 {
     remove_reply(tx, reply.id)?;
     run(
@@ -46,7 +44,7 @@ pub fn put_reply<S: Alter>(tx: &mut Transaction<'_, S>, reply: &ReplyRow) -> Res
 pub fn remove_reply<S: Alter>(tx: &mut Transaction<'_, S>, id: ReplyId) -> Result<(), Error>
     ensures same_reference { tx.new.conn.ghost_name ≡ tx.old.conn.ghost_name }
     ensures stays { Stays S.Store tx.old.conn.now tx.new.conn.now result }
-    ensures done { HasCleanDisk (state S.Store tx.new.conn.now) → OnOk result (Becomes (λ s. with_replies (without_reply id s.board.replies) s) (state S.Store tx.old.conn.now).now (state S.Store tx.new.conn.now).now) }
+    ensures done { Makes S.Store tx.old.conn.now tx.new.conn.now result (λ s. with_replies (without_reply id s.board.replies) s) }
 {
     run(
         tx,
@@ -64,7 +62,7 @@ pub fn replies_on<S: Alter>(
     requires { conn.old.in_transaction ≡ false }
     ensures mode { conn.new.in_transaction ≡ false }
     ensures looks { Looks S.Store conn.old conn.new result }
-    ensures found { HasCleanDisk (state S.Store conn.new) → (s : _) → Represents (state S.Store conn.old).now s → IfOk result (λ v. v ≡ s.board.replies) }
+    ensures found { Finds S.Store conn.old conn.new result (λ s v. v ≡ s.board.replies) }
 {
     let rows = read(conn, "SELECT id, text FROM replies ORDER BY id", &[])?;
     all_in::<_, ReplyTable>(alloc, rows.as_slice())

@@ -1,13 +1,11 @@
 //! The table of units.
-ghost use Rattle.std.specs.Prelude.{◌≡◌, OnOk, IfOk, false};
-ghost use Rattle.sqlite.specs.Held.{state};
-ghost use Rattle.sqlite.specs.State.{HasCleanDisk};
+ghost use Rattle.std.specs.Prelude.{◌≡◌, IfOk, false};
 ghost use Rattle.opc_statements.specs.Steps.{Stays, Looks};
 ghost use Rattle.std.specs.Option.{option_copied};
-ghost use Rattle.opc_stored.specs.Represented.{kind_letter, kind_member, text_or_null, unit_row, Represents};
+ghost use Rattle.opc_stored.specs.Asked.{Finds, Makes};
+ghost use Rattle.opc_stored.specs.Represented.{kind_letter, kind_member, text_or_null, unit_row};
 ghost use Rattle.opc_state.specs.Changes.{with_units};
 ghost use Rattle.opc_state.specs.Members.{with_unit, without_unit};
-ghost use Rattle.opc_stored.specs.Changes.{Becomes};
 ghost use Rattle.sqlite.specs.Order.{column};
 ghost use Rattle.sqlite.specs.declared.types.Value.TheVariants.{Text};
 ghost use Rattle.opc_board.specs.declared.rows.UnitKind.{UnitKind as TheKind};
@@ -43,7 +41,7 @@ impl Keeps<UnitRow> for UnitTable {
 pub fn put_unit<S: Alter>(tx: &mut Transaction<'_, S>, unit: &UnitRow) -> Result<(), Error>
     ensures same_reference { tx.new.conn.ghost_name ≡ tx.old.conn.ghost_name }
     ensures stays { Stays S.Store tx.old.conn.now tx.new.conn.now result }
-    ensures done { HasCleanDisk (state S.Store tx.new.conn.now) → OnOk result (Becomes (λ s. with_units (with_unit unit.now s.board.units) s) (state S.Store tx.old.conn.now).now (state S.Store tx.new.conn.now).now) }
+    ensures done { Makes S.Store tx.old.conn.now tx.new.conn.now result (λ s. with_units (with_unit unit.now s.board.units) s) }
 {
     put(
         tx,
@@ -63,7 +61,7 @@ pub fn put_unit<S: Alter>(tx: &mut Transaction<'_, S>, unit: &UnitRow) -> Result
 pub fn remove_unit<S: Alter>(tx: &mut Transaction<'_, S>, name: &UnitName) -> Result<(), Error>
     ensures same_reference { tx.new.conn.ghost_name ≡ tx.old.conn.ghost_name }
     ensures stays { Stays S.Store tx.old.conn.now tx.new.conn.now result }
-    ensures done { HasCleanDisk (state S.Store tx.new.conn.now) → OnOk result (Becomes (λ s. with_units (without_unit name.now s.board.units) s) (state S.Store tx.old.conn.now).now (state S.Store tx.new.conn.now).now) }
+    ensures done { Makes S.Store tx.old.conn.now tx.new.conn.now result (λ s. with_units (without_unit name.now s.board.units) s) }
 {
     run(
         tx,
@@ -123,7 +121,7 @@ pub fn units_on<S: Alter>(
     requires { conn.old.in_transaction ≡ false }
     ensures mode { conn.new.in_transaction ≡ false }
     ensures looks { Looks S.Store conn.old conn.new result }
-    ensures found { HasCleanDisk (state S.Store conn.new) → (s : _) → Represents (state S.Store conn.old).now s → IfOk result (λ v. v ≡ s.board.units) }
+    ensures found { Finds S.Store conn.old conn.new result (λ s v. v ≡ s.board.units) }
 {
     let rows = read(
         conn,

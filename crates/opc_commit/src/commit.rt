@@ -4,8 +4,8 @@ ghost use Rattle.sqlite.specs.Held.{state};
 ghost use Rattle.sqlite.specs.State.{HasCleanDisk, Survives};
 ghost use Rattle.opc_statements.specs.Steps.{Stays};
 ghost use Rattle.opc_state.specs.Changes.{edited, all_edited, changed_by};
+ghost use Rattle.opc_stored.specs.Asked.{Makes};
 ghost use Rattle.opc_stored.specs.Represented.{Represents, AreTablesOf};
-ghost use Rattle.opc_stored.specs.Changes.{Becomes};
 
 use opc_board_tables::consoles::{put_console, remove_console};
 use opc_board_tables::day::set_halted;
@@ -32,7 +32,7 @@ use std::alloc::Global;
 fn apply<S: Alter>(alloc: Global, tx: &mut Transaction<'_, S>, edit: &Edit) -> Result<(), Error>
     ensures same_reference { tx.new.conn.ghost_name ≡ tx.old.conn.ghost_name }
     ensures stays { Stays S.Store tx.old.conn.now tx.new.conn.now result }
-    ensures done { HasCleanDisk (state S.Store tx.new.conn.now) → OnOk result (Becomes (edited edit.now) (state S.Store tx.old.conn.now).now (state S.Store tx.new.conn.now).now) }
+    ensures done { Makes S.Store tx.old.conn.now tx.new.conn.now result (edited edit.now) }
 {
     match edit {
         Edit::SetActive(class, active) => set_active(tx, *class, *active),
@@ -69,7 +69,7 @@ fn apply_all<S: Alter>(
 ) -> Result<(), Error>
     ensures same_reference { tx.new.conn.ghost_name ≡ tx.old.conn.ghost_name }
     ensures stays { Stays S.Store tx.old.conn.now tx.new.conn.now result }
-    ensures done { HasCleanDisk (state S.Store tx.new.conn.now) → OnOk result (Becomes (all_edited edits.now) (state S.Store tx.old.conn.now).now (state S.Store tx.new.conn.now).now) }
+    ensures done { Makes S.Store tx.old.conn.now tx.new.conn.now result (all_edited edits.now) }
 {
     for edit in edits {
         apply(alloc, tx, edit)?;
@@ -81,7 +81,7 @@ fn apply_all<S: Alter>(
 fn transact<S: Alter>(alloc: Global, conn: &mut Connection<S>, change: &Change) -> Result<(), Error>
     requires { conn.old.in_transaction ≡ false }
     ensures mode { conn.new.in_transaction ≡ false }
-    ensures done { HasCleanDisk (state S.Store conn.new) → OnOk result (Becomes (changed_by change.now) (state S.Store conn.old).now (state S.Store conn.new).now) }
+    ensures done { Makes S.Store conn.old conn.new result (changed_by change.now) }
     ensures failed { HasCleanDisk (state S.Store conn.new) → IsTrue (state S.Store conn.new).is_open → OnErr result ((state S.Store conn.new).now ≡ (state S.Store conn.old).now) }
     ensures settled { HasCleanDisk (state S.Store conn.new) → OnOk result (IsTrue (state S.Store conn.new).is_open × ((state S.Store conn.new).committed ≡ (state S.Store conn.new).now)) }
     ensures survives { Survives (state S.Store conn.old) (state S.Store conn.new) (λ db. (s : _) → Represents (state S.Store conn.old).now s → AreTablesOf db (changed_by change.now s)) }
@@ -101,7 +101,7 @@ pub fn commit_on<S: Alter>(
 ) -> Result<(), StoreFault>
     requires { conn.old.in_transaction ≡ false }
     ensures mode { conn.new.in_transaction ≡ false }
-    ensures done { HasCleanDisk (state S.Store conn.new) → OnOk result (Becomes (changed_by change.now) (state S.Store conn.old).now (state S.Store conn.new).now) }
+    ensures done { Makes S.Store conn.old conn.new result (changed_by change.now) }
     ensures failed { HasCleanDisk (state S.Store conn.new) → IsTrue (state S.Store conn.new).is_open → OnErr result ((s : _) → Represents (state S.Store conn.old).now s → Represents (state S.Store conn.new).now s) }
     ensures acknowledged { HasCleanDisk (state S.Store conn.new) → OnOk result ((db : _) → (state S.Store conn.new).may_leave db → (s : _) → Represents (state S.Store conn.old).now s → AreTablesOf db (changed_by change.now s)) }
     ensures crash { Survives (state S.Store conn.old) (state S.Store conn.new) (λ db. (s : _) → Represents (state S.Store conn.old).now s → AreTablesOf db (changed_by change.now s)) }

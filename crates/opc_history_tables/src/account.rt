@@ -1,12 +1,10 @@
 //! The table of the account.
-ghost use Rattle.std.specs.Prelude.{◌≡◌, OnOk, ◌-◌, ◌^◌, false, pos, min, IfOk};
-ghost use Rattle.sqlite.specs.Held.{state};
-ghost use Rattle.sqlite.specs.State.{HasCleanDisk};
+ghost use Rattle.std.specs.Prelude.{◌≡◌, ◌-◌, ◌^◌, false, pos, min};
 ghost use Rattle.opc_statements.specs.Steps.{Stays, Looks};
-ghost use Rattle.opc_stored.specs.Changes.{Becomes};
+ghost use Rattle.opc_stored.specs.Asked.{Finds, Makes};
 ghost use Rattle.opc_state.specs.Changes.{with_account_row, with_account};
 ghost use Rattle.opc_history_tables.specs.Loads.{account_page};
-ghost use Rattle.opc_stored.specs.Represented.{Represents, account_shown};
+ghost use Rattle.opc_stored.specs.Represented.{account_shown};
 
 use opc_policy::source::StoreFault;
 use opc_rows::Rows;
@@ -38,7 +36,7 @@ impl Keeps<AccountRow> for AccountTable {
 fn add_row<S: Alter>(tx: &mut Transaction<'_, S>, row: &AccountRow) -> Result<(), Error>
     ensures same_reference { tx.new.conn.ghost_name ≡ tx.old.conn.ghost_name }
     ensures stays { Stays S.Store tx.old.conn.now tx.new.conn.now result }
-    ensures done { HasCleanDisk (state S.Store tx.new.conn.now) → OnOk result (Becomes (with_account_row row.now) (state S.Store tx.old.conn.now).now (state S.Store tx.new.conn.now).now) }
+    ensures done { Makes S.Store tx.old.conn.now tx.new.conn.now result (with_account_row row.now) }
 {
     let Ok(moment) = i64::try_from(row.moment) else {
         return Err(Error::SqliteFailure(ErrorCode::IntegerOverflow));
@@ -65,7 +63,7 @@ pub fn account_for<S: Alter>(
 ) -> Result<(), Error>
     ensures same_reference { tx.new.conn.ghost_name ≡ tx.old.conn.ghost_name }
     ensures stays { Stays S.Store tx.old.conn.now tx.new.conn.now result }
-    ensures done { HasCleanDisk (state S.Store tx.new.conn.now) → OnOk result (Becomes (with_account row.now) (state S.Store tx.old.conn.now).now (state S.Store tx.new.conn.now).now) }
+    ensures done { Makes S.Store tx.old.conn.now tx.new.conn.now result (with_account row.now) }
 {
     match row {
         Some(row) => add_row(tx, row),
@@ -93,7 +91,7 @@ pub fn account_on<S: Alter>(
     requires { conn.old.in_transaction ≡ false }
     ensures mode { conn.new.in_transaction ≡ false }
     ensures looks { Looks S.Store conn.old conn.new result }
-    ensures found { HasCleanDisk (state S.Store conn.new) → (s : _) → Represents (state S.Store conn.old).now s → IfOk result (λ v. v ≡ account_page from count s.account) }
+    ensures found { Finds S.Store conn.old conn.new result (λ s v. v ≡ account_page from count s.account) }
 {
     let last = last_before(from);
     let rows = read(

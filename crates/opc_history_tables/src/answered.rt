@@ -1,11 +1,9 @@
 //! The table of answered replies.
-ghost use Rattle.std.specs.Prelude.{◌≡◌, ◌++◌, ◌∷◌, [], OnOk, false, IfOk};
-ghost use Rattle.sqlite.specs.Held.{state};
-ghost use Rattle.sqlite.specs.State.{HasCleanDisk};
+ghost use Rattle.std.specs.Prelude.{◌≡◌, ◌++◌, ◌∷◌, [], false};
 ghost use Rattle.opc_statements.specs.Steps.{Stays, Looks};
 ghost use Rattle.opc_state.specs.Changes.{with_answered};
-ghost use Rattle.opc_stored.specs.Changes.{Becomes};
-ghost use Rattle.opc_stored.specs.Represented.{Represents, reply_shown};
+ghost use Rattle.opc_stored.specs.Asked.{Finds, Makes};
+ghost use Rattle.opc_stored.specs.Represented.{reply_shown};
 
 use opc_board::rows::ReplyRow;
 use opc_policy::source::StoreFault;
@@ -31,7 +29,7 @@ impl Keeps<ReplyRow> for AnsweredTable {
 pub fn add_answered<S: Alter>(tx: &mut Transaction<'_, S>, reply: &ReplyRow) -> Result<(), Error>
     ensures same_reference { tx.new.conn.ghost_name ≡ tx.old.conn.ghost_name }
     ensures stays { Stays S.Store tx.old.conn.now tx.new.conn.now result }
-    ensures done { HasCleanDisk (state S.Store tx.new.conn.now) → OnOk result (Becomes (λ s. with_answered (s.board.answered ++ reply.now ∷ []) s) (state S.Store tx.old.conn.now).now (state S.Store tx.new.conn.now).now) }
+    ensures done { Makes S.Store tx.old.conn.now tx.new.conn.now result (λ s. with_answered (s.board.answered ++ reply.now ∷ []) s) }
 {
     run(
         tx,
@@ -50,7 +48,7 @@ pub fn answered_on<S: Alter>(
     requires { conn.old.in_transaction ≡ false }
     ensures mode { conn.new.in_transaction ≡ false }
     ensures looks { Looks S.Store conn.old conn.new result }
-    ensures found { HasCleanDisk (state S.Store conn.new) → (s : _) → Represents (state S.Store conn.old).now s → IfOk result (λ v. v ≡ s.board.answered) }
+    ensures found { Finds S.Store conn.old conn.new result (λ s v. v ≡ s.board.answered) }
 {
     let rows = read(conn, "SELECT id, text FROM answered ORDER BY number", &[])?;
     all_in::<_, AnsweredTable>(alloc, rows.as_slice())

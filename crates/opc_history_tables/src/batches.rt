@@ -1,13 +1,10 @@
 //! The table of batches, whose rows are kept as the text of a policy file.
-ghost use Rattle.std.specs.Prelude.{◌≡◌, OnOk, false, IfOk};
-ghost use Rattle.sqlite.specs.Held.{state};
-ghost use Rattle.sqlite.specs.State.{HasCleanDisk};
+ghost use Rattle.std.specs.Prelude.{◌≡◌, false};
 ghost use Rattle.opc_statements.specs.Steps.{Stays, Looks};
 ghost use Rattle.opc_state.specs.Changes.{with_batches};
 ghost use Rattle.opc_state.specs.Members.{with_batch};
-ghost use Rattle.opc_stored.specs.Changes.{Becomes};
+ghost use Rattle.opc_stored.specs.Asked.{Finds, Makes};
 ghost use Rattle.opc_history_tables.specs.Loads.{kept_text};
-ghost use Rattle.opc_stored.specs.Represented.{Represents};
 
 use opc_board::text::KeptText;
 use opc_import::kind::MOST_ROWS;
@@ -28,7 +25,7 @@ pub fn put_batch<S: Alter>(
 ) -> Result<(), Error>
     ensures same_reference { tx.new.conn.ghost_name ≡ tx.old.conn.ghost_name }
     ensures stays { Stays S.Store tx.old.conn.now tx.new.conn.now result }
-    ensures done { HasCleanDisk (state S.Store tx.new.conn.now) → OnOk result (Becomes (λ s. with_batches (with_batch batch.now s.batches) s) (state S.Store tx.old.conn.now).now (state S.Store tx.new.conn.now).now) }
+    ensures done { Makes S.Store tx.old.conn.now tx.new.conn.now result (λ s. with_batches (with_batch batch.now s.batches) s) }
 {
     let rows = batch.rows.as_slice();
     if rows.len() > MOST_ROWS as usize {
@@ -56,7 +53,7 @@ pub fn batch_on<S: Alter>(
     requires { conn.old.in_transaction ≡ false }
     ensures mode { conn.new.in_transaction ≡ false }
     ensures looks { Looks S.Store conn.old conn.new result }
-    ensures found { HasCleanDisk (state S.Store conn.new) → (s : _) → Represents (state S.Store conn.old).now s → IfOk result (λ v. v ≡ kept_text s.batches number) }
+    ensures found { Finds S.Store conn.old conn.new result (λ s v. v ≡ kept_text s.batches number) }
 {
     let rows = read(
         conn,

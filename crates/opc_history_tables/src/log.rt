@@ -1,11 +1,9 @@
 //! The table of the log.
-ghost use Rattle.std.specs.Prelude.{◌≡◌, ◌++◌, ◌∷◌, [], OnOk, false, IfOk};
-ghost use Rattle.sqlite.specs.Held.{state};
-ghost use Rattle.sqlite.specs.State.{HasCleanDisk};
+ghost use Rattle.std.specs.Prelude.{◌≡◌, ◌++◌, ◌∷◌, [], false};
 ghost use Rattle.opc_statements.specs.Steps.{Stays, Looks};
 ghost use Rattle.opc_state.specs.Changes.{with_log};
-ghost use Rattle.opc_stored.specs.Changes.{Becomes};
-ghost use Rattle.opc_stored.specs.Represented.{Represents, log_shown};
+ghost use Rattle.opc_stored.specs.Asked.{Finds, Makes};
+ghost use Rattle.opc_stored.specs.Represented.{log_shown};
 
 use opc_board::text::KeptText;
 use opc_policy::source::StoreFault;
@@ -31,7 +29,7 @@ impl Keeps<KeptText> for LogTable {
 pub fn add_log<S: Alter>(tx: &mut Transaction<'_, S>, text: &KeptText) -> Result<(), Error>
     ensures same_reference { tx.new.conn.ghost_name ≡ tx.old.conn.ghost_name }
     ensures stays { Stays S.Store tx.old.conn.now tx.new.conn.now result }
-    ensures done { HasCleanDisk (state S.Store tx.new.conn.now) → OnOk result (Becomes (λ s. with_log (s.board.log ++ text.now ∷ []) s) (state S.Store tx.old.conn.now).now (state S.Store tx.new.conn.now).now) }
+    ensures done { Makes S.Store tx.old.conn.now tx.new.conn.now result (λ s. with_log (s.board.log ++ text.now ∷ []) s) }
 {
     run(
         tx,
@@ -50,7 +48,7 @@ pub fn log_on<S: Alter>(
     requires { conn.old.in_transaction ≡ false }
     ensures mode { conn.new.in_transaction ≡ false }
     ensures looks { Looks S.Store conn.old conn.new result }
-    ensures found { HasCleanDisk (state S.Store conn.new) → (s : _) → Represents (state S.Store conn.old).now s → IfOk result (λ v. v ≡ s.board.log) }
+    ensures found { Finds S.Store conn.old conn.new result (λ s v. v ≡ s.board.log) }
 {
     let rows = read(conn, "SELECT text FROM log ORDER BY number", &[])?;
     all_in::<_, LogTable>(alloc, rows.as_slice())

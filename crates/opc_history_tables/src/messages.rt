@@ -1,11 +1,9 @@
 //! The table of messages.
-ghost use Rattle.std.specs.Prelude.{◌≡◌, ◌++◌, ◌∷◌, [], OnOk, false, IfOk};
-ghost use Rattle.sqlite.specs.Held.{state};
-ghost use Rattle.sqlite.specs.State.{HasCleanDisk};
+ghost use Rattle.std.specs.Prelude.{◌≡◌, ◌++◌, ◌∷◌, [], false};
 ghost use Rattle.opc_statements.specs.Steps.{Stays, Looks};
 ghost use Rattle.opc_state.specs.Changes.{with_messages};
-ghost use Rattle.opc_stored.specs.Changes.{Becomes};
-ghost use Rattle.opc_stored.specs.Represented.{Represents, message_shown};
+ghost use Rattle.opc_stored.specs.Asked.{Finds, Makes};
+ghost use Rattle.opc_stored.specs.Represented.{message_shown};
 
 use opc_board::rows::MessageRow;
 use opc_policy::source::StoreFault;
@@ -34,7 +32,7 @@ impl Keeps<MessageRow> for MessageTable {
 pub fn add_message<S: Alter>(tx: &mut Transaction<'_, S>, message: &MessageRow) -> Result<(), Error>
     ensures same_reference { tx.new.conn.ghost_name ≡ tx.old.conn.ghost_name }
     ensures stays { Stays S.Store tx.old.conn.now tx.new.conn.now result }
-    ensures done { HasCleanDisk (state S.Store tx.new.conn.now) → OnOk result (Becomes (λ s. with_messages (s.board.messages ++ message.now ∷ []) s) (state S.Store tx.old.conn.now).now (state S.Store tx.new.conn.now).now) }
+    ensures done { Makes S.Store tx.old.conn.now tx.new.conn.now result (λ s. with_messages (s.board.messages ++ message.now ∷ []) s) }
 {
     run(
         tx,
@@ -53,7 +51,7 @@ pub fn messages_on<S: Alter>(
     requires { conn.old.in_transaction ≡ false }
     ensures mode { conn.new.in_transaction ≡ false }
     ensures looks { Looks S.Store conn.old conn.new result }
-    ensures found { HasCleanDisk (state S.Store conn.new) → (s : _) → Represents (state S.Store conn.old).now s → IfOk result (λ v. v ≡ s.board.messages) }
+    ensures found { Finds S.Store conn.old conn.new result (λ s v. v ≡ s.board.messages) }
 {
     let rows = read(conn, "SELECT usr, text FROM messages ORDER BY number", &[])?;
     all_in::<_, MessageTable>(alloc, rows.as_slice())

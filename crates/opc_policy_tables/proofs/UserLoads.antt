@@ -83,15 +83,15 @@ some_user (u ∷ users) (r ∷ all) e = refl
 pub any_user_told : (old new : SqlState) (s : State) → Represents old.now s → (rows : List Row) → Shown any_user.text [] old new rows → not (length rows == 0) ≡ has_users s.policy
 any_user_told old new s was rows h =
     let db = old.now.trees in
-    let passes = passes 18 any_user.tests any_user.project any_user.order db [] in
+    let passes = passes usr_at.tree any_user.tests any_user.project any_user.order db [] in
     let it = pages any_user [] one_row any_user_asked old new was.rows.schema rows h in
     let many : length it.all ≡ length s.policy.users =
     ap length it.lists.are
     ∙ (length-map it.lists.ordered (λ (o : Output). o.1)
     ∙ (length_permutation _ _ it.lists.same
-    ∙ (length-map (filter passes (db 18)) (shown 18 any_user.tests any_user.project any_user.order db [])
-    ∙ (ap length (filter_all passes (db 18) (all_of (λ (r : Row). passes r ≡ true) (λ _. refl) (db 18)))
-    ∙ (sym (length-map (db 18) (λ (r : Row). drop 1 r))
+    ∙ (length-map (filter passes (db usr_at.tree)) (shown usr_at.tree any_user.tests any_user.project any_user.order db [])
+    ∙ (ap length (filter_all passes (db usr_at.tree) (all_of (λ (r : Row). passes r ≡ true) (λ _. refl) (db usr_at.tree)))
+    ∙ (sym (length-map (db usr_at.tree) (λ (r : Row). drop 1 r))
     ∙ (length_permutation _ _ was.rows.holds.usr.each
     ∙ length-map s.policy.users user_row)))))) in
     ap (λ (l : List Row). not (length l == 0)) it.are ∙ some_user s.policy.users it.all many

@@ -1,12 +1,10 @@
 //! The table of classes.
-ghost use Rattle.std.specs.Prelude.{◌≡◌, OnOk, false, [], ◌∷◌, Bool, IfOk};
-ghost use Rattle.sqlite.specs.Held.{state};
-ghost use Rattle.sqlite.specs.State.{HasCleanDisk};
+ghost use Rattle.std.specs.Prelude.{◌≡◌, false, [], ◌∷◌, Bool, IfOk};
 ghost use Rattle.opc_statements.specs.Steps.{Stays, Looks};
 ghost use Rattle.opc_policy.specs.Taken.{with_active, is_active};
-ghost use Rattle.opc_stored.specs.Changes.{Becomes};
+ghost use Rattle.opc_stored.specs.Asked.{Finds, Makes};
 ghost use Rattle.opc_names.specs.declared.class.Class.{Class as TheClass};
-ghost use Rattle.opc_stored.specs.Represented.{Represents, class_row};
+ghost use Rattle.opc_stored.specs.Represented.{class_row};
 
 use opc_names::class::Class;
 use opc_policy::policy::ActiveClasses;
@@ -24,7 +22,7 @@ pub fn set_active<S: Alter>(
 ) -> Result<(), Error>
     ensures same_reference { tx.new.conn.ghost_name ≡ tx.old.conn.ghost_name }
     ensures stays { Stays S.Store tx.old.conn.now tx.new.conn.now result }
-    ensures done { HasCleanDisk (state S.Store tx.new.conn.now) → OnOk result (Becomes (λ s. record s { policy = record s.policy { active = with_active class active s.policy.active } }) (state S.Store tx.old.conn.now).now (state S.Store tx.new.conn.now).now) }
+    ensures done { Makes S.Store tx.old.conn.now tx.new.conn.now result (λ s. record s { policy = record s.policy { active = with_active class active s.policy.active } }) }
 {
     run(
         tx,
@@ -39,7 +37,7 @@ pub fn active_on<S: Alter>(conn: &mut Connection<S>, class: Class) -> Result<boo
     requires { conn.old.in_transaction ≡ false }
     ensures mode { conn.new.in_transaction ≡ false }
     ensures looks { Looks S.Store conn.old conn.new result }
-    ensures found { HasCleanDisk (state S.Store conn.new) → (s : _) → Represents (state S.Store conn.old).now s → IfOk result (λ v. v ≡ is_active s.policy.active class) }
+    ensures found { Finds S.Store conn.old conn.new result (λ s v. v ≡ is_active s.policy.active class) }
 {
     let rows = read(
         conn,
@@ -62,7 +60,7 @@ pub fn actives_on<S: Alter>(conn: &mut Connection<S>) -> Result<ActiveClasses, S
     requires { conn.old.in_transaction ≡ false }
     ensures mode { conn.new.in_transaction ≡ false }
     ensures looks { Looks S.Store conn.old conn.new result }
-    ensures found { HasCleanDisk (state S.Store conn.new) → (s : _) → Represents (state S.Store conn.old).now s → IfOk result (λ v. v ≡ s.policy.active) }
+    ensures found { Finds S.Store conn.old conn.new result (λ s v. v ≡ s.policy.active) }
 {
     let console = active_on(conn, Class::Console)?;
     let opercmds = active_on(conn, Class::Opercmds)?;

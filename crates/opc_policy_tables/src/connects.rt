@@ -1,14 +1,12 @@
 //! The table of connects.
-ghost use Rattle.std.specs.Prelude.{◌≡◌, OnOk, false, List, IfOk, map};
-ghost use Rattle.sqlite.specs.Held.{state};
-ghost use Rattle.sqlite.specs.State.{HasCleanDisk};
+ghost use Rattle.std.specs.Prelude.{◌≡◌, false, List, IfOk, map};
 ghost use Rattle.opc_statements.specs.Steps.{Stays, Looks};
 ghost use Rattle.opc_policy.specs.Members.{with_connect, groups_of};
-ghost use Rattle.opc_stored.specs.Changes.{Becomes};
+ghost use Rattle.opc_stored.specs.Asked.{Finds, Makes};
 ghost use Rattle.opc_state.specs.Changes.{with_connects};
 ghost use Rattle.opc_state.specs.Members.{without_connect};
 ghost use Rattle.opc_policy.specs.declared.connect.Connect.{Connect as TheConnect};
-ghost use Rattle.opc_stored.specs.Represented.{Represents, connect_row};
+ghost use Rattle.opc_stored.specs.Represented.{connect_row};
 
 use opc_names::name::{GroupName, UserId};
 use opc_policy::connect::Connect;
@@ -34,7 +32,7 @@ impl Keeps<Connect> for ConnectTable {
 pub fn put_connect<S: Alter>(tx: &mut Transaction<'_, S>, connect: &Connect) -> Result<(), Error>
     ensures same_reference { tx.new.conn.ghost_name ≡ tx.old.conn.ghost_name }
     ensures stays { Stays S.Store tx.old.conn.now tx.new.conn.now result }
-    ensures done { HasCleanDisk (state S.Store tx.new.conn.now) → OnOk result (Becomes (λ s. with_connects (with_connect connect.now s.policy.connects) s) (state S.Store tx.old.conn.now).now (state S.Store tx.new.conn.now).now) }
+    ensures done { Makes S.Store tx.old.conn.now tx.new.conn.now result (λ s. with_connects (with_connect connect.now s.policy.connects) s) }
 {
     put(
         tx,
@@ -47,7 +45,7 @@ pub fn put_connect<S: Alter>(tx: &mut Transaction<'_, S>, connect: &Connect) -> 
 pub fn remove_connect<S: Alter>(tx: &mut Transaction<'_, S>, connect: &Connect) -> Result<(), Error>
     ensures same_reference { tx.new.conn.ghost_name ≡ tx.old.conn.ghost_name }
     ensures stays { Stays S.Store tx.old.conn.now tx.new.conn.now result }
-    ensures done { HasCleanDisk (state S.Store tx.new.conn.now) → OnOk result (Becomes (λ s. with_connects (without_connect connect.now s.policy.connects) s) (state S.Store tx.old.conn.now).now (state S.Store tx.new.conn.now).now) }
+    ensures done { Makes S.Store tx.old.conn.now tx.new.conn.now result (λ s. with_connects (without_connect connect.now s.policy.connects) s) }
 {
     run(
         tx,
@@ -74,7 +72,7 @@ pub fn connects_on<S: Alter>(
     requires { conn.old.in_transaction ≡ false }
     ensures mode { conn.new.in_transaction ≡ false }
     ensures looks { Looks S.Store conn.old conn.new result }
-    ensures found { HasCleanDisk (state S.Store conn.new) → (s : _) → Represents (state S.Store conn.old).now s → IfOk result (λ v. v ≡ s.policy.connects) }
+    ensures found { Finds S.Store conn.old conn.new result (λ s v. v ≡ s.policy.connects) }
 {
     let rows = read(conn, "SELECT usr, grp FROM connects ORDER BY usr, grp", &[])?;
     all_in::<_, ConnectTable>(alloc, rows.as_slice())
@@ -99,7 +97,7 @@ pub fn user_groups_on<S: Alter>(
     requires { conn.old.in_transaction ≡ false }
     ensures mode { conn.new.in_transaction ≡ false }
     ensures looks { Looks S.Store conn.old conn.new result }
-    ensures found { HasCleanDisk (state S.Store conn.new) → (s : _) → Represents (state S.Store conn.old).now s → IfOk result (λ v. v.items ≡ groups_of s.policy.connects id.now) }
+    ensures found { Finds S.Store conn.old conn.new result (λ s v. v.items ≡ groups_of s.policy.connects id.now) }
 {
     let rows = read(
         conn,

@@ -8,10 +8,10 @@ ghost use Rattle.opc_policy.specs.Access.{entry_cmp};
 ghost use Rattle.opc_policy.specs.Profiles.{profile_of, with_permission};
 ghost use Rattle.opc_state.specs.Changes.{with_profiles};
 ghost use Rattle.opc_state.specs.Members.{without_permission};
+ghost use Rattle.opc_stored.specs.Asked.{Makes};
 ghost use Rattle.opc_stored.specs.Contents.{Contents};
 ghost use Rattle.opc_stored.specs.Made.{IsMade};
 ghost use Rattle.opc_stored.specs.Represented.{Represents, entry_row};
-ghost use Rattle.opc_stored.specs.Changes.{Becomes};
 ghost use Rattle.sqlite.specs.Order.{column};
 ghost use Rattle.sqlite.specs.declared.types.Value.TheVariants.{Text};
 ghost use Rattle.opc_names.specs.declared.class.Class.{Class as TheClass};
@@ -79,7 +79,7 @@ pub fn put_entry<S: Alter>(
 ) -> Result<(), Error>
     ensures same_reference { tx.new.conn.ghost_name ≡ tx.old.conn.ghost_name }
     ensures stays { Stays S.Store tx.old.conn.now tx.new.conn.now result }
-    ensures done { HasCleanDisk (state S.Store tx.new.conn.now) → OnOk result (Becomes (λ s. with_profiles (with_permission class pattern.now entry.now s.policy.profiles) s) (state S.Store tx.old.conn.now).now (state S.Store tx.new.conn.now).now) }
+    ensures done { Makes S.Store tx.old.conn.now tx.new.conn.now result (λ s. with_profiles (with_permission class pattern.now entry.now s.policy.profiles) s) }
 {
     let found = run(
         tx,
@@ -114,7 +114,7 @@ pub fn remove_entry<S: Alter>(
 ) -> Result<(), Error>
     ensures same_reference { tx.new.conn.ghost_name ≡ tx.old.conn.ghost_name }
     ensures stays { Stays S.Store tx.old.conn.now tx.new.conn.now result }
-    ensures done { HasCleanDisk (state S.Store tx.new.conn.now) → OnOk result (Becomes (λ s. with_profiles (without_permission class pattern.now id.now s.policy.profiles) s) (state S.Store tx.old.conn.now).now (state S.Store tx.new.conn.now).now) }
+    ensures done { Makes S.Store tx.old.conn.now tx.new.conn.now result (λ s. with_profiles (without_permission class pattern.now id.now s.policy.profiles) s) }
 {
     run(
         tx,

@@ -1,13 +1,11 @@
 //! The table of groups.
-ghost use Rattle.std.specs.Prelude.{◌≡◌, OnOk, IfOk, false};
-ghost use Rattle.sqlite.specs.Held.{state};
-ghost use Rattle.sqlite.specs.State.{HasCleanDisk};
+ghost use Rattle.std.specs.Prelude.{◌≡◌, false};
 ghost use Rattle.opc_statements.specs.Steps.{Stays, Looks};
 ghost use Rattle.opc_policy.specs.Members.{with_group};
-ghost use Rattle.opc_stored.specs.Changes.{Becomes};
+ghost use Rattle.opc_stored.specs.Asked.{Finds, Makes};
 ghost use Rattle.opc_state.specs.Changes.{with_groups};
 ghost use Rattle.opc_state.specs.Members.{without_group};
-ghost use Rattle.opc_stored.specs.Represented.{group_row, Represents};
+ghost use Rattle.opc_stored.specs.Represented.{group_row};
 
 use opc_names::name::GroupName;
 use opc_policy::source::StoreFault;
@@ -32,7 +30,7 @@ impl Keeps<GroupName> for GroupTable {
 pub fn put_group<S: Alter>(tx: &mut Transaction<'_, S>, name: &GroupName) -> Result<(), Error>
     ensures same_reference { tx.new.conn.ghost_name ≡ tx.old.conn.ghost_name }
     ensures stays { Stays S.Store tx.old.conn.now tx.new.conn.now result }
-    ensures done { HasCleanDisk (state S.Store tx.new.conn.now) → OnOk result (Becomes (λ s. with_groups (with_group name.now s.policy.groups) s) (state S.Store tx.old.conn.now).now (state S.Store tx.new.conn.now).now) }
+    ensures done { Makes S.Store tx.old.conn.now tx.new.conn.now result (λ s. with_groups (with_group name.now s.policy.groups) s) }
 {
     put(
         tx,
@@ -45,7 +43,7 @@ pub fn put_group<S: Alter>(tx: &mut Transaction<'_, S>, name: &GroupName) -> Res
 pub fn remove_group<S: Alter>(tx: &mut Transaction<'_, S>, name: &GroupName) -> Result<(), Error>
     ensures same_reference { tx.new.conn.ghost_name ≡ tx.old.conn.ghost_name }
     ensures stays { Stays S.Store tx.old.conn.now tx.new.conn.now result }
-    ensures done { HasCleanDisk (state S.Store tx.new.conn.now) → OnOk result (Becomes (λ s. with_groups (without_group name.now s.policy.groups) s) (state S.Store tx.old.conn.now).now (state S.Store tx.new.conn.now).now) }
+    ensures done { Makes S.Store tx.old.conn.now tx.new.conn.now result (λ s. with_groups (without_group name.now s.policy.groups) s) }
 {
     run(tx, "DELETE FROM grp WHERE name = ?1", params![name.text()])?;
     Ok(())
@@ -59,7 +57,7 @@ pub fn groups_on<S: Alter>(
     requires { conn.old.in_transaction ≡ false }
     ensures mode { conn.new.in_transaction ≡ false }
     ensures looks { Looks S.Store conn.old conn.new result }
-    ensures found { HasCleanDisk (state S.Store conn.new) → (s : _) → Represents (state S.Store conn.old).now s → IfOk result (λ v. v ≡ s.policy.groups) }
+    ensures found { Finds S.Store conn.old conn.new result (λ s v. v ≡ s.policy.groups) }
 {
     let rows = read(conn, "SELECT name FROM grp ORDER BY name", &[])?;
     all_in::<_, GroupTable>(alloc, rows.as_slice())

@@ -7,6 +7,7 @@ ghost use Rattle.opc_names.specs.Names.{IsPattern};
 ghost use Rattle.opc_policy.specs.Profiles.{profile_of, with_definition};
 ghost use Rattle.opc_state.specs.Changes.{with_profiles};
 ghost use Rattle.opc_state.specs.Members.{without_profile};
+ghost use Rattle.opc_stored.specs.Asked.{Finds, Makes};
 ghost use Rattle.opc_stored.specs.Made.{IsMade};
 ghost use Rattle.opc_stored.specs.Represented.{Represents, contents_of, profile_row};
 ghost use Rattle.opc_stored.specs.Changes.{Becomes};
@@ -83,7 +84,7 @@ fn insert_profile<S: Alter>(tx: &mut Transaction<'_, S>, profile: &Profile) -> R
 pub fn put_profile<S: Alter>(tx: &mut Transaction<'_, S>, profile: &Profile) -> Result<(), Error>
     ensures same_reference { tx.new.conn.ghost_name ≡ tx.old.conn.ghost_name }
     ensures stays { Stays S.Store tx.old.conn.now tx.new.conn.now result }
-    ensures done { HasCleanDisk (state S.Store tx.new.conn.now) → OnOk result (Becomes (λ s. with_profiles (with_definition profile.now s.policy.profiles) s) (state S.Store tx.old.conn.now).now (state S.Store tx.new.conn.now).now) }
+    ensures done { Makes S.Store tx.old.conn.now tx.new.conn.now result (λ s. with_profiles (with_definition profile.now s.policy.profiles) s) }
 {
     keys_order_patterns();
     let entries = profile.entries.as_slice();
@@ -102,7 +103,7 @@ pub fn remove_profile<S: Alter>(
 ) -> Result<(), Error>
     ensures same_reference { tx.new.conn.ghost_name ≡ tx.old.conn.ghost_name }
     ensures stays { Stays S.Store tx.old.conn.now tx.new.conn.now result }
-    ensures done { HasCleanDisk (state S.Store tx.new.conn.now) → OnOk result (Becomes (λ s. with_profiles (without_profile class pattern.now s.policy.profiles) s) (state S.Store tx.old.conn.now).now (state S.Store tx.new.conn.now).now) }
+    ensures done { Makes S.Store tx.old.conn.now tx.new.conn.now result (λ s. with_profiles (without_profile class pattern.now s.policy.profiles) s) }
 {
     run(
         tx,
@@ -168,7 +169,7 @@ pub fn profile_at<S: Alter>(
     requires { conn.old.in_transaction ≡ false }
     ensures mode { conn.new.in_transaction ≡ false }
     ensures looks { Looks S.Store conn.old conn.new result }
-    ensures found { HasCleanDisk (state S.Store conn.new) → (s : _) → Represents (state S.Store conn.old).now s → IfOk result (λ v. v ≡ profile_of s.policy.profiles class pattern.now) }
+    ensures found { Finds S.Store conn.old conn.new result (λ s v. v ≡ profile_of s.policy.profiles class pattern.now) }
 {
     let rows = read(
         conn,
@@ -207,7 +208,7 @@ pub fn profiles_on<S: Alter>(
     requires { conn.old.in_transaction ≡ false }
     ensures mode { conn.new.in_transaction ≡ false }
     ensures looks { Looks S.Store conn.old conn.new result }
-    ensures found { HasCleanDisk (state S.Store conn.new) → (s : _) → Represents (state S.Store conn.old).now s → IfOk result (λ v. v.items ≡ s.policy.profiles) }
+    ensures found { Finds S.Store conn.old conn.new result (λ s v. v.items ≡ s.policy.profiles) }
 {
     let rows = read(
         conn,

@@ -1,17 +1,15 @@
 //! The table of users.
-ghost use Rattle.std.specs.Prelude.{◌≡◌, OnOk, ℕ, false, List, Option, IfOk};
-ghost use Rattle.sqlite.specs.Held.{state};
-ghost use Rattle.sqlite.specs.State.{HasCleanDisk};
+ghost use Rattle.std.specs.Prelude.{◌≡◌, ℕ, false, List, Option, IfOk};
 ghost use Rattle.opc_statements.specs.Steps.{Stays, Looks};
 ghost use Rattle.std.specs.Option.{option_copied};
 ghost use Rattle.opc_policy.specs.Members.{with_user, user_of};
-ghost use Rattle.opc_stored.specs.Changes.{Becomes};
+ghost use Rattle.opc_stored.specs.Asked.{Finds, Makes};
 ghost use Rattle.opc_state.specs.Changes.{with_users};
 ghost use Rattle.opc_state.specs.Members.{without_user};
 ghost use Rattle.sqlite.specs.Order.{column};
 ghost use Rattle.opc_policy.specs.declared.user.User.{User as TheUser};
 ghost use Rattle.opc_state.specs.State.{has_users};
-ghost use Rattle.opc_stored.specs.Represented.{Represents, or_null, user_row};
+ghost use Rattle.opc_stored.specs.Represented.{or_null, user_row};
 
 use opc_names::name::UserId;
 use opc_policy::source::StoreFault;
@@ -38,7 +36,7 @@ impl Keeps<User> for UserTable {
 pub fn put_user<S: Alter>(tx: &mut Transaction<'_, S>, user: &User) -> Result<(), Error>
     ensures same_reference { tx.new.conn.ghost_name ≡ tx.old.conn.ghost_name }
     ensures stays { Stays S.Store tx.old.conn.now tx.new.conn.now result }
-    ensures done { HasCleanDisk (state S.Store tx.new.conn.now) → OnOk result (Becomes (λ s. with_users (with_user user.now s.policy.users) s) (state S.Store tx.old.conn.now).now (state S.Store tx.new.conn.now).now) }
+    ensures done { Makes S.Store tx.old.conn.now tx.new.conn.now result (λ s. with_users (with_user user.now s.policy.users) s) }
 {
     put(
         tx,
@@ -57,7 +55,7 @@ pub fn put_user<S: Alter>(tx: &mut Transaction<'_, S>, user: &User) -> Result<()
 pub fn remove_user<S: Alter>(tx: &mut Transaction<'_, S>, id: &UserId) -> Result<(), Error>
     ensures same_reference { tx.new.conn.ghost_name ≡ tx.old.conn.ghost_name }
     ensures stays { Stays S.Store tx.old.conn.now tx.new.conn.now result }
-    ensures done { HasCleanDisk (state S.Store tx.new.conn.now) → OnOk result (Becomes (λ s. with_users (without_user id.now s.policy.users) s) (state S.Store tx.old.conn.now).now (state S.Store tx.new.conn.now).now) }
+    ensures done { Makes S.Store tx.old.conn.now tx.new.conn.now result (λ s. with_users (without_user id.now s.policy.users) s) }
 {
     run(tx, "DELETE FROM usr WHERE id = ?1", params![id.text()])?;
     Ok(())
@@ -102,7 +100,7 @@ pub fn user_on<S: Alter>(conn: &mut Connection<S>, id: &UserId) -> Result<Option
     requires { conn.old.in_transaction ≡ false }
     ensures mode { conn.new.in_transaction ≡ false }
     ensures looks { Looks S.Store conn.old conn.new result }
-    ensures found { HasCleanDisk (state S.Store conn.new) → (s : _) → Represents (state S.Store conn.old).now s → IfOk result (λ v. v ≡ user_of s.policy.users id.now) }
+    ensures found { Finds S.Store conn.old conn.new result (λ s v. v ≡ user_of s.policy.users id.now) }
 {
     let rows = read(
         conn,
@@ -120,7 +118,7 @@ pub fn has_users_on<S: Alter>(conn: &mut Connection<S>) -> Result<bool, StoreFau
     requires { conn.old.in_transaction ≡ false }
     ensures mode { conn.new.in_transaction ≡ false }
     ensures looks { Looks S.Store conn.old conn.new result }
-    ensures found { HasCleanDisk (state S.Store conn.new) → (s : _) → Represents (state S.Store conn.old).now s → IfOk result (λ v. v ≡ has_users s.policy) }
+    ensures found { Finds S.Store conn.old conn.new result (λ s v. v ≡ has_users s.policy) }
 {
     let rows = read(conn, "SELECT id FROM usr ORDER BY id LIMIT 1", &[])?;
     Ok(!rows.as_slice().is_empty())
@@ -131,7 +129,7 @@ pub fn users_on<S: Alter>(alloc: Global, conn: &mut Connection<S>) -> Result<Row
     requires { conn.old.in_transaction ≡ false }
     ensures mode { conn.new.in_transaction ≡ false }
     ensures looks { Looks S.Store conn.old conn.new result }
-    ensures found { HasCleanDisk (state S.Store conn.new) → (s : _) → Represents (state S.Store conn.old).now s → IfOk result (λ v. v ≡ s.policy.users) }
+    ensures found { Finds S.Store conn.old conn.new result (λ s v. v ≡ s.policy.users) }
 {
     let rows = read(
         conn,

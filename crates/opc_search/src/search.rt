@@ -10,6 +10,7 @@ ghost use Rattle.opc_policy.specs.Deciding.{of_class, deciding};
 ghost use Rattle.opc_policy.specs.Examined.{examined, head_length, read_until, with_head};
 ghost use Rattle.opc_policy.specs.declared.profile.Profile.{Profile as TheProfile};
 ghost use Rattle.opc_state.specs.State.{State, deciding_in};
+ghost use Rattle.opc_stored.specs.Asked.{Finds};
 ghost use Rattle.opc_stored.specs.Represented.{Represents};
 ghost use Rattle.opc_search.specs.Search.{Selects, covers};
 ghost use Rattle.opc_stored.specs.Content.{bare};
@@ -90,9 +91,9 @@ pub fn first_in_on<S: Alter>(
     requires { conn.old.in_transaction ≡ false }
     ensures mode { conn.new.in_transaction ≡ false }
     ensures looks { Looks S.Store conn.old conn.new result }
-    ensures first { HasCleanDisk (state S.Store conn.new) → (s : _) → Represents (state S.Store conn.old).now s → IfOk result (λ taken.
+    ensures first { Finds S.Store conn.old conn.new result (λ s taken.
         taken.profile ≡ deciding (with_head head.now (of_class class s.policy.profiles)) resource.now) }
-    ensures rows { HasCleanDisk (state S.Store conn.new) → (s : _) → Represents (state S.Store conn.old).now s → IfOk result (λ taken.
+    ensures rows { Finds S.Store conn.old conn.new result (λ s taken.
         taken.rows ≡ length (read_until taken.profile (with_head head.now (of_class class s.policy.profiles)))) }
 {
     let taken = first_covering_on(alloc, conn, BY_HEAD, params![class.text(), head], resource)?;
@@ -120,9 +121,9 @@ pub fn first_on<S: Alter>(
     requires { conn.old.in_transaction ≡ false }
     ensures mode { conn.new.in_transaction ≡ false }
     ensures looks { Looks S.Store conn.old conn.new result }
-    ensures first { HasCleanDisk (state S.Store conn.new) → (s : _) → Represents (state S.Store conn.old).now s → IfOk result (λ taken.
+    ensures first { Finds S.Store conn.old conn.new result (λ s taken.
         taken.profile ≡ deciding_in s.policy class resource.now) }
-    ensures rows { HasCleanDisk (state S.Store conn.new) → (s : _) → Represents (state S.Store conn.old).now s → IfOk result (λ taken.
+    ensures rows { Finds S.Store conn.old conn.new result (λ s taken.
         taken.rows ≡ length (read_until taken.profile (of_class class s.policy.profiles))) }
 {
     let taken = first_covering_on(alloc, conn, BY_CLASS, params![class.text()], resource)?;
@@ -149,7 +150,7 @@ pub fn all_on<S: Alter>(
     requires { conn.old.in_transaction ≡ false }
     ensures mode { conn.new.in_transaction ≡ false }
     ensures looks { Looks S.Store conn.old conn.new result }
-    ensures found { HasCleanDisk (state S.Store conn.new) → (s : _) → Represents (state S.Store conn.old).now s → IfOk result (λ v. v.items ≡ of_class class s.policy.profiles) }
+    ensures found { Finds S.Store conn.old conn.new result (λ s v. v.items ≡ of_class class s.policy.profiles) }
 {
     let rows = read(conn, BY_CLASS, params![class.text()])?;
     whole_in(alloc, conn, rows.as_slice())
@@ -175,11 +176,11 @@ pub fn deciding_on<S: Alter>(
     requires { conn.old.in_transaction ≡ false }
     ensures mode { conn.new.in_transaction ≡ false }
     ensures looks { Looks S.Store conn.old conn.new result }
-    ensures found { HasCleanDisk (state S.Store conn.new) → (s : _) → Represents (state S.Store conn.old).now s → IfOk result (λ found.
+    ensures found { Finds S.Store conn.old conn.new result (λ s found.
         found.profile ≡ deciding_in s.policy class resource.now) }
-    ensures ranges { HasCleanDisk (state S.Store conn.new) → (s : _) → Represents (state S.Store conn.old).now s → IfOk result (λ found.
+    ensures ranges { Finds S.Store conn.old conn.new result (λ s found.
         found.ranges + head_length found.profile ≡ length resource.now + 1) }
-    ensures rows { HasCleanDisk (state S.Store conn.new) → (s : _) → Represents (state S.Store conn.old).now s → IfOk result (λ found.
+    ensures rows { Finds S.Store conn.old conn.new result (λ s found.
         found.rows ≡ length (examined found.profile resource.now (of_class class s.policy.profiles))) }
 {
     let name = resource.text();

@@ -2,7 +2,6 @@
 ghost use Rattle.std.specs.Prelude.{◌≡◌, length, IfOk, ◌+◌};
 ghost use Rattle.sqlite.specs.Held.{state};
 ghost use Rattle.sqlite.specs.Steps.{over_memory};
-ghost use Rattle.sqlite.specs.State.{HasCleanDisk};
 ghost use Rattle.opc_statements.specs.Steps.{Looks};
 ghost use Rattle.opc_board.specs.Facts.{console_at};
 ghost use Rattle.opc_policy.specs.Taken.{is_active};
@@ -10,6 +9,7 @@ ghost use Rattle.opc_policy.specs.Profiles.{profile_of};
 ghost use Rattle.opc_state.specs.State.{empty, deciding_in};
 ghost use Rattle.opc_history_tables.specs.Loads.{account_page, kept_text};
 ghost use Rattle.opc_whole_policy.specs.PolicyFile.{rows_of};
+ghost use Rattle.opc_stored.specs.Asked.{Finds};
 ghost use Rattle.opc_stored.specs.Represented.{Represents};
 ghost use Rattle.opc_policy.specs.Deciding.{of_class, deciding};
 ghost use Rattle.opc_policy.specs.Examined.{examined, head_length, read_until, with_head};
@@ -73,14 +73,14 @@ impl Store<MemStore> {
 impl<S: Alter> Store<S> {
     /// The console of this name.
     pub fn console(&mut self, name: &ConsoleName) -> Result<Option<ConsoleRow>, StoreFault>
-        ensures found { HasCleanDisk (state S.Store self.new) → (s : _) → Represents (state S.Store self.old).now s → IfOk result (λ v. v ≡ console_at s.board name.now) }
+        ensures found { Finds S.Store self.old self.new result (λ s v. v ≡ console_at s.board name.now) }
         ensures keeps { Looks S.Store self.old self.new result }
     {
         console_on(&mut self.conn, name)
     }
 
     pub fn active(&mut self, class: Class) -> Result<bool, StoreFault>
-        ensures found { HasCleanDisk (state S.Store self.new) → (s : _) → Represents (state S.Store self.old).now s → IfOk result (λ v. v ≡ is_active s.policy.active class) }
+        ensures found { Finds S.Store self.old self.new result (λ s v. v ≡ is_active s.policy.active class) }
         ensures keeps { Looks S.Store self.old self.new result }
     {
         active_on(&mut self.conn, class)
@@ -88,7 +88,7 @@ impl<S: Alter> Store<S> {
 
     /// The policy and the consoles, as the rows of a policy file.
     pub fn policy_rows(&mut self, alloc: Global) -> Result<Vec<Row>, StoreFault>
-        ensures found { HasCleanDisk (state S.Store self.new) → (s : _) → Represents (state S.Store self.old).now s → IfOk result (λ v. v.items ≡ rows_of s.policy s.board.consoles) }
+        ensures found { Finds S.Store self.old self.new result (λ s v. v.items ≡ rows_of s.policy s.board.consoles) }
         ensures keeps { Looks S.Store self.old self.new result }
     {
         policy_file_on(alloc, &mut self.conn)
@@ -101,7 +101,7 @@ impl<S: Alter> Store<S> {
         class: Class,
         pattern: &Pattern,
     ) -> Result<Option<Profile>, StoreFault>
-        ensures found { HasCleanDisk (state S.Store self.new) → (s : _) → Represents (state S.Store self.old).now s → IfOk result (λ v. v ≡ profile_of s.policy.profiles class pattern.now) }
+        ensures found { Finds S.Store self.old self.new result (λ s v. v ≡ profile_of s.policy.profiles class pattern.now) }
         ensures keeps { Looks S.Store self.old self.new result }
     {
         profile_at(alloc, &mut self.conn, class, pattern)
@@ -109,7 +109,7 @@ impl<S: Alter> Store<S> {
 
     /// All rows of the board, with the histories.
     pub fn board_rows(&mut self, alloc: Global) -> Result<BoardRows, StoreFault>
-        ensures found { HasCleanDisk (state S.Store self.new) → (s : _) → Represents (state S.Store self.old).now s → IfOk result (λ v. v ≡ s.board) }
+        ensures found { Finds S.Store self.old self.new result (λ s v. v ≡ s.board) }
         ensures keeps { Looks S.Store self.old self.new result }
     {
         board_rows_on(alloc, &mut self.conn)
@@ -123,7 +123,7 @@ impl<S: Alter> Store<S> {
         from: u64,
         count: u32,
     ) -> Result<Rows<AccountRow>, StoreFault>
-        ensures found { HasCleanDisk (state S.Store self.new) → (s : _) → Represents (state S.Store self.old).now s → IfOk result (λ v. v ≡ account_page from count s.account) }
+        ensures found { Finds S.Store self.old self.new result (λ s v. v ≡ account_page from count s.account) }
         ensures keeps { Looks S.Store self.old self.new result }
     {
         account_on(alloc, &mut self.conn, from, count)
@@ -131,7 +131,7 @@ impl<S: Alter> Store<S> {
 
     /// The batch of a number, as the text of a policy file.
     pub fn batch(&mut self, number: u32) -> Result<Option<KeptText>, StoreFault>
-        ensures found { HasCleanDisk (state S.Store self.new) → (s : _) → Represents (state S.Store self.old).now s → IfOk result (λ v. v ≡ kept_text s.batches number) }
+        ensures found { Finds S.Store self.old self.new result (λ s v. v ≡ kept_text s.batches number) }
         ensures keeps { Looks S.Store self.old self.new result }
     {
         batch_on(&mut self.conn, number)
@@ -146,9 +146,9 @@ impl<S: Alter> Store<S> {
         head: &str,
         resource: &Resource,
     ) -> Result<Taken, StoreFault>
-        ensures first { HasCleanDisk (state S.Store self.new) → (s : _) → Represents (state S.Store self.old).now s → IfOk result (λ taken.
+        ensures first { Finds S.Store self.old self.new result (λ s taken.
             taken.profile ≡ deciding (with_head head.now (of_class class s.policy.profiles)) resource.now) }
-        ensures rows { HasCleanDisk (state S.Store self.new) → (s : _) → Represents (state S.Store self.old).now s → IfOk result (λ taken.
+        ensures rows { Finds S.Store self.old self.new result (λ s taken.
             taken.rows ≡ length (read_until taken.profile (with_head head.now (of_class class s.policy.profiles)))) }
         ensures keeps { Looks S.Store self.old self.new result }
     {
@@ -157,7 +157,7 @@ impl<S: Alter> Store<S> {
 
     /// The profiles of a class, in the order of their patterns.
     pub fn all(&mut self, alloc: Global, class: Class) -> Result<Vec<Profile>, StoreFault>
-        ensures found { HasCleanDisk (state S.Store self.new) → (s : _) → Represents (state S.Store self.old).now s → IfOk result (λ v. v.items ≡ of_class class s.policy.profiles) }
+        ensures found { Finds S.Store self.old self.new result (λ s v. v.items ≡ of_class class s.policy.profiles) }
         ensures keeps { Looks S.Store self.old self.new result }
     {
         all_on(alloc, &mut self.conn, class)
@@ -170,9 +170,9 @@ impl<S: Alter> Store<S> {
         class: Class,
         resource: &Resource,
     ) -> Result<Taken, StoreFault>
-        ensures first { HasCleanDisk (state S.Store self.new) → (s : _) → Represents (state S.Store self.old).now s → IfOk result (λ taken.
+        ensures first { Finds S.Store self.old self.new result (λ s taken.
             taken.profile ≡ deciding_in s.policy class resource.now) }
-        ensures rows { HasCleanDisk (state S.Store self.new) → (s : _) → Represents (state S.Store self.old).now s → IfOk result (λ taken.
+        ensures rows { Finds S.Store self.old self.new result (λ s taken.
             taken.rows ≡ length (read_until taken.profile (of_class class s.policy.profiles))) }
         ensures keeps { Looks S.Store self.old self.new result }
     {
@@ -187,11 +187,11 @@ impl<S: Alter> Store<S> {
         class: Class,
         resource: &Resource,
     ) -> Result<Found, StoreFault>
-        ensures found { HasCleanDisk (state S.Store self.new) → (s : _) → Represents (state S.Store self.old).now s → IfOk result (λ found.
+        ensures found { Finds S.Store self.old self.new result (λ s found.
             found.profile ≡ deciding_in s.policy class resource.now) }
-        ensures ranges { HasCleanDisk (state S.Store self.new) → (s : _) → Represents (state S.Store self.old).now s → IfOk result (λ found.
+        ensures ranges { Finds S.Store self.old self.new result (λ s found.
             found.ranges + head_length found.profile ≡ length resource.now + 1) }
-        ensures rows { HasCleanDisk (state S.Store self.new) → (s : _) → Represents (state S.Store self.old).now s → IfOk result (λ found.
+        ensures rows { Finds S.Store self.old self.new result (λ s found.
             found.rows ≡ length (examined found.profile resource.now (of_class class s.policy.profiles))) }
         ensures keeps { Looks S.Store self.old self.new result }
     {

@@ -1,10 +1,8 @@
 //! The whole board, and the rows of a policy file, of the tables of several rooms.
-ghost use Rattle.std.specs.Prelude.{◌≡◌, false, IfOk};
-ghost use Rattle.sqlite.specs.Held.{state};
-ghost use Rattle.sqlite.specs.State.{HasCleanDisk};
+ghost use Rattle.std.specs.Prelude.{◌≡◌, false};
 ghost use Rattle.opc_statements.specs.Steps.{Looks};
 ghost use Rattle.opc_whole_policy.specs.PolicyFile.{rows_of};
-ghost use Rattle.opc_stored.specs.Represented.{Represents};
+ghost use Rattle.opc_stored.specs.Asked.{Finds};
 
 use opc_board::board::BoardRows;
 use opc_board_tables::board::live_rows_on;
@@ -26,7 +24,7 @@ pub(crate) fn board_rows_on<S: Alter>(
     requires { conn.old.in_transaction ≡ false }
     ensures mode { conn.new.in_transaction ≡ false }
     ensures looks { Looks S.Store conn.old conn.new result }
-    ensures found { HasCleanDisk (state S.Store conn.new) → (s : _) → Represents (state S.Store conn.old).now s → IfOk result (λ v. v ≡ s.board) }
+    ensures found { Finds S.Store conn.old conn.new result (λ s v. v ≡ s.board) }
 {
     let live = live_rows_on(alloc, conn)?;
     let answered = answered_on(alloc, conn)?;
@@ -48,7 +46,7 @@ pub(crate) fn policy_file_on<S: Alter>(
     requires { conn.old.in_transaction ≡ false }
     ensures mode { conn.new.in_transaction ≡ false }
     ensures looks { Looks S.Store conn.old conn.new result }
-    ensures found { HasCleanDisk (state S.Store conn.new) → (s : _) → Represents (state S.Store conn.old).now s → IfOk result (λ v. v.items ≡ rows_of s.policy s.board.consoles) }
+    ensures found { Finds S.Store conn.old conn.new result (λ s v. v.items ≡ rows_of s.policy s.board.consoles) }
 {
     let consoles = consoles_on(alloc, conn)?;
     policy_rows_on(alloc, conn, consoles.as_slice())

@@ -5,6 +5,7 @@ pub mod Made
 pub mod State
 pub mod Represented
 pub mod Changes
+pub mod Asked
 pub mod Ours
 pub mod Content
 pub mod Laws

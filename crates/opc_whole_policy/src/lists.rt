@@ -1,9 +1,7 @@
 //! The lists that the tables of a policy keep.
-ghost use Rattle.std.specs.Prelude.{◌≡◌, false, IfOk};
-ghost use Rattle.sqlite.specs.Held.{state};
-ghost use Rattle.sqlite.specs.State.{HasCleanDisk};
+ghost use Rattle.std.specs.Prelude.{◌≡◌, false};
 ghost use Rattle.opc_statements.specs.Steps.{Looks};
-ghost use Rattle.opc_stored.specs.Represented.{Represents};
+ghost use Rattle.opc_stored.specs.Asked.{Finds};
 ghost use Rattle.opc_whole_policy.specs.Lists.{AreListsOf};
 
 use opc_names::name::GroupName;
@@ -36,7 +34,7 @@ pub fn lists_on<S: Alter>(alloc: Global, conn: &mut Connection<S>) -> Result<Lis
     requires { conn.old.in_transaction ≡ false }
     ensures mode { conn.new.in_transaction ≡ false }
     ensures looks { Looks S.Store conn.old conn.new result }
-    ensures found { HasCleanDisk (state S.Store conn.new) → (s : _) → Represents (state S.Store conn.old).now s → IfOk result (λ v. AreListsOf s.policy v) }
+    ensures found { Finds S.Store conn.old conn.new result (λ s v. AreListsOf s.policy v) }
 {
     Ok(Lists {
         active: actives_on(conn)?,

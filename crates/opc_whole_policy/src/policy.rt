@@ -1,12 +1,10 @@
 //! The policy, made of the lists that the tables keep.
 ghost use Rattle.std.specs.Prelude.{◌≡◌, false, IfOk};
-ghost use Rattle.sqlite.specs.Held.{state};
-ghost use Rattle.sqlite.specs.State.{HasCleanDisk};
 ghost use Rattle.opc_statements.specs.Order.{Rises};
 ghost use Rattle.opc_statements.specs.Steps.{Looks};
 ghost use Rattle.opc_policy.specs.Members.{name_cmp, user_cmp, connect_cmp};
 ghost use Rattle.opc_policy.specs.Profiles.{profile_cmp};
-ghost use Rattle.opc_stored.specs.Represented.{Represents};
+ghost use Rattle.opc_stored.specs.Asked.{Finds};
 
 use crate::lists::lists_on;
 use opc_names::name::GroupName;
@@ -67,7 +65,7 @@ pub fn policy_on<S: Alter>(alloc: Global, conn: &mut Connection<S>) -> Result<Po
     requires { conn.old.in_transaction ≡ false }
     ensures mode { conn.new.in_transaction ≡ false }
     ensures looks { Looks S.Store conn.old conn.new result }
-    ensures found { HasCleanDisk (state S.Store conn.new) → (s : _) → Represents (state S.Store conn.old).now s → IfOk result (λ v. v ≡ s.policy) }
+    ensures found { Finds S.Store conn.old conn.new result (λ s v. v ≡ s.policy) }
 {
     let lists = lists_on(alloc, conn)?;
     Ok(Policy {

@@ -1,13 +1,11 @@
 //! The policy and the consoles, as rows of a policy file.
 ghost use Rattle.std.specs.Prelude.{◌≡◌, ◌++◌, false, IfOk, OnOk, map};
 ghost use Rattle.std.specs.List.{flat_map};
-ghost use Rattle.sqlite.specs.Held.{state};
-ghost use Rattle.sqlite.specs.State.{HasCleanDisk};
 ghost use Rattle.opc_statements.specs.Steps.{Looks};
 ghost use Rattle.opc_policy.specs.declared.policy.Policy.{Policy as ThePolicy};
 ghost use Rattle.opc_policy.specs.declared.row.Row.{Row as TheRow};
 ghost use Rattle.opc_whole_policy.specs.PolicyFile.{rows_of, row_of_group, row_of_user, row_of_connect, row_of_console, row_of_profile, row_of_entry, permits_of};
-ghost use Rattle.opc_stored.specs.Represented.{Represents};
+ghost use Rattle.opc_stored.specs.Asked.{Finds};
 
 use crate::lists::{Lists, lists_on};
 use opc_board::rows::ConsoleRow;
@@ -157,7 +155,7 @@ pub fn policy_rows_on<S: Alter>(
     requires { conn.old.in_transaction ≡ false }
     ensures mode { conn.new.in_transaction ≡ false }
     ensures looks { Looks S.Store conn.old conn.new result }
-    ensures found { HasCleanDisk (state S.Store conn.new) → (s : _) → Represents (state S.Store conn.old).now s → IfOk result (λ v. v.items ≡ rows_of s.policy consoles.now) }
+    ensures found { Finds S.Store conn.old conn.new result (λ s v. v.items ≡ rows_of s.policy consoles.now) }
 {
     let lists = lists_on(alloc, conn)?;
     let rows = rows_of(alloc, &lists, consoles)?;

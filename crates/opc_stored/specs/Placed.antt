@@ -1,4 +1,4 @@
--- The tables at their trees: nothing else knows the numbers of trees, and each of the lemmas of OtherTables is refused where one is wrong.
+-- The tables at their trees. A lemma of proofs/OtherTables is refused where a number is wrong.
 use Rattle.sqlite.specs.Table.{Table}
 use Rattle.opc_stored.specs.Tables.{meta_table, classes_table, consoles_table, units_table, devices_table, replies_table, answered_table, log_table, messages_table, board_table, account_table, batches_table, grp_table, usr_table, connects_table, profiles_table, entries_table}
 

@@ -2,7 +2,7 @@
 ghost use Rattle.std.specs.Prelude.{◌≡◌, false};
 ghost use Rattle.opc_statements.specs.Steps.{Looks};
 ghost use Rattle.opc_stored.specs.Asked.{Finds};
-ghost use Rattle.opc_whole_policy.specs.Lists.{AreListsOf};
+ghost use Rattle.opc_whole_policy.specs.Lists.{AreListsOf, AreMembersOf};
 
 use opc_names::name::GroupName;
 use opc_policy::connect::Connect;
@@ -19,14 +19,33 @@ use opc_rows::Rows;
 use sqlite::{Alter, Connection};
 use std::alloc::Global;
 
+/// The groups, the users and their connects, each in its order.
+#[derive(Drop)]
+pub struct Members {
+    pub groups: Rows<GroupName>,
+    pub users: Rows<User>,
+    pub connects: Rows<Connect>,
+}
+
 /// The lists of a policy, each in its order.
 #[derive(Drop)]
 pub struct Lists {
     pub active: ActiveClasses,
-    pub groups: Rows<GroupName>,
-    pub users: Rows<User>,
-    pub connects: Rows<Connect>,
+    pub members: Members,
     pub profiles: Vec<Profile>,
+}
+
+fn members_on<S: Alter>(alloc: Global, conn: &mut Connection<S>) -> Result<Members, StoreFault>
+    requires { conn.old.in_transaction ≡ false }
+    ensures mode { conn.new.in_transaction ≡ false }
+    ensures looks { Looks S.Store conn.old conn.new result }
+    ensures found { Finds S.Store conn.old conn.new result (λ s v. AreMembersOf s.policy v) }
+{
+    Ok(Members {
+        groups: groups_on(alloc, conn)?,
+        users: users_on(alloc, conn)?,
+        connects: connects_on(alloc, conn)?,
+    })
 }
 
 /// The lists of the policy, each asked for once.
@@ -38,9 +57,7 @@ pub fn lists_on<S: Alter>(alloc: Global, conn: &mut Connection<S>) -> Result<Lis
 {
     Ok(Lists {
         active: actives_on(conn)?,
-        groups: groups_on(alloc, conn)?,
-        users: users_on(alloc, conn)?,
-        connects: connects_on(alloc, conn)?,
+        members: members_on(alloc, conn)?,
         profiles: profiles_on(alloc, conn)?,
     })
 }

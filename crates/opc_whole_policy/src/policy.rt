@@ -69,9 +69,9 @@ pub fn policy_on<S: Alter>(alloc: Global, conn: &mut Connection<S>) -> Result<Po
 {
     let lists = lists_on(alloc, conn)?;
     Ok(Policy {
-        users: users_of(alloc, lists.users.as_slice())?,
-        groups: groups_of(alloc, lists.groups.as_slice())?,
-        connects: connects_of(alloc, lists.connects.as_slice())?,
+        users: users_of(alloc, lists.members.users.as_slice())?,
+        groups: groups_of(alloc, lists.members.groups.as_slice())?,
+        connects: connects_of(alloc, lists.members.connects.as_slice())?,
         profiles: profiles_of(alloc, lists.profiles)?,
         active: lists.active,
     })

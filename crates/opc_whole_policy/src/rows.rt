@@ -125,7 +125,7 @@ fn add_permits(rows: &mut Vec<Row>, profiles: &[Profile]) -> Result<(), AllocErr
 
 /// The rows of a policy file, of lists of what it tells.
 fn rows_of(alloc: Global, lists: &Lists, consoles: &[ConsoleRow]) -> Result<Vec<Row>, AllocError>
-    ensures { let policy : ThePolicy = record { users = lists.now.users; groups = lists.now.groups; connects = lists.now.connects; profiles = lists.now.profiles.items; active = lists.now.active } in
+    ensures { let policy : ThePolicy = record { users = lists.now.members.users; groups = lists.now.members.groups; connects = lists.now.members.connects; profiles = lists.now.profiles.items; active = lists.now.active } in
         IfOk result (λ v. v.items ≡ rows_of policy consoles.now) }
 {
     let mut rows = Vec::new(alloc);
@@ -137,9 +137,9 @@ fn rows_of(alloc: Global, lists: &Lists, consoles: &[ConsoleRow]) -> Result<Vec<
         class: Class::Opercmds,
         active: lists.active.opercmds,
     })?;
-    add_all(&mut rows, lists.groups.as_slice())?;
-    add_all(&mut rows, lists.users.as_slice())?;
-    add_all(&mut rows, lists.connects.as_slice())?;
+    add_all(&mut rows, lists.members.groups.as_slice())?;
+    add_all(&mut rows, lists.members.users.as_slice())?;
+    add_all(&mut rows, lists.members.connects.as_slice())?;
     add_all(&mut rows, consoles)?;
     add_all(&mut rows, lists.profiles.as_slice())?;
     add_permits(&mut rows, lists.profiles.as_slice())?;

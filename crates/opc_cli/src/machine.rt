@@ -1,13 +1,15 @@
 //! The machine that the program runs on: a process of the system, its files, and the tables in them.
+use crate::database::reason_at;
 use opc_policy::fault::Fault;
 use opc_policy::source::StoreFault;
-use opc_program::failure::{Failure, Paths};
+use opc_program::failure::{Failure, Paths, Place};
 use opc_program::machine::Machine;
+use opc_program::reason::Reason;
 use opc_program::run::{run_on, told};
 use opc_script::status::Status;
 use opc_store::opening::OpenFault;
 use opc_store::store::Store;
-use sqlite::{FileFrom, FileStore, MemStore, Wary};
+use sqlite::{Error, ErrorCode, FileFrom, FileStore, MemStore, Wary};
 use std::alloc::Global;
 use std::io::{Read, Write};
 
@@ -21,12 +23,18 @@ type InMemory = Store<MemStore>;
 
 type InFile = Store<FileStore<FileFrom<Wary>>>;
 
+fn of_database(fault: Fault, reason: Reason) -> Failure {
+    Failure::of(fault, Place::Database, reason)
+}
+
 /// Puts the last commit into the database file. What was acknowledged is kept where that fails, too.
-fn close(tables: InFile) -> Result<(), Fault> {
-    match tables.close() {
-        Ok(_) => Ok(()),
-        Err(_) => Err(Fault::Store),
-    }
+fn close(tables: InFile) -> Result<(), Failure> {
+    let reason = match tables.close() {
+        Ok(_) => return Ok(()),
+        Err((Error::SqliteFailure(ErrorCode::DiskFull), _)) => Reason::DiskFull,
+        Err(_) => Reason::Unreadable,
+    };
+    Err(of_database(Fault::Store, reason))
 }
 
 impl Process {
@@ -38,12 +46,14 @@ impl Process {
         }
     }
 
-    fn open_tables(&self, path: &str) -> Result<InFile, Fault> {
+    fn open_tables(&self, path: &str) -> Result<InFile, Failure> {
         match Store::open_from(&self.rt, path) {
             Ok(tables) => Ok(tables),
-            Err(OpenFault::NoMemory) => Err(Fault::NoMemory),
-            Err(OpenFault::Store) => Err(Fault::Store),
-            Err(OpenFault::NotOurs(version)) => Err(Fault::NotOurs { version }),
+            Err(OpenFault::NoMemory) => Err(Failure::from(Fault::NoMemory)),
+            Err(OpenFault::Store) => Err(of_database(Fault::Store, reason_at(&self.rt, path))),
+            Err(OpenFault::NotOurs(version)) => {
+                Err(of_database(Fault::NotOurs { version }, Reason::Tables(version)))
+            }
         }
     }
 
@@ -66,16 +76,11 @@ impl Process {
         output: &mut W,
         errors: &mut E,
     ) -> Result<Status, Failure> {
-        let tables = match self.open_tables(path) {
-            Ok(tables) => tables,
-            Err(fault) => return Err(Failure::of_database(fault)),
-        };
+        let tables = self.open_tables(path)?;
         let (end, tables) = run_on(&self.rt, tables, paths.policy, input, output);
         let status = told(end, paths, errors);
-        match close(tables) {
-            Ok(()) => Ok(status),
-            Err(fault) => Err(Failure::of_database(fault)),
-        }
+        close(tables)?;
+        Ok(status)
     }
 }
 

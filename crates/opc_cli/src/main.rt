@@ -1,6 +1,7 @@
 //! The program `opcmds` on the machine that runs it.
 #![tactic(auto)]
 
+mod database;
 mod machine;
 
 use crate::machine::Process;

@@ -3,18 +3,16 @@ ghost use Rattle.std.specs.Prelude.{◌≡◌};
 ghost use Rattle.std.specs.IoError.{error_kind};
 ghost use Rattle.opc_program.specs.Statuses.{fault_of_kind, status_of};
 
+use crate::reason::Reason;
 use arrayvec::ArrayString;
-use opc_policy::fault::{Fault, Why};
+use opc_policy::fault::Fault;
 use opc_script::status::Status;
-use std::fmt::{Display, Formatter, Write as _};
+use std::fmt::Write as _;
+use std::io;
 use std::io::{ErrorKind, Write};
-use std::{fmt, io};
 
 /// More bytes than the line of any fault has: the longest name in one is a pattern of 39 characters.
 const FAULT_LINE: usize = 160;
-
-/// More bytes than the system's words for an error have.
-const SYSTEM_WORDS: usize = 320;
 
 /// The files that the words name.
 #[derive(Clone, Copy)]
@@ -58,39 +56,6 @@ impl Place {
     }
 }
 
-/// What the program has to say of a fault besides its line.
-#[derive(Clone, Copy)]
-pub enum Reason {
-    System(io::Error),
-    /// A database that holds tables of this version, where 0 stands for another program's.
-    Tables(u64),
-    /// A file that is no database, or that can't be read or written.
-    Unreadable,
-    /// A row of a policy file, where 0 stands for the header.
-    Row { row: u32, why: Why },
-}
-
-impl Display for Reason {
-    fn fmt<W: fmt::Write>(&self, f: &mut Formatter<W>) -> fmt::Result {
-        match self {
-            Reason::System(error) => {
-                let mut words = ArrayString::<SYSTEM_WORDS>::new();
-                write!(words, "{error}")?;
-                // The error's number stands behind the system's words.
-                match words.as_str().split_once(" (os error ") {
-                    Some((text, _)) => f.write_str(text),
-                    None => f.write_str(words.as_str()),
-                }
-            }
-            Reason::Tables(0) => f.write_str("tables of another program"),
-            Reason::Tables(version) => write!(f, "tables of version {version}"),
-            Reason::Unreadable => f.write_str("no database, or it can't be read or written"),
-            Reason::Row { row: 0, .. } => f.write_str("the first row is not the header"),
-            Reason::Row { row, why } => write!(f, "row {row}: {}", words_of(*why)),
-        }
-    }
-}
-
 /// A fault, and what failed and why, where that is known.
 #[derive(Clone, Copy)]
 pub struct Failure {
@@ -119,33 +84,14 @@ impl Failure {
         }
     }
 
-    /// A policy file that is refused at a row.
-    pub fn of_row(place: Place, fault: Fault) -> Self
+    /// A fault of this place.
+    pub fn of(fault: Fault, place: Place, reason: Reason) -> Self
         ensures { result.fault ≡ fault }
     {
-        let cause = match &fault {
-            Fault::RowFault { row, why } => Some((
-                place,
-                Reason::Row {
-                    row: *row,
-                    why: *why,
-                },
-            )),
-            _ => None,
-        };
-        Failure { fault, cause }
-    }
-
-    /// A database that was not opened, or not closed.
-    pub fn of_database(fault: Fault) -> Self
-        ensures { result.fault ≡ fault }
-    {
-        let reason = match &fault {
-            Fault::NotOurs { version } => Reason::Tables(*version),
-            _ => Reason::Unreadable,
-        };
-        let cause = Some((Place::Database, reason));
-        Failure { fault, cause }
+        Failure {
+            fault,
+            cause: Some((place, reason)),
+        }
     }
 
     /// Tells the fault, as its code and its text, and then, in a line of its own, what failed and why. Answers the status.
@@ -160,32 +106,19 @@ impl Failure {
         }
         if self.fault != Fault::NoMemory {
             if let Some((place, reason)) = &self.cause {
+                let separator = match reason {
+                    Reason::Row(_) => ", ",
+                    _ => ": ",
+                };
                 let _ = writeln!(
                     errors,
-                    "opcmds: {}{}: {reason}",
+                    "opcmds: {}{}{separator}{reason}",
                     place.text(),
                     place.path(paths)
                 );
             }
         }
         status_of(&self.fault)
-    }
-}
-
-// What is wrong with a row.
-fn words_of(why: Why) -> &'static str {
-    match why {
-        Why::Header => "the header does not read",
-        Why::Columns => "it does not have as many fields as the header",
-        Why::Many => "it is one row too many",
-        Why::Kind => "the kind is none of those that there are",
-        Why::Class => "the class does not fit the kind",
-        Why::Name => "the name does not fit the kind",
-        Why::Id => "the id does not fit the kind",
-        Why::Value => "the value does not fit the kind",
-        Why::Owner => "the owner does not fit the kind",
-        Why::Flags => "the flags do not fit the kind",
-        Why::Digest => "the digest does not fit the kind",
     }
 }
 

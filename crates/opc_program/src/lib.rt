@@ -1,10 +1,12 @@
 //! The program `opcmds` over any machine: questions to a policy, and the gate itself, by the words of a command line.
 #![tactic(auto)]
 
+mod bad_row;
 mod explain;
 pub mod failure;
 pub mod machine;
 mod policy_file;
+pub mod reason;
 pub mod run;
 mod streams;
 pub mod words;

@@ -1,0 +1,64 @@
+//! Why the program failed, in words.
+use crate::bad_row::BadRow;
+use arrayvec::ArrayString;
+use std::fmt::{Display, Formatter, Write as _};
+use std::{fmt, io};
+
+/// More bytes than the system's words for an error have.
+const SYSTEM_WORDS: usize = 320;
+
+/// What the program has to say of a fault besides its line.
+#[derive(Clone, Copy)]
+pub enum Reason {
+    System(io::Error),
+    /// A policy file of more bytes than one has at most.
+    TooLong,
+    NotUtf8,
+    /// A policy file whose first row is not the header.
+    NoHeader,
+    /// Another row of a policy file.
+    Row(BadRow),
+    /// A name that means no file to SQLite.
+    NoPath,
+    /// A device or the like, or a file of several names.
+    NoPlainFile,
+    /// A database that another process has open.
+    InUse,
+    /// A database with a rollback journal, which SQLite alone can play back.
+    Journal,
+    NoDatabase,
+    /// A database that holds tables of this version, where 0 stands for another program's.
+    Tables(u64),
+    DiskFull,
+    /// A database that is damaged, or a device that fails.
+    Unreadable,
+}
+
+impl Display for Reason {
+    fn fmt<W: fmt::Write>(&self, f: &mut Formatter<W>) -> fmt::Result {
+        match self {
+            Reason::System(error) => {
+                let mut words = ArrayString::<SYSTEM_WORDS>::new();
+                write!(words, "{error}")?;
+                // The error's number stands behind the system's words.
+                match words.as_str().split_once(" (os error ") {
+                    Some((text, _)) => f.write_str(text),
+                    None => f.write_str(words.as_str()),
+                }
+            }
+            Reason::TooLong => f.write_str("more than 16,777,216 bytes"),
+            Reason::NotUtf8 => f.write_str("not UTF-8"),
+            Reason::NoHeader => f.write_str("the first row is not the header"),
+            Reason::Row(bad) => write!(f, "{bad}"),
+            Reason::NoPath => f.write_str("not the path of a file"),
+            Reason::NoPlainFile => f.write_str("not a plain file of one name"),
+            Reason::InUse => f.write_str("in use by another program"),
+            Reason::Journal => f.write_str("it has a rollback journal; open it with sqlite3 first"),
+            Reason::NoDatabase => f.write_str("not a database"),
+            Reason::Tables(0) => f.write_str("tables of another program"),
+            Reason::Tables(version) => write!(f, "tables of version {version}"),
+            Reason::DiskFull => f.write_str("the disk is full"),
+            Reason::Unreadable => f.write_str("damaged, or it can't be read or written"),
+        }
+    }
+}

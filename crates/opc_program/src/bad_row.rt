@@ -69,7 +69,7 @@ impl Display for FieldStart {
 impl BadRow {
     /// The row of this number in the text of a policy file, which is refused for this reason, where it is behind the
     /// header and there is memory to read it again.
-    pub fn find(alloc: Global, text: &str, number: u32, why: Why) -> Option<Self> {
+    pub(crate) fn find(alloc: Global, text: &str, number: u32, why: Why) -> Option<Self> {
         let record = record_at(alloc, text, number)?;
         let problem = match column_of(why) {
             Some(column) => Problem::Field {

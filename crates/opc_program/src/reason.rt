@@ -58,7 +58,7 @@ impl Display for Reason {
             Reason::Tables(0) => f.write_str("tables of another program"),
             Reason::Tables(version) => write!(f, "tables of version {version}"),
             Reason::DiskFull => f.write_str("the disk is full"),
-            Reason::Unreadable => f.write_str("damaged, or it can't be read or written"),
+            Reason::Unreadable => f.write_str("damaged, or its disk is full or fails"),
         }
     }
 }

@@ -1,7 +1,6 @@
 //! `opcmds run`: commands and events, over tables in memory or in a file.
-ghost use Rattle.std.specs.Prelude.{◌≡◌, ◌+◌, IfSome, None, Ok, take};
+ghost use Rattle.std.specs.Prelude.{◌≡◌, None, Ok};
 ghost use Rattle.opc_program.specs.Runs.{IsAnsweredInput, IsRunOfBytes, status_of_end, status_of_run};
-ghost use Rattle.opc_script.specs.Scripts.{script_limit};
 
 use crate::failure::{Failure, Paths, Place};
 use crate::policy_file::read_rows;
@@ -36,7 +35,7 @@ pub fn run_on<H: AllocGlobal + Files, T: Tables, R: Read, W: Write>(
     output: &mut W,
 ) -> (Result<Status, Failure>, T)
     ensures sure { T.is_sure result.1 → T.is_sure tables }
-    ensures runs { policy.entry ≡ None → IfSome (R.remaining input.old) (λ all. IsAnsweredInput T.is_sure T.represents T.may_leave tables result.1 (take (script_limit + 1) all) (W.contents output.old) (W.contents output.new) result.0) }
+    ensures runs { policy.entry ≡ None → IsAnsweredInput T.is_sure T.represents T.may_leave tables result.1 (R.remaining input.old) (W.contents output.old) (W.contents output.new) result.0 }
 {
     let mut gate = Gate::new(tables);
     let end = run_over(rt, &mut gate, policy, input, output);
@@ -51,7 +50,7 @@ fn run_over<H: AllocGlobal + Files, T: Tables, R: Read, W: Write>(
     output: &mut W,
 ) -> Result<Status, Failure>
     ensures sure { T.is_sure gate.new → T.is_sure gate.old }
-    ensures runs { policy.entry ≡ None → IfSome (R.remaining input.old) (λ all. IsAnsweredInput T.is_sure T.represents T.may_leave gate.old gate.new (take (script_limit + 1) all) (W.contents output.old) (W.contents output.new) result) }
+    ensures runs { policy.entry ≡ None → IsAnsweredInput T.is_sure T.represents T.may_leave gate.old gate.new (R.remaining input.old) (W.contents output.old) (W.contents output.new) result }
 {
     take_policy(rt, gate, policy)?;
     answer_script(rt.alloc(), gate, input, output)
@@ -86,7 +85,7 @@ fn answer_script<T: Tables, R: Read, W: Write>(
     output: &mut W,
 ) -> Result<Status, Failure>
     ensures sure { T.is_sure gate.new → T.is_sure gate.old }
-    ensures runs { IfSome (R.remaining input.old) (λ all. IsAnsweredInput T.is_sure T.represents T.may_leave gate.old gate.new (take (script_limit + 1) all) (W.contents output.old) (W.contents output.new) result) }
+    ensures runs { IsAnsweredInput T.is_sure T.represents T.may_leave gate.old gate.new (R.remaining input.old) (W.contents output.old) (W.contents output.new) result }
 {
     let bytes = match read_up_to(alloc, input, SCRIPT_LIMIT) {
         Ok(bytes) => bytes,

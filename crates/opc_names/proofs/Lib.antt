@@ -5,6 +5,7 @@ pub mod Digits
 pub mod Faults
 pub mod FewParts
 pub mod Fronts
+pub mod GroupNames
 pub mod Heads
 pub mod Keys
 pub mod KeysDiffer

@@ -1,10 +1,10 @@
--- The laws of covering, of the order of patterns, their sort keys and their heads. A search over stored keys
--- stands on them.
-use Rattle.std.specs.Prelude.{◌≡◌, ◌≢◌, ℕ, ◌<◌, ◌≤◌, List, ◌++◌, length, ◌⊎◌, ◌↔◌, IsTrue}
+-- The laws of covering, of the order of patterns, their sort keys and their heads, on which a search over stored keys
+-- stands; and that of the names of groups.
+use Rattle.std.specs.Prelude.{◌≡◌, ◌≢◌, ℕ, ◌<◌, ◌≤◌, List, ◌++◌, length, ◌⊎◌, ◌↔◌, IsTrue, None}
 use Rattle.std.specs.Cmp.Lexicographic.{slice_cmp}
 use Rattle.std.specs.Ordering.{nat_cmp}
 use Rattle.std.specs.declared.cmp.Ordering.TheVariants.{Less}
-use Rattle.opc_names.specs.Names.{IsPattern}
+use Rattle.opc_names.specs.Names.{IsPattern, name_fault, group_rule, user_rule}
 use Rattle.opc_names.specs.Order.{Before, sort_key, head}
 use Rattle.opc_names.specs.Patterns.{tokens, covers, Covers, CoversText}
 use Rattle.opc_names.specs.declared.token.Token.{Token}
@@ -42,3 +42,7 @@ HeadsArePrefixes = (p r : List ℕ) → IsPattern p → CoversText p r → (rest
 abbrev pub LongerHeadsComeFirst : Type 0
 LongerHeadsComeFirst =
     (p q r : List ℕ) → IsPattern p → IsPattern q → CoversText p r → CoversText q r → length (head (tokens q)) < length (head (tokens p)) → Before (tokens p) (tokens q)
+
+-- a text that reads as a group's name reads as a user's id
+abbrev pub GroupNamesReadAsUsers : Type 0
+GroupNamesReadAsUsers = (text : List ℕ) → name_fault group_rule text ≡ None → name_fault user_rule text ≡ None

@@ -1,5 +1,5 @@
-//! The laws of covering, of the order of patterns, their sort keys and their heads.
-ghost use Rattle.opc_names.specs.Laws.{CoversComputes, NoneIsBeforeItself, BeforeIsTransitive, OneIsBefore, KeysAreInOrder, KeysDiffer, KeysAreShort, HeadsArePrefixes, LongerHeadsComeFirst};
+//! The laws of covering, of the order of patterns, their sort keys and their heads, and of the names of groups.
+ghost use Rattle.opc_names.specs.Laws.{CoversComputes, NoneIsBeforeItself, BeforeIsTransitive, OneIsBefore, KeysAreInOrder, KeysDiffer, KeysAreShort, HeadsArePrefixes, LongerHeadsComeFirst, GroupNamesReadAsUsers};
 
 /// The function that computes what a pattern covers is true exactly where the pattern covers.
 pub fn covers_computes()
@@ -28,4 +28,9 @@ pub fn heads_are_prefixes()
 /// Of two patterns that cover a name, one with a longer head comes before the other.
 pub fn longer_heads_come_first()
     ensures { LongerHeadsComeFirst }
+{}
+
+/// Every group's name reads as a user's id, so an entry of an access list reads whom it is for by the rule of users.
+pub fn group_names_read_as_users()
+    ensures { GroupNamesReadAsUsers }
 {}

@@ -1,19 +1,18 @@
 //! Consoles that come and change.
-ghost use Rattle.std.specs.Prelude.{◌≡◌, [], if◌then◌else◌, Err, IsSome, IsSomeAnd, MatchResult, None, OnErr, OnOk};
+ghost use Rattle.std.specs.Prelude.{◌≡◌, if◌then◌else◌, Err, IsSome, IsSomeAnd, MatchResult, None, OnErr, OnOk};
 ghost use Rattle.std.specs.List.{list_any};
 ghost use Rattle.opc_board.specs.declared.fault.BoardFault.TheVariants.{NoTarget};
 ghost use Rattle.opc_board.specs.Facts.{console_at, has_master, is, is_master};
-ghost use Rattle.opc_board.specs.Outcome.{done_with, found};
+ghost use Rattle.opc_board.specs.Outcome.{done, found};
 ghost use Rattle.opc_board.specs.Consoles.{at_console, console_defined, defined, logged_off, logged_on, monitored, replaced, varied, with_console, vary_console_online as vary_console_online_outcome, vary_console_offline as vary_console_offline_outcome, vary_console_auth as vary_console_auth_outcome, reset_console as reset_console_outcome};
 
 use crate::board::{Board, BoardRows};
 use crate::fault::BoardFault;
-use crate::line::Line;
 use crate::rows::ConsoleRow;
 use opc_names::auth::Auth;
 use opc_names::name::{ConsoleName, UserId};
 use opc_policy::mode::Mode;
-use std::alloc::{AllocError, Global};
+use std::alloc::AllocError;
 
 impl ConsoleRow {
     // The same as `is_master`, with the other row in its place if that has its name.
@@ -64,9 +63,9 @@ impl Board {
     }
 
     // Puts a row in place of the one of its name, unless the last master is lost by it.
-    fn vary_console(&mut self, alloc: Global, row: ConsoleRow) -> Result<Vec<Line>, BoardFault>
+    fn vary_console(&mut self, row: ConsoleRow) -> Result<(), BoardFault>
         ensures { MatchResult result
-            (λ lines. varied row self.old ≡ done_with self.new lines.items)
+            (λ _. varied row self.old ≡ done self.new)
             (λ fault. (self.new ≡ self.old) × (varied row self.old ≡ Err fault)) }
     {
         let had = self.has_master();
@@ -76,74 +75,55 @@ impl Board {
             return Err(BoardFault::LastMaster);
         }
         self.put_console(row);
-        Ok(Vec::new(alloc))
+        Ok(())
     }
 
-    pub(crate) fn vary_console_online(
-        &mut self,
-        alloc: Global,
-        name: &ConsoleName,
-    ) -> Result<Vec<Line>, BoardFault>
+    pub(crate) fn vary_console_online(&mut self, name: &ConsoleName) -> Result<(), BoardFault>
         ensures { MatchResult result
-            (λ lines. vary_console_online_outcome name.now self.old ≡ done_with self.new lines.items)
+            (λ _. vary_console_online_outcome name.now self.old ≡ done self.new)
             (λ fault. (self.new ≡ self.old) × (vary_console_online_outcome name.now self.old ≡ Err fault)) }
     {
         let console = self.console(name)?;
-        self.vary_console(
-            alloc,
-            ConsoleRow {
-                online: true,
-                ..console
-            },
-        )
+        self.vary_console(ConsoleRow {
+            online: true,
+            ..console
+        })
     }
 
-    pub(crate) fn vary_console_offline(
-        &mut self,
-        alloc: Global,
-        name: &ConsoleName,
-    ) -> Result<Vec<Line>, BoardFault>
+    pub(crate) fn vary_console_offline(&mut self, name: &ConsoleName) -> Result<(), BoardFault>
         ensures { MatchResult result
-            (λ lines. vary_console_offline_outcome name.now self.old ≡ done_with self.new lines.items)
+            (λ _. vary_console_offline_outcome name.now self.old ≡ done self.new)
             (λ fault. (self.new ≡ self.old) × (vary_console_offline_outcome name.now self.old ≡ Err fault)) }
     {
         let console = self.console(name)?;
         // Whoever is on at a console that is offline already stays on.
-        self.vary_console(
-            alloc,
-            if console.online {
-                ConsoleRow {
-                    online: false,
-                    user: None,
-                    ..console
-                }
-            } else {
-                console
-            },
-        )
+        self.vary_console(if console.online {
+            ConsoleRow {
+                online: false,
+                user: None,
+                ..console
+            }
+        } else {
+            console
+        })
     }
 
     pub(crate) fn vary_console_auth(
         &mut self,
-        alloc: Global,
         name: &ConsoleName,
         auth: Auth,
-    ) -> Result<Vec<Line>, BoardFault>
+    ) -> Result<(), BoardFault>
         ensures { MatchResult result
-            (λ lines. vary_console_auth_outcome name.now auth self.old ≡ done_with self.new lines.items)
+            (λ _. vary_console_auth_outcome name.now auth self.old ≡ done self.new)
             (λ fault. (self.new ≡ self.old) × (vary_console_auth_outcome name.now auth self.old ≡ Err fault)) }
     {
         let console = self.console(name)?;
-        self.vary_console(alloc, ConsoleRow { auth, ..console })
+        self.vary_console(ConsoleRow { auth, ..console })
     }
 
-    pub(crate) fn reset_console(
-        &mut self,
-        alloc: Global,
-        name: &ConsoleName,
-    ) -> Result<Vec<Line>, BoardFault>
+    pub(crate) fn reset_console(&mut self, name: &ConsoleName) -> Result<(), BoardFault>
         ensures { MatchResult result
-            (λ lines. reset_console_outcome name.now self.old ≡ done_with self.new lines.items)
+            (λ _. reset_console_outcome name.now self.old ≡ done self.new)
             (λ fault. (self.new ≡ self.old) × (reset_console_outcome name.now self.old ≡ Err fault)) }
     {
         let console = self.console(name)?;
@@ -151,18 +131,16 @@ impl Board {
             user: None,
             ..console
         });
-        Ok(Vec::new(alloc))
+        Ok(())
     }
 
-    // Sets whether a console is told of jobs, which gives no line.
-    pub(crate) fn monitor(&mut self, alloc: Global, name: &ConsoleName, monitor: bool) -> Vec<Line>
-        ensures board { self.new ≡ monitored name.now monitor self.old }
-        ensures lines { result.items ≡ [] }
+    // Sets whether a console is told of jobs.
+    pub(crate) fn monitor(&mut self, name: &ConsoleName, monitor: bool)
+        ensures { self.new ≡ monitored name.now monitor self.old }
     {
         self.rows
             .consoles
             .change(name, |console| ConsoleRow { monitor, ..console });
-        Vec::new(alloc)
     }
 
     fn set_user(&mut self, name: &ConsoleName, user: Option<UserId>)

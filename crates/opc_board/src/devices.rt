@@ -2,15 +2,13 @@
 ghost use Rattle.std.specs.Prelude.{◌≡◌, ◌≢◌, Err, IfOk, MatchResult};
 ghost use Rattle.opc_board.specs.declared.fault.BoardFault.TheVariants.{NoDevice, NoMemory};
 ghost use Rattle.opc_board.specs.Facts.{IsHeldRightly, device_at};
-ghost use Rattle.opc_board.specs.Outcome.{done, done_with, found};
+ghost use Rattle.opc_board.specs.Outcome.{done, found};
 ghost use Rattle.opc_board.specs.Devices.{with_device, vary_online as vary_online_outcome, vary_offline as vary_offline_outcome, mount as mount_outcome, unload as unload_outcome, swap as swap_outcome, attach as attach_outcome, allocate as allocate_outcome, free as free_outcome};
 
 use crate::board::Board;
 use crate::fault::BoardFault;
-use crate::line::Line;
 use crate::rows::DeviceRow;
 use opc_names::name::{Device, UnitName, Volume};
-use std::alloc::Global;
 
 impl Board {
     fn device(&self, number: &Device) -> Result<DeviceRow, BoardFault>
@@ -31,13 +29,9 @@ impl Board {
         self.rows.devices.change(&row.number, |_| row);
     }
 
-    pub(crate) fn vary_online(
-        &mut self,
-        alloc: Global,
-        number: &Device,
-    ) -> Result<Vec<Line>, BoardFault>
+    pub(crate) fn vary_online(&mut self, number: &Device) -> Result<(), BoardFault>
         ensures { MatchResult result
-            (λ lines. vary_online_outcome number.now self.old ≡ done_with self.new lines.items)
+            (λ _. vary_online_outcome number.now self.old ≡ done self.new)
             (λ fault. (self.new ≡ self.old) × (vary_online_outcome number.now self.old ≡ Err fault)) }
     {
         let device = self.device(number)?;
@@ -48,16 +42,12 @@ impl Board {
             online: true,
             ..device
         });
-        Ok(Vec::new(alloc))
+        Ok(())
     }
 
-    pub(crate) fn vary_offline(
-        &mut self,
-        alloc: Global,
-        number: &Device,
-    ) -> Result<Vec<Line>, BoardFault>
+    pub(crate) fn vary_offline(&mut self, number: &Device) -> Result<(), BoardFault>
         ensures { MatchResult result
-            (λ lines. vary_offline_outcome number.now self.old ≡ done_with self.new lines.items)
+            (λ _. vary_offline_outcome number.now self.old ≡ done self.new)
             (λ fault. (self.new ≡ self.old) × (vary_offline_outcome number.now self.old ≡ Err fault)) }
     {
         let device = self.device(number)?;
@@ -71,17 +61,12 @@ impl Board {
             online: false,
             ..device
         });
-        Ok(Vec::new(alloc))
+        Ok(())
     }
 
-    pub(crate) fn mount(
-        &mut self,
-        alloc: Global,
-        number: &Device,
-        volume: Volume,
-    ) -> Result<Vec<Line>, BoardFault>
+    pub(crate) fn mount(&mut self, number: &Device, volume: Volume) -> Result<(), BoardFault>
         ensures { MatchResult result
-            (λ lines. mount_outcome number.now volume self.old ≡ done_with self.new lines.items)
+            (λ _. mount_outcome number.now volume self.old ≡ done self.new)
             (λ fault. (self.new ≡ self.old) × (mount_outcome number.now volume self.old ≡ Err fault)) }
     {
         let device = self.device(number)?;
@@ -95,12 +80,12 @@ impl Board {
             volume: Some(volume),
             ..device
         });
-        Ok(Vec::new(alloc))
+        Ok(())
     }
 
-    pub(crate) fn unload(&mut self, alloc: Global, number: &Device) -> Result<Vec<Line>, BoardFault>
+    pub(crate) fn unload(&mut self, number: &Device) -> Result<(), BoardFault>
         ensures { MatchResult result
-            (λ lines. unload_outcome number.now self.old ≡ done_with self.new lines.items)
+            (λ _. unload_outcome number.now self.old ≡ done self.new)
             (λ fault. (self.new ≡ self.old) × (unload_outcome number.now self.old ≡ Err fault)) }
     {
         let device = self.device(number)?;
@@ -114,17 +99,12 @@ impl Board {
             volume: None,
             ..device
         });
-        Ok(Vec::new(alloc))
+        Ok(())
     }
 
-    pub(crate) fn swap(
-        &mut self,
-        alloc: Global,
-        from: &Device,
-        to: &Device,
-    ) -> Result<Vec<Line>, BoardFault>
+    pub(crate) fn swap(&mut self, from: &Device, to: &Device) -> Result<(), BoardFault>
         ensures { MatchResult result
-            (λ lines. swap_outcome from.now to.now self.old ≡ done_with self.new lines.items)
+            (λ _. swap_outcome from.now to.now self.old ≡ done self.new)
             (λ fault. (self.new ≡ self.old) × (swap_outcome from.now to.now self.old ≡ Err fault)) }
     {
         let source = self.device(from)?;
@@ -154,7 +134,7 @@ impl Board {
             unit: source.unit,
             ..target
         });
-        Ok(Vec::new(alloc))
+        Ok(())
     }
 
     pub(crate) fn attach(&mut self, number: Device) -> Result<(), BoardFault>

@@ -87,14 +87,9 @@ impl Board {
         }
     }
 
-    pub(crate) fn send(
-        &mut self,
-        alloc: Global,
-        user: UserId,
-        text: KeptText,
-    ) -> Result<Vec<Line>, BoardFault>
+    pub(crate) fn send(&mut self, user: UserId, text: KeptText) -> Result<(), BoardFault>
         ensures { MatchResult result
-            (λ lines. send_outcome user text self.old ≡ done_with self.new lines.items)
+            (λ _. send_outcome user text self.old ≡ done self.new)
             (λ fault. (self.new ≡ self.old) × (fault ≢ NoMemory → send_outcome user text self.old ≡ Err fault)) }
     {
         let reached = self.is_on(&user) | self.has_session(&user);
@@ -102,32 +97,28 @@ impl Board {
             return Err(BoardFault::NoTarget);
         }
         self.rows.messages.push(MessageRow { user, text })?;
-        Ok(Vec::new(alloc))
+        Ok(())
     }
 
-    pub(crate) fn log_line(
-        &mut self,
-        alloc: Global,
-        text: KeptText,
-    ) -> Result<Vec<Line>, BoardFault>
+    pub(crate) fn log_line(&mut self, text: KeptText) -> Result<(), BoardFault>
         ensures { MatchResult result
-            (λ lines. log_line_outcome text self.old ≡ done_with self.new lines.items)
+            (λ _. log_line_outcome text self.old ≡ done self.new)
             (λ fault. (self.new ≡ self.old) × (fault ≡ NoMemory)) }
     {
         self.rows.log.push(text)?;
-        Ok(Vec::new(alloc))
+        Ok(())
     }
 
-    pub(crate) fn halt(&mut self, alloc: Global) -> Result<Vec<Line>, BoardFault>
+    pub(crate) fn halt(&mut self) -> Result<(), BoardFault>
         ensures { MatchResult result
-            (λ lines. halt_outcome self.old ≡ done_with self.new lines.items)
+            (λ _. halt_outcome self.old ≡ done self.new)
             (λ fault. (self.new ≡ self.old) × (halt_outcome self.old ≡ Err fault)) }
     {
         if self.rows.halted {
             return Err(BoardFault::Halted);
         }
         self.rows.halted = true;
-        Ok(Vec::new(alloc))
+        Ok(())
     }
 
     pub(crate) fn resume(&mut self)

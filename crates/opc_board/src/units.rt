@@ -2,16 +2,14 @@
 ghost use Rattle.std.specs.Prelude.{◌≡◌, ◌≢◌, Err, MatchResult, None, Some};
 ghost use Rattle.opc_board.specs.declared.fault.BoardFault.TheVariants.{NoMemory, NoUnit};
 ghost use Rattle.opc_board.specs.Facts.{unit_at};
-ghost use Rattle.opc_board.specs.Outcome.{done, done_with};
+ghost use Rattle.opc_board.specs.Outcome.{done};
 ghost use Rattle.opc_board.specs.Units.{freed, is_tsu, without_unit, cancel as cancel_outcome, cancel_user as cancel_user_outcome, force as force_outcome, job_end as job_end_outcome, job_in as job_in_outcome, start as start_outcome, stop as stop_outcome, modify as modify_outcome};
 
 use crate::board::Board;
 use crate::fault::BoardFault;
-use crate::line::Line;
 use crate::rows::{DeviceRow, UnitKind, UnitRow};
 use crate::text::KeptText;
 use opc_names::name::UnitName;
-use std::alloc::Global;
 
 impl UnitKind {
     pub(crate) fn is_tsu(&self) -> bool
@@ -53,9 +51,9 @@ impl Board {
         self.rows.devices.change_all(|device| device.freed(name));
     }
 
-    pub(crate) fn cancel(&mut self, alloc: Global, name: &UnitName) -> Result<Vec<Line>, BoardFault>
+    pub(crate) fn cancel(&mut self, name: &UnitName) -> Result<(), BoardFault>
         ensures { MatchResult result
-            (λ lines. cancel_outcome name.now self.old ≡ done_with self.new lines.items)
+            (λ _. cancel_outcome name.now self.old ≡ done self.new)
             (λ fault. (self.new ≡ self.old) × (cancel_outcome name.now self.old ≡ Err fault)) }
     {
         let unit = self.unit(name)?;
@@ -66,16 +64,12 @@ impl Board {
             return Err(BoardFault::NonCancelable);
         }
         self.take_out(name);
-        Ok(Vec::new(alloc))
+        Ok(())
     }
 
-    pub(crate) fn cancel_user(
-        &mut self,
-        alloc: Global,
-        name: &UnitName,
-    ) -> Result<Vec<Line>, BoardFault>
+    pub(crate) fn cancel_user(&mut self, name: &UnitName) -> Result<(), BoardFault>
         ensures { MatchResult result
-            (λ lines. cancel_user_outcome name.now self.old ≡ done_with self.new lines.items)
+            (λ _. cancel_user_outcome name.now self.old ≡ done self.new)
             (λ fault. (self.new ≡ self.old) × (cancel_user_outcome name.now self.old ≡ Err fault)) }
     {
         let unit = self.unit(name)?;
@@ -86,12 +80,12 @@ impl Board {
             return Err(BoardFault::NonCancelable);
         }
         self.take_out(name);
-        Ok(Vec::new(alloc))
+        Ok(())
     }
 
-    pub(crate) fn force(&mut self, alloc: Global, name: &UnitName) -> Result<Vec<Line>, BoardFault>
+    pub(crate) fn force(&mut self, name: &UnitName) -> Result<(), BoardFault>
         ensures { MatchResult result
-            (λ lines. force_outcome name.now self.old ≡ done_with self.new lines.items)
+            (λ _. force_outcome name.now self.old ≡ done self.new)
             (λ fault. (self.new ≡ self.old) × (force_outcome name.now self.old ≡ Err fault)) }
     {
         let unit = self.unit(name)?;
@@ -99,7 +93,7 @@ impl Board {
             return Err(BoardFault::Cancelable);
         }
         self.take_out(name);
-        Ok(Vec::new(alloc))
+        Ok(())
     }
 
     pub(crate) fn job_end(&mut self, name: &UnitName) -> Result<(), BoardFault>
@@ -138,23 +132,17 @@ impl Board {
         Ok(())
     }
 
-    pub(crate) fn start(
-        &mut self,
-        alloc: Global,
-        member: UnitName,
-        id: UnitName,
-    ) -> Result<Vec<Line>, BoardFault>
+    pub(crate) fn start(&mut self, member: UnitName, id: UnitName) -> Result<(), BoardFault>
         ensures { MatchResult result
-            (λ lines. start_outcome member id self.old ≡ done_with self.new lines.items)
+            (λ _. start_outcome member id self.old ≡ done self.new)
             (λ fault. (self.new ≡ self.old) × (fault ≢ NoMemory → start_outcome member id self.old ≡ Err fault)) }
     {
-        self.job_in(id, UnitKind::Stc { member }, true)?;
-        Ok(Vec::new(alloc))
+        self.job_in(id, UnitKind::Stc { member }, true)
     }
 
-    pub(crate) fn stop(&mut self, alloc: Global, name: &UnitName) -> Result<Vec<Line>, BoardFault>
+    pub(crate) fn stop(&mut self, name: &UnitName) -> Result<(), BoardFault>
         ensures { MatchResult result
-            (λ lines. stop_outcome name.now self.old ≡ done_with self.new lines.items)
+            (λ _. stop_outcome name.now self.old ≡ done self.new)
             (λ fault. (self.new ≡ self.old) × (stop_outcome name.now self.old ≡ Err fault)) }
     {
         let unit = self.unit(name)?;
@@ -168,17 +156,12 @@ impl Board {
                 ..unit
             },
         );
-        Ok(Vec::new(alloc))
+        Ok(())
     }
 
-    pub(crate) fn modify(
-        &mut self,
-        alloc: Global,
-        name: &UnitName,
-        text: KeptText,
-    ) -> Result<Vec<Line>, BoardFault>
+    pub(crate) fn modify(&mut self, name: &UnitName, text: KeptText) -> Result<(), BoardFault>
         ensures { MatchResult result
-            (λ lines. modify_outcome name.now text self.old ≡ done_with self.new lines.items)
+            (λ _. modify_outcome name.now text self.old ≡ done self.new)
             (λ fault. (self.new ≡ self.old) × (modify_outcome name.now text self.old ≡ Err fault)) }
     {
         let unit = self.unit(name)?;
@@ -192,6 +175,6 @@ impl Board {
                 ..unit
             },
         );
-        Ok(Vec::new(alloc))
+        Ok(())
     }
 }

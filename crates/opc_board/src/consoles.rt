@@ -1,9 +1,9 @@
 //! Consoles that come and change.
-ghost use Rattle.std.specs.Prelude.{◌≡◌, if◌then◌else◌, Err, IsSome, IsSomeAnd, MatchResult, None, OnErr, OnOk};
+ghost use Rattle.std.specs.Prelude.{◌≡◌, if◌then◌else◌, IsSome, IsSomeAnd, None, OnErr, OnOk};
 ghost use Rattle.std.specs.List.{list_any};
 ghost use Rattle.opc_board.specs.declared.fault.BoardFault.TheVariants.{NoTarget};
 ghost use Rattle.opc_board.specs.Facts.{console_at, has_master, is, is_master};
-ghost use Rattle.opc_board.specs.Outcome.{done, found};
+ghost use Rattle.opc_board.specs.Outcome.{ComesTo, found};
 ghost use Rattle.opc_board.specs.Consoles.{at_console, console_defined, defined, logged_off, logged_on, monitored, replaced, varied, with_console, vary_console_online as vary_console_online_outcome, vary_console_offline as vary_console_offline_outcome, vary_console_auth as vary_console_auth_outcome, reset_console as reset_console_outcome};
 
 use crate::board::{Board, BoardRows};
@@ -64,9 +64,7 @@ impl Board {
 
     // Puts a row in place of the one of its name, unless the last master is lost by it.
     fn vary_console(&mut self, row: ConsoleRow) -> Result<(), BoardFault>
-        ensures { MatchResult result
-            (λ _. varied row self.old ≡ done self.new)
-            (λ fault. (self.new ≡ self.old) × (varied row self.old ≡ Err fault)) }
+        ensures { ComesTo self.old self.new (varied row self.old) result }
     {
         let had = self.has_master();
         let has = self.has_master_with(&row);
@@ -79,9 +77,7 @@ impl Board {
     }
 
     pub(crate) fn vary_console_online(&mut self, name: &ConsoleName) -> Result<(), BoardFault>
-        ensures { MatchResult result
-            (λ _. vary_console_online_outcome name.now self.old ≡ done self.new)
-            (λ fault. (self.new ≡ self.old) × (vary_console_online_outcome name.now self.old ≡ Err fault)) }
+        ensures { ComesTo self.old self.new (vary_console_online_outcome name.now self.old) result }
     {
         let console = self.console(name)?;
         self.vary_console(ConsoleRow {
@@ -91,9 +87,7 @@ impl Board {
     }
 
     pub(crate) fn vary_console_offline(&mut self, name: &ConsoleName) -> Result<(), BoardFault>
-        ensures { MatchResult result
-            (λ _. vary_console_offline_outcome name.now self.old ≡ done self.new)
-            (λ fault. (self.new ≡ self.old) × (vary_console_offline_outcome name.now self.old ≡ Err fault)) }
+        ensures { ComesTo self.old self.new (vary_console_offline_outcome name.now self.old) result }
     {
         let console = self.console(name)?;
         // Whoever is on at a console that is offline already stays on.
@@ -113,18 +107,14 @@ impl Board {
         name: &ConsoleName,
         auth: Auth,
     ) -> Result<(), BoardFault>
-        ensures { MatchResult result
-            (λ _. vary_console_auth_outcome name.now auth self.old ≡ done self.new)
-            (λ fault. (self.new ≡ self.old) × (vary_console_auth_outcome name.now auth self.old ≡ Err fault)) }
+        ensures { ComesTo self.old self.new (vary_console_auth_outcome name.now auth self.old) result }
     {
         let console = self.console(name)?;
         self.vary_console(ConsoleRow { auth, ..console })
     }
 
     pub(crate) fn reset_console(&mut self, name: &ConsoleName) -> Result<(), BoardFault>
-        ensures { MatchResult result
-            (λ _. reset_console_outcome name.now self.old ≡ done self.new)
-            (λ fault. (self.new ≡ self.old) × (reset_console_outcome name.now self.old ≡ Err fault)) }
+        ensures { ComesTo self.old self.new (reset_console_outcome name.now self.old) result }
     {
         let console = self.console(name)?;
         self.put_console(ConsoleRow {

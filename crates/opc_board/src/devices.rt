@@ -1,8 +1,8 @@
 //! Devices that come and change.
-ghost use Rattle.std.specs.Prelude.{◌≡◌, ◌≢◌, Err, IfOk, MatchResult};
-ghost use Rattle.opc_board.specs.declared.fault.BoardFault.TheVariants.{NoDevice, NoMemory};
+ghost use Rattle.std.specs.Prelude.{◌≡◌, IfOk};
+ghost use Rattle.opc_board.specs.declared.fault.BoardFault.TheVariants.{NoDevice};
 ghost use Rattle.opc_board.specs.Facts.{IsHeldRightly, device_at};
-ghost use Rattle.opc_board.specs.Outcome.{done, found};
+ghost use Rattle.opc_board.specs.Outcome.{ComesTo, ComesToOrNoMemory, found};
 ghost use Rattle.opc_board.specs.Devices.{with_device, vary_online as vary_online_outcome, vary_offline as vary_offline_outcome, mount as mount_outcome, unload as unload_outcome, swap as swap_outcome, attach as attach_outcome, allocate as allocate_outcome, free as free_outcome};
 
 use crate::board::Board;
@@ -30,9 +30,7 @@ impl Board {
     }
 
     pub(crate) fn vary_online(&mut self, number: &Device) -> Result<(), BoardFault>
-        ensures { MatchResult result
-            (λ _. vary_online_outcome number.now self.old ≡ done self.new)
-            (λ fault. (self.new ≡ self.old) × (vary_online_outcome number.now self.old ≡ Err fault)) }
+        ensures { ComesTo self.old self.new (vary_online_outcome number.now self.old) result }
     {
         let device = self.device(number)?;
         if device.online {
@@ -46,9 +44,7 @@ impl Board {
     }
 
     pub(crate) fn vary_offline(&mut self, number: &Device) -> Result<(), BoardFault>
-        ensures { MatchResult result
-            (λ _. vary_offline_outcome number.now self.old ≡ done self.new)
-            (λ fault. (self.new ≡ self.old) × (vary_offline_outcome number.now self.old ≡ Err fault)) }
+        ensures { ComesTo self.old self.new (vary_offline_outcome number.now self.old) result }
     {
         let device = self.device(number)?;
         if !device.online {
@@ -65,9 +61,7 @@ impl Board {
     }
 
     pub(crate) fn mount(&mut self, number: &Device, volume: Volume) -> Result<(), BoardFault>
-        ensures { MatchResult result
-            (λ _. mount_outcome number.now volume self.old ≡ done self.new)
-            (λ fault. (self.new ≡ self.old) × (mount_outcome number.now volume self.old ≡ Err fault)) }
+        ensures { ComesTo self.old self.new (mount_outcome number.now volume self.old) result }
     {
         let device = self.device(number)?;
         if !device.online {
@@ -84,9 +78,7 @@ impl Board {
     }
 
     pub(crate) fn unload(&mut self, number: &Device) -> Result<(), BoardFault>
-        ensures { MatchResult result
-            (λ _. unload_outcome number.now self.old ≡ done self.new)
-            (λ fault. (self.new ≡ self.old) × (unload_outcome number.now self.old ≡ Err fault)) }
+        ensures { ComesTo self.old self.new (unload_outcome number.now self.old) result }
     {
         let device = self.device(number)?;
         if device.volume.is_none() {
@@ -103,9 +95,7 @@ impl Board {
     }
 
     pub(crate) fn swap(&mut self, from: &Device, to: &Device) -> Result<(), BoardFault>
-        ensures { MatchResult result
-            (λ _. swap_outcome from.now to.now self.old ≡ done self.new)
-            (λ fault. (self.new ≡ self.old) × (swap_outcome from.now to.now self.old ≡ Err fault)) }
+        ensures { ComesTo self.old self.new (swap_outcome from.now to.now self.old) result }
     {
         let source = self.device(from)?;
         let target = self.device(to)?;
@@ -138,9 +128,7 @@ impl Board {
     }
 
     pub(crate) fn attach(&mut self, number: Device) -> Result<(), BoardFault>
-        ensures { MatchResult result
-            (λ _. attach_outcome number self.old ≡ done self.new)
-            (λ fault. (self.new ≡ self.old) × (fault ≢ NoMemory → attach_outcome number self.old ≡ Err fault)) }
+        ensures { ComesToOrNoMemory self.old self.new (attach_outcome number self.old) result }
     {
         if self.rows.devices.find(&number).is_some() {
             return Err(BoardFault::DeviceState);
@@ -155,9 +143,7 @@ impl Board {
     }
 
     pub(crate) fn allocate(&mut self, number: &Device, name: UnitName) -> Result<(), BoardFault>
-        ensures { MatchResult result
-            (λ _. allocate_outcome number.now name self.old ≡ done self.new)
-            (λ fault. (self.new ≡ self.old) × (allocate_outcome number.now name self.old ≡ Err fault)) }
+        ensures { ComesTo self.old self.new (allocate_outcome number.now name self.old) result }
     {
         let device = self.device(number)?;
         self.unit(&name)?;
@@ -175,9 +161,7 @@ impl Board {
     }
 
     pub(crate) fn free(&mut self, number: &Device) -> Result<(), BoardFault>
-        ensures { MatchResult result
-            (λ _. free_outcome number.now self.old ≡ done self.new)
-            (λ fault. (self.new ≡ self.old) × (free_outcome number.now self.old ≡ Err fault)) }
+        ensures { ComesTo self.old self.new (free_outcome number.now self.old) result }
     {
         let device = self.device(number)?;
         if device.unit.is_none() {

@@ -1,7 +1,7 @@
 //! Replies, the log, messages and the day.
-ghost use Rattle.std.specs.Prelude.{◌≡◌, ◌≢◌, ◌∷◌, ◌++◌, [], Err, IfErr, MatchResult, OnErr, OnOk};
+ghost use Rattle.std.specs.Prelude.{◌≡◌, ◌≢◌, Err, MatchResult};
 ghost use Rattle.opc_board.specs.declared.fault.BoardFault.TheVariants.{NoMemory};
-ghost use Rattle.opc_board.specs.Outcome.{done, done_with};
+ghost use Rattle.opc_board.specs.Outcome.{ComesTo, ComesToOrNoMemory, done, done_with};
 ghost use Rattle.opc_board.specs.Units.{is_holder};
 ghost use Rattle.opc_board.specs.Replies.{has_session, is_on, resumed, reply as reply_outcome, ask as ask_outcome, send as send_outcome, log_line as log_line_outcome, halt as halt_outcome};
 
@@ -57,9 +57,7 @@ impl Board {
     }
 
     pub(crate) fn ask(&mut self, id: ReplyId, text: KeptText) -> Result<(), BoardFault>
-        ensures { MatchResult result
-            (λ _. ask_outcome id text self.old ≡ done self.new)
-            (λ fault. (self.new ≡ self.old) × (fault ≢ NoMemory → ask_outcome id text self.old ≡ Err fault)) }
+        ensures { ComesToOrNoMemory self.old self.new (ask_outcome id text self.old) result }
     {
         if self.rows.replies.find(&id).is_some() {
             return Err(BoardFault::ReplyExists);
@@ -88,9 +86,7 @@ impl Board {
     }
 
     pub(crate) fn send(&mut self, user: UserId, text: KeptText) -> Result<(), BoardFault>
-        ensures { MatchResult result
-            (λ _. send_outcome user text self.old ≡ done self.new)
-            (λ fault. (self.new ≡ self.old) × (fault ≢ NoMemory → send_outcome user text self.old ≡ Err fault)) }
+        ensures { ComesToOrNoMemory self.old self.new (send_outcome user text self.old) result }
     {
         let reached = self.is_on(&user) | self.has_session(&user);
         if !reached {
@@ -110,9 +106,7 @@ impl Board {
     }
 
     pub(crate) fn halt(&mut self) -> Result<(), BoardFault>
-        ensures { MatchResult result
-            (λ _. halt_outcome self.old ≡ done self.new)
-            (λ fault. (self.new ≡ self.old) × (halt_outcome self.old ≡ Err fault)) }
+        ensures { ComesTo self.old self.new (halt_outcome self.old) result }
     {
         if self.rows.halted {
             return Err(BoardFault::Halted);

@@ -1,8 +1,8 @@
 //! Units that come, change and leave.
-ghost use Rattle.std.specs.Prelude.{◌≡◌, ◌≢◌, Err, MatchResult, None, Some};
-ghost use Rattle.opc_board.specs.declared.fault.BoardFault.TheVariants.{NoMemory, NoUnit};
+ghost use Rattle.std.specs.Prelude.{◌≡◌, MatchResult, None, Some};
+ghost use Rattle.opc_board.specs.declared.fault.BoardFault.TheVariants.{NoUnit};
 ghost use Rattle.opc_board.specs.Facts.{unit_at};
-ghost use Rattle.opc_board.specs.Outcome.{done};
+ghost use Rattle.opc_board.specs.Outcome.{ComesTo, ComesToOrNoMemory};
 ghost use Rattle.opc_board.specs.Units.{freed, is_tsu, without_unit, cancel as cancel_outcome, cancel_user as cancel_user_outcome, force as force_outcome, job_end as job_end_outcome, job_in as job_in_outcome, start as start_outcome, stop as stop_outcome, modify as modify_outcome};
 
 use crate::board::Board;
@@ -52,9 +52,7 @@ impl Board {
     }
 
     pub(crate) fn cancel(&mut self, name: &UnitName) -> Result<(), BoardFault>
-        ensures { MatchResult result
-            (λ _. cancel_outcome name.now self.old ≡ done self.new)
-            (λ fault. (self.new ≡ self.old) × (cancel_outcome name.now self.old ≡ Err fault)) }
+        ensures { ComesTo self.old self.new (cancel_outcome name.now self.old) result }
     {
         let unit = self.unit(name)?;
         if unit.kind.is_tsu() {
@@ -68,9 +66,7 @@ impl Board {
     }
 
     pub(crate) fn cancel_user(&mut self, name: &UnitName) -> Result<(), BoardFault>
-        ensures { MatchResult result
-            (λ _. cancel_user_outcome name.now self.old ≡ done self.new)
-            (λ fault. (self.new ≡ self.old) × (cancel_user_outcome name.now self.old ≡ Err fault)) }
+        ensures { ComesTo self.old self.new (cancel_user_outcome name.now self.old) result }
     {
         let unit = self.unit(name)?;
         if !unit.kind.is_tsu() {
@@ -84,9 +80,7 @@ impl Board {
     }
 
     pub(crate) fn force(&mut self, name: &UnitName) -> Result<(), BoardFault>
-        ensures { MatchResult result
-            (λ _. force_outcome name.now self.old ≡ done self.new)
-            (λ fault. (self.new ≡ self.old) × (force_outcome name.now self.old ≡ Err fault)) }
+        ensures { ComesTo self.old self.new (force_outcome name.now self.old) result }
     {
         let unit = self.unit(name)?;
         if unit.cancelable {
@@ -97,9 +91,7 @@ impl Board {
     }
 
     pub(crate) fn job_end(&mut self, name: &UnitName) -> Result<(), BoardFault>
-        ensures { MatchResult result
-            (λ _. job_end_outcome name.now self.old ≡ done self.new)
-            (λ fault. (self.new ≡ self.old) × (job_end_outcome name.now self.old ≡ Err fault)) }
+        ensures { ComesTo self.old self.new (job_end_outcome name.now self.old) result }
     {
         self.unit(name)?;
         self.take_out(name);
@@ -112,9 +104,7 @@ impl Board {
         kind: UnitKind,
         cancelable: bool,
     ) -> Result<(), BoardFault>
-        ensures { MatchResult result
-            (λ _. job_in_outcome name kind cancelable self.old ≡ done self.new)
-            (λ fault. (self.new ≡ self.old) × (fault ≢ NoMemory → job_in_outcome name kind cancelable self.old ≡ Err fault)) }
+        ensures { ComesToOrNoMemory self.old self.new (job_in_outcome name kind cancelable self.old) result }
     {
         if self.rows.halted {
             return Err(BoardFault::Halted);
@@ -133,17 +123,13 @@ impl Board {
     }
 
     pub(crate) fn start(&mut self, member: UnitName, id: UnitName) -> Result<(), BoardFault>
-        ensures { MatchResult result
-            (λ _. start_outcome member id self.old ≡ done self.new)
-            (λ fault. (self.new ≡ self.old) × (fault ≢ NoMemory → start_outcome member id self.old ≡ Err fault)) }
+        ensures { ComesToOrNoMemory self.old self.new (start_outcome member id self.old) result }
     {
         self.job_in(id, UnitKind::Stc { member }, true)
     }
 
     pub(crate) fn stop(&mut self, name: &UnitName) -> Result<(), BoardFault>
-        ensures { MatchResult result
-            (λ _. stop_outcome name.now self.old ≡ done self.new)
-            (λ fault. (self.new ≡ self.old) × (stop_outcome name.now self.old ≡ Err fault)) }
+        ensures { ComesTo self.old self.new (stop_outcome name.now self.old) result }
     {
         let unit = self.unit(name)?;
         if unit.kind.is_tsu() {
@@ -160,9 +146,7 @@ impl Board {
     }
 
     pub(crate) fn modify(&mut self, name: &UnitName, text: KeptText) -> Result<(), BoardFault>
-        ensures { MatchResult result
-            (λ _. modify_outcome name.now text self.old ≡ done self.new)
-            (λ fault. (self.new ≡ self.old) × (modify_outcome name.now text self.old ≡ Err fault)) }
+        ensures { ComesTo self.old self.new (modify_outcome name.now text self.old) result }
     {
         let unit = self.unit(name)?;
         if unit.kind.is_tsu() {

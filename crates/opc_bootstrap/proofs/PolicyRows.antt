@@ -111,7 +111,7 @@ one_edit (rows.User user) s q h = ap (λ p. record s { policy = p }) (ok_is _ q 
 one_edit (rows.Connect user group) s q h = ap (λ p. record s { policy = p }) (ok_is _ q (needing_ok (has_group s.policy group) group _ q (needing_ok (has_user s.policy user) user _ q h)))
 one_edit (rows.Console name auth mode) s q h = ap (λ p. record s { policy = p }) (ok_is s.policy q h)
 one_edit (rows.Profile class pattern uacc owner warning) s q h = ap (λ p. record s { policy = p }) (ok_is _ q (needing_ok (has_user s.policy owner) owner _ q h))
-one_edit (rows.Permit class pattern id level) s q h =
+one_edit (rows.Permit class pattern id level when) s q h =
     ap (λ p. record s { policy = p }) (ok_is _ q (needing_ok (has_holder s.policy id) id _ q (needing_ok (is_some (profile_of s.policy.profiles class pattern)) pattern _ q h)))
 
 pub rows_edited : (all : List Row) (s : State) (q : Policy) → policy_after all s.policy ≡ Ok q → all_edited (edits_of all) s ≡ record s { policy = q }

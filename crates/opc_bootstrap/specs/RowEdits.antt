@@ -18,7 +18,7 @@ edit_of (rows.User user) = Some (edit.PutUser user)
 edit_of (rows.Connect user group) = Some (edit.PutConnect (record { user = user; group = group }))
 edit_of (rows.Console name auth mode) = None
 edit_of (rows.Profile class pattern uacc owner warning) = Some (edit.PutProfile (record { class = class; pattern = pattern; owner = owner; uacc = uacc; warning = warning; entries = [] }))
-edit_of (rows.Permit class pattern id level) = Some (edit.PutEntry class pattern (record { id = id; level = level }))
+edit_of (rows.Permit class pattern id level when) = Some (edit.PutEntry class pattern (record { id = id; when = when; level = level }))
 
 abbrev pub edits_of : List Row → List Edit
 edits_of more = filter_map edit_of more

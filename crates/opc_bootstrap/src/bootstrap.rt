@@ -61,7 +61,8 @@ fn edit_of(alloc: Global, row: &Row) -> Option<Edit>
             pattern,
             id,
             level,
-        } => Some(Edit::PutEntry(class, pattern, Entry { id, level })),
+            when,
+        } => Some(Edit::PutEntry(class, pattern, Entry { id, when, level })),
     }
 }
 

@@ -18,7 +18,7 @@ use Rattle.opc_policy.specs.declared.profile.Profile.{Profile}
 use Rattle.opc_policy.specs.declared.row.Row.{Row}
 use Rattle.opc_policy.specs.declared.row.Row.TheVariants as rows
 use Rattle.opc_policy.specs.declared.user.User.{User}
-use Rattle.opc_policy.specs.Access.{entry_cmp, with_entry}
+use Rattle.opc_policy.specs.Access.{entry_cmp, is_for, with_entry}
 use Rattle.opc_policy.specs.Members.{connect_cmp, name_cmp, user_cmp, with_connect, with_group, with_user}
 use Rattle.opc_policy.specs.Profiles.{is_of, profile_cmp, profile_of, with_definition, with_permission}
 use Rattle.opc_policy.specs.Taken.{after_row, has_group, has_holder, has_user, needing, unless}
@@ -243,16 +243,16 @@ permission_kept p class pattern e facts stored = with_profiles_kept p (with_perm
         let was = found_stored p class pattern q facts at in
         all_replaced (IsProfileOfStored p) profile_cmp (record q { entries = with_entry e q.entries }) p.profiles (was.0, all_replaced (IsEntryOfStored p) entry_cmp e q.entries stored was.1) facts.profiles
 
-less_permission_kept : (p : Policy) (class : Class) (pattern id : List ℕ) → IsPolicy p → IsPolicy (record p { profiles = without_permission class pattern id p.profiles })
-less_permission_kept p class pattern id facts = with_profiles_kept p (without_permission class pattern id p.profiles) facts (go (profile_of p.profiles class pattern) refl)
+less_permission_kept : (p : Policy) (class : Class) (pattern id : List ℕ) (when : Option (List ℕ)) → IsPolicy p → IsPolicy (record p { profiles = without_permission class pattern id when p.profiles })
+less_permission_kept p class pattern id when facts = with_profiles_kept p (without_permission class pattern id when p.profiles) facts (go (profile_of p.profiles class pattern) refl)
   where
     go : (o : Option Profile) → profile_of p.profiles class pattern ≡ o
-        → AllByRecursion (IsProfileOfStored p) (option_map_or (λ (q : Profile). replace_key profile_cmp p.profiles (record q { entries = without_entry id q.entries })) o p.profiles)
+        → AllByRecursion (IsProfileOfStored p) (option_map_or (λ (q : Profile). replace_key profile_cmp p.profiles (record q { entries = without_entry id when q.entries })) o p.profiles)
     go None at = facts.profiles
     go (Some q) at =
         let was = found_stored p class pattern q facts at in
-        all_replaced (IsProfileOfStored p) profile_cmp (record q { entries = without_entry id q.entries }) p.profiles
-        (was.0, all_filter (IsEntryOfStored p) (λ (e : Entry). not (bytes_eq e.id id)) q.entries was.1) facts.profiles
+        all_replaced (IsProfileOfStored p) profile_cmp (record q { entries = without_entry id when q.entries }) p.profiles
+        (was.0, all_filter (IsEntryOfStored p) (λ (e : Entry). not (is_for when id e)) q.entries was.1) facts.profiles
 
 -- a user that is not in use goes
 
@@ -314,10 +314,10 @@ in_use_made P false name made h = h refl
 
 -- Each operation keeps policy and board.
 pub policy_kept : (b : BoardRows) (o : Operation) (p : Policy) → IsPolicy p → IsKeptBoard p b → IfMade (λ q. IsPolicy q × IsKeptBoard q (board_changed o b)) (policy_changed b o p)
-policy_kept b (operation.AddUser id special auditor digest) p facts kept =
-    unless_made (λ q. IsPolicy q × IsKeptBoard q b) (has_name p id) id (Ok (record p { users = with_user (record { id = id; special = special; auditor = auditor; revoked = false; digest = digest }) p.users })) (λ h0. (user_kept p (record { id = id; special = special; auditor = auditor; revoked = false; digest = digest }) facts (none_named id p.groups (or_right (has_user p id) (has_group p id) h0)), board_on p (with_this p (record { id = id; special = special; auditor = auditor; revoked = false; digest = digest })) (user_extends p (record { id = id; special = special; auditor = auditor; revoked = false; digest = digest })) b kept))
-policy_kept b (operation.AltUser id special auditor revoked digest) p facts kept =
-    needing_made (λ q. IsPolicy q × IsKeptBoard q b) (has_user p id) id (Ok (record p { users = with_user (record { id = id; special = special; auditor = auditor; revoked = revoked; digest = digest }) p.users })) (λ h0. (user_kept p (record { id = id; special = special; auditor = auditor; revoked = revoked; digest = digest }) facts (stored_apart p id h0 facts.apart), board_on p (with_this p (record { id = id; special = special; auditor = auditor; revoked = revoked; digest = digest })) (user_extends p (record { id = id; special = special; auditor = auditor; revoked = revoked; digest = digest })) b kept))
+policy_kept b (operation.AddUser id special auditor digest restricted) p facts kept =
+    unless_made (λ q. IsPolicy q × IsKeptBoard q b) (has_name p id) id (Ok (record p { users = with_user (record { id = id; special = special; auditor = auditor; revoked = false; digest = digest; restricted = restricted }) p.users })) (λ h0. (user_kept p (record { id = id; special = special; auditor = auditor; revoked = false; digest = digest; restricted = restricted }) facts (none_named id p.groups (or_right (has_user p id) (has_group p id) h0)), board_on p (with_this p (record { id = id; special = special; auditor = auditor; revoked = false; digest = digest; restricted = restricted })) (user_extends p (record { id = id; special = special; auditor = auditor; revoked = false; digest = digest; restricted = restricted })) b kept))
+policy_kept b (operation.AltUser id special auditor revoked digest restricted) p facts kept =
+    needing_made (λ q. IsPolicy q × IsKeptBoard q b) (has_user p id) id (Ok (record p { users = with_user (record { id = id; special = special; auditor = auditor; revoked = revoked; digest = digest; restricted = restricted }) p.users })) (λ h0. (user_kept p (record { id = id; special = special; auditor = auditor; revoked = revoked; digest = digest; restricted = restricted }) facts (stored_apart p id h0 facts.apart), board_on p (with_this p (record { id = id; special = special; auditor = auditor; revoked = revoked; digest = digest; restricted = restricted })) (user_extends p (record { id = id; special = special; auditor = auditor; revoked = revoked; digest = digest; restricted = restricted })) b kept))
 policy_kept b (operation.DelUser id) p facts kept =
     needing_made (λ q. IsPolicy q × IsKeptBoard q b) (has_user p id) id (unless_in_use (is_in_use p b id) id (Ok (record p { users = without_user id p.users }))) (λ h0. in_use_made (λ q. IsPolicy q × IsKeptBoard q b) (is_in_use p b id) id (Ok (record p { users = without_user id p.users })) (λ h1. (gone_kept p b id h1 facts, gone_board p b id h1 kept)))
 policy_kept b (operation.AddGroup name) p facts kept =
@@ -332,10 +332,10 @@ policy_kept b (operation.RAlter class pattern owner uacc warning) p facts kept =
     needing_made (λ q. IsPolicy q × IsKeptBoard q b) (is_some (profile_of p.profiles class pattern)) pattern (needing (has_user p owner) owner (Ok (record p { profiles = with_definition (definition class pattern owner uacc warning) p.profiles }))) (λ h0. needing_made (λ q. IsPolicy q × IsKeptBoard q b) (has_user p owner) owner (Ok (record p { profiles = with_definition (definition class pattern owner uacc warning) p.profiles })) (λ h1. (defined_stored p (definition class pattern owner uacc warning) facts h1 tt, kept)))
 policy_kept b (operation.RDelete class pattern) p facts kept =
     needing_made (λ q. IsPolicy q × IsKeptBoard q b) (is_some (profile_of p.profiles class pattern)) pattern (Ok (record p { profiles = without_profile class pattern p.profiles })) (λ h0. (with_profiles_kept p (without_profile class pattern p.profiles) facts (all_filter (IsProfileOfStored p) (λ (q : Profile). not (is_of class pattern q)) p.profiles facts.profiles), kept))
-policy_kept b (operation.Permit class pattern id level) p facts kept =
-    needing_made (λ q. IsPolicy q × IsKeptBoard q b) (is_some (profile_of p.profiles class pattern)) pattern (needing (has_holder p id) id (Ok (record p { profiles = with_permission class pattern (record { id = id; level = level }) p.profiles }))) (λ h0. needing_made (λ q. IsPolicy q × IsKeptBoard q b) (has_holder p id) id (Ok (record p { profiles = with_permission class pattern (record { id = id; level = level }) p.profiles })) (λ h1. (permission_kept p class pattern (record { id = id; level = level }) facts h1, kept)))
-policy_kept b (operation.PermitDelete class pattern id) p facts kept =
-    needing_made (λ q. IsPolicy q × IsKeptBoard q b) (is_some (profile_of p.profiles class pattern)) pattern (needing (is_permitted p class pattern id) id (Ok (record p { profiles = without_permission class pattern id p.profiles }))) (λ h0. needing_made (λ q. IsPolicy q × IsKeptBoard q b) (is_permitted p class pattern id) id (Ok (record p { profiles = without_permission class pattern id p.profiles })) (λ h1. (less_permission_kept p class pattern id facts, kept)))
+policy_kept b (operation.Permit class pattern id level when) p facts kept =
+    needing_made (λ q. IsPolicy q × IsKeptBoard q b) (is_some (profile_of p.profiles class pattern)) pattern (needing (has_holder p id) id (Ok (record p { profiles = with_permission class pattern (record { id = id; when = when; level = level }) p.profiles }))) (λ h0. needing_made (λ q. IsPolicy q × IsKeptBoard q b) (has_holder p id) id (Ok (record p { profiles = with_permission class pattern (record { id = id; when = when; level = level }) p.profiles })) (λ h1. (permission_kept p class pattern (record { id = id; when = when; level = level }) facts h1, kept)))
+policy_kept b (operation.PermitDelete class pattern id when) p facts kept =
+    needing_made (λ q. IsPolicy q × IsKeptBoard q b) (is_some (profile_of p.profiles class pattern)) pattern (needing (is_permitted p class pattern id when) id (Ok (record p { profiles = without_permission class pattern id when p.profiles }))) (λ h0. needing_made (λ q. IsPolicy q × IsKeptBoard q b) (is_permitted p class pattern id when) id (Ok (record p { profiles = without_permission class pattern id when p.profiles })) (λ h1. (less_permission_kept p class pattern id when facts, kept)))
 policy_kept b (operation.ClassActive class active) p facts kept = (record { apart = facts.apart; connects = facts.connects; profiles = facts.profiles }, kept)
 policy_kept b (operation.DefineConsole name auth mode) p facts kept = (facts, defined_kept p name auth mode b kept)
 
@@ -351,8 +351,8 @@ row_kept (rows.Connect user group) p facts =
 row_kept (rows.Console name auth mode) p facts = (facts, extends_itself p)
 row_kept (rows.Profile class pattern uacc owner warning) p facts =
     needing_made (λ q. IsPolicy q × Extends p q) (has_user p owner) owner (Ok (record p { profiles = with_definition (record { class = class; pattern = pattern; owner = owner; uacc = uacc; warning = warning; entries = [] }) p.profiles })) (λ h0. (defined_stored p (record { class = class; pattern = pattern; owner = owner; uacc = uacc; warning = warning; entries = [] }) facts h0 tt, record { users = λ id h. h; groups = λ name h. h }))
-row_kept (rows.Permit class pattern id level) p facts =
-    needing_made (λ q. IsPolicy q × Extends p q) (is_some (profile_of p.profiles class pattern)) pattern (needing (has_holder p id) id (Ok (record p { profiles = with_permission class pattern (record { id = id; level = level }) p.profiles }))) (λ h0. needing_made (λ q. IsPolicy q × Extends p q) (has_holder p id) id (Ok (record p { profiles = with_permission class pattern (record { id = id; level = level }) p.profiles })) (λ h1. (permission_kept p class pattern (record { id = id; level = level }) facts h1, record { users = λ id h. h; groups = λ name h. h })))
+row_kept (rows.Permit class pattern id level when) p facts =
+    needing_made (λ q. IsPolicy q × Extends p q) (is_some (profile_of p.profiles class pattern)) pattern (needing (has_holder p id) id (Ok (record p { profiles = with_permission class pattern (record { id = id; when = when; level = level }) p.profiles }))) (λ h0. needing_made (λ q. IsPolicy q × Extends p q) (has_holder p id) id (Ok (record p { profiles = with_permission class pattern (record { id = id; when = when; level = level }) p.profiles })) (λ h1. (permission_kept p class pattern (record { id = id; when = when; level = level }) facts h1, record { users = λ id h. h; groups = λ name h. h })))
 
 -- and so do rows one after another
 pub rows_kept : (all : List Row) (p : Policy) → IsPolicy p → IfMade (λ q. IsPolicy q × Extends p q) (policy_after all p)

@@ -59,12 +59,23 @@ fn console_of(request: &Request) -> Option<ConsoleName>
     }
 }
 
-// Who acts at the console of a request.
-fn user_acting(board: &Board, request: &Request) -> Option<UserId>
-    ensures { (s : State) → board.now ≡ without_history s.board → result ≡ user_acting s (input_of request.now) }
+// For whom the console of a request acts.
+fn user_acting_on<T: Tables>(
+    tables: &mut T,
+    alloc: Global,
+    board: &Board,
+    request: &Request,
+) -> Result<Option<UserId>, StoreFault>
+    ensures kept { IsKept T.is_sure T.represents T.may_leave tables.old tables.new }
+    ensures user { Answers (T.is_sure tables.new) (T.represents tables.old) result (λ s u. board.now ≡ without_history s.board → u ≡ user_acting s (input_of request.now)) }
 {
-    let console = console_of(request)?;
-    console_at(board, &console)?.user
+    let Some(name) = console_of(request) else {
+        return Ok(None);
+    };
+    match console_at(board, &name) {
+        Some(console) => acting_user_on(tables, alloc, &console),
+        None => Ok(None),
+    }
 }
 
 // The text of a name, or what stands for none.
@@ -184,7 +195,7 @@ fn decision_on<T: Tables>(
     ensures idle { Answers (T.is_sure tables.new) (T.represents tables.old) result (λ s d. IsNothingWhereSame s d.change) }
 {
     let board = tables.live_board(alloc)?;
-    let user = user_acting(&board, request);
+    let user = user_acting_on(tables, alloc, &board, request)?;
     let outcome = outcome_on(tables, alloc, board, request)?;
     Ok(decide(alloc, moment, request, user, outcome)?)
 }

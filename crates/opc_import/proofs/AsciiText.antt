@@ -25,7 +25,7 @@ use Rattle.opc_policy.specs.declared.row.Row.TheVariants as row
 use Rattle.opc_import.specs.Columns.{Record, column_name, columns, header}
 use Rattle.opc_import.specs.Fields.{decoded, digest_of, is_lower_digit}
 use Rattle.opc_import.specs.Lines.{csv_text}
-use Rattle.opc_import.specs.Rows.{IsValid, activity_text, digest_text, flags_text, record_of, warning_text}
+use Rattle.opc_import.specs.Rows.{IsValid, activity_text, digest_text, flags_text, record_of, restriction_text, warning_text, when_text, IsValidWhen}
 use Rattle.opc_import.specs.declared.column.Column.{Column}
 use Rattle.opc_import.specs.declared.column.Column.TheVariants as column
 use Rattle.opc_import.proofs.TextLemmas.{ascii, both, entry_id-ascii}
@@ -41,6 +41,14 @@ activity-ascii false = ascii (codes "INACTIVE") refl
 warning-ascii : (warning : Bool) → IsAscii (warning_text warning)
 warning-ascii true = ascii (codes "W") refl
 warning-ascii false = IsAscii-nil
+
+restriction-ascii : (restricted : Bool) → IsAscii (restriction_text restricted)
+restriction-ascii true = ascii (codes "Y") refl
+restriction-ascii false = IsAscii-nil
+
+when-ascii : (when : Option (List ℕ)) → IsValidWhen when → IsAscii (when_text when)
+when-ascii None h = IsAscii-nil
+when-ascii (Some console) h = name_ascii console_rule console h
 
 level-ascii : (l : Level) → IsAscii (level_text l)
 level-ascii level.None = ascii (codes "NONE") refl
@@ -64,16 +72,17 @@ auth-ascii auth.SysIoCons = ascii (codes "SYS,IO,CONS") refl
 mode-ascii : (m : Mode) → IsAscii (mode_text m)
 mode-ascii mode.Optional = ascii (codes "OPTIONAL") refl
 mode-ascii mode.Required = ascii (codes "REQUIRED") refl
+mode-ascii mode.Auto = ascii (codes "AUTO") refl
 
-flags-ascii : (id : List ℕ) (s a r : Bool) (d : Option (List ℕ)) → IsAscii (flags_text (record { id = id; special = s; auditor = a; revoked = r; digest = d }))
-flags-ascii id true true true d = ascii (codes "SAR") refl
-flags-ascii id true true false d = ascii (codes "SA") refl
-flags-ascii id true false true d = ascii (codes "SR") refl
-flags-ascii id true false false d = ascii (codes "S") refl
-flags-ascii id false true true d = ascii (codes "AR") refl
-flags-ascii id false true false d = ascii (codes "A") refl
-flags-ascii id false false true d = ascii (codes "R") refl
-flags-ascii id false false false d = IsAscii-nil
+flags-ascii : (id : List ℕ) (s a r : Bool) (d : Option (List ℕ)) (x : Bool) → IsAscii (flags_text (record { id = id; special = s; auditor = a; revoked = r; digest = d; restricted = x }))
+flags-ascii id true true true d x = ascii (codes "SAR") refl
+flags-ascii id true true false d x = ascii (codes "SA") refl
+flags-ascii id true false true d x = ascii (codes "SR") refl
+flags-ascii id true false false d x = ascii (codes "S") refl
+flags-ascii id false true true d x = ascii (codes "AR") refl
+flags-ascii id false true false d x = ascii (codes "A") refl
+flags-ascii id false false true d x = ascii (codes "R") refl
+flags-ascii id false false false d x = IsAscii-nil
 
 lower-ascii : (text : List ℕ) → list_all is_lower_digit text ≡ true → IsAscii text
 lower-ascii [] h = IsAscii-nil
@@ -97,9 +106,9 @@ digest-ascii text d h = go (length text == 0) (list_all is_lower_digit text) ref
 -- each field of a row's record
 record-ascii : (r : Row) → IsValid r → AllByRecursion IsAscii (record_of r)
 record-ascii (row.Class c active) valid =
-    (ascii (codes "class") refl, (class-ascii c, (IsAscii-nil, (IsAscii-nil, (activity-ascii active, (IsAscii-nil, (IsAscii-nil, (IsAscii-nil, tt))))))))
+    (ascii (codes "class") refl, (class-ascii c, (IsAscii-nil, (IsAscii-nil, (activity-ascii active, (IsAscii-nil, (IsAscii-nil, (IsAscii-nil, (IsAscii-nil, (IsAscii-nil, tt))))))))))
 record-ascii (row.Group n) valid =
-    (ascii (codes "group") refl, (IsAscii-nil, (name_ascii group_rule n (valid column.Name), (IsAscii-nil, (IsAscii-nil, (IsAscii-nil, (IsAscii-nil, (IsAscii-nil, tt))))))))
+    (ascii (codes "group") refl, (IsAscii-nil, (name_ascii group_rule n (valid column.Name), (IsAscii-nil, (IsAscii-nil, (IsAscii-nil, (IsAscii-nil, (IsAscii-nil, (IsAscii-nil, (IsAscii-nil, tt))))))))))
 record-ascii (row.User u) valid = (
   ascii (codes "user") refl,
   (
@@ -112,7 +121,7 @@ record-ascii (row.User u) valid = (
           IsAscii-nil,
           (
             IsAscii-nil,
-            (flags-ascii u.id u.special u.auditor u.revoked u.digest, (digest-ascii (digest_text u.digest) u.digest (valid column.Digest), tt)),
+            (flags-ascii u.id u.special u.auditor u.revoked u.digest u.restricted, (digest-ascii (digest_text u.digest) u.digest (valid column.Digest), (IsAscii-nil, (restriction-ascii u.restricted, tt)))),
           ),
         ),
       ),
@@ -120,13 +129,13 @@ record-ascii (row.User u) valid = (
   ),
 )
 record-ascii (row.Connect u g) valid =
-    (ascii (codes "connect") refl, (IsAscii-nil, (name_ascii user_rule u (valid column.Name), (name_ascii group_rule g (valid column.Id), (IsAscii-nil, (IsAscii-nil, (IsAscii-nil, (IsAscii-nil, tt))))))))
+    (ascii (codes "connect") refl, (IsAscii-nil, (name_ascii user_rule u (valid column.Name), (name_ascii group_rule g (valid column.Id), (IsAscii-nil, (IsAscii-nil, (IsAscii-nil, (IsAscii-nil, (IsAscii-nil, (IsAscii-nil, tt))))))))))
 record-ascii (row.Console n a m) valid =
-    (ascii (codes "console") refl, (IsAscii-nil, (name_ascii console_rule n (valid column.Name), (IsAscii-nil, (auth-ascii a, (IsAscii-nil, (mode-ascii m, (IsAscii-nil, tt))))))))
+    (ascii (codes "console") refl, (IsAscii-nil, (name_ascii console_rule n (valid column.Name), (IsAscii-nil, (auth-ascii a, (IsAscii-nil, (mode-ascii m, (IsAscii-nil, (IsAscii-nil, (IsAscii-nil, tt))))))))))
 record-ascii (row.Profile c p l o w) valid =
-    (ascii (codes "profile") refl, (class-ascii c, (name_ascii pattern_rule p (valid column.Name), (IsAscii-nil, (level-ascii l, (name_ascii user_rule o (valid column.Owner), (warning-ascii w, (IsAscii-nil, tt))))))))
-record-ascii (row.Permit c p i l) valid =
-    (ascii (codes "permit") refl, (class-ascii c, (name_ascii pattern_rule p (valid column.Name), (entry_id-ascii i (valid column.Id), (level-ascii l, (IsAscii-nil, (IsAscii-nil, (IsAscii-nil, tt))))))))
+    (ascii (codes "profile") refl, (class-ascii c, (name_ascii pattern_rule p (valid column.Name), (IsAscii-nil, (level-ascii l, (name_ascii user_rule o (valid column.Owner), (warning-ascii w, (IsAscii-nil, (IsAscii-nil, (IsAscii-nil, tt))))))))))
+record-ascii (row.Permit c p i l w) valid =
+    (ascii (codes "permit") refl, (class-ascii c, (name_ascii pattern_rule p (valid column.Name), (entry_id-ascii i (valid column.Id), (level-ascii l, (IsAscii-nil, (IsAscii-nil, (IsAscii-nil, (when-ascii w (valid column.When), (IsAscii-nil, tt))))))))))
 
 -- the text of ASCII fields
 escaped-ascii : (field : List ℕ) → IsAscii field → IsAscii (escaped default_writer field)
@@ -184,6 +193,8 @@ column_name-ascii column.Value = ascii (codes "value") refl
 column_name-ascii column.Owner = ascii (codes "owner") refl
 column_name-ascii column.Flags = ascii (codes "flags") refl
 column_name-ascii column.Digest = ascii (codes "digest") refl
+column_name-ascii column.When = ascii (codes "when") refl
+column_name-ascii column.Restricted = ascii (codes "restricted") refl
 
 names-ascii : (columns : List Column) → AllByRecursion IsAscii (map column_name columns)
 names-ascii [] = tt

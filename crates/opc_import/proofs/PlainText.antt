@@ -30,7 +30,7 @@ use Rattle.opc_policy.specs.declared.row.Row.TheVariants as row
 use Rattle.opc_import.specs.Columns.{Record, column_name, header}
 use Rattle.opc_import.specs.Fields.{decoded, digest_of, is_lower_digit}
 use Rattle.opc_import.specs.Lines.{csv_text, line_text, policy_text, written_field}
-use Rattle.opc_import.specs.Rows.{IsValid, activity_text, digest_text, flags_text, record_of, text_in, warning_text}
+use Rattle.opc_import.specs.Rows.{IsValid, activity_text, digest_text, flags_text, record_of, restriction_text, text_in, warning_text, when_text, IsValidWhen}
 use Rattle.opc_import.specs.declared.column.Column.TheVariants as column
 use Rattle.opc_import.proofs.TextLemmas.{both}
 
@@ -101,6 +101,14 @@ warning-plain : (warning : Bool) → is_plain_text (warning_text warning) ≡ tr
 warning-plain true = refl
 warning-plain false = refl
 
+restriction-plain : (restricted : Bool) → is_plain_text (restriction_text restricted) ≡ true
+restriction-plain true = refl
+restriction-plain false = refl
+
+when-plain : (when : Option (List ℕ)) → IsValidWhen when → is_plain_text (when_text when) ≡ true
+when-plain None h = refl
+when-plain (Some console) h = name-plain console_rule console h
+
 level-plain : (l : Level) → is_plain_text (level_text l) ≡ true
 level-plain level.None = refl
 level-plain level.Read = refl
@@ -123,16 +131,17 @@ auth-plain auth.SysIoCons = refl
 mode-plain : (m : Mode) → is_plain_text (mode_text m) ≡ true
 mode-plain mode.Optional = refl
 mode-plain mode.Required = refl
+mode-plain mode.Auto = refl
 
-flags-plain : (id : List ℕ) (s a r : Bool) (d : Option (List ℕ)) → is_plain_text (flags_text (record { id = id; special = s; auditor = a; revoked = r; digest = d })) ≡ true
-flags-plain id true true true d = refl
-flags-plain id true true false d = refl
-flags-plain id true false true d = refl
-flags-plain id true false false d = refl
-flags-plain id false true true d = refl
-flags-plain id false true false d = refl
-flags-plain id false false true d = refl
-flags-plain id false false false d = refl
+flags-plain : (id : List ℕ) (s a r : Bool) (d : Option (List ℕ)) (x : Bool) → is_plain_text (flags_text (record { id = id; special = s; auditor = a; revoked = r; digest = d; restricted = x })) ≡ true
+flags-plain id true true true d x = refl
+flags-plain id true true false d x = refl
+flags-plain id true false true d x = refl
+flags-plain id true false false d x = refl
+flags-plain id false true true d x = refl
+flags-plain id false true false d x = refl
+flags-plain id false false true d x = refl
+flags-plain id false false false d x = refl
 
 lower-plain : (text : List ℕ) → list_all is_lower_digit text ≡ true → is_plain_text text ≡ true
 lower-plain [] h = refl
@@ -157,18 +166,18 @@ ArePlain fields = AllByRecursion (λ field. is_plain_text field ≡ true) fields
 
 -- each field of a row's record
 record-plain : (r : Row) → IsValid r → ArePlain (record_of r)
-record-plain (row.Class c active) valid = (refl, (class-plain c, (refl, (refl, (activity-plain active, (refl, (refl, (refl, tt))))))))
-record-plain (row.Group n) valid = (refl, (refl, (name-plain group_rule n (valid column.Name), (refl, (refl, (refl, (refl, (refl, tt))))))))
+record-plain (row.Class c active) valid = (refl, (class-plain c, (refl, (refl, (activity-plain active, (refl, (refl, (refl, (refl, (refl, tt))))))))))
+record-plain (row.Group n) valid = (refl, (refl, (name-plain group_rule n (valid column.Name), (refl, (refl, (refl, (refl, (refl, (refl, (refl, tt))))))))))
 record-plain (row.User u) valid =
-    (refl, (refl, (name-plain user_rule u.id (valid column.Name), (refl, (refl, (refl, (flags-plain u.id u.special u.auditor u.revoked u.digest, (digest-plain (digest_text u.digest) u.digest (valid column.Digest), tt))))))))
+    (refl, (refl, (name-plain user_rule u.id (valid column.Name), (refl, (refl, (refl, (flags-plain u.id u.special u.auditor u.revoked u.digest u.restricted, (digest-plain (digest_text u.digest) u.digest (valid column.Digest), (refl, (restriction-plain u.restricted, tt))))))))))
 record-plain (row.Connect u g) valid =
-    (refl, (refl, (name-plain user_rule u (valid column.Name), (name-plain group_rule g (valid column.Id), (refl, (refl, (refl, (refl, tt))))))))
+    (refl, (refl, (name-plain user_rule u (valid column.Name), (name-plain group_rule g (valid column.Id), (refl, (refl, (refl, (refl, (refl, (refl, tt))))))))))
 record-plain (row.Console n a m) valid =
-    (refl, (refl, (name-plain console_rule n (valid column.Name), (refl, (auth-plain a, (refl, (mode-plain m, (refl, tt))))))))
+    (refl, (refl, (name-plain console_rule n (valid column.Name), (refl, (auth-plain a, (refl, (mode-plain m, (refl, (refl, (refl, tt))))))))))
 record-plain (row.Profile c p l o w) valid =
-    (refl, (class-plain c, (name-plain pattern_rule p (valid column.Name), (refl, (level-plain l, (name-plain user_rule o (valid column.Owner), (warning-plain w, (refl, tt))))))))
-record-plain (row.Permit c p i l) valid =
-    (refl, (class-plain c, (name-plain pattern_rule p (valid column.Name), (entry_id-plain i (valid column.Id), (level-plain l, (refl, (refl, (refl, tt))))))))
+    (refl, (class-plain c, (name-plain pattern_rule p (valid column.Name), (refl, (level-plain l, (name-plain user_rule o (valid column.Owner), (warning-plain w, (refl, (refl, (refl, tt))))))))))
+record-plain (row.Permit c p i l w) valid =
+    (refl, (class-plain c, (name-plain pattern_rule p (valid column.Name), (entry_id-plain i (valid column.Id), (level-plain l, (refl, (refl, (refl, (when-plain w (valid column.When), (refl, tt))))))))))
 
 -- of the bytes that call for quotes only the comma is plain
 needs-comma : (c : ℕ) → is_plain c ≡ true → needs_byte default_writer c ≡ (c == 44)
@@ -214,7 +223,7 @@ line-written first next rest h = ap (λ (cs : List ℕ). cs ++ (10 ∷ [])) (fie
 
 row-written : (r : Row) → IsValid r → row_text default_writer (record_of r) ≡ line_text (record_of r)
 row-written r valid =
-    let rest : Record = map (λ column. text_in column r) (column.Name ∷ column.Id ∷ column.Value ∷ column.Owner ∷ column.Flags ∷ column.Digest ∷ []) in
+    let rest : Record = map (λ column. text_in column r) (column.Name ∷ column.Id ∷ column.Value ∷ column.Owner ∷ column.Flags ∷ column.Digest ∷ column.When ∷ column.Restricted ∷ []) in
     line-written (text_in column.Kind r) (text_in column.Class r) rest (record-plain r valid)
 
 rows-written : (rows : List Row) → All IsValid rows → flat_map (row_text default_writer) (map record_of rows) ≡ flat_map line_text (map record_of rows)
@@ -225,8 +234,8 @@ rows-written (row ∷ rows) h =
 
 header-written : row_text default_writer header ≡ line_text header
 header-written =
-    let plain : ArePlain header = (refl, (refl, (refl, (refl, (refl, (refl, (refl, (refl, tt)))))))) in
-    let rest : Record = map column_name (column.Name ∷ column.Id ∷ column.Value ∷ column.Owner ∷ column.Flags ∷ column.Digest ∷ []) in
+    let plain : ArePlain header = (refl, (refl, (refl, (refl, (refl, (refl, (refl, (refl, (refl, (refl, tt)))))))))) in
+    let rest : Record = map column_name (column.Name ∷ column.Id ∷ column.Value ∷ column.Owner ∷ column.Flags ∷ column.Digest ∷ column.When ∷ column.Restricted ∷ []) in
     line-written (codes "kind") (codes "class") rest plain
 
 -- what `csv` writes is the file

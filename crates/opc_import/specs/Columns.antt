@@ -1,5 +1,5 @@
 -- The columns of a policy file, and the fields of a record that stand in them.
-use Rattle.std.specs.Prelude.{ℕ, Bool, List, [], ◌∷◌, length, codes, Result, Ok, Err, if◌then◌else◌, ◌==◌, ◌&&◌, map, unwrap_or}
+use Rattle.std.specs.Prelude.{ℕ, Bool, List, [], ◌∷◌, length, codes, Result, Ok, Err, if◌then◌else◌, ◌==◌, ◌&&◌, ◌++◌, Option, Some, None, map, unwrap_or}
 use Rattle.std.specs.List.{list_all}
 use Rattle.std.specs.Str.{bytes_eq}
 use Rattle.csv.specs.Records.{field_at}
@@ -12,9 +12,13 @@ use Rattle.opc_policy.specs.declared.fault.Why.TheVariants as why
 abbrev pub Record : Type 0
 Record = List (List ℕ)
 
--- the columns, from left to right
+-- the columns that every file has, from left to right
+abbrev pub first_columns : List Column
+first_columns = column.Kind ∷ column.Class ∷ column.Name ∷ column.Id ∷ column.Value ∷ column.Owner ∷ column.Flags ∷ column.Digest ∷ []
+
+-- all columns
 abbrev pub columns : List Column
-columns = column.Kind ∷ column.Class ∷ column.Name ∷ column.Id ∷ column.Value ∷ column.Owner ∷ column.Flags ∷ column.Digest ∷ []
+columns = first_columns ++ column.When ∷ column.Restricted ∷ []
 
 abbrev pub column_name : Column → List ℕ
 column_name column.Kind = codes "kind"
@@ -25,6 +29,8 @@ column_name column.Value = codes "value"
 column_name column.Owner = codes "owner"
 column_name column.Flags = codes "flags"
 column_name column.Digest = codes "digest"
+column_name column.When = codes "when"
+column_name column.Restricted = codes "restricted"
 
 -- its place among the columns
 abbrev pub place : Column → ℕ
@@ -36,6 +42,8 @@ place column.Value = 4
 place column.Owner = 5
 place column.Flags = 6
 place column.Digest = 7
+place column.When = 8
+place column.Restricted = 9
 
 -- what is wrong with a row whose field in the column is bad
 abbrev pub reason : Column → Why
@@ -47,8 +55,10 @@ reason column.Value = why.Value
 reason column.Owner = why.Owner
 reason column.Flags = why.Flags
 reason column.Digest = why.Digest
+reason column.When = why.When
+reason column.Restricted = why.Restricted
 
--- the header's fields
+-- the fields of the header that is written
 abbrev pub header : Record
 header = map column_name columns
 
@@ -56,12 +66,20 @@ header = map column_name columns
 abbrev pub field_in : Column → Record → List ℕ
 field_in column fields = unwrap_or (field_at fields (place column)) []
 
--- the name of each column stands in it
-abbrev pub has_names : Record → Bool
-has_names fields = list_all (λ column. bytes_eq (field_in column fields) (column_name column)) columns
+-- the name of each of some columns stands in it
+abbrev pub has_names : List Column → Record → Bool
+has_names columns fields = list_all (λ column. bytes_eq (field_in column fields) (column_name column)) columns
 
-abbrev pub is_header : Record → Bool
-is_header fields = (length fields == length columns) && has_names fields
+abbrev pub is_header : List Column → Record → Bool
+is_header columns fields = (length fields == length columns) && has_names columns fields
+
+-- How many fields the rows have below a header: as many as there are columns, or, in a file without the last two, those
+-- that every file has; none where it is no header.
+abbrev pub width_of : Record → Option ℕ
+width_of fields =
+    if is_header columns fields then Some (length columns)
+    else if is_header first_columns fields then Some (length first_columns)
+    else None
 
 -- that the record's field in the column is empty
 abbrev pub unused : Column → Record → Result Unit Why

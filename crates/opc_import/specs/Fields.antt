@@ -1,9 +1,10 @@
 -- What the fields of a record say, each by itself.
 use Rattle.std.specs.Prelude.{ℕ, Bool, true, false, List, [], ◌∷◌, length, codes, Option, Some, None, is_none, Result, Ok, Err, if◌then◌else◌, nat_le, ◌==◌, ◌&&◌, ◌||◌}
 use Rattle.std.specs.List.{list_all}
+use Rattle.std.specs.Option.{option_map}
 use Rattle.hex.specs.Hex.{decode_sized}
 use Rattle.hex.specs.declared.error.FromHexError.{FromHexError}
-use Rattle.opc_names.specs.Names.{name_fault}
+use Rattle.opc_names.specs.Names.{console_rule, name_fault}
 use Rattle.opc_names.specs.declared.rule.NameRule.{NameRule}
 use Rattle.opc_policy.specs.Entries.{entry_fault}
 use Rattle.opc_import.specs.declared.field.UserFlags.{UserFlags}
@@ -19,6 +20,10 @@ warnings = (codes "", false) ∷ (codes "W", true) ∷ []
 abbrev pub flags_of : Bool → Bool → Bool → UserFlags
 flags_of special auditor revoked = record { special = special; auditor = auditor; revoked = revoked }
 
+-- whether a user is RESTRICTED
+abbrev pub restrictions : List (List ℕ × Bool)
+restrictions = (codes "", false) ∷ (codes "Y", true) ∷ []
+
 -- a user's flags: `S` for SPECIAL, `A` for AUDITOR, `R` for revoked, in this order
 abbrev pub user_flags : List (List ℕ × UserFlags)
 user_flags =
@@ -33,6 +38,10 @@ name_of rule text = if is_none (name_fault rule text) then Some text else None
 -- the id of an access list that a text is: a user, a group or `*`
 abbrev pub entry_id_of : List ℕ → Option (List ℕ)
 entry_id_of text = if is_none (entry_fault text) then Some text else None
+
+-- the console that an entry is for alone; an empty text says that it is for every console
+abbrev pub when_of : List ℕ → Option (Option (List ℕ))
+when_of text = if length text == 0 then Some None else option_map Some (name_of console_rule text)
 
 -- `0` to `9` and `a` to `f`
 abbrev pub is_lower_digit : ℕ → Bool

@@ -1,8 +1,8 @@
 -- What a text says as a policy file.
-use Rattle.std.specs.Prelude.{◌+◌, ℕ, List, [], ◌∷◌, ◌++◌, Result, Ok, Err, if◌then◌else◌}
+use Rattle.std.specs.Prelude.{◌+◌, ℕ, List, [], ◌∷◌, ◌++◌, Option, Some, None, Result, Ok, Err}
 use Rattle.csv.specs.Reading.{default_config, records, strip_bom}
 use Rattle.opc_policy.specs.declared.row.Row.{Row}
-use Rattle.opc_import.specs.Columns.{Record, is_header}
+use Rattle.opc_import.specs.Columns.{Record, width_of}
 use Rattle.opc_import.specs.Kinds.{row_of}
 use Rattle.opc_import.specs.declared.fault.ImportFault.{ImportFault}
 use Rattle.opc_import.specs.declared.fault.ImportFault.TheVariants as fault
@@ -15,15 +15,20 @@ with_row number (Err reason) rest = Err (fault.Row number reason)
 with_row number (Ok row) (Ok rows) = Ok (row ∷ rows)
 with_row number (Ok row) (Err e) = Err e
 
--- the rows of the data records from this number on, or the first fault
-unfoldable pub rows_from : ℕ → List Record → Result (List Row) ImportFault
-rows_from number [] = Ok []
-rows_from number (fields ∷ rest) = with_row number (row_of number fields) (rows_from (number + 1) rest)
+-- the rows of the data records of so many fields from this number on, or the first fault
+unfoldable pub rows_from : ℕ → ℕ → List Record → Result (List Row) ImportFault
+rows_from width number [] = Ok []
+rows_from width number (fields ∷ rest) = with_row number (row_of width number fields) (rows_from width (number + 1) rest)
+
+-- the rows below a header
+abbrev pub rows_below : Option ℕ → List Record → Result (List Row) ImportFault
+rows_below None rest = Err (fault.Row 0 why.Header)
+rows_below (Some width) rest = rows_from width 1 rest
 
 -- the rows of a file's records, of which the first is the header
 abbrev pub rows_of : List Record → Result (List Row) ImportFault
 rows_of [] = Err (fault.Row 0 why.Header)
-rows_of (fields ∷ rest) = if is_header fields then rows_from 1 rest else Err (fault.Row 0 why.Header)
+rows_of (fields ∷ rest) = rows_below (width_of fields) rest
 
 -- The rows of a text, or its first fault. Its records are those that `csv` reads with its defaults, after one byte order mark.
 abbrev pub policy_of : List ℕ → Result (List Row) ImportFault

@@ -6,8 +6,8 @@ use Rattle.opc_names.specs.Spellings.{auths, classes, levels, lookup}
 use Rattle.opc_policy.specs.Modes.{modes}
 use Rattle.opc_policy.specs.declared.row.Row.{Row}
 use Rattle.opc_policy.specs.declared.row.Row.TheVariants as row
-use Rattle.opc_import.specs.Columns.{Record, columns, field_in, reason, unused}
-use Rattle.opc_import.specs.Fields.{activities, digest_of, entry_id_of, name_of, user_flags, warnings}
+use Rattle.opc_import.specs.Columns.{Record, field_in, reason, unused}
+use Rattle.opc_import.specs.Fields.{activities, digest_of, entry_id_of, name_of, restrictions, user_flags, warnings, when_of}
 use Rattle.opc_import.specs.declared.kind.Kind.{Kind}
 use Rattle.opc_import.specs.declared.kind.Kind.TheVariants as kind
 use Rattle.opc_import.specs.declared.column.Column.{Column}
@@ -35,6 +35,8 @@ class_row fields = do
   _ ← unused column.Owner fields
   _ ← unused column.Flags fields
   _ ← unused column.Digest fields
+  _ ← unused column.When fields
+  _ ← unused column.Restricted fields
   Ok (row.Class class active)
 
 abbrev pub group_row : Record → Result Row Why
@@ -46,6 +48,8 @@ group_row fields = do
   _ ← unused column.Owner fields
   _ ← unused column.Flags fields
   _ ← unused column.Digest fields
+  _ ← unused column.When fields
+  _ ← unused column.Restricted fields
   Ok (row.Group name)
 
 abbrev pub user_row : Record → Result Row Why
@@ -57,7 +61,9 @@ user_row fields = do
   _ ← unused column.Owner fields
   flags ← read_in column.Flags (lookup user_flags) fields
   digest ← read_in column.Digest digest_of fields
-  Ok (row.User (record { id = name; special = flags.special; auditor = flags.auditor; revoked = flags.revoked; digest = digest }))
+  _ ← unused column.When fields
+  restricted ← read_in column.Restricted (lookup restrictions) fields
+  Ok (row.User (record { id = name; special = flags.special; auditor = flags.auditor; revoked = flags.revoked; digest = digest; restricted = restricted }))
 
 abbrev pub connect_row : Record → Result Row Why
 connect_row fields = do
@@ -68,6 +74,8 @@ connect_row fields = do
   _ ← unused column.Owner fields
   _ ← unused column.Flags fields
   _ ← unused column.Digest fields
+  _ ← unused column.When fields
+  _ ← unused column.Restricted fields
   Ok (row.Connect user group)
 
 abbrev pub console_row : Record → Result Row Why
@@ -79,6 +87,8 @@ console_row fields = do
   _ ← unused column.Owner fields
   mode ← read_in column.Flags (lookup modes) fields
   _ ← unused column.Digest fields
+  _ ← unused column.When fields
+  _ ← unused column.Restricted fields
   Ok (row.Console name auth mode)
 
 abbrev pub profile_row : Record → Result Row Why
@@ -90,6 +100,8 @@ profile_row fields = do
   owner ← read_in column.Owner (name_of user_rule) fields
   warning ← read_in column.Flags (lookup warnings) fields
   _ ← unused column.Digest fields
+  _ ← unused column.When fields
+  _ ← unused column.Restricted fields
   Ok (row.Profile class pattern uacc owner warning)
 
 abbrev pub permit_row : Record → Result Row Why
@@ -101,7 +113,9 @@ permit_row fields = do
   _ ← unused column.Owner fields
   _ ← unused column.Flags fields
   _ ← unused column.Digest fields
-  Ok (row.Permit class pattern id level)
+  when ← read_in column.When when_of fields
+  _ ← unused column.Restricted fields
+  Ok (row.Permit class pattern id level when)
 
 abbrev pub kind_text : Kind → List ℕ
 kind_text kind.Class = codes "class"
@@ -136,8 +150,8 @@ row_by_kind fields = do
 abbrev pub most_rows : ℕ
 most_rows = 10000
 
--- the row that a record is, as the data record of this number, or what is wrong with it first
-abbrev pub row_of : ℕ → Record → Result Row Why
-row_of number fields =
-    if length fields == length columns then (if nat_lt most_rows number then Err why.Many else row_by_kind fields)
+-- the row that a record is, as the data record of this number in a file of so many columns, or what is wrong with it first
+abbrev pub row_of : ℕ → ℕ → Record → Result Row Why
+row_of width number fields =
+    if length fields == width then (if nat_lt most_rows number then Err why.Many else row_by_kind fields)
     else Err why.Columns

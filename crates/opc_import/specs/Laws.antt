@@ -7,7 +7,7 @@ use Rattle.opc_policy.specs.Modes.{modes}
 use Rattle.opc_policy.specs.declared.fault.Why.{Why}
 use Rattle.opc_policy.specs.declared.fault.Why.TheVariants as why
 use Rattle.opc_import.specs.Columns.{Record, columns, field_in, reason}
-use Rattle.opc_import.specs.Fields.{activities, digest_of, entry_id_of, name_of, user_flags, warnings}
+use Rattle.opc_import.specs.Fields.{activities, digest_of, entry_id_of, name_of, restrictions, user_flags, warnings, when_of}
 use Rattle.opc_import.specs.Kinds.{kinds, most_rows, row_of}
 use Rattle.opc_import.specs.declared.column.Column.{Column}
 use Rattle.opc_import.specs.declared.column.Column.TheVariants as column
@@ -23,6 +23,7 @@ takes kind.Group column.Name text = is_some (name_of group_rule text)
 takes kind.User column.Name text = is_some (name_of user_rule text)
 takes kind.User column.Flags text = is_some (lookup user_flags text)
 takes kind.User column.Digest text = is_some (digest_of text)
+takes kind.User column.Restricted text = is_some (lookup restrictions text)
 takes kind.Connect column.Name text = is_some (name_of user_rule text)
 takes kind.Connect column.Id text = is_some (name_of group_rule text)
 takes kind.Console column.Name text = is_some (name_of console_rule text)
@@ -37,6 +38,7 @@ takes kind.Permit column.Class text = is_some (lookup classes text)
 takes kind.Permit column.Name text = is_some (name_of pattern_rule text)
 takes kind.Permit column.Id text = is_some (entry_id_of text)
 takes kind.Permit column.Value text = is_some (lookup levels text)
+takes kind.Permit column.When text = is_some (when_of text)
 takes kind column text = length text == 0
 
 abbrev pub field_fault : Kind → Record → Column → Option Why
@@ -51,10 +53,10 @@ abbrev pub fault_by_kind : Option Kind → Record → Option Why
 fault_by_kind None fields = Some why.Kind
 fault_by_kind (Some kind) fields = first_fault kind fields columns
 
--- what is wrong first with the data record of this number, if anything is
-abbrev pub record_fault : ℕ → Record → Option Why
-record_fault number fields =
-    if length fields == length columns then
+-- what is wrong first with the data record of this number in a file of so many columns, if anything is
+abbrev pub record_fault : ℕ → ℕ → Record → Option Why
+record_fault width number fields =
+    if length fields == width then
     (if nat_lt most_rows number then Some why.Many else fault_by_kind (lookup kinds (field_in column.Kind fields)) fields)
     else Some why.Columns
 
@@ -65,4 +67,4 @@ fault_of (Err reason) = Some reason
 
 -- A record is a row exactly where nothing is wrong with it, and else has its first fault.
 abbrev pub FirstFaultIsNamed : Type 0
-FirstFaultIsNamed = (number : ℕ) (fields : Record) → fault_of (row_of number fields) ≡ record_fault number fields
+FirstFaultIsNamed = (width number : ℕ) (fields : Record) → fault_of (row_of width number fields) ≡ record_fault width number fields

@@ -24,6 +24,15 @@ abbrev pub warning_text : Bool → List ℕ
 warning_text true = codes "W"
 warning_text false = []
 
+abbrev pub restriction_text : Bool → List ℕ
+restriction_text true = codes "Y"
+restriction_text false = []
+
+-- the console that an entry is for alone, or nothing
+abbrev pub when_text : Option (List ℕ) → List ℕ
+when_text None = []
+when_text (Some console) = console
+
 -- a letter, if its flag is set
 abbrev pub letter : List ℕ → Bool → List ℕ
 letter text true = text
@@ -45,36 +54,43 @@ kind_of (row.User user) = kind.User
 kind_of (row.Connect user group) = kind.Connect
 kind_of (row.Console name auth mode) = kind.Console
 kind_of (row.Profile class pattern uacc owner warning) = kind.Profile
-kind_of (row.Permit class pattern id level) = kind.Permit
+kind_of (row.Permit class pattern id level when) = kind.Permit
 
 -- what a row says in a column that its kind uses; nothing in the others
 abbrev pub text_in : Column → Row → List ℕ
 text_in column.Kind row = kind_text (kind_of row)
 text_in column.Class (row.Class class active) = class_text class
 text_in column.Class (row.Profile class pattern uacc owner warning) = class_text class
-text_in column.Class (row.Permit class pattern id level) = class_text class
+text_in column.Class (row.Permit class pattern id level when) = class_text class
 text_in column.Name (row.Group name) = name
 text_in column.Name (row.User user) = user.id
 text_in column.Name (row.Connect user group) = user
 text_in column.Name (row.Console name auth mode) = name
 text_in column.Name (row.Profile class pattern uacc owner warning) = pattern
-text_in column.Name (row.Permit class pattern id level) = pattern
+text_in column.Name (row.Permit class pattern id level when) = pattern
 text_in column.Id (row.Connect user group) = group
-text_in column.Id (row.Permit class pattern id level) = id
+text_in column.Id (row.Permit class pattern id level when) = id
 text_in column.Value (row.Class class active) = activity_text active
 text_in column.Value (row.Console name auth mode) = auth_text auth
 text_in column.Value (row.Profile class pattern uacc owner warning) = level_text uacc
-text_in column.Value (row.Permit class pattern id level) = level_text level
+text_in column.Value (row.Permit class pattern id level when) = level_text level
 text_in column.Owner (row.Profile class pattern uacc owner warning) = owner
 text_in column.Flags (row.User user) = flags_text user
 text_in column.Flags (row.Console name auth mode) = mode_text mode
 text_in column.Flags (row.Profile class pattern uacc owner warning) = warning_text warning
 text_in column.Digest (row.User user) = digest_text user.digest
+text_in column.When (row.Permit class pattern id level when) = when_text when
+text_in column.Restricted (row.User user) = restriction_text user.restricted
 text_in column row = []
 
 -- the record of a row
 abbrev pub record_of : Row → Record
 record_of row = map (λ column. text_in column row) columns
+
+-- a console that is given is one by its name
+abbrev pub IsValidWhen : Option (List ℕ) → Type 0
+IsValidWhen None = ⊤
+IsValidWhen (Some console) = name_fault console_rule console ≡ None
 
 -- the names and the digest that a row says in a column are such
 abbrev pub IsValidIn : Column → Row → Type 0
@@ -83,11 +99,12 @@ IsValidIn column.Name (row.User user) = name_fault user_rule user.id ≡ None
 IsValidIn column.Name (row.Connect user group) = name_fault user_rule user ≡ None
 IsValidIn column.Name (row.Console name auth mode) = name_fault console_rule name ≡ None
 IsValidIn column.Name (row.Profile class pattern uacc owner warning) = name_fault pattern_rule pattern ≡ None
-IsValidIn column.Name (row.Permit class pattern id level) = name_fault pattern_rule pattern ≡ None
+IsValidIn column.Name (row.Permit class pattern id level when) = name_fault pattern_rule pattern ≡ None
 IsValidIn column.Id (row.Connect user group) = name_fault group_rule group ≡ None
-IsValidIn column.Id (row.Permit class pattern id level) = entry_fault id ≡ None
+IsValidIn column.Id (row.Permit class pattern id level when) = entry_fault id ≡ None
 IsValidIn column.Owner (row.Profile class pattern uacc owner warning) = name_fault user_rule owner ≡ None
 IsValidIn column.Digest (row.User user) = digest_of (digest_text user.digest) ≡ Some user.digest
+IsValidIn column.When (row.Permit class pattern id level when) = IsValidWhen when
 IsValidIn column row = ⊤
 
 -- so in each column

@@ -1,7 +1,7 @@
 //! The columns of a policy file.
 ghost use Rattle.std.specs.Prelude.{◌≡◌, codes};
 ghost use Rattle.csv.specs.Records.{fields_of};
-ghost use Rattle.opc_import.specs.Columns.{column_name, field_in, has_names, is_header, reason, unused};
+ghost use Rattle.opc_import.specs.Columns.{column_name, field_in, has_names, is_header, reason, unused, width_of};
 
 use csv::StringRecord;
 use opc_policy::fault::Why;
@@ -17,10 +17,26 @@ pub enum Column {
     Owner,
     Flags,
     Digest,
+    When,
+    Restricted,
 }
 
 /// The columns, from left to right.
-pub const COLUMNS: [Column; 8] = [
+pub const COLUMNS: [Column; 10] = [
+    Column::Kind,
+    Column::Class,
+    Column::Name,
+    Column::Id,
+    Column::Value,
+    Column::Owner,
+    Column::Flags,
+    Column::Digest,
+    Column::When,
+    Column::Restricted,
+];
+
+/// The columns of a file without conditional entries and RESTRICTED users.
+pub const FIRST_COLUMNS: [Column; 8] = [
     Column::Kind,
     Column::Class,
     Column::Name,
@@ -45,6 +61,8 @@ impl Column {
             Column::Owner => "owner",
             Column::Flags => "flags",
             Column::Digest => "digest",
+            Column::When => "when",
+            Column::Restricted => "restricted",
         }
     }
 
@@ -61,6 +79,8 @@ impl Column {
             Column::Owner => Why::Owner,
             Column::Flags => Why::Flags,
             Column::Digest => Why::Digest,
+            Column::When => Why::When,
+            Column::Restricted => Why::Restricted,
         }
     }
 }
@@ -83,18 +103,31 @@ pub(crate) fn unused(line: &StringRecord, column: Column) -> Result<(), Why>
     }
 }
 
-// Whether a record is the header.
-pub(crate) fn is_header(line: &StringRecord) -> bool
-    ensures { result ≡ is_header (fields_of line.now) }
+/// How many fields the rows below a header have, if a record is one: with all columns, or with the first alone.
+pub(crate) fn width_of(line: &StringRecord) -> Option<usize>
+    ensures { result ≡ width_of (fields_of line.now) }
 {
-    line.len() == COLUMNS.len() && has_names(line)
+    if is_header(&COLUMNS, line) {
+        Some(COLUMNS.len())
+    } else if is_header(&FIRST_COLUMNS, line) {
+        Some(FIRST_COLUMNS.len())
+    } else {
+        None
+    }
+}
+
+// Whether a record is the header of these columns.
+fn is_header(columns: &[Column], line: &StringRecord) -> bool
+    ensures { result ≡ is_header columns.now (fields_of line.now) }
+{
+    line.len() == columns.len() && has_names(columns, line)
 }
 
 // Whether the name of each column stands in it.
-fn has_names(line: &StringRecord) -> bool
-    ensures { result ≡ has_names (fields_of line.now) }
+fn has_names(columns: &[Column], line: &StringRecord) -> bool
+    ensures { result ≡ has_names columns.now (fields_of line.now) }
 {
-    COLUMNS
+    columns
         .iter()
         .all(|column| field_in(line, *column) == column.name())
 }

@@ -2,9 +2,9 @@
 ghost use Rattle.std.specs.Prelude.{◌≡◌};
 ghost use Rattle.std.specs.List.{list_all};
 ghost use Rattle.opc_names.specs.Spellings.{lookup};
-ghost use Rattle.opc_import.specs.Fields.{activities, digest_of, entry_id_of, flags_of, is_lower_digit, name_of, user_flags, warnings};
+ghost use Rattle.opc_import.specs.Fields.{activities, digest_of, entry_id_of, flags_of, is_lower_digit, name_of, restrictions, user_flags, warnings, when_of};
 
-use opc_names::name::{Name, NameKind};
+use opc_names::name::{ConsoleName, Name, NameKind};
 use opc_policy::entry::EntryId;
 
 /// What a user is.
@@ -47,6 +47,28 @@ pub(crate) fn read_warning(text: &str) -> Option<bool>
         "W" => Some(true),
         _ => None,
     }
+}
+
+// Whether a user is RESTRICTED.
+pub(crate) fn read_restriction(text: &str) -> Option<bool>
+    ensures { result ≡ lookup restrictions text.now }
+{
+    match text {
+        "" => Some(false),
+        "Y" => Some(true),
+        _ => None,
+    }
+}
+
+// The console that an entry is for alone; with an empty text it is for every console.
+pub(crate) fn read_when(text: &str) -> Option<Option<ConsoleName>>
+    ensures { result ≡ when_of text.now }
+{
+    if text.is_empty() {
+        return Some(None);
+    }
+    let console = read_name(text)?;
+    Some(Some(console))
 }
 
 fn flags_of(special: bool, auditor: bool, revoked: bool) -> UserFlags

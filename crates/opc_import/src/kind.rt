@@ -4,9 +4,10 @@ ghost use Rattle.csv.specs.Records.{fields_of};
 ghost use Rattle.opc_names.specs.Spellings.{lookup};
 ghost use Rattle.opc_import.specs.Kinds.{class_row, connect_row, console_row, group_row, kind_text, kinds, permit_row, profile_row, row_of, row_of_kind, user_row};
 
-use crate::column::{COLUMNS, Column, field_in, unused};
+use crate::column::{Column, field_in, unused};
 use crate::field::{
-    read_activity, read_digest, read_entry_id, read_name, read_user_flags, read_warning,
+    read_activity, read_digest, read_entry_id, read_name, read_restriction, read_user_flags,
+    read_warning, read_when,
 };
 use csv::StringRecord;
 use opc_names::auth::Auth;
@@ -74,6 +75,8 @@ fn class_row(line: &StringRecord) -> Result<Row, Why>
     unused(line, Column::Owner)?;
     unused(line, Column::Flags)?;
     unused(line, Column::Digest)?;
+    unused(line, Column::When)?;
+    unused(line, Column::Restricted)?;
     Ok(Row::Class { class, active })
 }
 
@@ -87,6 +90,8 @@ fn group_row(line: &StringRecord) -> Result<Row, Why>
     unused(line, Column::Owner)?;
     unused(line, Column::Flags)?;
     unused(line, Column::Digest)?;
+    unused(line, Column::When)?;
+    unused(line, Column::Restricted)?;
     Ok(Row::Group { name })
 }
 
@@ -100,12 +105,16 @@ fn user_row(line: &StringRecord) -> Result<Row, Why>
     unused(line, Column::Owner)?;
     let flags = read_user_flags(field_in(line, Column::Flags)).ok_or(Why::Flags)?;
     let digest = read_digest(field_in(line, Column::Digest)).ok_or(Why::Digest)?;
+    unused(line, Column::When)?;
+    let restricted =
+        read_restriction(field_in(line, Column::Restricted)).ok_or(Why::Restricted)?;
     Ok(Row::User(User {
         id,
         special: flags.special,
         auditor: flags.auditor,
         revoked: flags.revoked,
         digest,
+        restricted,
     }))
 }
 
@@ -119,6 +128,8 @@ fn connect_row(line: &StringRecord) -> Result<Row, Why>
     unused(line, Column::Owner)?;
     unused(line, Column::Flags)?;
     unused(line, Column::Digest)?;
+    unused(line, Column::When)?;
+    unused(line, Column::Restricted)?;
     Ok(Row::Connect { user, group })
 }
 
@@ -132,6 +143,8 @@ fn console_row(line: &StringRecord) -> Result<Row, Why>
     unused(line, Column::Owner)?;
     let mode = Mode::read(field_in(line, Column::Flags)).ok_or(Why::Flags)?;
     unused(line, Column::Digest)?;
+    unused(line, Column::When)?;
+    unused(line, Column::Restricted)?;
     Ok(Row::Console { name, auth, mode })
 }
 
@@ -145,6 +158,8 @@ fn profile_row(line: &StringRecord) -> Result<Row, Why>
     let owner = read_name(field_in(line, Column::Owner)).ok_or(Why::Owner)?;
     let warning = read_warning(field_in(line, Column::Flags)).ok_or(Why::Flags)?;
     unused(line, Column::Digest)?;
+    unused(line, Column::When)?;
+    unused(line, Column::Restricted)?;
     Ok(Row::Profile {
         class,
         pattern,
@@ -164,11 +179,14 @@ fn permit_row(line: &StringRecord) -> Result<Row, Why>
     unused(line, Column::Owner)?;
     unused(line, Column::Flags)?;
     unused(line, Column::Digest)?;
+    let when = read_when(field_in(line, Column::When)).ok_or(Why::When)?;
+    unused(line, Column::Restricted)?;
     Ok(Row::Permit {
         class,
         pattern,
         id,
         level,
+        when,
     })
 }
 
@@ -186,11 +204,12 @@ fn row_of_kind(kind: Kind, line: &StringRecord) -> Result<Row, Why>
     }
 }
 
-/// The row that a record is, as the data record of this number, or what is wrong with it first.
-pub(crate) fn row_of(number: u32, line: &StringRecord) -> Result<Row, Why>
-    ensures { result ≡ row_of number (fields_of line.now) }
+/// The row that a record is, as the data record of this number in a file of so many columns, or what is wrong with
+/// it first.
+pub(crate) fn row_of(width: usize, number: u32, line: &StringRecord) -> Result<Row, Why>
+    ensures { result ≡ row_of width number (fields_of line.now) }
 {
-    if line.len() != COLUMNS.len() {
+    if line.len() != width {
         return Err(Why::Columns);
     }
     if number > MOST_ROWS {

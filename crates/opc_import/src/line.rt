@@ -5,7 +5,7 @@ ghost use Rattle.hex.specs.Hex.{encode_lower};
 ghost use Rattle.opc_import.specs.Columns.{header};
 ghost use Rattle.opc_import.specs.Fields.{digest_of};
 ghost use Rattle.opc_import.specs.Lines.{AddsField};
-ghost use Rattle.opc_import.specs.Rows.{IsValid, IsValidIn, activity_text, digest_text, flags_text, kind_of, record_of, text_in, warning_text};
+ghost use Rattle.opc_import.specs.Rows.{IsValid, IsValidIn, activity_text, digest_text, flags_text, kind_of, record_of, restriction_text, text_in, warning_text};
 ghost use Rattle.opc_import.specs.declared.column.Column.TheVariants as column;
 
 use crate::column::COLUMNS;
@@ -39,6 +39,12 @@ fn warning_text(warning: bool) -> &'static str
     ensures { result.now ≡ warning_text warning }
 {
     if warning { "W" } else { "" }
+}
+
+fn restriction_text(restricted: bool) -> &'static str
+    ensures { result.now ≡ restriction_text restricted }
+{
+    if restricted { "Y" } else { "" }
 }
 
 fn flags_text(user: &User) -> &'static str
@@ -134,6 +140,28 @@ fn flags_in(row: &Row) -> &str
     }
 }
 
+fn when_in(row: &Row) -> &str
+    ensures text { result.now ≡ text_in column.When row.now }
+    ensures valid { IsValidIn column.When row.now }
+{
+    match row {
+        Row::Permit {
+            when: Some(console),
+            ..
+        } => console.text(),
+        _ => "",
+    }
+}
+
+fn restricted_in(row: &Row) -> &str
+    ensures { result.now ≡ text_in column.Restricted row.now }
+{
+    match row {
+        Row::User(user) => restriction_text(user.restricted),
+        _ => "",
+    }
+}
+
 // Adds a field to a record.
 fn push(line: &mut ByteRecord, field: &[u8]) -> Result<(), AllocError>
     requires { partial_of line.old ≡ [] }
@@ -185,7 +213,9 @@ pub(crate) fn fill(line: &mut ByteRecord, row: &Row) -> Result<(), AllocError>
     push(line, value_in(row).as_bytes())?;
     push(line, owner_in(row).as_bytes())?;
     push(line, flags_in(row).as_bytes())?;
-    push_digest(line, row)
+    push_digest(line, row)?;
+    push(line, when_in(row).as_bytes())?;
+    push(line, restricted_in(row).as_bytes())
 }
 
 // Makes a record the header.

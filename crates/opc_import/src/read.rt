@@ -2,14 +2,20 @@
 ghost use Rattle.std.specs.Prelude.{◌≡◌, ◌≢◌, IfOk, IfErr, Ok, Err};
 ghost use Rattle.opc_import.specs.Files.{policy_of};
 
-use crate::column::is_header;
+use crate::column::width_of;
 use crate::fault::ImportFault;
 use crate::kind::{MOST_ROWS, row_of};
 use crate::records::Records;
 use csv::StringRecord;
+use opc_names::name::ConsoleName;
 use opc_policy::fault::Why;
 use opc_policy::row::Row;
 use std::alloc::Global;
+
+const BAD_HEADER: ImportFault = ImportFault::Row {
+    row: 0,
+    why: Why::Header,
+};
 
 /// The rows of a policy file, or its first fault.
 pub fn read_policy(alloc: Global, text: &str) -> Result<Vec<Row>, ImportFault>
@@ -18,18 +24,20 @@ pub fn read_policy(alloc: Global, text: &str) -> Result<Vec<Row>, ImportFault>
 {
     let mut records = Records::of(alloc, text);
     let mut line = StringRecord::new(alloc);
-    if !records.take_into(&mut line)? || !is_header(&line) {
-        return Err(ImportFault::Row {
-            row: 0,
-            why: Why::Header,
-        });
+    if !records.take_into(&mut line)? {
+        return Err(BAD_HEADER);
     }
+    let Some(width) = width_of(&line) else {
+        return Err(BAD_HEADER);
+    };
+    // Named for the prover, which else does not find the type of a row's console.
+    let _nowhere: Option<ConsoleName> = None;
     let mut rows = Vec::new(alloc);
     for number in 1..MOST_ROWS + 2 {
         if !records.take_into(&mut line)? {
             return Ok(rows);
         }
-        match row_of(number, &line) {
+        match row_of(width, number, &line) {
             Ok(row) => rows.push(row)?,
             Err(why) => return Err(ImportFault::Row { row: number, why }),
         }

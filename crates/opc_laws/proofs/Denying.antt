@@ -57,10 +57,10 @@ in_use_none true name made none = λ h. h
 in_use_none false name made none = none
 
 policy_none : (b : BoardRows) (o : Operation) (p : Policy) → IsNoneOfAuthority (policy_changed b o p)
-policy_none b (operation.AddUser id special auditor digest) p =
-    unless_none (has_name p id) id (Ok (record p { users = with_user (record { id = id; special = special; auditor = auditor; revoked = false; digest = digest }) p.users })) tt
-policy_none b (operation.AltUser id special auditor revoked digest) p =
-    needing_none (has_user p id) id (Ok (record p { users = with_user (record { id = id; special = special; auditor = auditor; revoked = revoked; digest = digest }) p.users })) tt
+policy_none b (operation.AddUser id special auditor digest restricted) p =
+    unless_none (has_name p id) id (Ok (record p { users = with_user (record { id = id; special = special; auditor = auditor; revoked = false; digest = digest; restricted = restricted }) p.users })) tt
+policy_none b (operation.AltUser id special auditor revoked digest restricted) p =
+    needing_none (has_user p id) id (Ok (record p { users = with_user (record { id = id; special = special; auditor = auditor; revoked = revoked; digest = digest; restricted = restricted }) p.users })) tt
 policy_none b (operation.DelUser id) p =
     needing_none (has_user p id) id (unless_in_use (is_in_use p b id) id (Ok (record p { users = without_user id p.users }))) (in_use_none (is_in_use p b id) id (Ok (record p { users = without_user id p.users })) tt)
 policy_none b (operation.AddGroup name) p =
@@ -75,10 +75,10 @@ policy_none b (operation.RAlter class pattern owner uacc warning) p =
     needing_none (is_some (profile_of p.profiles class pattern)) pattern (needing (has_user p owner) owner (Ok (record p { profiles = with_definition (definition class pattern owner uacc warning) p.profiles }))) (needing_none (has_user p owner) owner (Ok (record p { profiles = with_definition (definition class pattern owner uacc warning) p.profiles })) tt)
 policy_none b (operation.RDelete class pattern) p =
     needing_none (is_some (profile_of p.profiles class pattern)) pattern (Ok (record p { profiles = without_profile class pattern p.profiles })) tt
-policy_none b (operation.Permit class pattern id level) p =
-    needing_none (is_some (profile_of p.profiles class pattern)) pattern (needing (has_holder p id) id (Ok (record p { profiles = with_permission class pattern (record { id = id; level = level }) p.profiles }))) (needing_none (has_holder p id) id (Ok (record p { profiles = with_permission class pattern (record { id = id; level = level }) p.profiles })) tt)
-policy_none b (operation.PermitDelete class pattern id) p =
-    needing_none (is_some (profile_of p.profiles class pattern)) pattern (needing (is_permitted p class pattern id) id (Ok (record p { profiles = without_permission class pattern id p.profiles }))) (needing_none (is_permitted p class pattern id) id (Ok (record p { profiles = without_permission class pattern id p.profiles })) tt)
+policy_none b (operation.Permit class pattern id level when) p =
+    needing_none (is_some (profile_of p.profiles class pattern)) pattern (needing (has_holder p id) id (Ok (record p { profiles = with_permission class pattern (record { id = id; when = when; level = level }) p.profiles }))) (needing_none (has_holder p id) id (Ok (record p { profiles = with_permission class pattern (record { id = id; when = when; level = level }) p.profiles })) tt)
+policy_none b (operation.PermitDelete class pattern id when) p =
+    needing_none (is_some (profile_of p.profiles class pattern)) pattern (needing (is_permitted p class pattern id when) id (Ok (record p { profiles = without_permission class pattern id when p.profiles }))) (needing_none (is_permitted p class pattern id when) id (Ok (record p { profiles = without_permission class pattern id when p.profiles })) tt)
 policy_none b (operation.ClassActive class active) p = tt
 policy_none b (operation.DefineConsole name auth mode) p = tt
 
@@ -93,8 +93,8 @@ row_none (rows.Connect user group) p =
 row_none (rows.Console name auth mode) p = tt
 row_none (rows.Profile class pattern uacc owner warning) p =
     needing_none (has_user p owner) owner (Ok (record p { profiles = with_definition (record { class = class; pattern = pattern; owner = owner; uacc = uacc; warning = warning; entries = [] }) p.profiles })) tt
-row_none (rows.Permit class pattern id level) p =
-    needing_none (is_some (profile_of p.profiles class pattern)) pattern (needing (has_holder p id) id (Ok (record p { profiles = with_permission class pattern (record { id = id; level = level }) p.profiles }))) (needing_none (has_holder p id) id (Ok (record p { profiles = with_permission class pattern (record { id = id; level = level }) p.profiles })) tt)
+row_none (rows.Permit class pattern id level when) p =
+    needing_none (is_some (profile_of p.profiles class pattern)) pattern (needing (has_holder p id) id (Ok (record p { profiles = with_permission class pattern (record { id = id; when = when; level = level }) p.profiles }))) (needing_none (has_holder p id) id (Ok (record p { profiles = with_permission class pattern (record { id = id; when = when; level = level }) p.profiles })) tt)
 
 then_none : (r : Result Policy Fault) (next : Policy → Result Policy Fault) → IsNoneOfAuthority r → ((p : Policy) → IsNoneOfAuthority (next p)) → IsNoneOfAuthority (then_policy r next)
 then_none (Ok p) next none later = later p
@@ -115,8 +115,8 @@ with_rows_none s b (Err f) none = none
 right_none : (o : Operation) → IsOfAuthority (right_fault o) → ⊥
 right_none (operation.RAlter class pattern owner uacc warning) h = h
 right_none (operation.RDelete class pattern) h = h
-right_none (operation.Permit class pattern id level) h = h
-right_none (operation.PermitDelete class pattern id) h = h
+right_none (operation.Permit class pattern id level when) h = h
+right_none (operation.PermitDelete class pattern id when) h = h
 right_none other h = h
 
 -- the logon rule names itself

@@ -95,13 +95,13 @@ by_console_proper auth need = go (enters auth need.group)
     go true = tt
     go false = tt
 
-by_policy_proper : (active : Bool) (decided : Option Profile) (user : Option User) (groups : List (List ℕ)) (auth : Auth) (need : Need) → IsProper denial_fault (policy_ruling active decided user groups auth need)
-by_policy_proper active decided None groups auth need = by_console_proper auth need
-by_policy_proper false decided (Some user) groups auth need = by_console_proper auth need
-by_policy_proper true None (Some user) groups auth need = by_console_proper auth need
-by_policy_proper true (Some p) (Some user) groups auth need = go (includes (held p user groups) need.level || p.warning)
+by_policy_proper : (active : Bool) (decided : Option Profile) (user : Option User) (console : Option (List ℕ)) (groups : List (List ℕ)) (auth : Auth) (need : Need) → IsProper denial_fault (policy_ruling active decided user console groups auth need)
+by_policy_proper active decided None console groups auth need = by_console_proper auth need
+by_policy_proper false decided (Some user) console groups auth need = by_console_proper auth need
+by_policy_proper true None (Some user) console groups auth need = by_console_proper auth need
+by_policy_proper true (Some p) (Some user) console groups auth need = go (includes (held p user console groups) need.level || p.warning)
   where
-    go : (b : Bool) → IsProper denial_fault (by_verdict (if b then verdicts.Allowed else verdicts.Denied) (profile_rule p user groups need.level) (console_ruling auth need))
+    go : (b : Bool) → IsProper denial_fault (by_verdict (if b then verdicts.Allowed else verdicts.Denied) (profile_rule p user console groups need.level) (console_ruling auth need))
     go true = tt
     go false = tt
 
@@ -109,7 +109,7 @@ ruling_proper : (s : State) (c : ConsoleRow) (need : Need) → IsProper denial_f
 ruling_proper s c need = go (is_required c.mode) (is_none c.user) (is_revoked (acting s c))
   where
     other : IsProper denial_fault (access_ruling s c (acting s c) need)
-    other = by_policy_proper (is_active s.policy.active Opercmds) (deciding_in s.policy Opercmds need.resource) (acting s c) (groups_acting s (acting s c)) c.auth need
+    other = by_policy_proper (is_active s.policy.active Opercmds) (deciding_in s.policy Opercmds need.resource) (acting s c) (Some c.name) (groups_acting s (acting s c)) c.auth need
 
     go : (required nobody revoked : Bool) → IsProper denial_fault (denied_or (if required && nobody then Some rule.LogonRequired else (if revoked then Some rule.Revoked else None)) (access_ruling s c (acting s c) need))
     go true true revoked = refl
@@ -118,13 +118,13 @@ ruling_proper s c need = go (is_required c.mode) (is_none c.user) (is_revoked (a
     go false nobody true = refl
     go false nobody false = other
 
-console_access_proper : (active : Bool) (decided : Option Profile) (user : User) (groups : List (List ℕ)) (needed : Level)
-    → IsProper logon_fault (by_verdict (verdict active decided user groups needed) (verdict_rule active decided user groups needed) (Allowed rule.NoProfile))
-console_access_proper false decided user groups needed = tt
-console_access_proper true None user groups needed = tt
-console_access_proper true (Some p) user groups needed = go (includes (held p user groups) needed || p.warning)
+console_access_proper : (active : Bool) (decided : Option Profile) (user : User) (console : Option (List ℕ)) (groups : List (List ℕ)) (needed : Level)
+    → IsProper logon_fault (by_verdict (verdict active decided user console groups needed) (verdict_rule active decided user console groups needed) (Allowed rule.NoProfile))
+console_access_proper false decided user console groups needed = tt
+console_access_proper true None user console groups needed = tt
+console_access_proper true (Some p) user console groups needed = go (includes (held p user console groups) needed || p.warning)
   where
-    go : (b : Bool) → IsProper logon_fault (by_verdict (if b then verdicts.Allowed else verdicts.Denied) (profile_rule p user groups needed) (Allowed rule.NoProfile))
+    go : (b : Bool) → IsProper logon_fault (by_verdict (if b then verdicts.Allowed else verdicts.Denied) (profile_rule p user console groups needed) (Allowed rule.NoProfile))
     go true = tt
     go false = tt
 
@@ -133,7 +133,7 @@ logon_proper s c user = go user.revoked
   where
     go : (b : Bool) → IsProper logon_fault (if b then Denied rule.Revoked else console_access s c user)
     go true = refl
-    go false = console_access_proper (is_active s.policy.active Console) (deciding_in s.policy Console c.name) user (groups_of s.policy.connects user.id) Read
+    go false = console_access_proper (is_active s.policy.active Console) (deciding_in s.policy Console c.name) user (Some c.name) (groups_of s.policy.connects user.id) Read
 
 pub console_told : (s : State) (r : Input) (name : List ℕ) → IfRefused (IsTold s r) (console_for s name)
 console_told s r name = then_told (IsTold s r) (found fault.NoConsole (console_at s.board name)) (λ c. refuse_if fault.ConsoleOffline None (not c.online) >>= λ _. Ok c) (there (console_at s.board name))

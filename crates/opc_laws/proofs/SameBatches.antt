@@ -12,11 +12,11 @@ use Rattle.opc_names.specs.declared.level.Level.{Level}
 use Rattle.opc_names.specs.declared.level.Level.TheVariants as level
 use Rattle.opc_policy.proofs.MostSpecific.{same_class_is}
 use Rattle.opc_policy.specs.declared.mode.Mode.{Mode}
-use Rattle.opc_policy.specs.declared.mode.Mode.TheVariants.{Optional, Required}
+use Rattle.opc_policy.specs.declared.mode.Mode.TheVariants.{Optional, Required, Auto}
 use Rattle.opc_policy.specs.declared.row.Row.{Row}
 use Rattle.opc_policy.specs.declared.row.Row.TheVariants as rows
 use Rattle.opc_policy.specs.declared.user.User.{User}
-use Rattle.opc_policy.specs.Modes.{mode_text}
+use Rattle.opc_policy.specs.Modes.{mode_text, modes}
 use Rattle.opc_state.specs.Difference.{same_flag, same_text}
 use Rattle.opc_laws.specs.ChangingLaws.{SameRowsAreEqual}
 use Rattle.opc_machine.specs.Imports.{same_row, same_rows, same_user}
@@ -91,11 +91,13 @@ level_back level.Alter = refl
 level_is : (a b : Level) → bytes_eq (level_text a) (level_text b) ≡ true → a ≡ b
 level_is a b h = some_of a b (sym (level_back a) ∙ ap (lookup levels) (name_is (level_text a) (level_text b) h) ∙ level_back b)
 
+mode_back : (m : Mode) → lookup modes (mode_text m) ≡ Some m
+mode_back Optional = refl
+mode_back Required = refl
+mode_back Auto = refl
+
 mode_is : (a b : Mode) → bytes_eq (mode_text a) (mode_text b) ≡ true → a ≡ b
-mode_is Optional Optional h = refl
-mode_is Optional Required h = absurd (search (rules, h))
-mode_is Required Optional h = absurd (search (rules, h))
-mode_is Required Required h = refl
+mode_is a b h = some_of a b (sym (mode_back a) ∙ ap (lookup modes) (name_is (mode_text a) (mode_text b) h) ∙ mode_back b)
 
 user_is : (u v : User) → same_user u v ≡ true → u ≡ v
 user_is u v h =
@@ -106,11 +108,13 @@ user_is u v h =
     let auditor : u.auditor ≡ v.auditor = flag_is _ _ (first _ _ h2) in
     let h3 = rest (same_flag u.auditor v.auditor) _ h2 in
     let revoked : u.revoked ≡ v.revoked = flag_is _ _ (first _ _ h3) in
-    let digest : u.digest ≡ v.digest = digest_is _ _ (rest _ _ h3) in
-    λ i. record { id = id i; special = special i; auditor = auditor i; revoked = revoked i; digest = digest i }
+    let h4 = rest (same_flag u.revoked v.revoked) _ h3 in
+    let digest : u.digest ≡ v.digest = digest_is _ _ (first _ _ h4) in
+    let restricted : u.restricted ≡ v.restricted = flag_is _ _ (rest (same_text u.digest v.digest) _ h4) in
+    λ i. record { id = id i; special = special i; auditor = auditor i; revoked = revoked i; digest = digest i; restricted = restricted i }
 
 user_itself : (u : User) → same_user u u ≡ true
-user_itself u = both _ _ (name_itself u.id) (both _ _ (flag_itself u.special) (both _ _ (flag_itself u.auditor) (both _ _ (flag_itself u.revoked) (digest_itself u.digest))))
+user_itself u = both _ _ (name_itself u.id) (both _ _ (flag_itself u.special) (both _ _ (flag_itself u.auditor) (both _ _ (flag_itself u.revoked) (both _ _ (digest_itself u.digest) (flag_itself u.restricted)))))
 
 row_is : (r q : Row) → same_row r q ≡ true → r ≡ q
 row_is (rows.Class c a) (rows.Class d b) h =
@@ -139,14 +143,16 @@ row_is (rows.Profile c p u o w) (rows.Profile d q v n x) h =
     let owner : o ≡ n = name_is o n (first _ _ h3) in
     let warning : w ≡ x = flag_is w x (rest _ _ h3) in
     λ i. rows.Profile (class i) (pattern i) (uacc i) (owner i) (warning i)
-row_is (rows.Permit c p e l) (rows.Permit d q f m) h =
+row_is (rows.Permit c p e l w) (rows.Permit d q f m x) h =
     let h1 = rest (same_class c d) _ h in
     let h2 = rest (bytes_eq p q) _ h1 in
     let class : c ≡ d = same_class_is c d (first _ _ h) in
     let pattern : p ≡ q = name_is p q (first _ _ h1) in
     let id : e ≡ f = name_is e f (first _ _ h2) in
-    let level : l ≡ m = level_is l m (rest _ _ h2) in
-    λ i. rows.Permit (class i) (pattern i) (id i) (level i)
+    let h3 = rest (bytes_eq e f) _ h2 in
+    let level : l ≡ m = level_is l m (first _ _ h3) in
+    let when : w ≡ x = digest_is w x (rest (bytes_eq (level_text l) (level_text m)) _ h3) in
+    λ i. rows.Permit (class i) (pattern i) (id i) (level i) (when i)
 row_is r q h = absurd (search (rules, h))
 
 row_itself : (r : Row) → same_row r r ≡ true
@@ -156,7 +162,7 @@ row_itself (rows.User u) = user_itself u
 row_itself (rows.Connect u g) = both _ _ (name_itself u) (name_itself g)
 row_itself (rows.Console n a m) = both _ _ (name_itself n) (both _ _ (name_itself (auth_text a)) (name_itself (mode_text m)))
 row_itself (rows.Profile c p u o w) = both _ _ (class_itself c) (both _ _ (name_itself p) (both _ _ (name_itself (level_text u)) (both _ _ (name_itself o) (flag_itself w))))
-row_itself (rows.Permit c p e l) = both _ _ (class_itself c) (both _ _ (name_itself p) (both _ _ (name_itself e) (name_itself (level_text l))))
+row_itself (rows.Permit c p e l w) = both _ _ (class_itself c) (both _ _ (name_itself p) (both _ _ (name_itself e) (both _ _ (name_itself (level_text l)) (digest_itself w))))
 
 rows_are : (one other : List Row) → same_rows one other ≡ true → one ≡ other
 rows_are [] [] h = refl

@@ -11,7 +11,7 @@ use Rattle.opc_policy.specs.declared.entry.Entry.{Entry}
 use Rattle.opc_policy.specs.declared.fault.Fault.{Fault}
 use Rattle.opc_policy.specs.declared.fault.Fault.TheVariants as fault
 use Rattle.opc_policy.specs.declared.mode.Mode.{Mode}
-use Rattle.opc_policy.specs.declared.mode.Mode.TheVariants.{Optional, Required}
+use Rattle.opc_policy.specs.declared.mode.Mode.TheVariants.{Optional, Required, Auto}
 use Rattle.opc_policy.specs.declared.policy.Policy.{Policy}
 use Rattle.opc_policy.specs.declared.profile.Profile.{Profile}
 use Rattle.opc_policy.specs.declared.row.Row.{Row}
@@ -27,7 +27,7 @@ use Rattle.opc_state.specs.Facts.{IsState}
 use Rattle.opc_state.specs.State.{State, empty}
 use Rattle.opc_machine.specs.Inputs.{Input}
 use Rattle.opc_machine.specs.Inputs as input
-use Rattle.opc_machine.specs.Machine.{first_refusal, outcome}
+use Rattle.opc_machine.specs.Machine.{first_refusal, outcome, user_acting}
 use Rattle.opc_machine.specs.Operations.{Operation}
 use Rattle.opc_machine.specs.Operations as operation
 use Rattle.opc_machine.specs.Outcome.{Denial, Outcome}
@@ -35,7 +35,7 @@ use Rattle.opc_machine.specs.Outcome.{Denial, Outcome}
 -- the state
 
 abbrev user : List ℕ → Bool → Bool → Bool → User
-user id special auditor revoked = record { id = id; special = special; auditor = auditor; revoked = revoked; digest = None }
+user id special auditor revoked = record { id = id; special = special; auditor = auditor; revoked = revoked; digest = None; restricted = false }
 
 abbrev plain : List ℕ → User
 plain id = user id false false false
@@ -51,7 +51,7 @@ abbrev connect : List ℕ → List ℕ → Connect
 connect u group = record { user = u; group = group }
 
 abbrev entry : List ℕ → Level → Entry
-entry id level = record { id = id; level = level }
+entry id level = record { id = id; when = None; level = level }
 
 abbrev profile : List ℕ → List ℕ → Level → Bool → List Entry → Profile
 profile pattern owner uacc warning entries = record { class = Opercmds; pattern = pattern; owner = owner; uacc = uacc; warning = warning; entries = entries }
@@ -164,29 +164,51 @@ not_owner = refl
 not_owner_of_none : refused_at (codes "C1") (operation.RDelete Opercmds (codes "C")) ≡ plainly fault.NotOwner
 not_owner_of_none = refl
 
-owner_permits : refused_at (codes "C5") (operation.Permit Opercmds (codes "A.B") (codes "CARL") level.Update) ≡ None
+owner_permits : refused_at (codes "C5") (operation.Permit Opercmds (codes "A.B") (codes "CARL") level.Update None) ≡ None
 owner_permits = refl
 
 owner_defines_nothing : refused_at (codes "C5") (operation.RDefine Opercmds (codes "C") (codes "CARL") level.None false) ≡ plainly fault.NotSpecial
 owner_defines_nothing = refl
 
+-- consoles that act for themselves
+
+abbrev with_auto : State
+with_auto = record base {
+  board = record empty.board { consoles = console (codes "EMIL") auth.Info Auto true None ∷ console (codes "FRED") auth.Info Auto true (Some (codes "ANNA")) ∷ console (codes "NOUSER") auth.Info Auto true None ∷ console (codes "OLD") auth.Master Auto true None ∷ console (codes "SECADM") auth.Info Auto true None ∷ [] };
+}
+
+acts_for_its_own : user_acting with_auto (input.Command (codes "EMIL") []) ≡ Some (codes "EMIL")
+acts_for_its_own = refl
+
+acts_for_who_is_on : user_acting with_auto (input.Command (codes "FRED") []) ≡ Some (codes "ANNA")
+acts_for_who_is_on = refl
+
+acts_for_nobody : user_acting with_auto (input.Command (codes "NOUSER") []) ≡ None
+acts_for_nobody = refl
+
+own_user_is_revoked : first_refusal with_auto (input.Admin (codes "OLD") (operation.AddGroup (codes "DAY"))) ≡ Some (record { fault = fault.Revoked; rule = Some rule.Revoked })
+own_user_is_revoked = refl
+
+own_user_is_special : first_refusal with_auto (input.Admin (codes "SECADM") (operation.AddGroup (codes "DAY"))) ≡ None
+own_user_is_special = refl
+
 -- users
 
-pub adds_user : users_after (operation.AddUser (codes "BERT") true false None)
+pub adds_user : users_after (operation.AddUser (codes "BERT") true false None false)
     ≡ Some (plain (codes "ANNA") ∷ user (codes "BERT") true false false ∷ plain (codes "CARL") ∷ plain (codes "DORA") ∷ plain (codes "EMIL") ∷ plain (codes "FRED") ∷ plain (codes "GUS") ∷ user (codes "OLD") false false true ∷ user (codes "SECADM") true false false ∷ [])
 adds_user = refl
 
-user_exists : refusal (operation.AddUser (codes "ANNA") false false None) ≡ plainly (fault.Exists (codes "ANNA"))
+user_exists : refusal (operation.AddUser (codes "ANNA") false false None false) ≡ plainly (fault.Exists (codes "ANNA"))
 user_exists = refl
 
-group_has_the_name : refusal (operation.AddUser (codes "OPS") false false None) ≡ plainly (fault.Exists (codes "OPS"))
+group_has_the_name : refusal (operation.AddUser (codes "OPS") false false None false) ≡ plainly (fault.Exists (codes "OPS"))
 group_has_the_name = refl
 
-alters_user : users_after (operation.AltUser (codes "ANNA") false true true None)
+alters_user : users_after (operation.AltUser (codes "ANNA") false true true None false)
     ≡ Some (user (codes "ANNA") false true true ∷ plain (codes "CARL") ∷ plain (codes "DORA") ∷ plain (codes "EMIL") ∷ plain (codes "FRED") ∷ plain (codes "GUS") ∷ user (codes "OLD") false false true ∷ user (codes "SECADM") true false false ∷ [])
 alters_user = refl
 
-no_user_to_alter : refusal (operation.AltUser (codes "BERT") false false false None) ≡ plainly (fault.Missing (codes "BERT"))
+no_user_to_alter : refusal (operation.AltUser (codes "BERT") false false false None false) ≡ plainly (fault.Missing (codes "BERT"))
 no_user_to_alter = refl
 
 deletes_user : users_after (operation.DelUser (codes "GUS"))
@@ -272,30 +294,30 @@ deletes_profile = refl
 no_profile_to_delete : refusal (operation.RDelete Console (codes "A.B")) ≡ plainly (fault.Missing (codes "A.B"))
 no_profile_to_delete = refl
 
-permits_user : profiles_after (operation.Permit Opercmds (codes "A.B") (codes "ANNA") level.Update)
+permits_user : profiles_after (operation.Permit Opercmds (codes "A.B") (codes "ANNA") level.Update None)
     ≡ Some (profile (codes "A.B") (codes "CARL") level.None false (entry (codes "ANNA") level.Update ∷ entry (codes "EMIL") level.Read ∷ []) ∷ of_fred ∷ of_all ∷ [])
 permits_user = refl
 
-permits_everyone : refusal (operation.Permit Opercmds (codes "A.B") (codes "*") level.Update) ≡ None
+permits_everyone : refusal (operation.Permit Opercmds (codes "A.B") (codes "*") level.Update None) ≡ None
 permits_everyone = refl
 
-permits_group : refusal (operation.Permit Opercmds (codes "A.B") (codes "OPS") level.Update) ≡ None
+permits_group : refusal (operation.Permit Opercmds (codes "A.B") (codes "OPS") level.Update None) ≡ None
 permits_group = refl
 
-no_profile_to_permit : refusal (operation.Permit Opercmds (codes "C") (codes "BERT") level.Update) ≡ plainly (fault.Missing (codes "C"))
+no_profile_to_permit : refusal (operation.Permit Opercmds (codes "C") (codes "BERT") level.Update None) ≡ plainly (fault.Missing (codes "C"))
 no_profile_to_permit = refl
 
-nobody_to_permit : refusal (operation.Permit Opercmds (codes "A.B") (codes "BERT") level.Update) ≡ plainly (fault.Missing (codes "BERT"))
+nobody_to_permit : refusal (operation.Permit Opercmds (codes "A.B") (codes "BERT") level.Update None) ≡ plainly (fault.Missing (codes "BERT"))
 nobody_to_permit = refl
 
-deletes_permission : profiles_after (operation.PermitDelete Opercmds (codes "A.B") (codes "EMIL"))
+deletes_permission : profiles_after (operation.PermitDelete Opercmds (codes "A.B") (codes "EMIL") None)
     ≡ Some (profile (codes "A.B") (codes "CARL") level.None false [] ∷ of_fred ∷ of_all ∷ [])
 deletes_permission = refl
 
-no_profile_to_delete_from : refusal (operation.PermitDelete Opercmds (codes "C") (codes "EMIL")) ≡ plainly (fault.Missing (codes "C"))
+no_profile_to_delete_from : refusal (operation.PermitDelete Opercmds (codes "C") (codes "EMIL") None) ≡ plainly (fault.Missing (codes "C"))
 no_profile_to_delete_from = refl
 
-no_permission_to_delete : refusal (operation.PermitDelete Opercmds (codes "A.B") (codes "ANNA")) ≡ plainly (fault.Missing (codes "ANNA"))
+no_permission_to_delete : refusal (operation.PermitDelete Opercmds (codes "A.B") (codes "ANNA") None) ≡ plainly (fault.Missing (codes "ANNA"))
 no_permission_to_delete = refl
 
 -- classes and consoles

@@ -1,5 +1,5 @@
 -- What an operation of administration makes of policy and consoles, or what is in its way.
-use Rattle.std.specs.Prelude.{ℕ, Bool, false, not, ◌||◌, ◌&&◌, if◌then◌else◌, List, [], None, Result, Ok, Err, is_some}
+use Rattle.std.specs.Prelude.{ℕ, Bool, false, not, ◌||◌, ◌&&◌, if◌then◌else◌, List, [], Option, None, Result, Ok, Err, is_some}
 use Rattle.std.specs.List.{list_any}
 use Rattle.std.specs.Option.{option_map_or}
 use Rattle.std.specs.Str.{bytes_eq}
@@ -11,6 +11,7 @@ use Rattle.opc_policy.specs.declared.fault.Fault.{Fault}
 use Rattle.opc_policy.specs.declared.fault.Fault.TheVariants.{InUse}
 use Rattle.opc_policy.specs.declared.policy.Policy.{Policy}
 use Rattle.opc_policy.specs.declared.profile.Profile.{Profile}
+use Rattle.opc_policy.specs.Access.{is_for}
 use Rattle.opc_policy.specs.Members.{with_user, with_group, with_connect}
 use Rattle.opc_policy.specs.Profiles.{profile_of, with_permission}
 use Rattle.opc_policy.specs.Taken.{has_user, has_group, has_holder, unless, needing, with_active, after_definition}
@@ -36,8 +37,12 @@ is_connected p user group = list_any (λ (c : Connect). bytes_eq c.user user && 
 abbrev pub has_entry : List ℕ → Profile → Bool
 has_entry id p = list_any (λ (e : Entry). bytes_eq e.id id) p.entries
 
-abbrev pub is_permitted : Policy → Class → List ℕ → List ℕ → Bool
-is_permitted p class pattern id = option_map_or (has_entry id) (profile_of p.profiles class pattern) false
+-- whether it has one for an id and for a console alone or, where none is given, for every console
+abbrev pub has_entry_for : Option (List ℕ) → List ℕ → Profile → Bool
+has_entry_for when id p = list_any (is_for when id) p.entries
+
+abbrev pub is_permitted : Policy → Class → List ℕ → List ℕ → Option (List ℕ) → Bool
+is_permitted p class pattern id when = option_map_or (has_entry_for when id) (profile_of p.profiles class pattern) false
 
 -- A user is in use who is connected to a group, owns a profile, has an entry in an access list, or is on at a console.
 abbrev pub is_in_use : Policy → BoardRows → List ℕ → Bool
@@ -57,12 +62,12 @@ definition class pattern owner uacc warning = record { class = class; pattern = 
 -- its fields (RACF guide: the commands of these names). A profile that is altered keeps its access list, and one that is
 -- deleted takes it along. Consoles are no part of a policy.
 abbrev pub policy_changed : BoardRows → Operation → Policy → Result Policy Fault
-policy_changed b (operation.AddUser id special auditor digest) p =
+policy_changed b (operation.AddUser id special auditor digest restricted) p =
     unless (has_name p id) id
-    (Ok (record p { users = with_user (record { id = id; special = special; auditor = auditor; revoked = false; digest = digest }) p.users }))
-policy_changed b (operation.AltUser id special auditor revoked digest) p =
+    (Ok (record p { users = with_user (record { id = id; special = special; auditor = auditor; revoked = false; digest = digest; restricted = restricted }) p.users }))
+policy_changed b (operation.AltUser id special auditor revoked digest restricted) p =
     needing (has_user p id) id
-    (Ok (record p { users = with_user (record { id = id; special = special; auditor = auditor; revoked = revoked; digest = digest }) p.users }))
+    (Ok (record p { users = with_user (record { id = id; special = special; auditor = auditor; revoked = revoked; digest = digest; restricted = restricted }) p.users }))
 policy_changed b (operation.DelUser id) p =
     needing (has_user p id) id
     (unless_in_use (is_in_use p b id) id
@@ -84,14 +89,14 @@ policy_changed b (operation.RAlter class pattern owner uacc warning) p =
     needing (is_some (profile_of p.profiles class pattern)) pattern (after_definition (definition class pattern owner uacc warning) p)
 policy_changed b (operation.RDelete class pattern) p =
     needing (is_some (profile_of p.profiles class pattern)) pattern (Ok (record p { profiles = without_profile class pattern p.profiles }))
-policy_changed b (operation.Permit class pattern id level) p =
+policy_changed b (operation.Permit class pattern id level when) p =
     needing (is_some (profile_of p.profiles class pattern)) pattern
     (needing (has_holder p id) id
-    (Ok (record p { profiles = with_permission class pattern (record { id = id; level = level }) p.profiles })))
-policy_changed b (operation.PermitDelete class pattern id) p =
+    (Ok (record p { profiles = with_permission class pattern (record { id = id; when = when; level = level }) p.profiles })))
+policy_changed b (operation.PermitDelete class pattern id when) p =
     needing (is_some (profile_of p.profiles class pattern)) pattern
-    (needing (is_permitted p class pattern id) id
-    (Ok (record p { profiles = without_permission class pattern id p.profiles })))
+    (needing (is_permitted p class pattern id when) id
+    (Ok (record p { profiles = without_permission class pattern id when p.profiles })))
 policy_changed b (operation.ClassActive class active) p = Ok (record p { active = with_active class active p.active })
 policy_changed b (operation.DefineConsole name auth mode) p = Ok p
 

@@ -23,7 +23,7 @@ use Rattle.opc_machine.specs.Rulings.{acting}
 -- which rows are the same
 abbrev pub same_user : User → User → Bool
 same_user u v =
-    bytes_eq u.id v.id && (same_flag u.special v.special && (same_flag u.auditor v.auditor && (same_flag u.revoked v.revoked && same_text u.digest v.digest)))
+    bytes_eq u.id v.id && (same_flag u.special v.special && (same_flag u.auditor v.auditor && (same_flag u.revoked v.revoked && (same_text u.digest v.digest && same_flag u.restricted v.restricted))))
 
 abbrev pub same_row : Row → Row → Bool
 same_row (rows.Class class active) (rows.Class class' active') = same_class class class' && same_flag active active'
@@ -34,8 +34,8 @@ same_row (rows.Console name auth mode) (rows.Console name' auth' mode') =
     bytes_eq name name' && (bytes_eq (auth_text auth) (auth_text auth') && bytes_eq (mode_text mode) (mode_text mode'))
 same_row (rows.Profile class pattern uacc owner warning) (rows.Profile class' pattern' uacc' owner' warning') =
     same_class class class' && (bytes_eq pattern pattern' && (bytes_eq (level_text uacc) (level_text uacc') && (bytes_eq owner owner' && same_flag warning warning')))
-same_row (rows.Permit class pattern id level) (rows.Permit class' pattern' id' level') =
-    same_class class class' && (bytes_eq pattern pattern' && (bytes_eq id id' && bytes_eq (level_text level) (level_text level')))
+same_row (rows.Permit class pattern id level when) (rows.Permit class' pattern' id' level' when') =
+    same_class class class' && (bytes_eq pattern pattern' && (bytes_eq id id' && (bytes_eq (level_text level) (level_text level') && same_text when when')))
 same_row row other = false
 
 abbrev pub same_rows : List Row → List Row → Bool

@@ -39,7 +39,7 @@ first_refusal s r = denial_in (outcome s r)
 
 -- who acts at the console that a request names
 abbrev pub user_acting : State → Input → Option (List ℕ)
-user_acting s r = option_and_then acting_user (option_and_then (console_at s.board) (console_of r))
+user_acting s r = option_and_then (acting_user s) (option_and_then (console_at s.board) (console_of r))
 
 -- a row of the account: of whoever acted at the console before the request
 abbrev pub account_row : State → ℕ → Input → List ℕ → Option Rule → AccountRow

@@ -50,8 +50,8 @@ is_owner (Some u) (Some p) = bytes_eq p.owner u.id
 abbrev pub owns_changed : Policy → Option User → Operation → Bool
 owns_changed p user (operation.RAlter class pattern owner uacc warning) = is_owner user (profile_of p.profiles class pattern)
 owns_changed p user (operation.RDelete class pattern) = is_owner user (profile_of p.profiles class pattern)
-owns_changed p user (operation.Permit class pattern id level) = is_owner user (profile_of p.profiles class pattern)
-owns_changed p user (operation.PermitDelete class pattern id) = is_owner user (profile_of p.profiles class pattern)
+owns_changed p user (operation.Permit class pattern id level when) = is_owner user (profile_of p.profiles class pattern)
+owns_changed p user (operation.PermitDelete class pattern id when) = is_owner user (profile_of p.profiles class pattern)
 owns_changed p user other = false
 
 -- The right to an operation: SPECIAL, or to own the profile that it changes (RACF guide).
@@ -62,18 +62,18 @@ may_change s c o = is_special (acting s c) || owns_changed s.policy (acting s c)
 abbrev pub right_fault : Operation → Fault
 right_fault (operation.RAlter class pattern owner uacc warning) = NotOwner
 right_fault (operation.RDelete class pattern) = NotOwner
-right_fault (operation.Permit class pattern id level) = NotOwner
-right_fault (operation.PermitDelete class pattern id) = NotOwner
+right_fault (operation.Permit class pattern id level when) = NotOwner
+right_fault (operation.PermitDelete class pattern id when) = NotOwner
 right_fault other = NotSpecial
 
 -- A profile is shown to SPECIAL, to AUDITOR, to its owner, and to a user who holds READ in it. A warning gives nothing
 -- here, and whether the class is active does not count.
-abbrev pub holds_read : State → Option User → Profile → Bool
-holds_read s None p = false
-holds_read s (Some u) p = includes (held p u (groups_of s.policy.connects u.id)) Read
+abbrev pub holds_read : State → ConsoleRow → Option User → Profile → Bool
+holds_read s c None p = false
+holds_read s c (Some u) p = includes (held p u (Some c.name) (groups_of s.policy.connects u.id)) Read
 
 abbrev pub profile_shown : State → ConsoleRow → Profile → Bool
-profile_shown s c p = sees_all (acting s c) || is_owner (acting s c) (Some p) || holds_read s (acting s c) p
+profile_shown s c p = sees_all (acting s c) || is_owner (acting s c) (Some p) || holds_read s c (acting s c) p
 
 -- The account is shown to SPECIAL and AUDITOR.
 abbrev pub account_shown : State → ConsoleRow → Bool

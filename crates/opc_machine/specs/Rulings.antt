@@ -1,11 +1,11 @@
 -- Who acts at a console, what is ruled on what a command needs, and what may be shown.
 use Rattle.std.specs.Prelude.{Bool, true, false, ◌&&◌, if◌then◌else◌, ℕ, List, [], Option, Some, None, codes}
-use Rattle.std.specs.Option.{is_none, option_and_then}
+use Rattle.std.specs.Option.{is_none, option_and_then, option_or}
 use Rattle.opc_names.specs.declared.class.Class.TheVariants.{Opercmds, Console}
 use Rattle.opc_names.specs.declared.group.Group.TheVariants.{Info}
 use Rattle.opc_names.specs.declared.level.Level.TheVariants.{Read}
 use Rattle.opc_policy.specs.declared.mode.Mode.{Mode}
-use Rattle.opc_policy.specs.declared.mode.Mode.TheVariants.{Required, Optional}
+use Rattle.opc_policy.specs.declared.mode.Mode.TheVariants.{Required, Optional, Auto}
 use Rattle.opc_policy.specs.declared.need.Need.{Need}
 use Rattle.opc_policy.specs.declared.rule.Rule.{Rule}
 use Rattle.opc_policy.specs.declared.rule.Rule.TheVariants as rule
@@ -14,7 +14,7 @@ use Rattle.opc_policy.specs.declared.ruling.Ruling.TheVariants.{Allowed, Denied}
 use Rattle.opc_policy.specs.declared.user.User.{User}
 use Rattle.opc_policy.specs.Members.{user_of, groups_of}
 use Rattle.opc_policy.specs.Rulings.{verdict, verdict_rule, by_verdict, ruling as policy_ruling}
-use Rattle.opc_policy.specs.Taken.{is_active}
+use Rattle.opc_policy.specs.Taken.{has_user, is_active}
 use Rattle.opc_needs.specs.Table.{qualified}
 use Rattle.opc_board.specs.declared.line.Item.{Item}
 use Rattle.opc_board.specs.declared.line.Item.TheVariants as item
@@ -22,12 +22,22 @@ use Rattle.opc_board.specs.declared.line.Line.{Line}
 use Rattle.opc_board.specs.declared.rows.ConsoleRow.{ConsoleRow}
 use Rattle.opc_state.specs.State.{State, deciding_in}
 
--- the user for whom a console acts: the one who is on
-abbrev pub acting_user : ConsoleRow → Option (List ℕ)
-acting_user c = c.user
+abbrev pub is_auto : Mode → Bool
+is_auto Auto = true
+is_auto Optional = false
+is_auto Required = false
+
+-- a console's own user: the one whose id is its name, where its mode is AUTO and such a user is stored
+abbrev pub own_user : State → ConsoleRow → Option (List ℕ)
+own_user s c = if is_auto c.mode && has_user s.policy c.name then Some c.name else None
+
+-- The user for whom a console acts: the one who is on; where nobody is, the console's own (MVS Planning: Operations,
+-- LOGON(AUTO)).
+abbrev pub acting_user : State → ConsoleRow → Option (List ℕ)
+acting_user s c = option_or c.user (own_user s c)
 
 abbrev pub acting : State → ConsoleRow → Option User
-acting s c = option_and_then (user_of s.policy.users) (acting_user c)
+acting s c = option_and_then (user_of s.policy.users) (acting_user s c)
 
 -- the connect groups of whoever acts
 abbrev pub groups_acting : State → Option User → List (List ℕ)
@@ -37,6 +47,7 @@ groups_acting s (Some u) = groups_of s.policy.connects u.id
 abbrev pub is_required : Mode → Bool
 is_required Required = true
 is_required Optional = false
+is_required Auto = false
 
 abbrev pub is_revoked : Option User → Bool
 is_revoked (Some u) = u.revoked
@@ -51,7 +62,7 @@ logon_denial s c =
 
 -- by the profile that decides in class OPERCMDS, or, where nobody acts or none decides, by the console's AUTH
 abbrev pub access_ruling : State → ConsoleRow → Option User → Need → Ruling
-access_ruling s c user need = policy_ruling (is_active s.policy.active Opercmds) (deciding_in s.policy Opercmds need.resource) user (groups_acting s user) c.auth need
+access_ruling s c user need = policy_ruling (is_active s.policy.active Opercmds) (deciding_in s.policy Opercmds need.resource) user (Some c.name) (groups_acting s user) c.auth need
 
 abbrev pub denied_or : Option Rule → Ruling → Ruling
 denied_or (Some rule) ruling = Denied rule
@@ -66,8 +77,8 @@ ruling s c need = denied_or (logon_denial s c) (access_ruling s c (acting s c) n
 -- CONSOLE. Where that is undecided the user is let on.
 abbrev pub console_access : State → ConsoleRow → User → Ruling
 console_access s c user =
-    by_verdict (verdict (is_active s.policy.active Console) (deciding_in s.policy Console c.name) user (groups_of s.policy.connects user.id) Read)
-    (verdict_rule (is_active s.policy.active Console) (deciding_in s.policy Console c.name) user (groups_of s.policy.connects user.id) Read)
+    by_verdict (verdict (is_active s.policy.active Console) (deciding_in s.policy Console c.name) user (Some c.name) (groups_of s.policy.connects user.id) Read)
+    (verdict_rule (is_active s.policy.active Console) (deciding_in s.policy Console c.name) user (Some c.name) (groups_of s.policy.connects user.id) Read)
     (Allowed rule.NoProfile)
 
 abbrev pub logon_ruling : State → ConsoleRow → User → Ruling

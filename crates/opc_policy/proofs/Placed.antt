@@ -2,13 +2,14 @@
 use Rattle.std.proofs.Common.{◌≡◌, ℕ, ◌<◌, ◌≤◌, ◌+◌, List, [], ◌∷◌, length, get_or, set, zero, suc, Result, Ok, Err, All, refl, sym, ap, ◌∙◌, arith}
 use Rattle.std.specs.BTreeSet.{replace_key}
 use Rattle.std.specs.Cmp.{IsTotalOrder}
-use Rattle.std.specs.Cmp.Lexicographic.{slice_cmp, nat_list_cmp_total}
+use Rattle.std.specs.Cmp.Lexicographic.{nat_list_cmp_total, options_total}
 use Rattle.std.specs.List.{insert}
 use Rattle.std.specs.List.Sorted.{IsSortedBy, IsBinarySearchResult, IsSearchInRange}
+use Rattle.std.proofs.lemmas.Cmp.{on_total, then_total}
 use Rattle.std.proofs.lemmas.List.Elements.{All-nil, All-cons, All-head, All-tail}
 use Rattle.std.proofs.lemmas.List.Kept.{AllPairs-cons}
 use Rattle.std.proofs.lemmas.List.Sorted.{searchable_from_sorted}
-use Rattle.std.specs.Ordering.{match_ordering, nat_cmp, is_lt, ordering_reverse}
+use Rattle.std.specs.Ordering.{match_ordering, is_lt, ordering_reverse}
 use Rattle.std.specs.declared.cmp.Ordering.{Ordering}
 use Rattle.std.specs.declared.cmp.Ordering.TheVariants.{Less, Equal, Greater}
 use Rattle.opc_policy.specs.Access.{AreInOrder, entry_cmp}
@@ -31,28 +32,28 @@ module _ {X : Type 0} (cmp : X → X → Ordering) (x : X) where
   insert-place (y ∷ ys) (suc i) d before within behind =
       rw (before 0 (omega arith)) (ap (λ zs. y ∷ zs) (insert-place ys i d (λ k l. before (suc k) (omega (arith, l))) (omega (arith, within)) (λ l. behind (omega (arith, l)))))
 
-order : IsTotalOrder (slice_cmp nat_cmp)
-order = nat_list_cmp_total
+pub order : IsTotalOrder entry_cmp
+order = then_total (on_total (λ (e : Entry). e.id) nat_list_cmp_total) (on_total (λ (e : Entry). e.when) (options_total nat_list_cmp_total))
 
 -- the other way round
-turned : (a b : List ℕ) (o : Ordering) → slice_cmp nat_cmp a b ≡ o → slice_cmp nat_cmp b a ≡ ordering_reverse o
+turned : (a b : Entry) (o : Ordering) → entry_cmp a b ≡ o → entry_cmp b a ≡ ordering_reverse o
 turned a b o e = order.antisymm b a ∙ ap ordering_reverse e
 
-sorted_by_id : (entries : List Entry) → AreInOrder entries → IsSortedBy (λ (a b : Entry). is_lt (slice_cmp nat_cmp a.id b.id)) entries
-sorted_by_id entries h = λ k d low high. ap is_lt (turned (get_or entries k d).id (get_or entries (k + 1) d).id Less (h k (k + 1) d (omega arith) high))
+sorted_entries : (entries : List Entry) → AreInOrder entries → IsSortedBy (λ (a b : Entry). is_lt (entry_cmp a b)) entries
+sorted_entries entries h = λ k d low high. ap is_lt (turned (get_or entries k d) (get_or entries (k + 1) d) Less (h k (k + 1) d (omega arith) high))
 
--- what a binary search by the ids finds
-pub place_found : (id : List ℕ) (entries : List Entry) (r : Result ℕ ℕ) → AreInOrder entries → IsSearchInRange r (length entries) → IsBinarySearchResult (λ (y : Entry). slice_cmp nat_cmp y.id id) entries r → IsPlace id entries r
-place_found id entries (Ok at) ordered within found = (
+-- what a binary search by this order finds
+pub place_found : (new : Entry) (entries : List Entry) (r : Result ℕ ℕ) → AreInOrder entries → IsSearchInRange r (length entries) → IsBinarySearchResult (λ (y : Entry). entry_cmp y new) entries r → IsPlace new entries r
+place_found new entries (Ok at) ordered within found = (
   within,
-  λ k d l. sym (order.congr (get_or entries at d).id id (get_or entries k d).id (found d)) ∙ turned (get_or entries k d).id (get_or entries at d).id Less (ordered k at d l within),
-  λ d. turned (get_or entries at d).id id Equal (found d),
+  λ k d l. sym (order.congr (get_or entries at d) new (get_or entries k d) (found d)) ∙ turned (get_or entries k d) (get_or entries at d) Less (ordered k at d l within),
+  λ d. turned (get_or entries at d) new Equal (found d),
 )
-place_found id entries (Err at) ordered within found =
-    let parts = found (searchable_from_sorted order (λ (e : Entry). e.id) entries id (sorted_by_id entries ordered)) in (
+place_found new entries (Err at) ordered within found =
+    let parts = found (searchable_from_sorted order (λ (e : Entry). e) entries new (sorted_entries entries ordered)) in (
       within,
-      λ k d l. turned (get_or entries k d).id id Less (parts.0 k d (omega arith) l),
-      λ d l. turned (get_or entries at d).id id Greater (parts.1 at d (omega arith) l),
+      λ k d l. turned (get_or entries k d) new Less (parts.0 k d (omega arith) l),
+      λ d l. turned (get_or entries at d) new Greater (parts.1 at d (omega arith) l),
     )
 
 -- a list of entries stays in order
@@ -82,12 +83,12 @@ stays_in_order e (x ∷ xs) h = go (entry_cmp e x) refl (stays_in_order e xs (in
     behind = in_order_behind x xs h
 
     go : (o : Ordering) → entry_cmp e x ≡ o → AreInOrder (replace_key entry_cmp xs e) → AreInOrder (match_ordering o (e ∷ x ∷ xs) (e ∷ xs) (x ∷ replace_key entry_cmp xs e))
-    go Less at later = in_order_cons e (x ∷ xs) (All-cons (λ (y : Entry). entry_cmp e y ≡ Less) x xs at (λ k d l. order.trans e.id x.id (get_or xs k d).id at (behind k d l))) h
-    go Equal at later = in_order_cons e xs (λ k d l. order.congr e.id x.id (get_or xs k d).id at ∙ behind k d l) (in_order_rest x xs h)
-    go Greater at later = in_order_cons x (replace_key entry_cmp xs e) (all_with (λ (y : Entry). entry_cmp x y ≡ Less) e xs (turned e.id x.id Greater at) behind) later
+    go Less at later = in_order_cons e (x ∷ xs) (All-cons (λ (y : Entry). entry_cmp e y ≡ Less) x xs at (λ k d l. order.trans e x (get_or xs k d) at (behind k d l))) h
+    go Equal at later = in_order_cons e xs (λ k d l. order.congr e x (get_or xs k d) at ∙ behind k d l) (in_order_rest x xs h)
+    go Greater at later = in_order_cons x (replace_key entry_cmp xs e) (all_with (λ (y : Entry). entry_cmp x y ≡ Less) e xs (turned e x Greater at) behind) later
 
-pub set_in_place : (e : Entry) (xs : List Entry) (at : ℕ) → IsPlace e.id xs (Ok at) → set xs at e ≡ replace_key entry_cmp xs e
+pub set_in_place : (e : Entry) (xs : List Entry) (at : ℕ) → IsPlace e xs (Ok at) → set xs at e ≡ replace_key entry_cmp xs e
 set_in_place e xs at h = set-place entry_cmp e xs at e (λ k l. h.1 k e l) h.0 (h.2 e)
 
-pub insert_in_place : (e : Entry) (xs : List Entry) (at : ℕ) → IsPlace e.id xs (Err at) → insert xs at e ≡ replace_key entry_cmp xs e
+pub insert_in_place : (e : Entry) (xs : List Entry) (at : ℕ) → IsPlace e xs (Err at) → insert xs at e ≡ replace_key entry_cmp xs e
 insert_in_place e xs at h = insert-place entry_cmp e xs at e (λ k l. h.1 k e l) h.0 (λ l. h.2 e l)

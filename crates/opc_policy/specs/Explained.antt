@@ -26,22 +26,22 @@ is_covering class resource profile = same_class profile.class class && covers_te
 abbrev pub covering_patterns : Class → List ℕ → List Profile → List (List ℕ)
 covering_patterns class resource profiles = map (λ (p : Profile). p.pattern) (covering resource (of_class class profiles))
 
--- The explanation for a user: what covers, active or not; the verdict by the profile that decides; its rule.
-abbrev pub explained_to : Option User → Policy → Class → List ℕ → List ℕ → Level → Result Explained Fault
-explained_to None policy class resource id needed = Err (Missing id)
-explained_to (Some user) policy class resource id needed =
+-- The explanation for a user, at a console if one is given: what covers, active or not; the verdict by the profile that decides; its rule.
+abbrev pub explained_to : Option User → Policy → Class → List ℕ → List ℕ → Option (List ℕ) → Level → Result Explained Fault
+explained_to None policy class resource id console needed = Err (Missing id)
+explained_to (Some user) policy class resource id console needed =
     let active = is_active policy.active class in
     let decided = deciding (of_class class policy.profiles) resource in
     let groups = groups_of policy.connects id in
     Ok (record {
       covering = covering_patterns class resource policy.profiles;
-      verdict = verdict active decided user groups needed;
-      rule = verdict_rule active decided user groups needed;
+      verdict = verdict active decided user console groups needed;
+      rule = verdict_rule active decided user console groups needed;
     })
 
 -- the explanation for the user with an id
-abbrev pub explanation : Policy → Class → List ℕ → List ℕ → Level → Result Explained Fault
-explanation policy class resource id needed = explained_to (user_of policy.users id) policy class resource id needed
+abbrev pub explanation : Policy → Class → List ℕ → List ℕ → Option (List ℕ) → Level → Result Explained Fault
+explanation policy class resource id console needed = explained_to (user_of policy.users id) policy class resource id console needed
 
 -- the line of a pattern that covers; 10 is the line feed
 abbrev pub covers_line : List ℕ → List ℕ

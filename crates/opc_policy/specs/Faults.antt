@@ -62,6 +62,8 @@ why_text why.Value = codes "Value"
 why_text why.Owner = codes "Owner"
 why_text why.Flags = codes "Flags"
 why_text why.Digest = codes "Digest"
+why_text why.When = codes "When"
+why_text why.Restricted = codes "Restricted"
 
 -- the name of a fault, then each detail behind a space, numbers in decimal
 abbrev pub fault_text : Fault → List ℕ

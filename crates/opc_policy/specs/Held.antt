@@ -1,11 +1,26 @@
 -- The level that a user holds in a profile.
-use Rattle.std.specs.Prelude.{ℕ, List}
+use Rattle.std.specs.Prelude.{ℕ, List, Option, Some, None, if◌then◌else◌, unwrap_or}
 use Rattle.opc_names.specs.declared.level.Level.{Level}
-use Rattle.opc_policy.specs.Access.{first_level}
+use Rattle.opc_names.specs.declared.level.Level.TheVariants as level
+use Rattle.opc_policy.specs.Access.{first_level, higher_level}
 use Rattle.opc_policy.specs.declared.profile.Profile.{Profile}
 use Rattle.opc_policy.specs.declared.user.User.{User}
 
--- By the profile's access list, and last its universal access. The groups are the user's connect groups.
--- SPECIAL, AUDITOR and WARNING give no level. (RACF guide: how access to a resource is checked.)
-unfoldable pub held : Profile → User → List (List ℕ) → Level
-held profile user groups = first_level profile.entries user.id groups profile.uacc
+-- what a profile gives those for whom it has no entry: its universal access, of which a RESTRICTED user has nothing
+abbrev pub universal_level : Profile → User → Level
+universal_level profile user = if user.restricted then level.None else profile.uacc
+
+-- the level by the entries that hold at every console, and last by the universal access
+abbrev pub plain_level : Profile → User → List (List ℕ) → Level
+plain_level profile user groups = unwrap_or (first_level profile.entries None user groups) (universal_level profile user)
+
+-- the level by the entries for one console alone; without a console none of them counts
+abbrev pub conditional_level : Profile → User → Option (List ℕ) → List (List ℕ) → Level
+conditional_level profile user None groups = level.None
+conditional_level profile user (Some console) groups = unwrap_or (first_level profile.entries (Some console) user groups) level.None
+
+-- The higher of both, so that an entry for a console raises a level there and never lowers one. The groups are the
+-- user's connect groups. SPECIAL, AUDITOR and WARNING give no level. (RACF guide: how access to a resource is checked;
+-- the rule of conditional entries and RESTRICTED users is this profile's own.)
+unfoldable pub held : Profile → User → Option (List ℕ) → List (List ℕ) → Level
+held profile user console groups = higher_level (plain_level profile user groups) (conditional_level profile user console groups)

@@ -14,22 +14,22 @@ use Rattle.opc_policy.specs.declared.user.User.{User}
 use Rattle.opc_policy.specs.declared.verdict.Verdict.{Verdict}
 use Rattle.opc_policy.specs.declared.verdict.Verdict.TheVariants.{Allowed, Undecided, Denied}
 
--- The verdict of a class on a user and a level, by the profile that decides in it: undecided where the class is
+-- The verdict of a class on a user at a console and a level, by the profile that decides in it: undecided where the class is
 -- inactive or none decides; allowed where the user holds the level, or the profile only warns; else denied.
-abbrev pub verdict : Bool → Option Profile → User → List (List ℕ) → Level → Verdict
-verdict false decided user groups needed = Undecided
-verdict true None user groups needed = Undecided
-verdict true (Some p) user groups needed = if includes (held p user groups) needed || p.warning then Allowed else Denied
+abbrev pub verdict : Bool → Option Profile → User → Option (List ℕ) → List (List ℕ) → Level → Verdict
+verdict false decided user console groups needed = Undecided
+verdict true None user console groups needed = Undecided
+verdict true (Some p) user console groups needed = if includes (held p user console groups) needed || p.warning then Allowed else Denied
 
 -- the rule of a profile for a user: with a warning where the level is not held and the profile only warns
-abbrev pub profile_rule : Profile → User → List (List ℕ) → Level → Rule
-profile_rule p user groups needed = rules.Profile p.class p.pattern (held p user groups) needed (not (includes (held p user groups) needed) && p.warning)
+abbrev pub profile_rule : Profile → User → Option (List ℕ) → List (List ℕ) → Level → Rule
+profile_rule p user console groups needed = rules.Profile p.class p.pattern (held p user console groups) needed (not (includes (held p user console groups) needed) && p.warning)
 
 -- the rule of a verdict
-abbrev pub verdict_rule : Bool → Option Profile → User → List (List ℕ) → Level → Rule
-verdict_rule false decided user groups needed = rules.NoProfile
-verdict_rule true None user groups needed = rules.NoProfile
-verdict_rule true (Some p) user groups needed = profile_rule p user groups needed
+abbrev pub verdict_rule : Bool → Option Profile → User → Option (List ℕ) → List (List ℕ) → Level → Rule
+verdict_rule false decided user console groups needed = rules.NoProfile
+verdict_rule true None user console groups needed = rules.NoProfile
+verdict_rule true (Some p) user console groups needed = profile_rule p user console groups needed
 
 -- by the authority of the console and the group of the command (MVS Planning: Operations)
 abbrev pub console_ruling : Auth → Need → Ruling
@@ -43,7 +43,7 @@ by_verdict Undecided rule other = other
 
 -- The ruling on a command at a console, where logon is no question: by the verdict on the acting user, that is
 -- the user who is on; where there is none, or the verdict is undecided, by the authority of the console.
-abbrev pub ruling : Bool → Option Profile → Option User → List (List ℕ) → Auth → Need → Ruling
-ruling active decided None groups auth need = console_ruling auth need
-ruling active decided (Some user) groups auth need =
-    by_verdict (verdict active decided user groups need.level) (verdict_rule active decided user groups need.level) (console_ruling auth need)
+abbrev pub ruling : Bool → Option Profile → Option User → Option (List ℕ) → List (List ℕ) → Auth → Need → Ruling
+ruling active decided None console groups auth need = console_ruling auth need
+ruling active decided (Some user) console groups auth need =
+    by_verdict (verdict active decided user console groups need.level) (verdict_rule active decided user console groups need.level) (console_ruling auth need)

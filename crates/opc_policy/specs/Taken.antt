@@ -61,7 +61,7 @@ after_row (rows.Connect user group) p =
 after_row (rows.Console name auth mode) p = Ok p
 after_row (rows.Profile class pattern uacc owner warning) p =
     after_definition (record { class = class; pattern = pattern; owner = owner; uacc = uacc; warning = warning; entries = [] }) p
-after_row (rows.Permit class pattern id level) p =
+after_row (rows.Permit class pattern id level when) p =
     needing (is_some (profile_of p.profiles class pattern)) pattern
     (needing (has_holder p id) id
-    (Ok (record p { profiles = with_permission class pattern (record { id = id; level = level }) p.profiles })))
+    (Ok (record p { profiles = with_permission class pattern (record { id = id; when = when; level = level }) p.profiles })))

@@ -1,15 +1,17 @@
 //! Access lists.
 ghost use Rattle.std.specs.Prelude.{◌≡◌, [], OnOk, OnErr};
-ghost use Rattle.opc_policy.specs.Access.{entry_level, with_entry, highest_level, higher, first_level, AreInOrder};
+ghost use Rattle.std.specs.Option.{option_copied};
+ghost use Rattle.opc_policy.specs.Access.{entry_level, with_entry, highest_level, higher, higher_level, everyone_level, first_level, AreInOrder};
 ghost use Rattle.opc_policy.specs.Places.{IsPlace};
 
-use crate::entry::{Entry, EntryId};
+use crate::entry::Entry;
+use crate::user::User;
 use opc_names::level::Level;
-use opc_names::name::{GroupName, UserId};
+use opc_names::name::{ConsoleName, GroupName};
 use std::alloc::{AllocError, Global};
 use std::marker::Model;
 
-/// An access list: one entry for an id, in the order of the ids.
+/// An access list: one entry for an id and a console, in the order of the ids and then of the consoles.
 #[derive(Debug, Drop)]
 pub struct Entries {
     list: Vec<Entry>,
@@ -44,20 +46,21 @@ impl Entries {
         self.list.as_slice()
     }
 
-    /// The level of the entry for an id, which is the name of a user or a group, or `*`.
-    pub fn level_of(&self, id: &str) -> Option<Level>
-        ensures { result ≡ entry_level self.now id.now }
+    /// The level of the entry for an id, which is the name of a user or a group, or `*`, at a console alone or,
+    /// where none is given, at every console.
+    pub fn level_of(&self, when: Option<&ConsoleName>, id: &str) -> Option<Level>
+        ensures { result ≡ entry_level self.now (option_copied when.entry) id.now }
     {
-        let entry = self.list.iter().find(|entry| entry.id.text() == id)?;
+        let entry = self.list.iter().find(|entry| entry.is_for(when, id))?;
         Some(entry.level)
     }
 
-    /// Sets the level for an id.
+    /// Sets the level for an id and a console.
     pub fn set(&mut self, entry: Entry) -> Result<(), AllocError>
         ensures ok { OnOk result (self.new ≡ with_entry entry self.old) }
         ensures err { OnErr result (self.new ≡ self.old) }
     {
-        match place_of(self.list.as_slice(), &entry.id) {
+        match place_of(self.list.as_slice(), &entry) {
             Ok(at) => self.list[at] = entry,
             Err(at) => self.list.insert(at, entry)?,
         }
@@ -65,34 +68,60 @@ impl Entries {
     }
 
     /// The highest level of the entries for these groups.
-    pub fn highest_level(&self, groups: &[GroupName]) -> Option<Level>
-        ensures { result ≡ highest_level self.now groups.now }
+    pub fn highest_level(&self, when: Option<&ConsoleName>, groups: &[GroupName]) -> Option<Level>
+        ensures { result ≡ highest_level self.now (option_copied when.entry) groups.now }
     {
         let mut highest = None;
         for group in groups {
-            highest = higher(highest, self.level_of(group.text()));
+            highest = higher(highest, self.level_of(when, group.text()));
         }
         highest
     }
 
-    /// The level of the first that has one: the user's own entry, the highest entry for one of the groups, the
-    /// entry for everyone, and last what is given.
-    pub fn first_level(&self, user: &UserId, groups: &[GroupName], last: Level) -> Level
-        ensures { result ≡ first_level self.now user.now groups.now last }
+    /// The level of the entry for everyone, which is none for a RESTRICTED user.
+    fn everyone_level(&self, when: Option<&ConsoleName>, user: &User) -> Option<Level>
+        ensures { result ≡ everyone_level self.now (option_copied when.entry) user.now }
     {
-        self.level_of(user.text())
-            .or_else(|| self.highest_level(groups))
-            .or_else(|| self.level_of("*"))
-            .unwrap_or(last)
+        if user.restricted {
+            None
+        } else {
+            self.level_of(when, "*")
+        }
+    }
+
+    /// The level of the first that has one: the user's own entry, the highest entry for one of the groups, the
+    /// entry for everyone.
+    pub fn first_level(
+        &self,
+        when: Option<&ConsoleName>,
+        user: &User,
+        groups: &[GroupName],
+    ) -> Option<Level>
+        ensures { result ≡ first_level self.now (option_copied when.entry) user.now groups.now }
+    {
+        if let Some(level) = self.level_of(when, user.id.text()) {
+            return Some(level);
+        }
+        if let Some(level) = self.highest_level(when, groups) {
+            return Some(level);
+        }
+        self.everyone_level(when, user)
     }
 }
 
-/// Where the entry for an id stands, or where it would stand.
-fn place_of(entries: &[Entry], id: &EntryId) -> Result<usize, usize>
+/// Where the entry for the id and the console of another stands, or where it would stand.
+fn place_of(entries: &[Entry], new: &Entry) -> Result<usize, usize>
     requires { AreInOrder entries.now }
-    ensures { IsPlace id.now entries.now result }
+    ensures { IsPlace new.now entries.now result }
 {
-    entries.binary_search_by(|entry| entry.id.cmp(id))
+    entries.binary_search_by(|entry| entry.place_cmp(new))
+}
+
+/// The higher of two levels.
+pub(crate) fn higher_level(level: Level, other: Level) -> Level
+    ensures { result ≡ higher_level level other }
+{
+    if level.includes(other) { level } else { other }
 }
 
 /// The higher of two levels, of those that are there.
@@ -100,7 +129,7 @@ fn higher(level: Option<Level>, other: Option<Level>) -> Option<Level>
     ensures { result ≡ higher level other }
 {
     match (level, other) {
-        (Some(level), Some(other)) => Some(if level.includes(other) { level } else { other }),
+        (Some(level), Some(other)) => Some(higher_level(level, other)),
         (Some(level), None) => Some(level),
         (None, other) => other,
     }

@@ -8,7 +8,7 @@ ghost use Rattle.std.specs.Str.{IsAscii};
 ghost use Rattle.opc_policy.specs.Entries.{entry_fault};
 
 use opc_names::level::Level;
-use opc_names::name::UserId;
+use opc_names::name::{ConsoleName, UserId};
 use opc_names::rule::NameFault;
 use std::cmp::Ordering;
 use std::fmt;
@@ -133,9 +133,29 @@ impl fmt::Display for EntryId {
     }
 }
 
-/// One entry of an access list.
+/// One entry of an access list: at every console, or at one console alone.
 #[derive(Clone, Copy, Debug)]
 pub struct Entry {
     pub id: EntryId,
+    pub when: Option<ConsoleName>,
     pub level: Level,
+}
+
+impl Entry {
+    ghost use Rattle.std.specs.Option.{option_copied};
+    ghost use Rattle.opc_policy.specs.Access.{is_for, entry_cmp};
+
+    /// Whether it is for an id, and for this console alone or, where none is given, for every console.
+    pub(crate) fn is_for(&self, when: Option<&ConsoleName>, id: &str) -> bool
+        ensures { result ≡ is_for (option_copied when.entry) id.now self.now }
+    {
+        self.id.text() == id && self.when.as_ref() == when
+    }
+
+    /// The order of ids, and then that of consoles.
+    pub(crate) fn place_cmp(&self, other: &Entry) -> Ordering
+        ensures { result ≡ entry_cmp self.now other.now }
+    {
+        self.id.cmp(&other.id).then(self.when.cmp(&other.when))
+    }
 }

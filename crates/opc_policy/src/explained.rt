@@ -15,7 +15,7 @@ use crate::rule::Rule;
 use crate::verdict::Verdict;
 use opc_names::class::Class;
 use opc_names::level::Level;
-use opc_names::name::{Pattern, Resource, UserId};
+use opc_names::name::{ConsoleName, Pattern, Resource, UserId};
 use std::alloc::{AllocError, Global};
 use std::fmt;
 use std::marker::Model;
@@ -51,21 +51,22 @@ pub struct Explained {
     pub rule: Rule,
 }
 
-/// Explains the access of a user to a resource of a class.
+/// Explains the access of a user to a resource of a class, at a console if one is given.
 pub fn explain(
     alloc: Global,
     policy: &Policy,
     class: Class,
     resource: &Resource,
     id: &UserId,
+    console: Option<&ConsoleName>,
     needed: Level,
 ) -> Result<Explained, Fault>
-    ensures ok { IfOk result (λ explained. explanation policy.now class resource.now id.now needed ≡ Ok explained) }
+    ensures ok { IfOk result (λ explained. explanation policy.now class resource.now id.now (option_copied console.entry) needed ≡ Ok explained) }
     ensures in_order { IfOk result (λ explained. AllPairs (λ p q. Before (tokens p) (tokens q)) explained.covering) }
     ensures fault { IfErr result (λ fault. fault ≢ Fault.NoMemory →
-        explanation policy.now class resource.now id.now needed ≡ Err fault) }
+        explanation policy.now class resource.now id.now (option_copied console.entry) needed ≡ Err fault) }
     ensures memory { IfErr result (λ fault. fault ≡ Fault.NoMemory →
-        IsOk (explanation policy.now class resource.now id.now needed)) }
+        IsOk (explanation policy.now class resource.now id.now (option_copied console.entry) needed)) }
 {
     let Some(user) = policy.users.get(id) else {
         return Err(Fault::Missing(Subject::of(id)));
@@ -74,8 +75,8 @@ pub fn explain(
     let covering = covering_patterns(alloc, &policy.profiles, class, resource)?;
     let (verdict, rule) = match decided(&policy.profiles, class, resource) {
         Some(profile) if policy.active.contains(class) => (
-            profile.verdict_on(user, &groups, needed),
-            profile.rule_for(user, &groups, needed),
+            profile.verdict_on(user, console, &groups, needed),
+            profile.rule_for(user, console, &groups, needed),
         ),
         _ => (Verdict::Undecided, Rule::NoProfile),
     };

@@ -90,6 +90,8 @@ pub enum Why {
     Owner,
     Flags,
     Digest,
+    When,
+    Restricted,
 }
 
 impl Why {
@@ -111,6 +113,8 @@ impl Why {
             Why::Owner => "Owner",
             Why::Flags => "Flags",
             Why::Digest => "Digest",
+            Why::When => "When",
+            Why::Restricted => "Restricted",
         }
     }
 }

@@ -6,12 +6,13 @@ ghost use Rattle.opc_policy.specs.Modes.{modes, mode_text};
 
 use std::fmt;
 
-/// Whether a user has to be logged on at a console before commands are entered there (MVS Planning:
-/// Operations, LOGON).
+/// Whether a user has to be logged on at a console before commands are entered there, or the console acts for the
+/// user of its own name where nobody is on (MVS Planning: Operations, LOGON).
 #[derive(Clone, Copy, Debug, PartialEq, Eq)]
 pub enum Mode {
     Optional,
     Required,
+    Auto,
 }
 
 impl Mode {
@@ -22,6 +23,7 @@ impl Mode {
         match text {
             "OPTIONAL" => Some(Mode::Optional),
             "REQUIRED" => Some(Mode::Required),
+            "AUTO" => Some(Mode::Auto),
             _ => None,
         }
     }
@@ -35,6 +37,7 @@ impl Mode {
         match self {
             Mode::Optional => "OPTIONAL",
             Mode::Required => "REQUIRED",
+            Mode::Auto => "AUTO",
         }
     }
 }

@@ -118,7 +118,8 @@ impl Policy {
                 pattern,
                 id,
                 level,
-            } => self.take_permit(class, &pattern, Entry { id, level }),
+                when,
+            } => self.take_permit(class, &pattern, Entry { id, when, level }),
         }
     }
 
@@ -178,9 +179,9 @@ impl Policy {
     }
 
     fn take_permit(&mut self, class: Class, pattern: &Pattern, entry: Entry) -> Result<(), Fault>
-        ensures ok { OnOk result (after_row (rows.Permit class pattern.now entry.id entry.level) self.old ≡ Ok self.new) }
-        ensures fault { IfErr result (λ fault. fault ≢ NoMemory → after_row (rows.Permit class pattern.now entry.id entry.level) self.old ≡ Err fault) }
-        ensures memory { IfErr result (λ fault. fault ≡ NoMemory → IsOk (after_row (rows.Permit class pattern.now entry.id entry.level) self.old)) }
+        ensures ok { OnOk result (after_row (rows.Permit class pattern.now entry.id entry.level entry.when) self.old ≡ Ok self.new) }
+        ensures fault { IfErr result (λ fault. fault ≢ NoMemory → after_row (rows.Permit class pattern.now entry.id entry.level entry.when) self.old ≡ Err fault) }
+        ensures memory { IfErr result (λ fault. fault ≡ NoMemory → IsOk (after_row (rows.Permit class pattern.now entry.id entry.level entry.when) self.old)) }
         ensures unchanged { OnErr result (self.new ≡ self.old) }
     {
         // A row that both of them are missing for names the profile.

@@ -1,11 +1,12 @@
 //! Profiles.
 ghost use Rattle.std.specs.Prelude.{◌≡◌};
+ghost use Rattle.std.specs.Option.{option_copied};
 
-use crate::entries::Entries;
+use crate::entries::{Entries, higher_level};
 use crate::user::User;
 use opc_names::class::Class;
 use opc_names::level::Level;
-use opc_names::name::{GroupName, Pattern, UserId};
+use opc_names::name::{ConsoleName, GroupName, Pattern, UserId};
 
 /// What a class says of the resources that a pattern covers: who owns the profile, the universal access,
 /// whether it only warns, and the access list (RACF guide: general resource profile).
@@ -21,7 +22,7 @@ pub struct Profile {
 
 impl Profile {
     ghost use Rattle.opc_names.specs.Authority.{same_class};
-    ghost use Rattle.opc_policy.specs.Held.{held};
+    ghost use Rattle.opc_policy.specs.Held.{universal_level, plain_level, conditional_level, held};
 
     /// Whether it is a profile of a class.
     pub(crate) fn is_of(&self, class: Class) -> bool
@@ -33,11 +34,48 @@ impl Profile {
         }
     }
 
-    /// The level that a user holds, who is connected to these groups.
+    /// The level that a user holds at a console, who is connected to these groups: the higher of the level that
+    /// holds at every console and the one at this console alone.
     #[tactic(auto, unfolding(crate::specs::Held::held))]
-    pub fn level_of(&self, user: &User, groups: &[GroupName]) -> Level
-        ensures { result ≡ held self.now user.now groups.now }
+    pub fn level_of(
+        &self,
+        user: &User,
+        console: Option<&ConsoleName>,
+        groups: &[GroupName],
+    ) -> Level
+        ensures { result ≡ held self.now user.now (option_copied console.entry) groups.now }
     {
-        self.entries.first_level(&user.id, groups, self.uacc)
+        let plain = self.plain_level(user, groups);
+        higher_level(plain, self.conditional_level(user, console, groups))
+    }
+
+    /// The level by the entries for every console, and last by the universal access.
+    fn plain_level(&self, user: &User, groups: &[GroupName]) -> Level
+        ensures { result ≡ plain_level self.now user.now groups.now }
+    {
+        let level = self.entries.first_level(None, user, groups);
+        level.unwrap_or(self.universal_level(user))
+    }
+
+    /// The level by the entries for one console alone; without a console none of them counts.
+    fn conditional_level(
+        &self,
+        user: &User,
+        console: Option<&ConsoleName>,
+        groups: &[GroupName],
+    ) -> Level
+        ensures { result ≡ conditional_level self.now user.now (option_copied console.entry) groups.now }
+    {
+        if console.is_none() {
+            return Level::None;
+        }
+        self.entries.first_level(console, user, groups).unwrap_or(Level::None)
+    }
+
+    /// What is given to those for whom there is no entry: a RESTRICTED user has nothing of it.
+    fn universal_level(&self, user: &User) -> Level
+        ensures { result ≡ universal_level self.now user.now }
+    {
+        if user.restricted { Level::None } else { self.uacc }
     }
 }

@@ -39,5 +39,6 @@ pub enum Row {
         pattern: Pattern,
         id: EntryId,
         level: Level,
+        when: Option<ConsoleName>,
     },
 }

@@ -11,7 +11,7 @@ use crate::user::User;
 use crate::verdict::Verdict;
 use opc_names::auth::Auth;
 use opc_names::level::Level;
-use opc_names::name::GroupName;
+use opc_names::name::{ConsoleName, GroupName};
 
 /// Whether a command is allowed, and by which rule.
 #[derive(Clone, Copy)]
@@ -25,10 +25,16 @@ impl Profile {
     ghost use Rattle.opc_policy.specs.Rulings.{verdict, profile_rule};
 
     /// The verdict on a user, where this profile decides in an active class.
-    pub fn verdict_on(&self, user: &User, groups: &[GroupName], needed: Level) -> Verdict
-        ensures { result ≡ verdict true (Some self.now) user.now groups.now needed }
+    pub fn verdict_on(
+        &self,
+        user: &User,
+        console: Option<&ConsoleName>,
+        groups: &[GroupName],
+        needed: Level,
+    ) -> Verdict
+        ensures { result ≡ verdict true (Some self.now) user.now (option_copied console.entry) groups.now needed }
     {
-        if self.level_of(user, groups).includes(needed) || self.warning {
+        if self.level_of(user, console, groups).includes(needed) || self.warning {
             Verdict::Allowed
         } else {
             Verdict::Denied
@@ -36,10 +42,16 @@ impl Profile {
     }
 
     /// The rule of that verdict.
-    pub fn rule_for(&self, user: &User, groups: &[GroupName], needed: Level) -> Rule
-        ensures { result ≡ profile_rule self.now user.now groups.now needed }
+    pub fn rule_for(
+        &self,
+        user: &User,
+        console: Option<&ConsoleName>,
+        groups: &[GroupName],
+        needed: Level,
+    ) -> Rule
+        ensures { result ≡ profile_rule self.now user.now (option_copied console.entry) groups.now needed }
     {
-        let held = self.level_of(user, groups);
+        let held = self.level_of(user, console, groups);
         Rule::Profile {
             class: self.class,
             pattern: self.pattern,
@@ -51,23 +63,24 @@ impl Profile {
 }
 
 /// The ruling on a command at a console, where logon is no question: by the profile that was found, where its
-/// class is active and a user is on; where none is, or the verdict is undecided, by the authority of the
+/// class is active and a user acts; where none does, or the verdict is undecided, by the authority of the
 /// console. The groups are the user's connect groups; without a user they are not looked at.
 pub fn rule_on(
     found: &Found,
     active: bool,
     user: Option<&User>,
+    console: Option<&ConsoleName>,
     groups: &[GroupName],
     auth: Auth,
     need: &Need,
 ) -> Ruling
-    ensures { result ≡ ruling active found.now.profile (option_copied user.entry) groups.now auth need.now }
+    ensures { result ≡ ruling active found.now.profile (option_copied user.entry) (option_copied console.entry) groups.now auth need.now }
 {
     let (Some(profile), Some(user), true) = (&found.profile, user, active) else {
         return console_ruling(auth, need);
     };
-    let rule = profile.rule_for(user, groups, need.level);
-    match profile.verdict_on(user, groups, need.level) {
+    let rule = profile.rule_for(user, console, groups, need.level);
+    match profile.verdict_on(user, console, groups, need.level) {
         Verdict::Allowed => Ruling::Allowed(rule),
         Verdict::Denied => Ruling::Denied(rule),
         Verdict::Undecided => console_ruling(auth, need),

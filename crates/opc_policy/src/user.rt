@@ -1,7 +1,8 @@
 //! Users.
 use opc_names::name::UserId;
 
-/// A user of the policy. The digest is the SHA-256 of the password; without one the user cannot log on.
+/// A user of the policy. The digest is the SHA-256 of the password; without one the user cannot log on. A
+/// RESTRICTED user has nothing of what a profile gives everyone.
 #[derive(Clone, Copy, Debug, PartialEq, Eq)]
 pub struct User {
     pub id: UserId,
@@ -9,4 +10,5 @@ pub struct User {
     pub auditor: bool,
     pub revoked: bool,
     pub digest: Option<[u8; 32]>,
+    pub restricted: bool,
 }

@@ -4,7 +4,7 @@ use crate::policy_file::read_rows;
 use clap::ArgMatches;
 use opc_names::class::Class;
 use opc_names::level::Level;
-use opc_names::name::{Resource, UserId};
+use opc_names::name::{ConsoleName, Resource, UserId};
 use opc_policy::explained::{Explained, explain};
 use opc_policy::fault::Fault;
 use opc_policy::policy::Policy;
@@ -19,6 +19,7 @@ struct Question {
     user: UserId,
     class: Class,
     resource: Resource,
+    console: Option<ConsoleName>,
     level: Level,
 }
 
@@ -29,11 +30,16 @@ impl Question {
         let class = Class::read(chosen.get_str("class").unwrap_or("")).ok_or("--class")?;
         let resource = chosen.get_str("resource").unwrap_or("");
         let resource = Resource::read(resource).map_err(|_| "--resource")?;
+        let console = match chosen.get_str("console") {
+            Some(name) => Some(ConsoleName::read(name).map_err(|_| "--console")?),
+            None => None,
+        };
         let level = Level::read(chosen.get_str("level").unwrap_or("")).ok_or("--level")?;
         Ok(Question {
             user,
             class,
             resource,
+            console,
             level,
         })
     }
@@ -76,6 +82,7 @@ fn answer<R: Read, W: Write>(
         question.class,
         &question.resource,
         &question.user,
+        question.console.as_ref(),
         question.level,
     )?;
     print(alloc, &explained, output)

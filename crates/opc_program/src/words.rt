@@ -39,6 +39,12 @@ fn explain_command<'a>(alloc: Global) -> Result<Command<'a>, AllocError> {
         .required(true))?
         .arg(value(
             alloc,
+            "console",
+            "CONSOLE",
+            "The console at which the user acts; entries for one console alone count there",
+        ))?
+        .arg(value(
+            alloc,
             "level",
             "LEVEL",
             "The level that is needed: NONE, READ, UPDATE, CONTROL or ALTER",

@@ -1,14 +1,14 @@
 //! Rulings, from what is loaded for them.
-ghost use Rattle.std.specs.Prelude.{◌≡◌, ◌≤◌, Some, IfOk, IsTrue, filter, length};
+ghost use Rattle.std.specs.Prelude.{◌≡◌, ◌≤◌, Some, IsTrue, filter, length};
 ghost use Rattle.opc_names.specs.Names.{is_plain, is_resource};
 ghost use Rattle.opc_names.specs.declared.class.Class.TheVariants.{Opercmds};
 ghost use Rattle.opc_policy.specs.Members.{groups_of};
 ghost use Rattle.opc_policy.specs.Rulings.{console_ruling, ruling as policy_ruling};
 ghost use Rattle.opc_policy.specs.Taken.{is_active};
 ghost use Rattle.opc_state.specs.Asked.{Answers};
-ghost use Rattle.opc_state.specs.State.{State, deciding_in};
+ghost use Rattle.opc_state.specs.State.{deciding_in};
 ghost use Rattle.opc_state.specs.Changes.{IsKept};
-ghost use Rattle.opc_machine.specs.Rulings.{is_required, is_allowed, logon_ruling, need_to_show, ruling, shown, to_show};
+ghost use Rattle.opc_machine.specs.Rulings.{acting, acting_user, is_auto, is_required, is_allowed, logon_ruling, own_user, need_to_show, ruling, shown, to_show};
 
 use opc_board::line::{Item, Line};
 use opc_board::rows::ConsoleRow;
@@ -16,7 +16,7 @@ use opc_names::auth::Auth;
 use opc_names::class::Class;
 use opc_names::group::Group;
 use opc_names::level::Level;
-use opc_names::name::{ConsoleName, Name, NameKind, Resource};
+use opc_names::name::{ConsoleName, Name, NameKind, Resource, UserId};
 use opc_policy::mode::Mode;
 use opc_policy::need::Need;
 use opc_policy::rule::Rule;
@@ -34,7 +34,16 @@ fn is_required(mode: Mode) -> bool
 {
     match mode {
         Mode::Required => true,
-        Mode::Optional => false,
+        Mode::Optional | Mode::Auto => false,
+    }
+}
+
+fn is_auto(mode: Mode) -> bool
+    ensures { result ≡ is_auto mode }
+{
+    match mode {
+        Mode::Auto => true,
+        Mode::Optional | Mode::Required => false,
     }
 }
 
@@ -47,7 +56,7 @@ fn by_console(auth: Auth, need: &Need) -> Ruling
         ranges: 0,
         rows: 0,
     };
-    rule_on(&found, false, None, &[], auth, need)
+    rule_on(&found, false, None, None, &[], auth, need)
 }
 
 // By the profile that decides for a user, else by the authority of the console.
@@ -55,17 +64,84 @@ fn by_profile<T: Tables>(
     tables: &mut T,
     alloc: Global,
     user: &User,
-    auth: Auth,
+    console: &ConsoleRow,
     need: &Need,
 ) -> Result<Ruling, StoreFault>
     ensures kept { IsKept T.is_sure T.represents T.may_leave tables.old tables.new }
     ensures ruling { Answers (T.is_sure tables.new) (T.represents tables.old) result (λ s r. r ≡
-        policy_ruling (is_active s.policy.active Opercmds) (deciding_in s.policy Opercmds need.now.resource) (Some user.now) (groups_of s.policy.connects user.now.id) auth need.now) }
+        policy_ruling (is_active s.policy.active Opercmds) (deciding_in s.policy Opercmds need.now.resource) (Some user.now) (Some console.now.name) (groups_of s.policy.connects user.now.id) console.now.auth need.now) }
 {
     let active = tables.is_active(Class::Opercmds)?;
     let found = tables.deciding(alloc, Class::Opercmds, &need.resource)?;
     let groups = tables.groups_of(alloc, &user.id)?;
-    Ok(rule_on(&found, active, Some(user), groups.as_slice(), auth, need))
+    Ok(rule_on(
+        &found,
+        active,
+        Some(user),
+        Some(&console.name),
+        groups.as_slice(),
+        console.auth,
+        need,
+    ))
+}
+
+// The id of a console's own user, which is the console's name.
+fn own_id(name: &ConsoleName) -> UserId
+    ensures { result ≡ name.now }
+{
+    match UserId::read(name.text()) {
+        Ok(id) => id,
+        Err(_) => unreachable!(),
+    }
+}
+
+// A console's own user, if it has one and acts for it.
+fn own_user_on<T: Tables>(
+    tables: &mut T,
+    alloc: Global,
+    console: &ConsoleRow,
+) -> Result<Option<UserId>, StoreFault>
+    ensures kept { IsKept T.is_sure T.represents T.may_leave tables.old tables.new }
+    ensures user { Answers (T.is_sure tables.new) (T.represents tables.old) result (λ s u. u ≡ own_user s console.now) }
+{
+    if !is_auto(console.mode) {
+        return Ok(None);
+    }
+    let id = own_id(&console.name);
+    match tables.user(alloc, &id)? {
+        Some(_) => Ok(Some(id)),
+        None => Ok(None),
+    }
+}
+
+/// For whom a console acts: the user who is on, or the console's own.
+pub fn acting_user_on<T: Tables>(
+    tables: &mut T,
+    alloc: Global,
+    console: &ConsoleRow,
+) -> Result<Option<UserId>, StoreFault>
+    ensures kept { IsKept T.is_sure T.represents T.may_leave tables.old tables.new }
+    ensures user { Answers (T.is_sure tables.new) (T.represents tables.old) result (λ s u. u ≡ acting_user s console.now) }
+{
+    match console.user {
+        Some(id) => Ok(Some(id)),
+        None => own_user_on(tables, alloc, console),
+    }
+}
+
+// The user for whom a console acts, if one is stored.
+fn acting_on<T: Tables>(
+    tables: &mut T,
+    alloc: Global,
+    console: &ConsoleRow,
+) -> Result<Option<User>, StoreFault>
+    ensures kept { IsKept T.is_sure T.represents T.may_leave tables.old tables.new }
+    ensures user { Answers (T.is_sure tables.new) (T.represents tables.old) result (λ s u. u ≡ acting s console.now) }
+{
+    match acting_user_on(tables, alloc, console)? {
+        Some(id) => tables.user(alloc, &id),
+        None => Ok(None),
+    }
 }
 
 /// The ruling on a need at a console.
@@ -78,19 +154,16 @@ pub fn ruling_on<T: Tables>(
     ensures kept { IsKept T.is_sure T.represents T.may_leave tables.old tables.new }
     ensures ruling { Answers (T.is_sure tables.new) (T.represents tables.old) result (λ s r. r ≡ ruling s console.now need.now) }
 {
-    let Some(id) = console.user else {
-        if is_required(console.mode) {
-            return Ok(Ruling::Denied(Rule::LogonRequired));
-        }
-        return Ok(by_console(console.auth, need));
-    };
-    let Some(user) = tables.user(alloc, &id)? else {
+    if is_required(console.mode) && console.user.is_none() {
+        return Ok(Ruling::Denied(Rule::LogonRequired));
+    }
+    let Some(user) = acting_on(tables, alloc, console)? else {
         return Ok(by_console(console.auth, need));
     };
     if user.revoked {
         return Ok(Ruling::Denied(Rule::Revoked));
     }
-    by_profile(tables, alloc, &user, console.auth, need)
+    by_profile(tables, alloc, &user, console, need)
 }
 
 fn resource_of(name: &ConsoleName) -> Resource
@@ -123,8 +196,9 @@ pub fn logon_ruling_on<T: Tables>(
         return Ok(Ruling::Allowed(Rule::NoProfile));
     };
     let groups = tables.groups_of(alloc, &user.id)?;
-    let rule = profile.rule_for(user, groups.as_slice(), Level::Read);
-    match profile.verdict_on(user, groups.as_slice(), Level::Read) {
+    let here = Some(&console.name);
+    let rule = profile.rule_for(user, here, groups.as_slice(), Level::Read);
+    match profile.verdict_on(user, here, groups.as_slice(), Level::Read) {
         Verdict::Allowed => Ok(Ruling::Allowed(rule)),
         Verdict::Denied => Ok(Ruling::Denied(rule)),
         Verdict::Undecided => Ok(Ruling::Allowed(Rule::NoProfile)),

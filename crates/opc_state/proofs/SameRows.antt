@@ -9,8 +9,8 @@ use Rattle.opc_names.specs.declared.auth.Auth.{Auth}
 use Rattle.opc_names.specs.declared.auth.Auth.TheVariants.{Master, All, Info, Sys, Io, Cons, SysIo, SysCons, IoCons, SysIoCons}
 use Rattle.opc_names.specs.Spellings.{auths, auth_text, lookup}
 use Rattle.opc_policy.specs.declared.mode.Mode.{Mode}
-use Rattle.opc_policy.specs.declared.mode.Mode.TheVariants.{Optional, Required}
-use Rattle.opc_policy.specs.Modes.{mode_text}
+use Rattle.opc_policy.specs.declared.mode.Mode.TheVariants.{Optional, Required, Auto}
+use Rattle.opc_policy.specs.Modes.{mode_text, modes}
 use Rattle.opc_board.specs.declared.rows.ConsoleRow.{ConsoleRow}
 use Rattle.opc_board.specs.declared.rows.DeviceRow.{DeviceRow}
 use Rattle.opc_board.specs.declared.rows.ReplyRow.{ReplyRow}
@@ -93,11 +93,13 @@ auth_reads_back SysIoCons = refl
 auth_of : (a b : Auth) → bytes_eq (auth_text a) (auth_text b) ≡ true → a ≡ b
 auth_of a b h = let s : Some a ≡ Some b = sym (auth_reads_back a) ∙ ap (lookup auths) (names (auth_text a) (auth_text b) h) ∙ auth_reads_back b in cc
 
-modes : (a b : Mode) → bytes_eq (mode_text a) (mode_text b) ≡ true → a ≡ b
-modes Optional Optional h = refl
-modes Optional Required h = absurd (cc)
-modes Required Optional h = absurd (cc)
-modes Required Required h = refl
+mode_reads_back : (m : Mode) → lookup modes (mode_text m) ≡ Some m
+mode_reads_back Optional = refl
+mode_reads_back Required = refl
+mode_reads_back Auto = refl
+
+mode_of : (a b : Mode) → bytes_eq (mode_text a) (mode_text b) ≡ true → a ≡ b
+mode_of a b h = let s : Some a ≡ Some b = sym (mode_reads_back a) ∙ ap (lookup modes) (names (mode_text a) (mode_text b) h) ∙ mode_reads_back b in cc
 
 pub units_same : (u v : UnitRow) → same_unit u v ≡ true → u ≡ v
 units_same u v h =
@@ -127,7 +129,7 @@ consoles_same c d h =
     let h1 = rest _ _ h in
     let auth : c.auth ≡ d.auth = auth_of _ _ (first _ _ h1) in
     let h2 = rest _ _ h1 in
-    let mode : c.mode ≡ d.mode = modes _ _ (first _ _ h2) in
+    let mode : c.mode ≡ d.mode = mode_of _ _ (first _ _ h2) in
     let h3 = rest _ _ h2 in
     let online : c.online ≡ d.online = flags _ _ (first _ _ h3) in
     let h4 = rest _ _ h3 in

@@ -1,5 +1,5 @@
 -- The members of a state that edits put and remove: the orders of the keys, and the lists with and without one.
-use Rattle.std.specs.Prelude.{◌==◌, ◌&&◌, ℕ, not, List, filter}
+use Rattle.std.specs.Prelude.{◌==◌, ◌&&◌, ℕ, not, List, Option, filter}
 use Rattle.std.specs.BTreeSet.{replace_key}
 use Rattle.std.specs.Option.{option_map_or}
 use Rattle.std.specs.Ordering.{nat_cmp}
@@ -10,6 +10,7 @@ use Rattle.opc_policy.specs.declared.connect.Connect.{Connect}
 use Rattle.opc_policy.specs.declared.entry.Entry.{Entry}
 use Rattle.opc_policy.specs.declared.profile.Profile.{Profile}
 use Rattle.opc_policy.specs.declared.user.User.{User}
+use Rattle.opc_policy.specs.Access.{is_for}
 use Rattle.opc_policy.specs.Members.{name_cmp}
 use Rattle.opc_policy.specs.Profiles.{is_of, profile_of, with_profile}
 use Rattle.opc_board.specs.declared.rows.ConsoleRow.{ConsoleRow}
@@ -63,13 +64,13 @@ without_connect c connects = filter (λ (d : Connect). not (bytes_eq d.user c.us
 abbrev pub without_profile : Class → List ℕ → List Profile → List Profile
 without_profile class pattern profiles = filter (λ (p : Profile). not (is_of class pattern p)) profiles
 
-abbrev pub without_entry : List ℕ → List Entry → List Entry
-without_entry id entries = filter (λ (e : Entry). not (bytes_eq e.id id)) entries
+abbrev pub without_entry : List ℕ → Option (List ℕ) → List Entry → List Entry
+without_entry id when entries = filter (λ (e : Entry). not (is_for when id e)) entries
 
 -- the profiles without this entry in the access list of one, if it is there
-abbrev pub without_permission : Class → List ℕ → List ℕ → List Profile → List Profile
-without_permission class pattern id profiles =
-    option_map_or (λ (p : Profile). with_profile (record p { entries = without_entry id p.entries }) profiles) (profile_of profiles class pattern) profiles
+abbrev pub without_permission : Class → List ℕ → List ℕ → Option (List ℕ) → List Profile → List Profile
+without_permission class pattern id when profiles =
+    option_map_or (λ (p : Profile). with_profile (record p { entries = without_entry id when p.entries }) profiles) (profile_of profiles class pattern) profiles
 
 abbrev pub without_unit : List ℕ → List UnitRow → List UnitRow
 without_unit name units = filter (λ (u : UnitRow). not (bytes_eq u.name name)) units

@@ -38,7 +38,8 @@ pub enum Edit {
     /// A profile goes with its access list.
     RemoveProfile(Class, Pattern),
     PutEntry(Class, Pattern, Entry),
-    RemoveEntry(Class, Pattern, EntryId),
+    /// The entry for this id, and for this console alone or, where none is given, for every console.
+    RemoveEntry(Class, Pattern, EntryId, Option<ConsoleName>),
     PutUnit(UnitRow),
     RemoveUnit(UnitName),
     PutDevice(DeviceRow),

@@ -1,13 +1,12 @@
 use Rattle.std.proofs.Common.{◌≡◌, arith, sym, take}
-use Rattle.std.proofs.lemmas.Grind.{common_steps}
 use Rattle.std.proofs.lemmas.List.{take_all}
-use Rattle.opc_import.proofs.RoundTrip.{all-more}
+use Rattle.opc_import.proofs.RoundTrip.{all-more, line-added}
 use Rattle.opc_import.proofs.write.lines_of.Goals as goal
 
 pub loop-row-preserved : goal.loop-row-preserved
 loop-row-preserved c = (
   c.in_ok-put_line-2.ensures.fresh,
-  grind (arith, common_steps),
+  line-added _ _ _ _ _ _ (omega arith) (sym c.row-item.is) c.in_ok-fill.ensures.fields c.in_ok-put_line-2.ensures.bytes c.loop-row.invariant.1,
   all-more _ _ _ (omega arith) (sym c.row-item.is) c.loop-row.invariant.2 c.in_ok-fill.ensures.valid,
 )
 

@@ -28,6 +28,7 @@ use opc_policy::row::Row;
 use opc_policy::rule::Rule;
 use opc_policy::source::StoreFault;
 use opc_rulings::console::console_at;
+use opc_rulings::ruling::acting_user_on;
 use opc_state::account::AccountRow;
 use opc_state::change::Change;
 use opc_state::tables::Tables;

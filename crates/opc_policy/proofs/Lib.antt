@@ -1,5 +1,6 @@
 pub mod ByHeads
 pub mod Counts
+pub mod Decided
 pub mod FirstCovering
 pub mod Highest
 pub mod InOrder

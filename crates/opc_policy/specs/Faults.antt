@@ -5,6 +5,13 @@ use Rattle.opc_policy.specs.declared.fault.Fault.{Fault}
 use Rattle.opc_policy.specs.declared.fault.Fault.TheVariants.{Empty, TooLong, BadCharacter, UnknownVerb, BadOperand, OpenQuote, NoConsole, ConsoleOffline, LogonRequired, Revoked, BadLogon, AlreadyOn, NotOn, DeniedConsole, DeniedProfile, DeniedGroup, NoUnit, NonCancelable, Cancelable, UnitExists, NoDevice, DeviceState, DeviceInUse, NoVolume, NoReply, NoTarget, Halted, LastMaster, WrongKind, ReplyExists, NotSpecial, NotOwner, Exists, Missing, InUse, BatchChanged, NotEmpty, RowFault, NoMemory, Store, NotOurs}
 use Rattle.opc_policy.specs.declared.fault.Why.{Why}
 use Rattle.opc_policy.specs.declared.fault.Why.TheVariants as why
+use Rattle.opc_policy.specs.declared.source.StoreFault.{StoreFault}
+use Rattle.opc_policy.specs.declared.source.StoreFault.TheVariants as store
+
+-- what a request is refused with where its source has no answer
+abbrev pub store_fault : StoreFault → Fault
+store_fault store.NoMemory = NoMemory
+store_fault store.Store = Store
 
 abbrev pub fault_code : Fault → List ℕ
 fault_code Empty = codes "E01"

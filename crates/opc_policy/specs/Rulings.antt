@@ -25,6 +25,11 @@ verdict true (Some p) user console groups needed = if includes (held p user cons
 abbrev pub profile_rule : Profile → User → Option (List ℕ) → List (List ℕ) → Level → Rule
 profile_rule p user console groups needed = rules.Profile p.class p.pattern (held p user console groups) needed (not (includes (held p user console groups) needed) && p.warning)
 
+-- the ruling of a profile on a user, where it decides
+abbrev pub profile_ruling : Profile → User → Option (List ℕ) → List (List ℕ) → Level → Ruling
+profile_ruling p user console groups needed =
+    if includes (held p user console groups) needed || p.warning then rulings.Allowed (profile_rule p user console groups needed) else rulings.Denied (profile_rule p user console groups needed)
+
 -- the rule of a verdict
 abbrev pub verdict_rule : Bool → Option Profile → User → Option (List ℕ) → List (List ℕ) → Level → Rule
 verdict_rule false decided user console groups needed = rules.NoProfile
@@ -40,6 +45,15 @@ abbrev pub by_verdict : Verdict → Rule → Ruling → Ruling
 by_verdict Allowed rule other = rulings.Allowed rule
 by_verdict Denied rule other = rulings.Denied rule
 by_verdict Undecided rule other = other
+
+-- what a ruling says, and its rule
+abbrev pub verdict_of : Ruling → Verdict
+verdict_of (rulings.Allowed rule) = Allowed
+verdict_of (rulings.Denied rule) = Denied
+
+abbrev pub rule_of : Ruling → Rule
+rule_of (rulings.Allowed rule) = rule
+rule_of (rulings.Denied rule) = rule
 
 -- The ruling on a command at a console, where logon is no question: by the verdict on the acting user, that is
 -- the user who is on; where there is none, or the verdict is undecided, by the authority of the console.

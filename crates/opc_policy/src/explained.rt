@@ -74,10 +74,10 @@ pub fn explain(
     let groups = policy.connects.groups_of(alloc, id)?;
     let covering = covering_patterns(alloc, &policy.profiles, class, resource)?;
     let (verdict, rule) = match decided(&policy.profiles, class, resource) {
-        Some(profile) if policy.active.contains(class) => (
-            profile.verdict_on(user, console, &groups, needed),
-            profile.rule_for(user, console, &groups, needed),
-        ),
+        Some(profile) if policy.active.contains(class) => {
+            let ruling = profile.ruling_for(user, console, &groups, needed);
+            (ruling.verdict(), ruling.rule())
+        }
         _ => (Verdict::Undecided, Rule::NoProfile),
     };
     Ok(Explained {

@@ -3,6 +3,7 @@ ghost use Rattle.std.specs.Prelude.{◌≡◌, ◌≤◌, IfOk, length, string_b
 ghost use Rattle.std.specs.Str.{IsAscii};
 
 use crate::entry::EntryId;
+use crate::source::StoreFault;
 use opc_names::bytes::Bytes;
 use opc_names::name::{Name, NameKind, UserId};
 use std::alloc::{AllocError, Global};
@@ -289,6 +290,20 @@ impl From<AllocError> for Fault {
 
     fn from(_refused: AllocError) -> Self {
         Fault::NoMemory
+    }
+}
+
+impl From<StoreFault> for Fault {
+    ghost use Rattle.std.specs.Prelude.{◌≡◌};
+    ghost use Rattle.opc_policy.specs.Faults.{store_fault};
+
+    ghost from_gives = { λ store fault. fault ≡ store_fault store };
+
+    fn from(store: StoreFault) -> Self {
+        match store {
+            StoreFault::NoMemory => Fault::NoMemory,
+            StoreFault::Store => Fault::Store,
+        }
     }
 }
 

@@ -69,13 +69,19 @@ impl Profile {
         if console.is_none() {
             return Level::None;
         }
-        self.entries.first_level(console, user, groups).unwrap_or(Level::None)
+        self.entries
+            .first_level(console, user, groups)
+            .unwrap_or(Level::None)
     }
 
     /// What is given to those for whom there is no entry: a RESTRICTED user has nothing of it.
     fn universal_level(&self, user: &User) -> Level
         ensures { result ≡ universal_level self.now user.now }
     {
-        if user.restricted { Level::None } else { self.uacc }
+        if user.restricted {
+            Level::None
+        } else {
+            self.uacc
+        }
     }
 }

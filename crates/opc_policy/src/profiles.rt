@@ -93,8 +93,8 @@ impl Profiles {
         Ok(())
     }
 
-    /// One more entry in the access list of a profile, in the place of one for its id and console (RACF guide: PERMIT), and
-    /// whether there is such a profile. Where there is none nothing changes.
+    /// One more entry in the access list of a profile, in the place of one for its id and console (RACF guide:
+    /// PERMIT), and whether there is such a profile. Where there is none nothing changes.
     pub fn permit(
         &mut self,
         class: Class,

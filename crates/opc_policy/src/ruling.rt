@@ -20,44 +20,58 @@ pub enum Ruling {
     Denied(Rule),
 }
 
-impl Profile {
-    ghost use Rattle.std.specs.Prelude.{Some, true};
-    ghost use Rattle.opc_policy.specs.Rulings.{verdict, profile_rule};
+impl Ruling {
+    ghost use Rattle.opc_policy.specs.Rulings.{verdict_of, rule_of};
 
-    /// The verdict on a user, where this profile decides in an active class.
-    pub fn verdict_on(
-        &self,
-        user: &User,
-        console: Option<&ConsoleName>,
-        groups: &[GroupName],
-        needed: Level,
-    ) -> Verdict
-        ensures { result ≡ verdict true (Some self.now) user.now (option_copied console.entry) groups.now needed }
+    /// What it says.
+    pub fn verdict(&self) -> Verdict
+        ensures { result ≡ verdict_of self.now }
     {
-        if self.level_of(user, console, groups).includes(needed) || self.warning {
-            Verdict::Allowed
-        } else {
-            Verdict::Denied
+        match self {
+            Ruling::Allowed(_) => Verdict::Allowed,
+            Ruling::Denied(_) => Verdict::Denied,
         }
     }
 
-    /// The rule of that verdict.
-    pub fn rule_for(
+    /// The rule that decided.
+    pub fn rule(&self) -> Rule
+        ensures { result ≡ rule_of self.now }
+    {
+        match self {
+            Ruling::Allowed(rule) | Ruling::Denied(rule) => *rule,
+        }
+    }
+}
+
+impl Profile {
+    ghost use Rattle.std.specs.Prelude.{Some, true};
+    ghost use Rattle.opc_policy.specs.Rulings.{profile_ruling, profile_rule, verdict, verdict_of, rule_of};
+
+    /// The ruling on a user at a console, where this profile decides. The groups are the user's connect groups.
+    pub fn ruling_for(
         &self,
         user: &User,
         console: Option<&ConsoleName>,
         groups: &[GroupName],
         needed: Level,
-    ) -> Rule
-        ensures { result ≡ profile_rule self.now user.now (option_copied console.entry) groups.now needed }
+    ) -> Ruling
+        ensures ruling { result ≡ profile_ruling self.now user.now (option_copied console.entry) groups.now needed }
+        ensures verdict { verdict_of result ≡ verdict true (Some self.now) user.now (option_copied console.entry) groups.now needed }
+        ensures rule { rule_of result ≡ profile_rule self.now user.now (option_copied console.entry) groups.now needed }
     {
         let held = self.level_of(user, console, groups);
-        Rule::Profile {
+        let is_held = held.includes(needed);
+        let rule = Rule::Profile {
             class: self.class,
             pattern: self.pattern,
             held,
             needed,
-            warned: !held.includes(needed) && self.warning,
+            warned: !is_held && self.warning,
+        };
+        if is_held || self.warning {
+            Ruling::Allowed(rule)
+        } else {
+            Ruling::Denied(rule)
         }
     }
 }
@@ -79,15 +93,11 @@ pub fn rule_on(
     let (Some(profile), Some(user), true) = (&found.profile, user, active) else {
         return console_ruling(auth, need);
     };
-    let rule = profile.rule_for(user, console, groups, need.level);
-    match profile.verdict_on(user, console, groups, need.level) {
-        Verdict::Allowed => Ruling::Allowed(rule),
-        Verdict::Denied => Ruling::Denied(rule),
-        Verdict::Undecided => console_ruling(auth, need),
-    }
+    profile.ruling_for(user, console, groups, need.level)
 }
 
-fn console_ruling(auth: Auth, need: &Need) -> Ruling
+/// The ruling by the authority of a console alone.
+pub fn console_ruling(auth: Auth, need: &Need) -> Ruling
     ensures { result ≡ console_ruling auth need.now }
 {
     let rule = Rule::ConsoleGroup {

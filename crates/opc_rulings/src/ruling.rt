@@ -3,7 +3,7 @@ ghost use Rattle.std.specs.Prelude.{◌≡◌, ◌≤◌, Some, IsTrue, filter, 
 ghost use Rattle.opc_names.specs.Names.{is_plain, is_resource};
 ghost use Rattle.opc_names.specs.declared.class.Class.TheVariants.{Opercmds};
 ghost use Rattle.opc_policy.specs.Members.{groups_of};
-ghost use Rattle.opc_policy.specs.Rulings.{console_ruling, ruling as policy_ruling};
+ghost use Rattle.opc_policy.specs.Rulings.{ruling as policy_ruling};
 ghost use Rattle.opc_policy.specs.Taken.{is_active};
 ghost use Rattle.opc_state.specs.Asked.{Answers};
 ghost use Rattle.opc_state.specs.State.{deciding_in};
@@ -20,11 +20,9 @@ use opc_names::name::{ConsoleName, Name, NameKind, Resource, UserId};
 use opc_policy::mode::Mode;
 use opc_policy::need::Need;
 use opc_policy::rule::Rule;
-use opc_policy::ruling::{Ruling, rule_on};
-use opc_policy::search::Found;
+use opc_policy::ruling::{Ruling, console_ruling, rule_on};
 use opc_policy::source::StoreFault;
 use opc_policy::user::User;
-use opc_policy::verdict::Verdict;
 use opc_rows::Rows;
 use opc_state::tables::Tables;
 use std::alloc::Global;
@@ -45,18 +43,6 @@ fn is_auto(mode: Mode) -> bool
         Mode::Auto => true,
         Mode::Optional | Mode::Required => false,
     }
-}
-
-// By the authority of the console alone.
-fn by_console(auth: Auth, need: &Need) -> Ruling
-    ensures { result ≡ console_ruling auth need.now }
-{
-    let found = Found {
-        profile: None,
-        ranges: 0,
-        rows: 0,
-    };
-    rule_on(&found, false, None, None, &[], auth, need)
 }
 
 // By the profile that decides for a user, else by the authority of the console.
@@ -158,7 +144,7 @@ pub fn ruling_on<T: Tables>(
         return Ok(Ruling::Denied(Rule::LogonRequired));
     }
     let Some(user) = acting_on(tables, alloc, console)? else {
-        return Ok(by_console(console.auth, need));
+        return Ok(console_ruling(console.auth, need));
     };
     if user.revoked {
         return Ok(Ruling::Denied(Rule::Revoked));
@@ -196,13 +182,7 @@ pub fn logon_ruling_on<T: Tables>(
         return Ok(Ruling::Allowed(Rule::NoProfile));
     };
     let groups = tables.groups_of(alloc, &user.id)?;
-    let here = Some(&console.name);
-    let rule = profile.rule_for(user, here, groups.as_slice(), Level::Read);
-    match profile.verdict_on(user, here, groups.as_slice(), Level::Read) {
-        Verdict::Allowed => Ok(Ruling::Allowed(rule)),
-        Verdict::Denied => Ok(Ruling::Denied(rule)),
-        Verdict::Undecided => Ok(Ruling::Allowed(Rule::NoProfile)),
-    }
+    Ok(profile.ruling_for(user, Some(&console.name), groups.as_slice(), Level::Read))
 }
 
 fn is_allowed(ruling: Ruling) -> bool

@@ -7,9 +7,9 @@ use opc_import::write::write_policy;
 use opc_policy::fault::Fault;
 use std::alloc::{AllocError, Global};
 
-const HEADER: &str = "kind,class,name,id,value,owner,flags,digest\n";
+const HEADER: &str = "kind,class,name,id,value,owner,flags,digest,when,restricted\n";
 
-const ROW: &str = "group,,DAY,,,,,\n";
+const ROW: &str = "group,,DAY,,,,,,,\n";
 
 pub fn answer(alloc: Global, line: &str) -> Result<String> {
     let (subject, rest) = line.split_once(' ').unwrap_or((line, ""));

@@ -1,5 +1,6 @@
 //! What is answered on each subject.
 use crate::faults::fault_of;
+use crate::levels::compared;
 use crate::words::Words;
 use anyhow::{Context, Result, bail};
 use opc_import::read::read_policy;
@@ -12,7 +13,7 @@ use opc_policy::profile::Profile;
 use opc_policy::search::search;
 use std::alloc::{AllocError, Global};
 
-const HEADER: &str = "kind,class,name,id,value,owner,flags,digest";
+const HEADER: &str = "kind,class,name,id,value,owner,flags,digest,when,restricted";
 
 pub fn answer(alloc: Global, policy: &mut Policy, line: &str) -> Result<String> {
     let (subject, rest) = line.split_once(' ').unwrap_or((line, ""));
@@ -28,6 +29,7 @@ pub fn answer(alloc: Global, policy: &mut Policy, line: &str) -> Result<String> 
         "search" => searched(alloc, policy, &words),
         "entries" => entries_of(alloc, policy, &words),
         "id" => id_of(alloc, rest),
+        "levels" => compared(alloc),
         "fault" => Ok(spelled(alloc, &fault_of(rest)?)?),
         _ => bail!("no subject"),
     }
@@ -61,11 +63,20 @@ fn take(alloc: Global, policy: &mut Policy, record: &str) -> Result<String> {
     Ok(String::from_str(alloc, "taken")?)
 }
 
-/// Why a user may or may not have a level of access: class, resource, user, level.
+/// Why a user may or may not have a level of access: class, resource, user, level, and perhaps a console.
 fn explained(alloc: Global, policy: &Policy, words: &Words<'_>) -> Result<String> {
     let (class, resource) = (words.class(0)?, words.resource(1)?);
     let (user, level) = (words.user(2)?, words.level(3)?);
-    match explain(alloc, policy, class, &resource, &user, level) {
+    let console = words.console(4)?;
+    match explain(
+        alloc,
+        policy,
+        class,
+        &resource,
+        &user,
+        console.as_ref(),
+        level,
+    ) {
         Ok(explained) => {
             let text = explained.to_string(alloc)?;
             Ok(in_one_line(alloc, text.as_str())?)
@@ -123,6 +134,10 @@ fn entries_of(alloc: Global, policy: &Policy, words: &Words<'_>) -> Result<Strin
         list.push_str(entry.id.text())?;
         list.push_str(" ")?;
         list.push_str(entry.level.text())?;
+        if let Some(console) = &entry.when {
+            list.push_str(" WHEN ")?;
+            list.push_str(console.text())?;
+        }
     }
     Ok(list)
 }

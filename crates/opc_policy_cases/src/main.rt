@@ -4,6 +4,8 @@
 
 mod answers;
 mod faults;
+mod levels;
+mod plain;
 mod words;
 
 use crate::answers::answer;

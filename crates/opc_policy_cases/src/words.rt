@@ -2,7 +2,7 @@
 use anyhow::{Context, Result};
 use opc_names::class::Class;
 use opc_names::level::Level;
-use opc_names::name::{Pattern, Resource, UserId};
+use opc_names::name::{ConsoleName, Pattern, Resource, UserId};
 use std::alloc::{AllocError, Global};
 
 #[derive(Drop)]
@@ -35,6 +35,15 @@ impl<'a> Words<'a> {
 
     pub fn resource(&self, place: usize) -> Result<Resource> {
         Ok(Resource::read(self.at(place))?)
+    }
+
+    /// The console at a place, if there is a word.
+    pub fn console(&self, place: usize) -> Result<Option<ConsoleName>> {
+        let word = self.at(place);
+        if word.is_empty() {
+            return Ok(None);
+        }
+        Ok(Some(ConsoleName::read(word)?))
     }
 
     pub fn user(&self, place: usize) -> Result<UserId> {

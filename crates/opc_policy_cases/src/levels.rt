@@ -1,0 +1,170 @@
+//! The level that a user holds by all small access lists, compared with the plain program: entries of the user, of two
+//! groups and for everyone, for every console and for one alone, each missing or with one of two levels; two universal
+//! accesses; RESTRICTED or not; at that console, at another, or at none.
+use crate::plain::{Sources, held};
+use anyhow::{Result, bail};
+use opc_names::class::Class;
+use opc_names::level::Level;
+use opc_names::name::{ConsoleName, GroupName, Pattern, UserId};
+use opc_policy::entries::Entries;
+use opc_policy::entry::{Entry, EntryId};
+use opc_policy::profile::Profile;
+use opc_policy::user::User;
+use std::alloc::{AllocError, Global};
+
+/// Who asks, and where: at the console of the entries, or at another one.
+#[derive(Clone, Copy)]
+struct Names {
+    user: UserId,
+    groups: [GroupName; 2],
+    here: ConsoleName,
+    elsewhere: ConsoleName,
+}
+
+impl Names {
+    fn read() -> Result<Self> {
+        Ok(Names {
+            user: UserId::read("ANNA")?,
+            groups: [GroupName::read("NIGHT")?, GroupName::read("OPS")?],
+            here: ConsoleName::read("C1")?,
+            elsewhere: ConsoleName::read("C2")?,
+        })
+    }
+
+    /// The ids of the entries, in the order of the sources.
+    fn ids(&self) -> Result<[EntryId; 4]> {
+        Ok([
+            EntryId::from(self.user),
+            EntryId::read("NIGHT")?,
+            EntryId::read("OPS")?,
+            EntryId::everyone(),
+        ])
+    }
+}
+
+fn level_at(number: u8) -> Level {
+    match number {
+        0 => Level::None,
+        _ => Level::Read,
+    }
+}
+
+/// Compares all of them, and says how many.
+pub fn compared(alloc: Global) -> Result<String> {
+    let names = Names::read()?;
+    let mut count = 0u64;
+    for there in 0..=u8::MAX {
+        count = count.saturating_add(with_entries(alloc, &names, there % 16, there / 16)?);
+    }
+    Ok(format!(in alloc; "{count} levels")?)
+}
+
+/// Compares the lists that have these entries, one bit for each: for every console, and for one alone.
+fn with_entries(alloc: Global, names: &Names, plain: u8, there: u8) -> Result<u64> {
+    let there = all_levels(alloc, there)?;
+    let mut profile = Profile {
+        class: Class::Opercmds,
+        pattern: Pattern::read("A")?,
+        owner: names.user,
+        uacc: Level::None,
+        warning: false,
+        entries: Entries::new(alloc),
+    };
+    let mut count = 0u64;
+    for sources in &all_levels(alloc, plain)? {
+        set_levels(&mut profile.entries, names, None, sources)?;
+        count = count.saturating_add(raised(&mut profile, names, sources, &there)?);
+    }
+    Ok(count)
+}
+
+/// Compares the lists that have these entries for every console, and each of those for one alone.
+fn raised(profile: &mut Profile, names: &Names, plain: &Sources, all: &[Sources]) -> Result<u64> {
+    let mut count = 0u64;
+    for there in all {
+        set_levels(&mut profile.entries, names, Some(names.here), there)?;
+        count = count.saturating_add(asked(profile, names, plain, there)?);
+    }
+    Ok(count)
+}
+
+/// Compares what users hold by one list.
+fn asked(profile: &mut Profile, names: &Names, plain: &Sources, there: &Sources) -> Result<u64> {
+    let mut count = 0u64;
+    for case in 0..12u8 {
+        let (universal, restricted) = (case % 2, case / 2 % 2 == 1);
+        let (console, sources) = match case / 4 {
+            0 => (None, None),
+            1 => (Some(names.elsewhere), None),
+            _ => (Some(names.here), Some(there)),
+        };
+        let user = User {
+            id: names.user,
+            special: false,
+            auditor: false,
+            revoked: false,
+            digest: None,
+            restricted,
+        };
+        profile.uacc = level_at(universal);
+        let level = profile.level_of(&user, console.as_ref(), &names.groups);
+        let wanted = level_at(held(plain, sources, universal, restricted));
+        if level != wanted {
+            bail!("case {case}: {level}, not {wanted}");
+        }
+        count = count.saturating_add(1);
+    }
+    Ok(count)
+}
+
+/// All levels of the entries that are there, one bit for each.
+fn all_levels(alloc: Global, there: u8) -> Result<Vec<Sources>, AllocError> {
+    let mut all = Vec::new(alloc);
+    for number in 0..81 {
+        let sources = sources_of(number);
+        if entries_in(&sources) == there {
+            all.push(sources)?;
+        }
+    }
+    Ok(all)
+}
+
+/// The sources of a number, each of whose digits to the base 3 is 0 for a missing one, else a level and 1.
+fn sources_of(number: u8) -> Sources {
+    Sources {
+        own: (number % 3).checked_sub(1),
+        groups: [
+            (number / 3 % 3).checked_sub(1),
+            (number / 9 % 3).checked_sub(1),
+        ],
+        everyone: (number / 27).checked_sub(1),
+    }
+}
+
+/// Which of them have a level, one bit for each.
+fn entries_in(sources: &Sources) -> u8 {
+    let [night, ops] = sources.groups;
+    let groups = u8::from(night.is_some()) * 2 + u8::from(ops.is_some()) * 4;
+    u8::from(sources.own.is_some()) + groups + u8::from(sources.everyone.is_some()) * 8
+}
+
+/// Sets the entries that have a level.
+fn set_levels(
+    entries: &mut Entries,
+    names: &Names,
+    when: Option<ConsoleName>,
+    sources: &Sources,
+) -> Result<()> {
+    let [night, ops] = sources.groups;
+    for (id, level) in names
+        .ids()?
+        .into_iter()
+        .zip([sources.own, night, ops, sources.everyone])
+    {
+        if let Some(number) = level {
+            let level = level_at(number);
+            entries.set(Entry { id, when, level })?;
+        }
+    }
+    Ok(())
+}

@@ -9,17 +9,20 @@ use opc_policy::source::{ProfileSource, StoreFault, Taken};
 use std::alloc::Global;
 use std::test::Fail;
 
-const FILE: &str = "kind,class,name,id,value,owner,flags,digest\n\
-class,OPERCMDS,,,ACTIVE,,,\n\
-group,,OPS,,,,,\n\
-user,,SECADM,,,,S,b5d4045c3f466fa91fe2cc6abe79232a1a57cdf104f7a26e716e0a1e2789df78\n\
-connect,,SECADM,OPS,,,,\n\
-console,,C1,,\"SYS,CONS\",,REQUIRED,\n\
-profile,OPERCMDS,MVS.CANCEL.JOB.PAY*,,NONE,SECADM,,\n\
-profile,OPERCMDS,MVS.CANCEL.JOB.*,,NONE,SECADM,,\n\
-profile,OPERCMDS,MVS.DISPLAY.**,,READ,SECADM,,\n\
-profile,OPERCMDS,MVS.VARY.DEV,,NONE,SECADM,W,\n\
-permit,OPERCMDS,MVS.CANCEL.JOB.*,OPS,UPDATE,,,\n";
+const FILE: &str = "kind,class,name,id,value,owner,flags,digest,when,restricted\n\
+class,OPERCMDS,,,ACTIVE,,,,,\n\
+group,,OPS,,,,,,,\n\
+user,,CARL,,,,,,,Y\n\
+user,,SECADM,,,,S,b5d4045c3f466fa91fe2cc6abe79232a1a57cdf104f7a26e716e0a1e2789df78,,\n\
+connect,,SECADM,OPS,,,,,,\n\
+console,,C1,,\"SYS,CONS\",,REQUIRED,,,\n\
+console,,C2,,INFO,,AUTO,,,\n\
+profile,OPERCMDS,MVS.CANCEL.JOB.PAY*,,NONE,SECADM,,,,\n\
+profile,OPERCMDS,MVS.CANCEL.JOB.*,,NONE,SECADM,,,,\n\
+profile,OPERCMDS,MVS.DISPLAY.**,,READ,SECADM,,,,\n\
+profile,OPERCMDS,MVS.VARY.DEV,,NONE,SECADM,W,,,\n\
+permit,OPERCMDS,MVS.CANCEL.JOB.*,OPS,UPDATE,,,,,\n\
+permit,OPERCMDS,MVS.CANCEL.JOB.*,OPS,CONTROL,,,,C1,\n";
 
 fn policy(alloc: Global) -> Result<Policy, Fail> {
     let mut policy = Policy::new(alloc);
@@ -95,7 +98,7 @@ fn no_head_behind_the_deciding_one_is_asked_for(rt: HostRuntime) -> Result<(), F
 fn memory_may_be_refused(rt: HostRuntime) {
     match read_policy(rt.alloc(), FILE) {
         Ok(rows) => {
-            assert_eq!(rt; rows.len(), 10);
+            assert_eq!(rt; rows.len(), 13);
             if let Ok(text) = write_policy(rt.alloc(), rows.as_slice()) {
                 assert!(rt; text.as_str() == FILE);
             }

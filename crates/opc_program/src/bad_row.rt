@@ -1,7 +1,7 @@
 //! What is wrong with a row of a policy file, in words.
 use arrayvec::ArrayString;
 use csv::{ReaderBuilder, StringRecord};
-use opc_import::column::{COLUMNS, Column};
+use opc_import::column::Column;
 use opc_import::kind::Kind;
 use opc_policy::fault::Why;
 use std::alloc::Global;
@@ -23,8 +23,8 @@ pub struct BadRow {
 
 #[derive(Clone, Copy)]
 enum Problem {
-    /// The record has this many fields.
-    Columns(usize),
+    /// The record has this many fields, and the header so many.
+    Columns(usize, usize),
     Many,
     /// The field in this column does not fit a row of this kind, if the row has a kind.
     Field {
@@ -77,7 +77,9 @@ impl BadRow {
                 kind: kind_of(&record),
                 start: FieldStart::of(field_in(&record, column)),
             },
-            None if why == Why::Columns => Problem::Columns(record.len()),
+            None if why == Why::Columns => {
+                Problem::Columns(record.len(), record_at(alloc, text, 0)?.len())
+            }
             None if why == Why::Many => Problem::Many,
             None => return None,
         };
@@ -132,6 +134,8 @@ fn column_of(why: Why) -> Option<Column> {
         Why::Owner => Some(Column::Owner),
         Why::Flags => Some(Column::Flags),
         Why::Digest => Some(Column::Digest),
+        Why::When => Some(Column::When),
+        Why::Restricted => Some(Column::Restricted),
     }
 }
 
@@ -152,9 +156,11 @@ fn misfit(column: Column, kind: Kind) -> Option<&'static str> {
         (Column::Value, Kind::Profile | Kind::Permit) => Some("is no level"),
         (Column::Owner, Kind::Profile) => Some("is no user's name"),
         (Column::Flags, Kind::User) => Some("are not some of S, A and R, in this order"),
-        (Column::Flags, Kind::Console) => Some("are neither OPTIONAL nor REQUIRED"),
+        (Column::Flags, Kind::Console) => Some("are neither OPTIONAL, REQUIRED nor AUTO"),
         (Column::Flags, Kind::Profile) => Some("are neither empty nor W"),
         (Column::Digest, Kind::User) => Some("is not 64 of the characters 0 to 9 and a to f"),
+        (Column::When, Kind::Permit) => Some("is no console's name"),
+        (Column::Restricted, Kind::User) => Some("is neither empty nor Y"),
         _ => None,
     }
 }
@@ -164,11 +170,9 @@ impl Display for BadRow {
         let number = self.number;
         write!(f, "row {number}: ")?;
         match &self.problem {
-            Problem::Columns(count) => write!(
-                f,
-                "it has {count} columns and not {}",
-                COLUMNS.len()
-            ),
+            Problem::Columns(count, wanted) => {
+                write!(f, "it has {count} columns and not {wanted}")
+            }
             Problem::Many => f.write_str("there are more than 10,000 rows"),
             Problem::Field {
                 column,

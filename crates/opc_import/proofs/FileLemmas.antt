@@ -1,6 +1,6 @@
 -- How the rows of a file follow from its records, one at a time.
-use Rattle.std.proofs.Common.{◌≡◌, ◌≤◌, ◌+◌, ◌++◌, ◌∷◌, [], ℕ, List, true, sym, refl, ap, arith, inl, inr, length, append_assoc}
-use Rattle.std.specs.Prelude.{Option, Some, None, Result, Ok, Err, nat_lt, ◌==◌}
+use Rattle.std.proofs.Common.{◌≡◌, ◌≤◌, ◌+◌, ◌++◌, ◌∷◌, [], ℕ, List, sym, refl, ap, arith, inl, inr, length, append_assoc}
+use Rattle.std.specs.Prelude.{Some, Result, Ok, Err, nat_lt, ◌==◌}
 use Rattle.std.proofs.lemmas.List.{append-nil}
 use Rattle.std.proofs.lemmas.Bool.{cases_Bool}
 use Rattle.std.proofs.lemmas.Bool.Decides.{nat_tests}
@@ -47,8 +47,8 @@ err-ok e = cc
 -- a good record has a number within the limit
 pub good-number : (width number : ℕ) (first : Record) (row : Row) → row_of width number first ≡ Ok row → number ≤ most_rows
 good-number width number first row good = elim (cases_Bool (length first == width)) [
-  | inl eight ↦ elim (cases_Bool (nat_lt most_rows number)) [
-    | inl many ↦ absurd (err-ok (rw (eight, many) at good))
+  | inl fits ↦ elim (cases_Bool (nat_lt most_rows number)) [
+    | inl many ↦ absurd (err-ok (rw (fits, many) at good))
     | inr few ↦ grind (arith, nat_tests, few)
   ]
   | inr other ↦ absurd (err-ok (rw other at good))

@@ -11,7 +11,6 @@ ghost use Rattle.opc_bootstrap.specs.RowEdits.{AreEditsOf, HaveNothingNew, IsBoo
 ghost use Rattle.opc_machine.specs.Bootstrap.{bootstrapped, console_after, consoles_after, with_rows, loses_master, policy_after};
 
 use opc_board::board::Board;
-use opc_machine::fault;
 use opc_policy::connect::Connect;
 use opc_policy::entries::Entries;
 use opc_policy::entry::Entry;
@@ -179,10 +178,9 @@ fn edits_on<T: Tables>(tables: &mut T, alloc: Global, rows: &[Row]) -> Result<Ve
     ensures idle { Answers (T.is_sure tables.new) (T.represents tables.old) result (λ s edits. HaveNothingNew rows.now s → edits.items ≡ []) }
     ensures refused { T.is_sure tables.new → (s : State) → T.represents tables.old s → IfErr result (λ f. f ≢ why.NoMemory → f ≢ why.Store → bootstrapped rows.now s ≡ Err f) }
 {
-    match stored_on(tables, alloc) {
-        Ok(Some(stored)) => edits_of_rows(alloc, stored, rows),
-        Ok(None) => Err(Fault::NotEmpty),
-        Err(fault) => Err(fault::of_store(fault)),
+    match stored_on(tables, alloc)? {
+        Some(stored) => edits_of_rows(alloc, stored, rows),
+        None => Err(Fault::NotEmpty),
     }
 }
 
@@ -203,10 +201,8 @@ fn found<T: Tables>(tables: &mut T, alloc: Global, edits: Vec<Edit>) -> Result<(
     if change.is_nothing() {
         return Ok(());
     }
-    match tables.commit(alloc, &change) {
-        Ok(()) => Ok(()),
-        Err(fault) => Err(fault::of_store(fault)),
-    }
+    tables.commit(alloc, &change)?;
+    Ok(())
 }
 
 /// Takes the rows of a first policy, where no user is stored.

@@ -19,7 +19,6 @@ use opc_board::board::Board;
 use opc_board::text::KeptText;
 use opc_bootstrap::bootstrap::bootstrap;
 use opc_commands::command::{command_on, event_on};
-use opc_machine::fault;
 use opc_machine::outcome::{Decided, Deed, Denial};
 use opc_machine::request::{Answer, Request};
 use opc_names::name::{ConsoleName, Name, NameKind, UserId};
@@ -166,7 +165,7 @@ fn given_up(fault: StoreFault) -> Answer
     ensures { IsGivenUp result }
 {
     Answer::Refused {
-        fault: fault::of_store(fault),
+        fault: Fault::from(fault),
         rule: None,
     }
 }

@@ -1,8 +1,6 @@
 -- The faults of lines and of the board as faults of a request.
 use Rattle.opc_policy.specs.declared.fault.Fault.{Fault}
 use Rattle.opc_policy.specs.declared.fault.Fault.TheVariants as fault
-use Rattle.opc_policy.specs.declared.source.StoreFault.{StoreFault}
-use Rattle.opc_policy.specs.declared.source.StoreFault.TheVariants as store
 use Rattle.opc_reader.specs.declared.line.ReadFault.{ReadFault}
 use Rattle.opc_reader.specs.declared.line.ReadFault.TheVariants as line
 use Rattle.opc_board.specs.declared.fault.BoardFault.{BoardFault}
@@ -32,7 +30,3 @@ board_fault board.LastMaster = fault.LastMaster
 board_fault board.WrongKind = fault.WrongKind
 board_fault board.ReplyExists = fault.ReplyExists
 board_fault board.NoMemory = fault.NoMemory
-
-abbrev pub store_fault : StoreFault → Fault
-store_fault store.NoMemory = fault.NoMemory
-store_fault store.Store = fault.Store

@@ -1,10 +1,9 @@
-//! Faults of lines, of the board and of tables as faults of a request.
+//! Faults of lines and of the board as faults of a request.
 ghost use Rattle.std.specs.Prelude.{◌≡◌};
-ghost use Rattle.opc_machine.specs.Faults.{line_fault, board_fault, store_fault};
+ghost use Rattle.opc_machine.specs.Faults.{line_fault, board_fault};
 
 use opc_board::fault::BoardFault;
 use opc_policy::fault::Fault;
-use opc_policy::source::StoreFault;
 use opc_reader::line::ReadFault;
 
 pub fn of_line(fault: ReadFault) -> Fault
@@ -45,14 +44,5 @@ pub fn of_board(fault: BoardFault) -> Fault
         BoardFault::WrongKind => Fault::WrongKind,
         BoardFault::ReplyExists => Fault::ReplyExists,
         BoardFault::NoMemory => Fault::NoMemory,
-    }
-}
-
-pub fn of_store(fault: StoreFault) -> Fault
-    ensures { result ≡ store_fault fault }
-{
-    match fault {
-        StoreFault::NoMemory => Fault::NoMemory,
-        StoreFault::Store => Fault::Store,
     }
 }

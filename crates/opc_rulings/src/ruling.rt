@@ -1,8 +1,9 @@
 //! Rulings, from what is loaded for them.
 ghost use Rattle.std.specs.Prelude.{◌≡◌, ◌≤◌, Some, IsTrue, filter, length};
+ghost use Rattle.std.specs.Option.{option_and_then};
 ghost use Rattle.opc_names.specs.Names.{is_plain, is_resource};
 ghost use Rattle.opc_names.specs.declared.class.Class.TheVariants.{Opercmds};
-ghost use Rattle.opc_policy.specs.Members.{groups_of};
+ghost use Rattle.opc_policy.specs.Members.{groups_of, user_of};
 ghost use Rattle.opc_policy.specs.Rulings.{ruling as policy_ruling};
 ghost use Rattle.opc_policy.specs.Taken.{is_active};
 ghost use Rattle.opc_state.specs.Asked.{Answers};
@@ -12,7 +13,6 @@ ghost use Rattle.opc_machine.specs.Rulings.{acting, acting_user, is_auto, is_req
 
 use opc_board::line::{Item, Line};
 use opc_board::rows::ConsoleRow;
-use opc_names::auth::Auth;
 use opc_names::class::Class;
 use opc_names::group::Group;
 use opc_names::level::Level;
@@ -81,26 +81,22 @@ fn own_id(name: &ConsoleName) -> UserId
     }
 }
 
-// A console's own user, if it has one and acts for it.
+// The user of a console's own, where it acts for one.
 fn own_user_on<T: Tables>(
     tables: &mut T,
     alloc: Global,
     console: &ConsoleRow,
-) -> Result<Option<UserId>, StoreFault>
+) -> Result<Option<User>, StoreFault>
     ensures kept { IsKept T.is_sure T.represents T.may_leave tables.old tables.new }
-    ensures user { Answers (T.is_sure tables.new) (T.represents tables.old) result (λ s u. u ≡ own_user s console.now) }
+    ensures user { Answers (T.is_sure tables.new) (T.represents tables.old) result (λ s u. u ≡ option_and_then (user_of s.policy.users) (own_user s console.now)) }
 {
     if !is_auto(console.mode) {
         return Ok(None);
     }
-    let id = own_id(&console.name);
-    match tables.user(alloc, &id)? {
-        Some(_) => Ok(Some(id)),
-        None => Ok(None),
-    }
+    tables.user(alloc, &own_id(&console.name))
 }
 
-/// For whom a console acts: the user who is on, or the console's own.
+/// For whom a console acts: the user who is on; where nobody is, the console's own.
 pub fn acting_user_on<T: Tables>(
     tables: &mut T,
     alloc: Global,
@@ -109,13 +105,16 @@ pub fn acting_user_on<T: Tables>(
     ensures kept { IsKept T.is_sure T.represents T.may_leave tables.old tables.new }
     ensures user { Answers (T.is_sure tables.new) (T.represents tables.old) result (λ s u. u ≡ acting_user s console.now) }
 {
-    match console.user {
-        Some(id) => Ok(Some(id)),
-        None => own_user_on(tables, alloc, console),
+    if console.user.is_some() {
+        return Ok(console.user);
+    }
+    match own_user_on(tables, alloc, console)? {
+        Some(_) => Ok(Some(own_id(&console.name))),
+        None => Ok(None),
     }
 }
 
-// The user for whom a console acts, if one is stored.
+// The same as a user, if one is stored.
 fn acting_on<T: Tables>(
     tables: &mut T,
     alloc: Global,
@@ -124,9 +123,9 @@ fn acting_on<T: Tables>(
     ensures kept { IsKept T.is_sure T.represents T.may_leave tables.old tables.new }
     ensures user { Answers (T.is_sure tables.new) (T.represents tables.old) result (λ s u. u ≡ acting s console.now) }
 {
-    match acting_user_on(tables, alloc, console)? {
+    match console.user {
         Some(id) => tables.user(alloc, &id),
-        None => Ok(None),
+        None => own_user_on(tables, alloc, console),
     }
 }
 
@@ -182,7 +181,8 @@ pub fn logon_ruling_on<T: Tables>(
         return Ok(Ruling::Allowed(Rule::NoProfile));
     };
     let groups = tables.groups_of(alloc, &user.id)?;
-    Ok(profile.ruling_for(user, Some(&console.name), groups.as_slice(), Level::Read))
+    let here = Some(&console.name);
+    Ok(profile.ruling_for(user, here, groups.as_slice(), Level::Read))
 }
 
 fn is_allowed(ruling: Ruling) -> bool
@@ -249,10 +249,7 @@ pub fn shown_lines<T: Tables>(
     let mut kept = Rows::new(alloc);
     for line in lines {
         if is_shown(tables, alloc, console, &line)? {
-            match kept.push(line) {
-                Ok(()) => {}
-                Err(_) => return Err(StoreFault::NoMemory),
-            }
+            kept.push(line)?;
         }
     }
     Ok(kept)

@@ -181,8 +181,7 @@ pub fn logon_ruling_on<T: Tables>(
         return Ok(Ruling::Allowed(Rule::NoProfile));
     };
     let groups = tables.groups_of(alloc, &user.id)?;
-    let here = Some(&console.name);
-    Ok(profile.ruling_for(user, here, groups.as_slice(), Level::Read))
+    Ok(profile.ruling_for(user, Some(&console.name), groups.as_slice(), Level::Read))
 }
 
 fn is_allowed(ruling: Ruling) -> bool

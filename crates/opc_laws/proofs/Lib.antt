@@ -1,6 +1,10 @@
 pub mod Acting
+pub mod AutoConsole
 pub mod Changing
+pub mod ConditionalEntries
+pub mod Consoles
 pub mod Denying
+pub mod Holding
 pub mod Logging
 pub mod Naming
 pub mod SameBatches

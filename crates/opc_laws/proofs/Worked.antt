@@ -11,7 +11,7 @@ use Rattle.opc_policy.specs.declared.entry.Entry.{Entry}
 use Rattle.opc_policy.specs.declared.fault.Fault.{Fault}
 use Rattle.opc_policy.specs.declared.fault.Fault.TheVariants as fault
 use Rattle.opc_policy.specs.declared.mode.Mode.{Mode}
-use Rattle.opc_policy.specs.declared.mode.Mode.TheVariants.{Optional, Required, Auto}
+use Rattle.opc_policy.specs.declared.mode.Mode.TheVariants.{Optional, Required}
 use Rattle.opc_policy.specs.declared.policy.Policy.{Policy}
 use Rattle.opc_policy.specs.declared.profile.Profile.{Profile}
 use Rattle.opc_policy.specs.declared.row.Row.{Row}
@@ -27,45 +27,45 @@ use Rattle.opc_state.specs.Facts.{IsState}
 use Rattle.opc_state.specs.State.{State, empty}
 use Rattle.opc_machine.specs.Inputs.{Input}
 use Rattle.opc_machine.specs.Inputs as input
-use Rattle.opc_machine.specs.Machine.{first_refusal, outcome, user_acting}
+use Rattle.opc_machine.specs.Machine.{first_refusal, outcome}
 use Rattle.opc_machine.specs.Operations.{Operation}
 use Rattle.opc_machine.specs.Operations as operation
 use Rattle.opc_machine.specs.Outcome.{Denial, Outcome}
 
--- the state
+-- the state, also for other worked cases
 
-abbrev user : List ℕ → Bool → Bool → Bool → User
+abbrev pub user : List ℕ → Bool → Bool → Bool → User
 user id special auditor revoked = record { id = id; special = special; auditor = auditor; revoked = revoked; digest = None; restricted = false }
 
-abbrev plain : List ℕ → User
+abbrev pub plain : List ℕ → User
 plain id = user id false false false
 
 -- ANNA and CARL are on, and OLD, who is revoked; DORA is connected to a group, EMIL is in an access list, FRED owns a
 -- profile, and GUS is not in use
-abbrev users : List User
+abbrev pub users : List User
 users =
     plain (codes "ANNA") ∷ plain (codes "CARL") ∷ plain (codes "DORA") ∷ plain (codes "EMIL") ∷ plain (codes "FRED") ∷ plain (codes "GUS")
     ∷ user (codes "OLD") false false true ∷ user (codes "SECADM") true false false ∷ []
 
-abbrev connect : List ℕ → List ℕ → Connect
+abbrev pub connect : List ℕ → List ℕ → Connect
 connect u group = record { user = u; group = group }
 
-abbrev entry : List ℕ → Level → Entry
+abbrev pub entry : List ℕ → Level → Entry
 entry id level = record { id = id; when = None; level = level }
 
-abbrev profile : List ℕ → List ℕ → Level → Bool → List Entry → Profile
+abbrev pub profile : List ℕ → List ℕ → Level → Bool → List Entry → Profile
 profile pattern owner uacc warning entries = record { class = Opercmds; pattern = pattern; owner = owner; uacc = uacc; warning = warning; entries = entries }
 
-abbrev of_carl : Profile
+abbrev pub of_carl : Profile
 of_carl = profile (codes "A.B") (codes "CARL") level.None false (entry (codes "EMIL") level.Read ∷ [])
 
-abbrev of_fred : Profile
+abbrev pub of_fred : Profile
 of_fred = profile (codes "A.*") (codes "FRED") level.None true []
 
-abbrev of_all : Profile
+abbrev pub of_all : Profile
 of_all = profile (codes "**") (codes "SECADM") level.Read false []
 
-abbrev policy : Policy
+abbrev pub policy : Policy
 policy = record {
   users = users;
   groups = codes "NIGHT" ∷ codes "OPS" ∷ [];
@@ -74,11 +74,11 @@ policy = record {
   active = record { console = true; opercmds = true };
 }
 
-abbrev console : List ℕ → Auth → Mode → Bool → Option (List ℕ) → ConsoleRow
+abbrev pub console : List ℕ → Auth → Mode → Bool → Option (List ℕ) → ConsoleRow
 console name auth mode online u = record { name = name; auth = auth; mode = mode; online = online; user = u; monitor = false }
 
 -- C2 is the one online console with AUTH MASTER
-abbrev consoles : List ConsoleRow
+abbrev pub consoles : List ConsoleRow
 consoles =
     console (codes "C1") auth.Sys Optional true (Some (codes "ANNA"))
     ∷ console (codes "C2") auth.Master Optional true (Some (codes "SECADM"))
@@ -88,13 +88,13 @@ consoles =
     ∷ console (codes "C6") auth.Sys Optional true (Some (codes "OLD"))
     ∷ console (codes "C7") auth.Sys Optional true None ∷ []
 
-abbrev refused_row : ℕ → List ℕ → List ℕ → List ℕ → AccountRow
+abbrev pub refused_row : ℕ → List ℕ → List ℕ → List ℕ → AccountRow
 refused_row moment name code text = record { moment = moment; console = name; user = codes "-"; code = code; rule = text }
 
-abbrev day : List Row
+abbrev pub day : List Row
 day = row.Group (codes "DAY") ∷ []
 
-abbrev base : State
+abbrev pub base : State
 base = record {
   policy = policy;
   board = record empty.board { consoles = consoles };
@@ -104,13 +104,13 @@ base = record {
 
 -- what comes of it
 
-abbrev plainly : Fault → Option Denial
+abbrev pub plainly : Fault → Option Denial
 plainly f = Some (record { fault = f; rule = None })
 
-abbrev refused_at : List ℕ → Operation → Option Denial
+abbrev pub refused_at : List ℕ → Operation → Option Denial
 refused_at name o = first_refusal base (input.Admin name o)
 
-abbrev state_in : Outcome → Option State
+abbrev pub state_in : Outcome → Option State
 state_in (Ok deed) = Some deed.state
 state_in (Err denial) = None
 
@@ -119,16 +119,16 @@ texts_in (Ok deed) = Some (map (λ (l : Line). l.text) deed.lines)
 texts_in (Err denial) = None
 
 -- by SECADM at C2
-abbrev refusal : Operation → Option Denial
+abbrev pub refusal : Operation → Option Denial
 refusal o = refused_at (codes "C2") o
 
-abbrev after : Operation → Option State
+abbrev pub after : Operation → Option State
 after o = state_in (outcome base (input.Admin (codes "C2") o))
 
-abbrev users_after : Operation → Option (List User)
+abbrev pub users_after : Operation → Option (List User)
 users_after o = option_map (λ (s : State). s.policy.users) (after o)
 
-abbrev profiles_after : Operation → Option (List Profile)
+abbrev pub profiles_after : Operation → Option (List Profile)
 profiles_after o = option_map (λ (s : State). s.policy.profiles) (after o)
 
 abbrev connects_after : Operation → Option (List Connect)
@@ -169,28 +169,6 @@ owner_permits = refl
 
 owner_defines_nothing : refused_at (codes "C5") (operation.RDefine Opercmds (codes "C") (codes "CARL") level.None false) ≡ plainly fault.NotSpecial
 owner_defines_nothing = refl
-
--- consoles that act for themselves
-
-abbrev with_auto : State
-with_auto = record base {
-  board = record empty.board { consoles = console (codes "EMIL") auth.Info Auto true None ∷ console (codes "FRED") auth.Info Auto true (Some (codes "ANNA")) ∷ console (codes "NOUSER") auth.Info Auto true None ∷ console (codes "OLD") auth.Master Auto true None ∷ console (codes "SECADM") auth.Info Auto true None ∷ [] };
-}
-
-acts_for_its_own : user_acting with_auto (input.Command (codes "EMIL") []) ≡ Some (codes "EMIL")
-acts_for_its_own = refl
-
-acts_for_who_is_on : user_acting with_auto (input.Command (codes "FRED") []) ≡ Some (codes "ANNA")
-acts_for_who_is_on = refl
-
-acts_for_nobody : user_acting with_auto (input.Command (codes "NOUSER") []) ≡ None
-acts_for_nobody = refl
-
-own_user_is_revoked : first_refusal with_auto (input.Admin (codes "OLD") (operation.AddGroup (codes "DAY"))) ≡ Some (record { fault = fault.Revoked; rule = Some rule.Revoked })
-own_user_is_revoked = refl
-
-own_user_is_special : first_refusal with_auto (input.Admin (codes "SECADM") (operation.AddGroup (codes "DAY"))) ≡ None
-own_user_is_special = refl
 
 -- users
 

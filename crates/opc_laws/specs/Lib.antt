@@ -1,2 +1,4 @@
-pub mod Laws
+pub mod ActingLaws
 pub mod ChangingLaws
+pub mod HoldingLaws
+pub mod Laws

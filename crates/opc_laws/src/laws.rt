@@ -1,5 +1,7 @@
 //! What the access machine means to those who use it, each law as what a call without a body ensures.
+ghost use Rattle.opc_laws.specs.ActingLaws.{AutoConsolesActForTheirOwn, OptionalConsolesActAlone, OtherAutoConsolesActAlone, WhoIsOnComesFirst};
 ghost use Rattle.opc_laws.specs.ChangingLaws.{AdministersOnlyWhereAllowed, AdministersWhereverAllowed, ImportsOnlyWhereAllowed, ImportsWhereverAllowed, ListsAccountOnlyWhereShown, ListsAccountWhereverShown, ListsExactlyProfilesShown, ListsProfilesWhereverAsked, RepeatsWhereverAllowed, SameRowsAreEqual};
+ghost use Rattle.opc_laws.specs.HoldingLaws.{ConsolesNeverLower, EntriesCountAtTheirConsole, LevelsAreGiven, OwnEntriesRaise, RestrictedUsersAreNamed};
 ghost use Rattle.opc_laws.specs.Laws.{ActsOnlyWhereAllowed, ActsWhereverAllowed, ListsExactlyWhatMayBeShown, LogsOffOnlyWhereSomebodyIsOn, LogsOffWhereverSomebodyIsOn, LogsOnOnlyWhereAllowed, LogsOnWhereverAllowed, RefusalsChangeNothing, RefusalsOfAuthorityNameTheirRule};
 
 /// A command acts only where the written policy of that moment allows it.
@@ -99,4 +101,49 @@ pub fn refusals_change_nothing()
 /// written policy of that moment.
 pub fn refusals_of_authority_name_their_rule()
     ensures { RefusalsOfAuthorityNameTheirRule }
+{}
+
+/// A level above NONE is held by an entry for the user, at every console or at this one, or by the universal access.
+pub fn levels_are_given()
+    ensures { LevelsAreGiven }
+{}
+
+/// An entry for a console never lowers what a user holds there,
+pub fn consoles_never_lower()
+    ensures { ConsolesNeverLower }
+{}
+
+/// and the user's own raises it to its level.
+pub fn own_entries_raise()
+    ensures { OwnEntriesRaise }
+{}
+
+/// An entry for a console counts there alone.
+pub fn entries_count_at_their_console()
+    ensures { EntriesCountAtTheirConsole }
+{}
+
+/// A RESTRICTED user has nothing of what is given everyone: neither by `*` nor by universal access.
+pub fn restricted_users_are_named()
+    ensures { RestrictedUsersAreNamed }
+{}
+
+/// An AUTO console where nobody is on acts for the user of its own name,
+pub fn auto_consoles_act_for_their_own()
+    ensures { AutoConsolesActForTheirOwn }
+{}
+
+/// and for nobody where no such user is stored.
+pub fn other_auto_consoles_act_alone()
+    ensures { OtherAutoConsolesActAlone }
+{}
+
+/// An OPTIONAL console where nobody is on acts for nobody.
+pub fn optional_consoles_act_alone()
+    ensures { OptionalConsolesActAlone }
+{}
+
+/// A console of any mode acts for the user who is on there.
+pub fn who_is_on_comes_first()
+    ensures { WhoIsOnComesFirst }
 {}

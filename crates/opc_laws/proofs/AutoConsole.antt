@@ -43,8 +43,8 @@ policy revoked = record {
   groups = codes "OPS" ∷ [];
   connects = record { user = codes "C4"; group = codes "OPS" } ∷ [];
   profiles = profile (codes "MVS.CANCEL.JOB.PAY*") level.None []
-    ∷ profile (codes "MVS.CANCEL.JOB.*") level.None (record { id = codes "OPS"; when = None; level = level.Update } ∷ [])
-    ∷ profile (codes "MVS.DISPLAY.**") level.Read [] ∷ [];
+      ∷ profile (codes "MVS.CANCEL.JOB.*") level.None (record { id = codes "OPS"; when = None; level = level.Update } ∷ [])
+      ∷ profile (codes "MVS.DISPLAY.**") level.Read [] ∷ [];
   active = record { console = true; opercmds = true };
 }
 

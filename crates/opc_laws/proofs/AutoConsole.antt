@@ -27,7 +27,7 @@ use Rattle.opc_machine.specs.Inputs.{Input}
 use Rattle.opc_machine.specs.Inputs as input
 use Rattle.opc_machine.specs.Machine.{denial_in, first_refusal, user_acting}
 use Rattle.opc_machine.specs.Operations as operation
-use Rattle.opc_machine.specs.Outcome.{Denial, Outcome}
+use Rattle.opc_machine.specs.Outcome.{Outcome}
 use Rattle.opc_laws.proofs.Worked.{base, console as worked_console}
 
 -- C4 is connected to OPS, and CARL to nothing

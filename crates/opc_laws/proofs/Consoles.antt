@@ -1,9 +1,9 @@
 -- For whom consoles act.
-use Rattle.std.proofs.Common.{◌≡◌, ℕ, Bool, true, false, cond, ◌&&◌, ◌||◌, if◌then◌else◌, List, Option, Some, None, codes, refl, sym, ap, ◌∙◌, subst, rules}
-use Rattle.std.specs.Option.{is_none, is_some, option_and_then, option_or}
+use Rattle.std.proofs.Common.{◌≡◌, ℕ, false, ◌&&◌, ◌||◌, if◌then◌else◌, List, Option, Some, None, codes, refl, sym, ap, ◌∙◌}
+use Rattle.std.specs.Option.{is_none, option_and_then, option_or}
 use Rattle.std.proofs.lemmas.Bool.{and_right}
 use Rattle.opc_policy.specs.declared.mode.Mode.{Mode}
-use Rattle.opc_policy.specs.declared.mode.Mode.TheVariants.{Optional, Required, Auto}
+use Rattle.opc_policy.specs.declared.mode.Mode.TheVariants.{Optional, Auto}
 use Rattle.opc_policy.specs.declared.need.Need.{Need}
 use Rattle.opc_policy.specs.declared.rule.Rule.{Rule}
 use Rattle.opc_policy.specs.declared.rule.Rule.TheVariants as rule
@@ -14,7 +14,6 @@ use Rattle.opc_board.specs.declared.rows.ConsoleRow.{ConsoleRow}
 use Rattle.opc_board.specs.Facts.{console_at}
 use Rattle.opc_board.specs.Texts.{text_or}
 use Rattle.opc_state.specs.State.{State}
-use Rattle.opc_machine.specs.Inputs.{Input, console_of}
 use Rattle.opc_machine.specs.Operations.{Operation}
 use Rattle.opc_machine.specs.Operations as operation
 use Rattle.opc_machine.specs.Rights.{holds_read, is_owner, is_special, owns_changed, sees_all}

@@ -1,5 +1,5 @@
 -- What users hold by access lists.
-use Rattle.std.proofs.Common.{◌≡◌, ◌⊎◌, inl, inr, ℕ, Bool, true, false, cond, nat_le, ◌&&◌, ◌||◌, List, [], ◌∷◌, Option, Some, None, codes, filter, find, option_map, unwrap_or, refl, sym, ap, subst, ◌∙◌, rules, arith}
+use Rattle.std.proofs.Common.{◌≡◌, ◌⊎◌, inl, inr, ℕ, Bool, true, false, cond, nat_le, ◌||◌, List, [], ◌∷◌, Option, Some, None, codes, filter, find, option_map, unwrap_or, refl, sym, ap, subst, ◌∙◌, arith}
 use Rattle.std.specs.List.{Contains, list_any}
 use Rattle.std.specs.Option.{is_none, option_eq, option_or}
 use Rattle.std.specs.Str.{bytes_eq}

@@ -1,7 +1,7 @@
+pub mod AccessLists
 pub mod Acting
 pub mod AutoConsole
 pub mod Changing
-pub mod ConditionalEntries
 pub mod Consoles
 pub mod Denying
 pub mod Holding

@@ -25,7 +25,6 @@ use Rattle.opc_board.specs.declared.rows.ConsoleRow.{ConsoleRow}
 use Rattle.opc_state.specs.declared.account.AccountRow.{AccountRow}
 use Rattle.opc_state.specs.Facts.{IsState}
 use Rattle.opc_state.specs.State.{State, empty}
-use Rattle.opc_machine.specs.Inputs.{Input}
 use Rattle.opc_machine.specs.Inputs as input
 use Rattle.opc_machine.specs.Machine.{first_refusal, outcome}
 use Rattle.opc_machine.specs.Operations.{Operation}
@@ -271,32 +270,6 @@ deletes_profile = refl
 
 no_profile_to_delete : refusal (operation.RDelete Console (codes "A.B")) ≡ plainly (fault.Missing (codes "A.B"))
 no_profile_to_delete = refl
-
-permits_user : profiles_after (operation.Permit Opercmds (codes "A.B") (codes "ANNA") level.Update None)
-    ≡ Some (profile (codes "A.B") (codes "CARL") level.None false (entry (codes "ANNA") level.Update ∷ entry (codes "EMIL") level.Read ∷ []) ∷ of_fred ∷ of_all ∷ [])
-permits_user = refl
-
-permits_everyone : refusal (operation.Permit Opercmds (codes "A.B") (codes "*") level.Update None) ≡ None
-permits_everyone = refl
-
-permits_group : refusal (operation.Permit Opercmds (codes "A.B") (codes "OPS") level.Update None) ≡ None
-permits_group = refl
-
-no_profile_to_permit : refusal (operation.Permit Opercmds (codes "C") (codes "BERT") level.Update None) ≡ plainly (fault.Missing (codes "C"))
-no_profile_to_permit = refl
-
-nobody_to_permit : refusal (operation.Permit Opercmds (codes "A.B") (codes "BERT") level.Update None) ≡ plainly (fault.Missing (codes "BERT"))
-nobody_to_permit = refl
-
-deletes_permission : profiles_after (operation.PermitDelete Opercmds (codes "A.B") (codes "EMIL") None)
-    ≡ Some (profile (codes "A.B") (codes "CARL") level.None false [] ∷ of_fred ∷ of_all ∷ [])
-deletes_permission = refl
-
-no_profile_to_delete_from : refusal (operation.PermitDelete Opercmds (codes "C") (codes "EMIL") None) ≡ plainly (fault.Missing (codes "C"))
-no_profile_to_delete_from = refl
-
-no_permission_to_delete : refusal (operation.PermitDelete Opercmds (codes "A.B") (codes "ANNA") None) ≡ plainly (fault.Missing (codes "ANNA"))
-no_permission_to_delete = refl
 
 -- classes and consoles
 

@@ -1,5 +1,5 @@
 -- For whom consoles act, to those who sit at them.
-use Rattle.std.specs.Prelude.{◌≡◌, ◌≢◌, ℕ, true, false, List, Option, Some, None, codes}
+use Rattle.std.specs.Prelude.{◌≡◌, ℕ, true, false, List, Option, Some, None, codes}
 use Rattle.opc_policy.specs.declared.mode.Mode.TheVariants.{Optional, Auto}
 use Rattle.opc_policy.specs.declared.need.Need.{Need}
 use Rattle.opc_policy.specs.declared.profile.Profile.{Profile}

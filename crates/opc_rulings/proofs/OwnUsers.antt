@@ -6,7 +6,7 @@ use Rattle.std.specs.List.{position}
 use Rattle.std.specs.Str.{chars}
 use Rattle.std.proofs.lemmas.Bool.Decides.{nat_tests}
 use Rattle.opc_names.specs.declared.rule.Alphabet.TheVariants.{NameCharacters, NoDigitFirst}
-use Rattle.opc_names.specs.Names.{name_fault, console_rule, user_rule, bad_character, bad_part, is_name_character, may_follow, qualifiers}
+use Rattle.opc_names.specs.Names.{name_fault, console_rule, user_rule, bad_character, bad_part, is_name_character, qualifiers}
 use Rattle.opc_names.proofs.Faults.{name_passes}
 
 parts : (at : ℕ) (qs : List (List ℕ)) → bad_part NoDigitFirst at qs ≡ None → bad_part NameCharacters at qs ≡ None

@@ -1,4 +1,4 @@
--- Worked cases of entries for one console and of RESTRICTED users, computed.
+-- Worked cases of access lists, with entries for one console and RESTRICTED users, computed.
 use Rattle.std.proofs.Common.{◌≡◌, ℕ, Bool, true, false, List, [], ◌∷◌, Option, Some, None, refl, codes}
 use Rattle.opc_names.specs.declared.class.Class.TheVariants.{Opercmds}
 use Rattle.opc_names.specs.declared.level.Level.{Level}
@@ -12,12 +12,38 @@ use Rattle.opc_machine.specs.Inputs as input
 use Rattle.opc_machine.specs.Machine.{first_refusal}
 use Rattle.opc_machine.specs.Operations as operation
 use Rattle.opc_machine.specs.Outcome.{Denial}
-use Rattle.opc_laws.proofs.Worked.{base, entry, of_all, of_carl, of_fred, plain, plainly, profile, profiles_after, refusal, user, users_after}
+use Rattle.opc_laws.proofs.Worked.{base, entry, of_all, of_fred, plainly, profile, profiles_after, refusal}
 
 abbrev at : List ℕ → List ℕ → Level → Entry
 at name id level = record { id = id; when = Some name; level = level }
 
 -- operations
+
+permits_user : profiles_after (operation.Permit Opercmds (codes "A.B") (codes "ANNA") level.Update None)
+    ≡ Some (profile (codes "A.B") (codes "CARL") level.None false (entry (codes "ANNA") level.Update ∷ entry (codes "EMIL") level.Read ∷ []) ∷ of_fred ∷ of_all ∷ [])
+permits_user = refl
+
+permits_everyone : refusal (operation.Permit Opercmds (codes "A.B") (codes "*") level.Update None) ≡ None
+permits_everyone = refl
+
+permits_group : refusal (operation.Permit Opercmds (codes "A.B") (codes "OPS") level.Update None) ≡ None
+permits_group = refl
+
+no_profile_to_permit : refusal (operation.Permit Opercmds (codes "C") (codes "BERT") level.Update None) ≡ plainly (fault.Missing (codes "C"))
+no_profile_to_permit = refl
+
+nobody_to_permit : refusal (operation.Permit Opercmds (codes "A.B") (codes "BERT") level.Update None) ≡ plainly (fault.Missing (codes "BERT"))
+nobody_to_permit = refl
+
+deletes_permission : profiles_after (operation.PermitDelete Opercmds (codes "A.B") (codes "EMIL") None)
+    ≡ Some (profile (codes "A.B") (codes "CARL") level.None false [] ∷ of_fred ∷ of_all ∷ [])
+deletes_permission = refl
+
+no_profile_to_delete_from : refusal (operation.PermitDelete Opercmds (codes "C") (codes "EMIL") None) ≡ plainly (fault.Missing (codes "C"))
+no_profile_to_delete_from = refl
+
+no_permission_to_delete : refusal (operation.PermitDelete Opercmds (codes "A.B") (codes "ANNA") None) ≡ plainly (fault.Missing (codes "ANNA"))
+no_permission_to_delete = refl
 
 -- beside the entry for every console, and behind it
 permits_at_console : profiles_after (operation.Permit Opercmds (codes "A.B") (codes "EMIL") level.Update (Some (codes "C1")))

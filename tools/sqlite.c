@@ -40,11 +40,11 @@ static const char *texts[TEXTS] = {
     [CONSOLES] = "SELECT name, auth, mode, online, usr, monitor FROM consoles ORDER BY name",
     [REPLIES] = "SELECT id, text FROM replies ORDER BY id",
     [HALTED] = "SELECT halted FROM board ORDER BY halted",
-    [USER] = "SELECT id, special, auditor, revoked, digest FROM usr WHERE id = ?1 ORDER BY id",
+    [USER] = "SELECT id, special, auditor, revoked, digest, restricted FROM usr WHERE id = ?1 ORDER BY id",
     [GROUPS_OF] = "SELECT usr, grp FROM connects WHERE usr = ?1 ORDER BY usr, grp",
     [ACTIVE] = "SELECT class, active FROM classes WHERE class = ?1 ORDER BY class",
     [BY_HEAD] = "SELECT class, pattern, owner, uacc, warning, skey, head FROM profiles WHERE class = ?1 AND head = ?2 ORDER BY class, skey",
-    [ENTRIES] = "SELECT class, pattern, id, level FROM entries WHERE class = ?1 AND pattern = ?2 ORDER BY id",
+    [ENTRIES] = "SELECT class, pattern, id, console, level FROM entries WHERE class = ?1 AND pattern = ?2 ORDER BY id, console",
     [ACCOUNT] = "SELECT moment, console, usr, code, rule FROM account WHERE number > ?1 ORDER BY number LIMIT ?2",
 };
 

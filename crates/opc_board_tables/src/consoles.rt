@@ -103,6 +103,7 @@ fn letter_of(mode: Mode) -> &'static str
     match mode {
         Mode::Optional => "O",
         Mode::Required => "R",
+        Mode::Auto => "A",
     }
 }
 
@@ -140,6 +141,7 @@ fn mode_in(row: &Row) -> Result<Mode, StoreFault>
     match letter.as_str() {
         "O" => Ok(Mode::Optional),
         "R" => Ok(Mode::Required),
+        "A" => Ok(Mode::Auto),
         _ => Err(unreadable()),
     }
 }

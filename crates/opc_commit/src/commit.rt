@@ -45,7 +45,9 @@ fn apply<S: Alter>(alloc: Global, tx: &mut Transaction<'_, S>, edit: &Edit) -> R
         Edit::PutProfile(profile) => put_profile(tx, profile),
         Edit::RemoveProfile(class, pattern) => remove_profile(tx, *class, pattern),
         Edit::PutEntry(class, pattern, entry) => put_entry(tx, *class, pattern, entry),
-        Edit::RemoveEntry(class, pattern, id) => remove_entry(tx, *class, pattern, id),
+        Edit::RemoveEntry(class, pattern, id, when) => {
+            remove_entry(tx, *class, pattern, id, when.as_ref())
+        }
         Edit::PutUnit(unit) => put_unit(tx, unit),
         Edit::RemoveUnit(name) => remove_unit(tx, name),
         Edit::PutDevice(device) => put_device(tx, device),

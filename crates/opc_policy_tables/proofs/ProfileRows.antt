@@ -276,7 +276,7 @@ profile_comes db s x differ valid patterns up absent was =
 pub entry_row_added : (old new : SqlState) (count : ℕ) (c : Contents) → IsMade c old.now → (class : Class) (pattern : List ℕ) (e : Entry) → Executes insert_entry (entry_row class pattern e) old new (Ok count)
     → IsMade (record c { entries = entry_row class pattern e ∷ c.entries }) new.now
 entry_row_added old new count c was class pattern e h =
-    let it = adds the_schema insert_entry 16 entries_at (entry_row class pattern e) insert_entry_plain refl old new was.schema count (lit Null ∷ entry_terms) 5 insert_entry_is (record { uncounted = refl; stampless = refl }) (entry_row class pattern e) refl (ap₂ (λ v (r : Row). v ∷ r) cast_null (entry_cast class pattern e Null)) h in
+    let it = adds the_schema insert_entry 16 entries_at (entry_row class pattern e) insert_entry_plain refl old new was.schema count (lit Null ∷ entry_terms) 6 insert_entry_is (record { uncounted = refl; stampless = refl }) (entry_row class pattern e) refl (ap₂ (λ v (r : Row). v ∷ r) cast_null (entry_cast class pattern e Null)) h in
     spares_entries c old.now new.now was it.spares _ (it.rows _ was.holds.entries)
 
 -- and behind those that came before it

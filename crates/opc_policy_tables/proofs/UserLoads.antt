@@ -30,7 +30,7 @@ use Rattle.opc_stored.specs.Represented.{Represents, user_row}
 -- ---- all of them
 
 abbrev pub users : Asked
-users = record { schema = the_schema; text = codes "SELECT id, special, auditor, revoked, digest FROM usr ORDER BY id"; tree = usr_at.tree; tests = []; project = columns 1 5; order = by_columns 1 1 }
+users = record { schema = the_schema; text = codes "SELECT id, special, auditor, revoked, digest, restricted FROM usr ORDER BY id"; tree = usr_at.tree; tests = []; project = columns 1 6; order = by_columns 1 1 }
 
 pub users_asked : IsAsked users
 unfolding understood everything
@@ -43,7 +43,7 @@ users_told old new s was =
 -- ---- that of an id
 
 abbrev pub user : Asked
-user = record users { text = codes "SELECT id, special, auditor, revoked, digest FROM usr WHERE id = ?1 ORDER BY id"; tests = same_columns 0 1 }
+user = record users { text = codes "SELECT id, special, auditor, revoked, digest, restricted FROM usr WHERE id = ?1 ORDER BY id"; tests = same_columns 0 1 }
 
 pub user_asked : IsAsked user
 unfolding understood everything

@@ -36,8 +36,8 @@ users = record {
   place = 13;
   table = usr_at;
   width = 1;
-  insert = codes "INSERT INTO usr VALUES (?1, ?2, ?3, ?4, ?5)";
-  update = codes "UPDATE usr SET id = ?1, special = ?2, auditor = ?3, revoked = ?4, digest = ?5 WHERE id = ?1";
+  insert = codes "INSERT INTO usr VALUES (?1, ?2, ?3, ?4, ?5, ?6)";
+  update = codes "UPDATE usr SET id = ?1, special = ?2, auditor = ?3, revoked = ?4, digest = ?5, restricted = ?6 WHERE id = ?1";
   delete = codes "DELETE FROM usr WHERE id = ?1";
   row = user_row;
   cmp = user_cmp;
@@ -57,7 +57,7 @@ keyed = record {
   found = refl;
   simple = record { uncounted = refl; stampless = refl };
   idle = idle;
-  stores = λ x. (refl, (cast_int _, (cast_int _, (cast_int _, (refl, tt)))));
+  stores = λ x. (refl, (cast_int _, (cast_int _, (cast_int _, (refl, (cast_int _, tt))))));
   values = λ x rest. refl;
   gives = λ x. refl;
   tested = λ x rest. refl;
@@ -80,7 +80,7 @@ user_put g old new s was user h =
 
 pub user_removed : (old new : SqlState) (count : ℕ) (s : State) → Represents old.now s → (id : List ℕ) → Executes users.delete (Text id ∷ []) old new (Ok count) → Represents new.now (with_users (without_user id s.policy.users) s)
 user_removed old new count s was id h =
-    let user : User = record { id = id; special = false; auditor = false; revoked = false; digest = None } in
+    let user : User = record { id = id; special = false; auditor = false; revoked = false; digest = None; restricted = false } in
     let it = removes users keyed user old new count was.rows.schema s.policy.users was.ordered.users was.rows.holds.usr h in
     record {
       ordered = without_user_ordered s was.ordered id;

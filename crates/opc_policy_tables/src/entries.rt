@@ -1,17 +1,19 @@
 //! The table of access lists.
-ghost use Rattle.std.specs.Prelude.{◌≡◌, ◌∷◌, ◌++◌, List, ℕ, IfOk, OnOk, map, false, Some};
+ghost use Rattle.std.specs.Prelude.{◌≡◌, ◌≢◌, [], ◌∷◌, ◌++◌, List, Option, ℕ, IfOk, OnOk, map, false, Some};
+ghost use Rattle.std.specs.List.{AllByRecursion};
+ghost use Rattle.std.specs.Option.{option_copied};
 ghost use Rattle.sqlite.specs.Held.{state};
 ghost use Rattle.sqlite.specs.State.{HasCleanDisk};
-ghost use Rattle.opc_statements.specs.Order.{Rises};
 ghost use Rattle.opc_statements.specs.Steps.{Stays, Looks};
-ghost use Rattle.opc_policy.specs.Access.{entry_cmp};
 ghost use Rattle.opc_policy.specs.Profiles.{profile_of, with_permission};
 ghost use Rattle.opc_state.specs.Changes.{with_profiles};
 ghost use Rattle.opc_state.specs.Members.{without_permission};
 ghost use Rattle.opc_stored.specs.Asked.{Makes};
 ghost use Rattle.opc_stored.specs.Contents.{Contents};
 ghost use Rattle.opc_stored.specs.Made.{IsMade};
-ghost use Rattle.opc_stored.specs.Represented.{Represents, entry_row};
+ghost use Rattle.opc_stored.specs.Represented.{Represents, entry_row, or_empty};
+ghost use Rattle.opc_stored.specs.State.{IsNamed, IsList};
+ghost use Rattle.opc_stored.specs.Changes.{Becomes};
 ghost use Rattle.sqlite.specs.Order.{column};
 ghost use Rattle.sqlite.specs.declared.types.Value.TheVariants.{Text};
 ghost use Rattle.opc_names.specs.declared.class.Class.{Class as TheClass};
@@ -20,7 +22,7 @@ ghost use Rattle.opc_policy.specs.declared.profile.Profile.{Profile as TheProfil
 
 use crate::levels::{level_in, rank_of};
 use opc_names::class::Class;
-use opc_names::name::Pattern;
+use opc_names::name::{ConsoleName, Pattern};
 use opc_policy::entries::Entries;
 use opc_policy::entry::{Entry, EntryId};
 use opc_policy::source::StoreFault;
@@ -31,6 +33,17 @@ use opc_stored::queries::read;
 use sqlite::{Alter, Connection, Error, Row, Transaction, params};
 use std::alloc::Global;
 
+/// The console at which an entry counts, as its column keeps it: no text where it counts at every console.
+fn console_text(when: Option<&ConsoleName>) -> &str
+    ensures text { result.now ≡ or_empty (option_copied when.entry) }
+    ensures named { option_copied when.entry ≢ Some [] }
+{
+    match when {
+        Some(name) => name.text(),
+        None => "",
+    }
+}
+
 fn insert_entry<S: Alter>(
     tx: &mut Transaction<'_, S>,
     class: Class,
@@ -39,15 +52,17 @@ fn insert_entry<S: Alter>(
 ) -> Result<(), Error>
     ensures same_reference { tx.new.conn.ghost_name ≡ tx.old.conn.ghost_name }
     ensures stays { Stays S.Store tx.old.conn.now tx.new.conn.now result }
+    ensures named { OnOk result (IsNamed entry.now) }
     ensures added { HasCleanDisk (state S.Store tx.new.conn.now) → OnOk result ((c : Contents) → IsMade c (state S.Store tx.old.conn.now).now → IsMade (record c { entries = entry_row class pattern.now entry.now ∷ c.entries }) (state S.Store tx.new.conn.now).now) }
 {
     run(
         tx,
-        "INSERT INTO entries VALUES (?1, ?2, ?3, ?4)",
+        "INSERT INTO entries VALUES (?1, ?2, ?3, ?4, ?5)",
         params![
             class.text(),
             pattern.text(),
             entry.id.text(),
+            console_text(entry.when.as_ref()),
             rank_of(entry.level)
         ],
     )?;
@@ -62,6 +77,7 @@ pub(crate) fn insert_entries<S: Alter>(
 ) -> Result<(), Error>
     ensures same_reference { tx.new.conn.ghost_name ≡ tx.old.conn.ghost_name }
     ensures stays { Stays S.Store tx.old.conn.now tx.new.conn.now result }
+    ensures named { OnOk result (AllByRecursion IsNamed entries.now) }
     ensures added { HasCleanDisk (state S.Store tx.new.conn.now) → OnOk result ((c : Contents) → IsMade c (state S.Store tx.old.conn.now).now → IsMade (record c { entries = map (entry_row class pattern.now) entries.now ++ c.entries }) (state S.Store tx.new.conn.now).now) }
 {
     for entry in entries {
@@ -83,22 +99,24 @@ pub fn put_entry<S: Alter>(
 {
     let found = run(
         tx,
-        "UPDATE entries SET class = ?1, pattern = ?2, id = ?3, level = ?4 WHERE class = ?1 AND pattern = ?2 AND id = ?3",
+        "UPDATE entries SET class = ?1, pattern = ?2, id = ?3, console = ?4, level = ?5 WHERE class = ?1 AND pattern = ?2 AND id = ?3 AND console = ?4",
         params![
             class.text(),
             pattern.text(),
             entry.id.text(),
+            console_text(entry.when.as_ref()),
             rank_of(entry.level)
         ],
     )?;
     if found == 0 {
         run(
             tx,
-            "INSERT INTO entries VALUES (?1, ?2, ?3, ?4)",
+            "INSERT INTO entries VALUES (?1, ?2, ?3, ?4, ?5)",
             params![
                 class.text(),
                 pattern.text(),
                 entry.id.text(),
+                console_text(entry.when.as_ref()),
                 rank_of(entry.level)
             ],
         )?;
@@ -106,20 +124,27 @@ pub fn put_entry<S: Alter>(
     Ok(())
 }
 
+/// The entry for an id goes, at a console alone or, where none is given, at every console.
 pub fn remove_entry<S: Alter>(
     tx: &mut Transaction<'_, S>,
     class: Class,
     pattern: &Pattern,
     id: &EntryId,
+    when: Option<&ConsoleName>,
 ) -> Result<(), Error>
     ensures same_reference { tx.new.conn.ghost_name ≡ tx.old.conn.ghost_name }
     ensures stays { Stays S.Store tx.old.conn.now tx.new.conn.now result }
-    ensures done { Makes S.Store tx.old.conn.now tx.new.conn.now result (λ s. with_profiles (without_permission class pattern.now id.now s.policy.profiles) s) }
+    ensures done { HasCleanDisk (state S.Store tx.new.conn.now) → OnOk result (Becomes (λ s. with_profiles (without_permission class pattern.now id.now (option_copied when.entry) s.policy.profiles) s) (state S.Store tx.old.conn.now).now (state S.Store tx.new.conn.now).now) }
 {
     run(
         tx,
-        "DELETE FROM entries WHERE class = ?1 AND pattern = ?2 AND id = ?3",
-        params![class.text(), pattern.text(), id.text()],
+        "DELETE FROM entries WHERE class = ?1 AND pattern = ?2 AND id = ?3 AND console = ?4",
+        params![
+            class.text(),
+            pattern.text(),
+            id.text(),
+            console_text(when)
+        ],
     )?;
     Ok(())
 }
@@ -134,17 +159,31 @@ fn entry_id_in(row: &Row) -> Result<EntryId, StoreFault>
     }
 }
 
+fn console_in(row: &Row) -> Result<Option<ConsoleName>, StoreFault>
+    ensures { (when : Option (List ℕ)) → when ≢ Some [] → column row.now 3 ≡ Text (or_empty when) → IfOk result (λ v. v ≡ when) }
+{
+    let text: String = value_in(row, 3)?;
+    if text.is_empty() {
+        return Ok(None);
+    }
+    match ConsoleName::read(text.as_str()) {
+        Ok(name) => Ok(Some(name)),
+        Err(_) => Err(unreadable()),
+    }
+}
+
 fn entry_in(row: &Row) -> Result<Entry, StoreFault>
-    ensures { (class : TheClass) → (pattern : List ℕ) → (e : TheEntry) → row.now ≡ entry_row class pattern e → IfOk result (λ v. v ≡ e) }
+    ensures { (class : TheClass) → (pattern : List ℕ) → (e : TheEntry) → IsNamed e → row.now ≡ entry_row class pattern e → IfOk result (λ v. v ≡ e) }
 {
     Ok(Entry {
         id: entry_id_in(row)?,
-        level: level_in(row)?,
+        when: console_in(row)?,
+        level: level_in(row, 4)?,
     })
 }
 
 fn entries_in(alloc: Global, rows: &[Row]) -> Result<Entries, StoreFault>
-    ensures { (class : TheClass) → (pattern : List ℕ) → (entries : List TheEntry) → Rises entry_cmp entries → rows.now ≡ map (entry_row class pattern) entries → IfOk result (λ v. v ≡ entries) }
+    ensures { (class : TheClass) → (pattern : List ℕ) → (entries : List TheEntry) → IsList entries → rows.now ≡ map (entry_row class pattern) entries → IfOk result (λ v. v ≡ entries) }
 {
     let mut entries = Entries::new(alloc);
     for row in rows {
@@ -167,7 +206,7 @@ pub fn entries_on<S: Alter>(
 {
     let rows = read(
         conn,
-        "SELECT class, pattern, id, level FROM entries WHERE class = ?1 AND pattern = ?2 ORDER BY id",
+        "SELECT class, pattern, id, console, level FROM entries WHERE class = ?1 AND pattern = ?2 ORDER BY id, console",
         params![class.text(), pattern.text()],
     )?;
     entries_in(alloc, rows.as_slice())

@@ -23,10 +23,10 @@ pub(crate) fn rank_of(level: Level) -> u32
     }
 }
 
-pub(crate) fn level_in(row: &Row) -> Result<Level, StoreFault>
-    ensures { (level : TheLevel) → column row.now 3 ≡ Int (pos (level_rank level)) → IfOk result (λ v. v ≡ level) }
+pub(crate) fn level_in(row: &Row, at: usize) -> Result<Level, StoreFault>
+    ensures { (level : TheLevel) → column row.now at ≡ Int (pos (level_rank level)) → IfOk result (λ v. v ≡ level) }
 {
-    match value_in::<u32>(row, 3)? {
+    match value_in::<u32>(row, at)? {
         0 => Ok(Level::None),
         1 => Ok(Level::Read),
         2 => Ok(Level::Update),

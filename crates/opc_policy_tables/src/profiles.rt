@@ -137,7 +137,7 @@ pub fn profile_in(alloc: Global, row: &Row) -> Result<Profile, StoreFault>
         class: class_in(row)?,
         pattern: name_in(row, 1)?,
         owner: name_in(row, 2)?,
-        uacc: level_in(row)?,
+        uacc: level_in(row, 3)?,
         warning: value_in(row, 4)?,
         entries: Entries::new(alloc),
     })

@@ -40,14 +40,15 @@ pub fn put_user<S: Alter>(tx: &mut Transaction<'_, S>, user: &User) -> Result<()
 {
     put(
         tx,
-        "UPDATE usr SET id = ?1, special = ?2, auditor = ?3, revoked = ?4, digest = ?5 WHERE id = ?1",
-        "INSERT INTO usr VALUES (?1, ?2, ?3, ?4, ?5)",
+        "UPDATE usr SET id = ?1, special = ?2, auditor = ?3, revoked = ?4, digest = ?5, restricted = ?6 WHERE id = ?1",
+        "INSERT INTO usr VALUES (?1, ?2, ?3, ?4, ?5, ?6)",
         params![
             user.id.text(),
             user.special,
             user.auditor,
             user.revoked,
-            digest_of(user)
+            digest_of(user),
+            user.restricted
         ],
     )
 }
@@ -92,6 +93,7 @@ pub fn user_in(row: &Row) -> Result<User, StoreFault>
         auditor: value_in(row, 2)?,
         revoked: value_in(row, 3)?,
         digest: digest_in(row, 4)?,
+        restricted: value_in(row, 5)?,
     })
 }
 
@@ -104,7 +106,7 @@ pub fn user_on<S: Alter>(conn: &mut Connection<S>, id: &UserId) -> Result<Option
 {
     let rows = read(
         conn,
-        "SELECT id, special, auditor, revoked, digest FROM usr WHERE id = ?1 ORDER BY id",
+        "SELECT id, special, auditor, revoked, digest, restricted FROM usr WHERE id = ?1 ORDER BY id",
         params![id.text()],
     )?;
     match rows.as_slice().get(0) {
@@ -133,7 +135,7 @@ pub fn users_on<S: Alter>(alloc: Global, conn: &mut Connection<S>) -> Result<Row
 {
     let rows = read(
         conn,
-        "SELECT id, special, auditor, revoked, digest FROM usr ORDER BY id",
+        "SELECT id, special, auditor, revoked, digest, restricted FROM usr ORDER BY id",
         &[],
     )?;
     all_in::<_, UserTable>(alloc, rows.as_slice())

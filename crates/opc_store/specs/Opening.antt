@@ -30,7 +30,7 @@ open_fault _ = fault.Store
 -- Why a database with names of ours is not opened: its version is another, or it cannot be asked for it, or memory is out.
 abbrev pub IsRefused : OpenFault → State → State → Type 0
 IsRefused told old new =
-    ((version : ℕ) × NamesVersion version old new × (version ≢ 2) × (told ≡ fault.NotOurs version))
+    ((version : ℕ) × NamesVersion version old new × (version ≢ 3) × (told ≡ fault.NotOurs version))
     ⊎ (((error : Error) × FailsToQuery version_query [] old new error × (told ≡ unasked error)) ⊎ (told ≡ fault.NoMemory))
 
 -- What the files held was opened and asked for its version, and is refused for what it told.

@@ -28,7 +28,7 @@ use std::alloc::Global;
 use thiserror::Error;
 
 /// The version of the tables.
-const VERSION: u64 = 2;
+const VERSION: u64 = 3;
 
 /// Why a database is not opened.
 #[derive(Clone, Copy, Debug, PartialEq, Eq, Error)]
@@ -70,7 +70,7 @@ impl<S: Alter> Store<S> {
     pub fn open_files(mut conn: Connection<S>) -> Result<Self, (OpenFault, Connection<S>)>
         requires { conn.in_transaction ≡ false }
         ensures found { IfOk result (λ store. HasCleanDisk (state S.Store store) → IsTrue (state S.Store conn).is_open → (s : _) → AreTablesOf (state S.Store conn).now.trees s → Represents (state S.Store store).now s) }
-        ensures ours { IfOk result (λ store. HasCleanDisk (state S.Store store) → IsTrue (has_our_name conn.schema) → NamesVersion 2 (state S.Store conn) (state S.Store store)) }
+        ensures ours { IfOk result (λ store. HasCleanDisk (state S.Store store) → IsTrue (has_our_name conn.schema) → NamesVersion 3 (state S.Store conn) (state S.Store store)) }
         ensures refused { IfErr result (λ e. HasCleanDisk (state S.Store e.1) → IsTrue (has_our_name conn.schema) → IsRefused e.0 (state S.Store conn) (state S.Store e.1)) }
         ensures unmade { IfErr result (λ e. IsFalse (has_our_name conn.schema) → (e.0 ≡ TheFault.NoMemory) ⊎ (e.0 ≡ TheFault.Store)) }
         ensures made { IfOk result (λ store. HasCleanDisk (state S.Store store) → (state S.Store conn).now.schema ≡ no_schema → Represents (state S.Store store).now empty) }

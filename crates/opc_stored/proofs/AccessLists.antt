@@ -29,7 +29,7 @@ use Rattle.opc_policy.specs.Profiles.{class_cmp, pattern_cmp, profile_cmp, is_of
 use Rattle.opc_state.specs.Members.{without_profile}
 use Rattle.opc_stored.specs.Represented.{profile_row, entry_row, entry_rows}
 use Rattle.opc_stored.proofs.Keys.{class_total, profile_total}
-use Rattle.opc_stored.proofs.ProfileTexts.{has_profile, has_entry, picks_profile, picks_entries, picks_entry}
+use Rattle.opc_stored.proofs.ProfileTexts.{has_profile, has_entry, picks_profile, picks_entries, picks_entry, is_at}
 
 class_means : (a b : Class) → same_class a b ≡ true → a ≡ b
 class_means Console Console h = refl
@@ -202,43 +202,43 @@ module _ (class : Class) (pattern : List ℕ) where
     pub parted_entries : flat_map entry_rows (with_profile listing ps) ≡ flat_map entry_rows it.front ++ (map (entry_row p.class p.pattern) (change p.entries) ++ flat_map entry_rows it.back)
     parted_entries = ap (flat_map entry_rows) replaced_list ∙ flat_map-append entry_rows it.front (listing ∷ it.back)
 
-  module _ (id : List ℕ) where
-    lack_entry : (qs : List Profile) → AllByRecursion (λ q. is_of class pattern q ≡ false) qs → AllByRecursion (λ v. has_entry class pattern id v ≡ false) (flat_map entry_rows qs)
+  module _ (id console : List ℕ) where
+    lack_entry : (qs : List Profile) → AllByRecursion (λ q. is_of class pattern q ≡ false) qs → AllByRecursion (λ v. has_entry class pattern id console v ≡ false) (flat_map entry_rows qs)
     lack_entry qs h =
-        all-flat_map (λ v. has_entry class pattern id v ≡ false) entry_rows qs
-        (all_weaker _ _ (λ q miss. all-map (λ v. has_entry class pattern id v ≡ false) (entry_row q.class q.pattern) (λ e. picks_entry class pattern id q e ∙ ap (λ b. b && bytes_eq e.id id) miss) q.entries) qs h)
+        all-flat_map (λ v. has_entry class pattern id console v ≡ false) entry_rows qs
+        (all_weaker _ _ (λ q miss. all-map (λ v. has_entry class pattern id console v ≡ false) (entry_row q.class q.pattern) (λ e. picks_entry class pattern id console q e ∙ ap (λ b. b && is_at id console e) miss) q.entries) qs h)
 
     module _ (ps : List Profile) (p : Profile) (it : Split ps p) where
-      picks_here : (e : Entry) → has_entry class pattern id (entry_row p.class p.pattern e) ≡ bytes_eq e.id id
-      picks_here e = picks_entry class pattern id p e ∙ ap (λ b. b && bytes_eq e.id id) it.passes
+      picks_here : (e : Entry) → has_entry class pattern id console (entry_row p.class p.pattern e) ≡ is_at id console e
+      picks_here e = picks_entry class pattern id console p e ∙ ap (λ b. b && is_at id console e) it.passes
 
       whole_entries : flat_map entry_rows ps ≡ flat_map entry_rows it.front ++ (entry_rows p ++ flat_map entry_rows it.back)
       whole_entries = ap (flat_map entry_rows) it.whole ∙ flat_map-append entry_rows it.front (p ∷ it.back)
 
       -- those that the test picks are those of the one access list
-      pub entries_hit : filter (has_entry class pattern id) (flat_map entry_rows ps) ≡ map (entry_row p.class p.pattern) (filter (λ (e : Entry). bytes_eq e.id id) p.entries)
+      pub entries_hit : filter (has_entry class pattern id console) (flat_map entry_rows ps) ≡ map (entry_row p.class p.pattern) (filter (is_at id console) p.entries)
       entries_hit =
-          let has = has_entry class pattern id in
-          let mine : filter has (entry_rows p) ≡ map (entry_row p.class p.pattern) (filter (λ (e : Entry). bytes_eq e.id id) p.entries) = filter-map has (entry_row p.class p.pattern) p.entries ∙ ap (map (entry_row p.class p.pattern)) (filter_same _ _ picks_here p.entries) in
+          let has = has_entry class pattern id console in
+          let mine : filter has (entry_rows p) ≡ map (entry_row p.class p.pattern) (filter (is_at id console) p.entries) = filter-map has (entry_row p.class p.pattern) p.entries ∙ ap (map (entry_row p.class p.pattern)) (filter_same _ _ picks_here p.entries) in
           ap (filter has) whole_entries
           ∙ (filter-append has (flat_map entry_rows it.front) (entry_rows p ++ flat_map entry_rows it.back)
           ∙ (ap₂ (λ (a b : List Row). a ++ b) (filter_none has _ (lack_entry it.front it.before)) (filter-append has (entry_rows p) (flat_map entry_rows it.back) ∙ ap₂ (λ (a b : List Row). a ++ b) mine (filter_none has _ (lack_entry it.back it.after)))
           ∙ append-nil _))
 
       -- and the others are left
-      pub entries_rest : filter (λ v. not (has_entry class pattern id v)) (flat_map entry_rows ps)
-          ≡ flat_map entry_rows it.front ++ (map (entry_row p.class p.pattern) (filter (λ (e : Entry). not (bytes_eq e.id id)) p.entries) ++ flat_map entry_rows it.back)
+      pub entries_rest : filter (λ v. not (has_entry class pattern id console v)) (flat_map entry_rows ps)
+          ≡ flat_map entry_rows it.front ++ (map (entry_row p.class p.pattern) (filter (λ (e : Entry). not (is_at id console e)) p.entries) ++ flat_map entry_rows it.back)
       entries_rest =
-          let lacks = λ (v : Row). not (has_entry class pattern id v) in
-          let mine : filter lacks (entry_rows p) ≡ map (entry_row p.class p.pattern) (filter (λ (e : Entry). not (bytes_eq e.id id)) p.entries) =
+          let lacks = λ (v : Row). not (has_entry class pattern id console v) in
+          let mine : filter lacks (entry_rows p) ≡ map (entry_row p.class p.pattern) (filter (λ (e : Entry). not (is_at id console e)) p.entries) =
           filter-map lacks (entry_row p.class p.pattern) p.entries ∙ ap (map (entry_row p.class p.pattern)) (filter_same _ _ (λ e. ap not (picks_here e)) p.entries) in
           ap (filter lacks) whole_entries
           ∙ (filter-append lacks (flat_map entry_rows it.front) (entry_rows p ++ flat_map entry_rows it.back)
           ∙ ap₂ (λ (a b : List Row). a ++ b) (keeps_all _ _ (lack_entry it.front it.before)) (filter-append lacks (entry_rows p) (flat_map entry_rows it.back) ∙ ap₂ (λ (a b : List Row). a ++ b) mine (keeps_all _ _ (lack_entry it.back it.after))))
 
     -- of a profile that is not there no entry is picked
-    pub no_entries : (ps : List Profile) → profile_of ps class pattern ≡ None → filter (has_entry class pattern id) (flat_map entry_rows ps) ≡ []
+    pub no_entries : (ps : List Profile) → profile_of ps class pattern ≡ None → filter (has_entry class pattern id console) (flat_map entry_rows ps) ≡ []
     no_entries ps absent = filter_none _ _ (lack_entry ps (none_picked profile_cmp (is_of class pattern) ps absent))
 
-    pub all_entries : (ps : List Profile) → profile_of ps class pattern ≡ None → filter (λ v. not (has_entry class pattern id v)) (flat_map entry_rows ps) ≡ flat_map entry_rows ps
+    pub all_entries : (ps : List Profile) → profile_of ps class pattern ≡ None → filter (λ v. not (has_entry class pattern id console v)) (flat_map entry_rows ps) ≡ flat_map entry_rows ps
     all_entries ps absent = keeps_all _ _ (lack_entry ps (none_picked profile_cmp (is_of class pattern) ps absent))

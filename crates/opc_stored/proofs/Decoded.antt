@@ -1,16 +1,17 @@
 -- Tables represent one state alone: it can be told from their rows.
-use Rattle.std.proofs.Common.{◌≡◌, ℕ, ◌==◌, Bool, true, false, ◌&&◌, cond, List, [], ◌∷◌, map, filter, drop, codes, Option, Some, None, Ok, Err, Result, refl, sym, ap, ap₂, ◌∙◌, Ordering, Less}
+use Rattle.std.proofs.Common.{◌≡◌, ◌≢◌, ℕ, ◌==◌, Bool, true, false, ◌&&◌, cond, List, [], ◌∷◌, map, filter, drop, codes, Option, Some, None, Ok, Err, Result, refl, sym, ap, ap₂, subst, ◌∙◌, Ordering, Less, IsPermutation}
 use Rattle.std.specs.List.{AllByRecursion, flat_map}
 use Rattle.std.specs.Cmp.{IsTotalOrder}
 use Rattle.std.specs.Ordering.{nat_cmp}
 use Rattle.std.specs.Str.{bytes_eq}
 use Rattle.std.proofs.lemmas.Cmp.{on_total, nat_cmp_total}
+use Rattle.std.proofs.lemmas.List.Sorted.{IsPermutation-map}
 use Rattle.sqlite.specs.Order.{Row, column}
 use Rattle.sqlite.specs.Tree.{Trees}
 use Rattle.sqlite_keyed.specs.Lists.{sort_by}
-use Rattle.sqlite_keyed.proofs.ListLemmas.{map_back, map-map, map_same, all-map, all-flat_map, all_of, all_both, ascending-map}
+use Rattle.sqlite_keyed.proofs.ListLemmas.{IsPermutation-filter, map_back, map-map, map_same, all-map, all-flat_map, all_of, all_both, ascending-map}
 use Rattle.opc_statements.specs.Order.{Rises}
-use Rattle.opc_statements.proofs.Sorting.{decoded_as, decoded_is, decoded_part, places_back}
+use Rattle.opc_statements.proofs.Sorting.{decoded_as, decoded_is, in_order, places_back}
 use Rattle.opc_names.specs.declared.auth.Auth.{Auth}
 use Rattle.opc_names.specs.declared.auth.Auth.TheVariants as auth
 use Rattle.opc_names.specs.declared.class.Class.{Class}
@@ -22,7 +23,7 @@ use Rattle.opc_names.specs.Spellings.{class_text}
 use Rattle.opc_policy.specs.declared.connect.Connect.{Connect}
 use Rattle.opc_policy.specs.declared.entry.Entry.{Entry}
 use Rattle.opc_policy.specs.declared.mode.Mode.{Mode}
-use Rattle.opc_policy.specs.declared.mode.Mode.TheVariants.{Optional, Required}
+use Rattle.opc_policy.specs.declared.mode.Mode.TheVariants.{Optional, Required, Auto}
 use Rattle.opc_policy.specs.declared.policy.ActiveClasses.{ActiveClasses}
 use Rattle.opc_policy.specs.declared.profile.Profile.{Profile}
 use Rattle.opc_policy.specs.declared.row.Row.{Row as PolicyRow}
@@ -43,11 +44,11 @@ use Rattle.opc_state.specs.declared.account.AccountRow.{AccountRow}
 use Rattle.opc_state.specs.declared.change.Batch.{Batch}
 use Rattle.opc_state.specs.Members.{unit_cmp, device_cmp, console_cmp}
 use Rattle.opc_state.specs.State.{State}
-use Rattle.opc_stored.specs.Content.{bare, text_said, number_said, flag_said, text_or_none, bytes_or_none, class_said, level_of, profile_said, entry_said, is_entry_of, entries_in, profiles_in}
-use Rattle.opc_stored.specs.State.{IsOrdered, IsReadBack}
+use Rattle.opc_stored.specs.Content.{bare, text_said, number_said, flag_said, text_or_none, name_or_none, bytes_or_none, class_said, level_of, profile_said, entry_said, is_entry_of, entries_in, profiles_in}
+use Rattle.opc_stored.specs.State.{IsOrdered, IsReadBack, IsNamed, IsList}
 use Rattle.opc_stored.specs.Contents.{Holds}
 use Rattle.opc_stored.specs.Placed.{classes_at, consoles_at, units_at, devices_at, replies_at, answered_at, log_at, messages_at, board_at, account_at, batches_at, grp_at, usr_at, connects_at, profiles_at, entries_at}
-use Rattle.opc_stored.specs.Represented.{contents_of, AreTablesOf, flag, or_null, text_or_null, class_row, halted_row, group_row, user_row, connect_row, profile_row, entry_row, entry_rows, auth_number, mode_letter, console_row, kind_letter, kind_member, unit_row, device_row, answered_values, log_values, message_values, account_values, reply_row, batch_row}
+use Rattle.opc_stored.specs.Represented.{contents_of, AreTablesOf, flag, or_null, text_or_null, class_row, halted_row, group_row, user_row, connect_row, profile_row, entry_row, entry_rows, auth_number, mode_letter, console_row, kind_letter, kind_member, unit_row, device_row, answered_values, log_values, message_values, account_values, reply_row, batch_row, or_empty}
 use Rattle.opc_stored.proofs.AccessLists.{split, list_hit}
 use Rattle.opc_stored.proofs.Keys.{group_total, user_total, connect_total, profile_total, entry_total, unit_total, device_total, console_total, class_total}
 use Rattle.opc_stored.proofs.PolicyRead.{is_itself, not_of}
@@ -66,6 +67,11 @@ bytes_back (Some b) = refl
 text_back : (o : Option (List ℕ)) → text_or_none (text_or_null o) ≡ o
 text_back None = refl
 text_back (Some t) = refl
+
+place_back : (o : Option (List ℕ)) → o ≢ Some [] → name_or_none (or_empty o) ≡ o
+place_back None named = refl
+place_back (Some []) named = absurd (named refl)
+place_back (Some (c ∷ cs)) named = refl
 
 abbrev class_in : List ℕ → Class
 class_in text = cond (bytes_eq text (codes "CONSOLE")) Console Opercmds
@@ -99,11 +105,12 @@ auth_back auth.IoCons = refl
 auth_back auth.SysIoCons = refl
 
 abbrev mode_of : List ℕ → Mode
-mode_of letter = cond (bytes_eq letter (codes "O")) Optional Required
+mode_of letter = cond (bytes_eq letter (codes "O")) Optional (cond (bytes_eq letter (codes "R")) Required Auto)
 
 mode_back : (m : Mode) → mode_of (mode_letter m) ≡ m
 mode_back Optional = refl
 mode_back Required = refl
+mode_back Auto = refl
 
 abbrev kind_of : List ℕ → Option (List ℕ) → UnitKind
 kind_of letter None = cond (bytes_eq letter (codes "T")) Tsu Job
@@ -120,10 +127,10 @@ abbrev group_said : Row → List ℕ
 group_said v = text_said (column v 0)
 
 abbrev user_said : Row → User
-user_said v = record { id = text_said (column v 0); special = flag_said (column v 1); auditor = flag_said (column v 2); revoked = flag_said (column v 3); digest = bytes_or_none (column v 4) }
+user_said v = record { id = text_said (column v 0); special = flag_said (column v 1); auditor = flag_said (column v 2); revoked = flag_said (column v 3); digest = bytes_or_none (column v 4); restricted = flag_said (column v 5) }
 
 user_back : (u : User) → user_said (user_row u) ≡ u
-user_back u = λ i. record { id = u.id; special = flag_back u.special i; auditor = flag_back u.auditor i; revoked = flag_back u.revoked i; digest = bytes_back u.digest i }
+user_back u = λ i. record { id = u.id; special = flag_back u.special i; auditor = flag_back u.auditor i; revoked = flag_back u.revoked i; digest = bytes_back u.digest i; restricted = flag_back u.restricted i }
 
 abbrev connect_said : Row → Connect
 connect_said v = record { user = text_said (column v 0); group = text_said (column v 1) }
@@ -134,8 +141,12 @@ connect_back c = refl
 profile_back : (p : Profile) → profile_said (profile_row p) ≡ bare p
 profile_back p = λ i. record { class = class_back p.class i; pattern = p.pattern; owner = p.owner; uacc = level_back p.uacc i; warning = flag_back p.warning i; entries = [] }
 
-entry_back : (class : Class) (pattern : List ℕ) (e : Entry) → entry_said (entry_row class pattern e) ≡ e
-entry_back class pattern e = λ i. record { id = e.id; level = level_back e.level i }
+entry_back : (class : Class) (pattern : List ℕ) (e : Entry) → IsNamed e → entry_said (entry_row class pattern e) ≡ e
+entry_back class pattern e named = λ i. record { id = e.id; when = place_back e.when named i; level = level_back e.level i }
+
+entries_back : (class : Class) (pattern : List ℕ) (es : List Entry) → AllByRecursion IsNamed es → map entry_said (map (entry_row class pattern) es) ≡ es
+entries_back class pattern [] named = refl
+entries_back class pattern (e ∷ es) named = ap₂ (λ (x : Entry) (l : List Entry). x ∷ l) (entry_back class pattern e named.0) (entries_back class pattern es named.1)
 
 abbrev class_row_said : Row → Class × Bool
 class_row_said v = (class_said (column v 0), flag_said (column v 1))
@@ -193,7 +204,7 @@ batches_back (b ∷ bs) h = ap₂ (λ (x : Batch) (l : List Batch). x ∷ l) (λ
 
 -- ---- profiles with their access lists
 
-filter_on : {X : Type 0} (p q : X → Bool) (xs : List X) → AllByRecursion (λ x. p x ≡ q x) xs → filter p xs ≡ filter q xs
+pub filter_on : {X : Type 0} (p q : X → Bool) (xs : List X) → AllByRecursion (λ x. p x ≡ q x) xs → filter p xs ≡ filter q xs
 filter_on p q [] h = refl
 filter_on p q (x ∷ xs) h = rw (h.0, filter_on p q xs h.1)
 
@@ -223,12 +234,16 @@ module _ (trees : Trees) (s : State) (ordered : IsOrdered s) (holds : Holds tree
   ps = s.policy.profiles
 
   -- the entries that the test picks are those of the profile
-  listed_here : (p : Profile) → profile_of ps p.class p.pattern ≡ Some p → Rises entry_cmp p.entries → entries_in trees p.class p.pattern ≡ p.entries
-  listed_here p here up =
-      decoded_part entry_cmp entry_total (entry_row p.class p.pattern) entry_said (entry_back p.class p.pattern) (is_entry_of p.class p.pattern) (flat_map entry_rows ps) p.entries (trees entries_at.tree) up
-      (own_entries p.class p.pattern ps p ordered.profiles here) holds.entries
+  listed_here : (p : Profile) → profile_of ps p.class p.pattern ≡ Some p → IsList p.entries → entries_in trees p.class p.pattern ≡ p.entries
+  listed_here p here list =
+      let own = is_entry_of p.class p.pattern in
+      let hits : List Row = filter own (map (λ (r : Row). drop 1 r) (trees entries_at.tree)) in
+      let picked : IsPermutation (map (entry_row p.class p.pattern) p.entries) hits =
+      subst (λ (l : List Row). IsPermutation l hits) (own_entries p.class p.pattern ps p ordered.profiles here) (IsPermutation-filter own _ _ holds.entries.each) in
+      in_order entry_cmp entry_total p.entries _ list.0
+      (subst (λ (l : List Entry). IsPermutation l (map entry_said hits)) (entries_back p.class p.pattern p.entries list.1) (IsPermutation-map entry_said _ _ picked))
 
-  filled : (qs : List Profile) → AllByRecursion (λ (p : Profile). profile_of ps p.class p.pattern ≡ Some p) qs → AllByRecursion (λ (p : Profile). Rises entry_cmp p.entries) qs
+  filled : (qs : List Profile) → AllByRecursion (λ (p : Profile). profile_of ps p.class p.pattern ≡ Some p) qs → AllByRecursion (λ (p : Profile). IsList p.entries) qs
       → map (λ (p : Profile). record p { entries = entries_in trees p.class p.pattern }) (map bare qs) ≡ qs
   filled [] found up = refl
   filled (q ∷ qs) found up = ap₂ (λ (p : Profile) (l : List Profile). p ∷ l) (λ i. record q { entries = listed_here q found.0 up.0 i }) (filled qs found.1 up.1)

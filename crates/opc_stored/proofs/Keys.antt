@@ -1,6 +1,7 @@
 -- The orders of names.
 use Rattle.std.proofs.Common.{◌≡◌, ℕ, List, refl, ap₂, subst, Ordering, Less, Equal, Greater}
 use Rattle.std.specs.Cmp.{IsTotalOrder}
+use Rattle.std.specs.Cmp.Lexicographic.{options_total}
 use Rattle.std.proofs.lemmas.Cmp.{on_total, then_total, nat_cmp_total, nat_list_cmp_total}
 use Rattle.std.proofs.lemmas.Map.Lookups.{exact_bytes}
 use Rattle.std.specs.Ordering.{nat_cmp, ordering_then}
@@ -62,7 +63,7 @@ pub profile_total : IsTotalOrder profile_cmp
 profile_total = then_total (on_total (λ (p : Profile). p.class) class_total) (on_total (λ (p : Profile). sort_key p.pattern) nat_list_cmp_total)
 
 pub entry_total : IsTotalOrder entry_cmp
-entry_total = on_total (λ (e : Entry). e.id) nat_list_cmp_total
+entry_total = then_total (on_total (λ (e : Entry). e.id) nat_list_cmp_total) (on_total (λ (e : Entry). e.when) (options_total nat_list_cmp_total))
 
 pub same_name : (a b : List ℕ) → name_cmp a b ≡ Equal → a ≡ b
 same_name = exact_bytes

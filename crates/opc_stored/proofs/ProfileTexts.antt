@@ -30,20 +30,20 @@ use Rattle.opc_policy.specs.declared.profile.Profile.{Profile}
 use Rattle.opc_policy.specs.Profiles.{is_of}
 use Rattle.opc_stored.specs.Tables.{the_schema}
 use Rattle.opc_stored.specs.Placed.{profiles_at, entries_at}
-use Rattle.opc_stored.specs.Represented.{profile_row, entry_row}
+use Rattle.opc_stored.specs.Represented.{or_empty, profile_row, entry_row}
 
 abbrev pub profile_terms : List Term
 profile_terms = col 0 0 ∷ col 0 1 ∷ col 0 2 ∷ col 0 3 ∷ col 0 4 ∷ col 0 5 ∷ col 0 6 ∷ []
 
 abbrev pub entry_terms : List Term
-entry_terms = col 0 0 ∷ col 0 1 ∷ col 0 2 ∷ col 0 3 ∷ []
+entry_terms = col 0 0 ∷ col 0 1 ∷ col 0 2 ∷ col 0 3 ∷ col 0 4 ∷ []
 
--- class and pattern are those of the parameters, and so is the id
+-- class and pattern are those of the parameters, and so are the id and the console
 abbrev pub of_profile : List Term
 of_profile = op2 (Compare Eq Binary) (col 1 1) (col 0 0) ∷ op2 (Compare Eq Binary) (col 1 2) (col 0 1) ∷ []
 
 abbrev pub of_entry : List Term
-of_entry = op2 (Compare Eq Binary) (col 1 1) (col 0 0) ∷ op2 (Compare Eq Binary) (col 1 2) (col 0 1) ∷ op2 (Compare Eq Binary) (col 1 3) (col 0 2) ∷ []
+of_entry = op2 (Compare Eq Binary) (col 1 1) (col 0 0) ∷ op2 (Compare Eq Binary) (col 1 2) (col 0 1) ∷ op2 (Compare Eq Binary) (col 1 3) (col 0 2) ∷ op2 (Compare Eq Binary) (col 1 4) (col 0 3) ∷ []
 
 abbrev pub insert_profile : List ℕ
 insert_profile = codes "INSERT INTO profiles VALUES (?1, ?2, ?3, ?4, ?5, ?6, ?7)"
@@ -79,9 +79,9 @@ unfolding understood everything
 delete_profile_plain = (refl, refl)
 
 abbrev pub insert_entry : List ℕ
-insert_entry = codes "INSERT INTO entries VALUES (?1, ?2, ?3, ?4)"
+insert_entry = codes "INSERT INTO entries VALUES (?1, ?2, ?3, ?4, ?5)"
 
-pub insert_entry_is : command_of (understood the_schema insert_entry) ≡ Insert 16 (Values (lit Null ∷ entry_terms) 5)
+pub insert_entry_is : command_of (understood the_schema insert_entry) ≡ Insert 16 (Values (lit Null ∷ entry_terms) 6)
 unfolding understood everything
 insert_entry_is = refl
 
@@ -90,7 +90,7 @@ unfolding understood everything
 insert_entry_plain = (refl, refl)
 
 abbrev pub update_entry : List ℕ
-update_entry = codes "UPDATE entries SET class = ?1, pattern = ?2, id = ?3, level = ?4 WHERE class = ?1 AND pattern = ?2 AND id = ?3"
+update_entry = codes "UPDATE entries SET class = ?1, pattern = ?2, id = ?3, console = ?4, level = ?5 WHERE class = ?1 AND pattern = ?2 AND id = ?3 AND console = ?4"
 
 pub update_entry_is : command_of (understood the_schema update_entry) ≡ Update 16 (alone (selecting entries_at.tree of_entry (col 1 0 ∷ col 1 0 ∷ entry_terms) []))
 unfolding understood everything
@@ -101,7 +101,7 @@ unfolding understood everything
 update_entry_plain = (refl, refl)
 
 abbrev pub delete_entry : List ℕ
-delete_entry = codes "DELETE FROM entries WHERE class = ?1 AND pattern = ?2 AND id = ?3"
+delete_entry = codes "DELETE FROM entries WHERE class = ?1 AND pattern = ?2 AND id = ?3 AND console = ?4"
 
 pub delete_entry_is : command_of (understood the_schema delete_entry) ≡ Delete 16 (alone (selecting entries_at.tree of_entry (col 1 0 ∷ []) []))
 unfolding understood everything
@@ -127,16 +127,21 @@ delete_entries_plain = (refl, refl)
 abbrev pub has_profile : Class → List ℕ → Row → Bool
 has_profile class pattern v = is_true (binary (Compare Eq Binary) (column v 0) (Text (class_text class))) && (is_true (binary (Compare Eq Binary) (column v 1) (Text pattern)) && true)
 
-abbrev pub has_entry : Class → List ℕ → List ℕ → Row → Bool
-has_entry class pattern id v =
+abbrev pub has_entry : Class → List ℕ → List ℕ → List ℕ → Row → Bool
+has_entry class pattern id console v =
     is_true (binary (Compare Eq Binary) (column v 0) (Text (class_text class)))
-    && (is_true (binary (Compare Eq Binary) (column v 1) (Text pattern)) && (is_true (binary (Compare Eq Binary) (column v 2) (Text id)) && true))
+    && (is_true (binary (Compare Eq Binary) (column v 1) (Text pattern))
+    && (is_true (binary (Compare Eq Binary) (column v 2) (Text id)) && (is_true (binary (Compare Eq Binary) (column v 3) (Text console)) && true)))
+
+-- an entry with this text in the column of its console
+abbrev pub is_at : List ℕ → List ℕ → Entry → Bool
+is_at id console e = bytes_eq e.id id && bytes_eq (or_empty e.when) console
 
 abbrev pub profile_key : Class → List ℕ → Row
 profile_key class pattern = Text (class_text class) ∷ Text pattern ∷ []
 
-abbrev pub entry_key : Class → List ℕ → List ℕ → Row
-entry_key class pattern id = Text (class_text class) ∷ Text pattern ∷ Text id ∷ []
+abbrev pub entry_key : Class → List ℕ → List ℕ → List ℕ → Row
+entry_key class pattern id console = Text (class_text class) ∷ Text pattern ∷ Text id ∷ Text console ∷ []
 
 pub profile_below : (p : Profile) (project : List Term) (db : Trees) (r : Row) → passes profiles_at.tree of_profile project [] db (profile_row p) r ≡ has_profile p.class p.pattern (drop 1 r)
 profile_below p project db [] = refl
@@ -148,17 +153,19 @@ key_below tree class pattern project db [] = refl
 key_below tree class pattern project db (v0 ∷ []) = refl
 key_below tree class pattern project db (v0 ∷ v1 ∷ r) = refl
 
-pub entry_below : (class : Class) (pattern : List ℕ) (e : Entry) (project : List Term) (db : Trees) (r : Row) → passes entries_at.tree of_entry project [] db (entry_row class pattern e) r ≡ has_entry class pattern e.id (drop 1 r)
+pub entry_below : (class : Class) (pattern : List ℕ) (e : Entry) (project : List Term) (db : Trees) (r : Row) → passes entries_at.tree of_entry project [] db (entry_row class pattern e) r ≡ has_entry class pattern e.id (or_empty e.when) (drop 1 r)
 entry_below class pattern e project db [] = refl
 entry_below class pattern e project db (v0 ∷ []) = refl
 entry_below class pattern e project db (v0 ∷ v1 ∷ []) = refl
-entry_below class pattern e project db (v0 ∷ v1 ∷ v2 ∷ r) = refl
+entry_below class pattern e project db (v0 ∷ v1 ∷ v2 ∷ []) = refl
+entry_below class pattern e project db (v0 ∷ v1 ∷ v2 ∷ v3 ∷ r) = refl
 
-pub entry_key_below : (class : Class) (pattern id : List ℕ) (project : List Term) (db : Trees) (r : Row) → passes entries_at.tree of_entry project [] db (entry_key class pattern id) r ≡ has_entry class pattern id (drop 1 r)
-entry_key_below class pattern id project db [] = refl
-entry_key_below class pattern id project db (v0 ∷ []) = refl
-entry_key_below class pattern id project db (v0 ∷ v1 ∷ []) = refl
-entry_key_below class pattern id project db (v0 ∷ v1 ∷ v2 ∷ r) = refl
+pub entry_key_below : (class : Class) (pattern id console : List ℕ) (project : List Term) (db : Trees) (r : Row) → passes entries_at.tree of_entry project [] db (entry_key class pattern id console) r ≡ has_entry class pattern id console (drop 1 r)
+entry_key_below class pattern id console project db [] = refl
+entry_key_below class pattern id console project db (v0 ∷ []) = refl
+entry_key_below class pattern id console project db (v0 ∷ v1 ∷ []) = refl
+entry_key_below class pattern id console project db (v0 ∷ v1 ∷ v2 ∷ []) = refl
+entry_key_below class pattern id console project db (v0 ∷ v1 ∷ v2 ∷ v3 ∷ r) = refl
 
 class_is : (a b : Class) → is_eq (text_cmp (class_text a) (class_text b)) ≡ same_class a b
 class_is Console Console = refl
@@ -179,10 +186,11 @@ and_both : (a b c : Bool) → (a && (b && c)) ≡ ((a && b) && c)
 and_both true b c = refl
 and_both false b c = refl
 
-pub picks_entry : (class : Class) (pattern id : List ℕ) (p : Profile) (e : Entry) → has_entry class pattern id (entry_row p.class p.pattern e) ≡ (is_of class pattern p && bytes_eq e.id id)
-picks_entry class pattern id p e =
-    ap₂ (λ a b. a && b) (equal_texts (class_text p.class) (class_text class) ∙ class_is p.class class) (ap₂ (λ a b. a && b) (text_is p.pattern pattern) (and_true _ ∙ text_is e.id id))
-    ∙ and_both (same_class p.class class) (bytes_eq p.pattern pattern) (bytes_eq e.id id)
+pub picks_entry : (class : Class) (pattern id console : List ℕ) (p : Profile) (e : Entry) → has_entry class pattern id console (entry_row p.class p.pattern e) ≡ (is_of class pattern p && is_at id console e)
+picks_entry class pattern id console p e =
+    let mine = ap₂ (λ a b. a && b) (text_is e.id id) (and_true _ ∙ text_is (or_empty e.when) console) in
+    ap₂ (λ a b. a && b) (equal_texts (class_text p.class) (class_text class) ∙ class_is p.class class) (ap₂ (λ a b. a && b) (text_is p.pattern pattern) mine)
+    ∙ and_both (same_class p.class class) (bytes_eq p.pattern pattern) (is_at id console e)
 
 -- ---- what the columns make of the values
 
@@ -191,4 +199,4 @@ profile_cast p v =
     ap₂ (λ a (r : Row). a ∷ r) refl (ap₂ (λ a (r : Row). a ∷ r) refl (ap₂ (λ a (r : Row). a ∷ r) refl (ap₂ (λ a (r : Row). a ∷ r) (cast_int _) (ap₂ (λ a (r : Row). a ∷ r) (cast_int _) refl))))
 
 pub entry_cast : (class : Class) (pattern : List ℕ) (e : Entry) (v : Value) → drop 1 (cast_row entries_at (v ∷ entry_row class pattern e)) ≡ entry_row class pattern e
-entry_cast class pattern e v = ap₂ (λ a (r : Row). a ∷ r) refl (ap₂ (λ a (r : Row). a ∷ r) refl (ap₂ (λ a (r : Row). a ∷ r) refl (ap₂ (λ a (r : Row). a ∷ r) (cast_int _) refl)))
+entry_cast class pattern e v = ap₂ (λ a (r : Row). a ∷ r) refl (ap₂ (λ a (r : Row). a ∷ r) refl (ap₂ (λ a (r : Row). a ∷ r) refl (ap₂ (λ a (r : Row). a ∷ r) refl (ap₂ (λ a (r : Row). a ∷ r) (cast_int _) refl))))

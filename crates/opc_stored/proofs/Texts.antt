@@ -21,10 +21,10 @@ texts =
     ∷ codes "CREATE TABLE account (number INTEGER PRIMARY KEY, moment INTEGER NOT NULL, console TEXT NOT NULL, usr TEXT NOT NULL, code TEXT NOT NULL, rule TEXT NOT NULL) STRICT"
     ∷ codes "CREATE TABLE batches (number INTEGER PRIMARY KEY, rows TEXT NOT NULL) STRICT"
     ∷ codes "CREATE TABLE grp (name TEXT NOT NULL PRIMARY KEY) STRICT"
-    ∷ codes "CREATE TABLE usr (id TEXT NOT NULL PRIMARY KEY, special INTEGER NOT NULL, auditor INTEGER NOT NULL, revoked INTEGER NOT NULL, digest BLOB) STRICT"
+    ∷ codes "CREATE TABLE usr (id TEXT NOT NULL PRIMARY KEY, special INTEGER NOT NULL, auditor INTEGER NOT NULL, revoked INTEGER NOT NULL, digest BLOB, restricted INTEGER NOT NULL) STRICT"
     ∷ codes "CREATE TABLE connects (usr TEXT NOT NULL REFERENCES usr, grp TEXT NOT NULL REFERENCES grp, PRIMARY KEY (usr, grp)) STRICT"
     ∷ codes "CREATE TABLE profiles (class TEXT NOT NULL, pattern TEXT NOT NULL, owner TEXT NOT NULL REFERENCES usr, uacc INTEGER NOT NULL, warning INTEGER NOT NULL, skey BLOB NOT NULL, head TEXT NOT NULL, PRIMARY KEY (class, pattern), UNIQUE (class, skey), UNIQUE (class, head, skey)) STRICT"
-    ∷ codes "CREATE TABLE entries (class TEXT NOT NULL, pattern TEXT NOT NULL, id TEXT NOT NULL, level INTEGER NOT NULL, PRIMARY KEY (class, pattern, id), FOREIGN KEY (class, pattern) REFERENCES profiles ON DELETE CASCADE) STRICT"
+    ∷ codes "CREATE TABLE entries (class TEXT NOT NULL, pattern TEXT NOT NULL, id TEXT NOT NULL, console TEXT NOT NULL, level INTEGER NOT NULL, PRIMARY KEY (class, pattern, id, console), FOREIGN KEY (class, pattern) REFERENCES profiles ON DELETE CASCADE) STRICT"
     ∷ []
 
 pub defined : AreDefined no_schema texts the_tables

@@ -1,5 +1,5 @@
 -- What the rows of tables say: the values of their columns, read back, and the profiles with their access lists.
-use Rattle.std.specs.Prelude.{ℕ, pos, ◌==◌, Bool, ◌&&◌, if◌then◌else◌, List, [], map, filter, drop, Option, Some, None, codes}
+use Rattle.std.specs.Prelude.{ℕ, pos, ◌==◌, Bool, ◌&&◌, if◌then◌else◌, List, [], ◌∷◌, map, filter, drop, Option, Some, None, codes}
 use Rattle.std.specs.Str.{bytes_eq}
 use Rattle.sqlite_value.specs.declared.value.Value.{Value}
 use Rattle.sqlite_value.specs.declared.value.Value.TheVariants.{Int, Text, Blob}
@@ -33,6 +33,11 @@ abbrev pub text_or_none : Value → Option (List ℕ)
 text_or_none (Text text) = Some text
 text_or_none _ = None
 
+-- no text says no name
+abbrev pub name_or_none : List ℕ → Option (List ℕ)
+name_or_none [] = None
+name_or_none (c ∷ cs) = Some (c ∷ cs)
+
 abbrev pub bytes_or_none : Value → Option (List ℕ)
 bytes_or_none (Blob bytes) = Some bytes
 bytes_or_none _ = None
@@ -56,13 +61,13 @@ abbrev pub profile_said : Row → Profile
 profile_said v = record { class = class_said (column v 0); pattern = text_said (column v 1); owner = text_said (column v 2); uacc = level_of (number_said (column v 3)); warning = flag_said (column v 4); entries = [] }
 
 abbrev pub entry_said : Row → Entry
-entry_said v = record { id = text_said (column v 2); level = level_of (number_said (column v 3)) }
+entry_said v = record { id = text_said (column v 2); when = name_or_none (text_said (column v 3)); level = level_of (number_said (column v 4)) }
 
 -- whether an entry is one of the profile of a class and a pattern
 abbrev pub is_entry_of : Class → List ℕ → Row → Bool
 is_entry_of class pattern v = same_class (class_said (column v 0)) class && bytes_eq (text_said (column v 1)) pattern
 
--- the access list of the profile of a class and a pattern, in the order of its ids
+-- the access list of the profile of a class and a pattern, in its order
 abbrev pub entries_in : Trees → Class → List ℕ → List Entry
 entries_in trees class pattern = sort_by entry_cmp (map entry_said (filter (is_entry_of class pattern) (values_of (trees entries_at.tree))))
 

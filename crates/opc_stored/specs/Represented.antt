@@ -20,7 +20,7 @@ use Rattle.opc_policy.specs.declared.connect.Connect.{Connect}
 use Rattle.opc_policy.specs.declared.entry.Entry.{Entry}
 use Rattle.opc_policy.specs.declared.profile.Profile.{Profile}
 use Rattle.opc_policy.specs.declared.mode.Mode.{Mode}
-use Rattle.opc_policy.specs.declared.mode.Mode.TheVariants.{Optional, Required}
+use Rattle.opc_policy.specs.declared.mode.Mode.TheVariants.{Optional, Required, Auto}
 use Rattle.opc_board.specs.declared.rows.UnitKind.{UnitKind}
 use Rattle.opc_board.specs.declared.rows.UnitKind.TheVariants.{Job, Stc, Tsu}
 use Rattle.opc_board.specs.declared.rows.UnitRow.{UnitRow}
@@ -59,7 +59,7 @@ abbrev pub group_row : List ℕ → Row
 group_row name = Text name ∷ []
 
 abbrev pub user_row : User → Row
-user_row u = Text u.id ∷ flag u.special ∷ flag u.auditor ∷ flag u.revoked ∷ or_null u.digest ∷ []
+user_row u = Text u.id ∷ flag u.special ∷ flag u.auditor ∷ flag u.revoked ∷ or_null u.digest ∷ flag u.restricted ∷ []
 
 abbrev pub connect_row : Connect → Row
 connect_row c = Text c.user ∷ Text c.group ∷ []
@@ -70,8 +70,14 @@ profile_row p =
     Text (class_text p.class) ∷ Text p.pattern ∷ Text p.owner ∷ Int (pos (level_rank p.uacc)) ∷ flag p.warning
     ∷ Blob (sort_key p.pattern) ∷ Text (head (tokens p.pattern)) ∷ []
 
+-- no text where no name is given
+abbrev pub or_empty : Option (List ℕ) → List ℕ
+or_empty None = []
+or_empty (Some name) = name
+
+-- with the console at which it counts
 abbrev pub entry_row : Class → List ℕ → Entry → Row
-entry_row class pattern e = Text (class_text class) ∷ Text pattern ∷ Text e.id ∷ Int (pos (level_rank e.level)) ∷ []
+entry_row class pattern e = Text (class_text class) ∷ Text pattern ∷ Text e.id ∷ Text (or_empty e.when) ∷ Int (pos (level_rank e.level)) ∷ []
 
 -- the access list of a profile
 abbrev pub entry_rows : Profile → List Row
@@ -97,6 +103,7 @@ auth_number auth.SysIoCons = 15
 abbrev pub mode_letter : Mode → List ℕ
 mode_letter Optional = codes "O"
 mode_letter Required = codes "R"
+mode_letter Auto = codes "A"
 
 abbrev pub console_row : ConsoleRow → Row
 console_row c =
@@ -161,7 +168,7 @@ batch_row b = numbered_row batch_values b.number b
 -- The rows of each table.
 abbrev pub contents_of : State → Contents
 contents_of s = record {
-  meta = version_row 2 ∷ [];
+  meta = version_row 3 ∷ [];
   classes = map class_row ((Console, s.policy.active.console) ∷ (Opercmds, s.policy.active.opercmds) ∷ []);
   consoles = map console_row s.board.consoles;
   units = map unit_row s.board.units;

@@ -1,9 +1,10 @@
 -- The order of what the tables represent.
-use Rattle.std.specs.Prelude.{◌≡◌, ◌<◌, ◌^◌, List, length, Ok}
+use Rattle.std.specs.Prelude.{◌≡◌, ◌≢◌, ◌<◌, ◌^◌, List, [], length, Some, Ok}
 use Rattle.std.specs.List.{AllByRecursion}
 use Rattle.opc_import.specs.Files.{policy_of}
 use Rattle.opc_import.specs.Lines.{policy_text}
 use Rattle.opc_names.specs.Names.{IsPattern}
+use Rattle.opc_policy.specs.declared.entry.Entry.{Entry}
 use Rattle.opc_policy.specs.declared.profile.Profile.{Profile}
 use Rattle.opc_policy.specs.Access.{entry_cmp}
 use Rattle.opc_policy.specs.Members.{name_cmp, user_cmp, connect_cmp}
@@ -25,6 +26,14 @@ AreNumbered s = CanBeNumbered s.account × CanBeNumbered s.board.answered × Can
 abbrev pub IsReadBack : Batch → Type 0
 IsReadBack b = policy_of (policy_text b.rows) ≡ Ok b.rows
 
+-- no text is no console
+abbrev pub IsNamed : Entry → Type 0
+IsNamed e = e.when ≢ Some []
+
+-- an access list in its order, at consoles that have names
+abbrev pub IsList : List Entry → Type 0
+IsList entries = Rises entry_cmp entries × AllByRecursion IsNamed entries
+
 -- Each part is in the order of its names or numbers, none of which comes twice; patterns are patterns, and texts of batches are read
 -- back as they are.
 pub record IsOrdered (s : State) : Type 0 where
@@ -33,7 +42,7 @@ pub record IsOrdered (s : State) : Type 0 where
   pub connects : Rises connect_cmp s.policy.connects
   pub profiles : Rises profile_cmp s.policy.profiles
   pub patterns : AllByRecursion (λ (p : Profile). IsPattern p.pattern) s.policy.profiles
-  pub entries : AllByRecursion (λ (p : Profile). Rises entry_cmp p.entries) s.policy.profiles
+  pub entries : AllByRecursion (λ (p : Profile). IsList p.entries) s.policy.profiles
   pub units : Rises unit_cmp s.board.units
   pub devices : Rises device_cmp s.board.devices
   pub consoles : Rises console_cmp s.board.consoles

@@ -1,4 +1,4 @@
--- The tables, as the statements that make them define them, version 2.
+-- The tables, as the statements that make them define them, version 3.
 use Rattle.std.specs.Prelude.{true, false, List, [], ◌∷◌, fold, Some, None, codes}
 use Rattle.sqlite_schema.specs.declared.schema.Action.TheVariants.{NoAction, Cascade}
 use Rattle.sqlite.specs.Table.{Table}
@@ -47,7 +47,7 @@ abbrev pub grp_table : Table
 grp_table = table_of (codes "grp") (column_of Text true (codes "name") ∷ []) None (1 ∷ []) ((1 ∷ []) ∷ []) ([])
 
 abbrev pub usr_table : Table
-usr_table = table_of (codes "usr") (column_of Text true (codes "id") ∷ column_of Integer true (codes "special") ∷ column_of Integer true (codes "auditor") ∷ column_of Integer true (codes "revoked") ∷ column_of Blob false (codes "digest") ∷ []) None (1 ∷ []) ((1 ∷ []) ∷ []) ([])
+usr_table = table_of (codes "usr") (column_of Text true (codes "id") ∷ column_of Integer true (codes "special") ∷ column_of Integer true (codes "auditor") ∷ column_of Integer true (codes "revoked") ∷ column_of Blob false (codes "digest") ∷ column_of Integer true (codes "restricted") ∷ []) None (1 ∷ []) ((1 ∷ []) ∷ []) ([])
 
 abbrev pub connects_table : Table
 connects_table = table_of (codes "connects") (column_of Text true (codes "usr") ∷ column_of Text true (codes "grp") ∷ []) None (1 ∷ 2 ∷ []) ((1 ∷ 2 ∷ []) ∷ []) (reference_to (1 ∷ []) (codes "usr") NoAction ∷ reference_to (2 ∷ []) (codes "grp") NoAction ∷ [])
@@ -56,7 +56,7 @@ abbrev pub profiles_table : Table
 profiles_table = table_of (codes "profiles") (column_of Text true (codes "class") ∷ column_of Text true (codes "pattern") ∷ column_of Text true (codes "owner") ∷ column_of Integer true (codes "uacc") ∷ column_of Integer true (codes "warning") ∷ column_of Blob true (codes "skey") ∷ column_of Text true (codes "head") ∷ []) None (1 ∷ 2 ∷ []) ((1 ∷ 2 ∷ []) ∷ (1 ∷ 6 ∷ []) ∷ (1 ∷ 7 ∷ 6 ∷ []) ∷ []) (reference_to (3 ∷ []) (codes "usr") NoAction ∷ [])
 
 abbrev pub entries_table : Table
-entries_table = table_of (codes "entries") (column_of Text true (codes "class") ∷ column_of Text true (codes "pattern") ∷ column_of Text true (codes "id") ∷ column_of Integer true (codes "level") ∷ []) None (1 ∷ 2 ∷ 3 ∷ []) ((1 ∷ 2 ∷ 3 ∷ []) ∷ []) (reference_to (1 ∷ 2 ∷ []) (codes "profiles") Cascade ∷ [])
+entries_table = table_of (codes "entries") (column_of Text true (codes "class") ∷ column_of Text true (codes "pattern") ∷ column_of Text true (codes "id") ∷ column_of Text true (codes "console") ∷ column_of Integer true (codes "level") ∷ []) None (1 ∷ 2 ∷ 3 ∷ 4 ∷ []) ((1 ∷ 2 ∷ 3 ∷ 4 ∷ []) ∷ []) (reference_to (1 ∷ 2 ∷ []) (codes "profiles") Cascade ∷ [])
 
 -- In the order in which they are made. A table is at the tree after those of the tables before it, each of which has one for itself
 -- and one for each key that is not its rowid. Those that a later version makes anew stand last.

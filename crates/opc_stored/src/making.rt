@@ -26,10 +26,10 @@ const TABLES: [&str; 17] = [
     "CREATE TABLE account (number INTEGER PRIMARY KEY, moment INTEGER NOT NULL, console TEXT NOT NULL, usr TEXT NOT NULL, code TEXT NOT NULL, rule TEXT NOT NULL) STRICT",
     "CREATE TABLE batches (number INTEGER PRIMARY KEY, rows TEXT NOT NULL) STRICT",
     "CREATE TABLE grp (name TEXT NOT NULL PRIMARY KEY) STRICT",
-    "CREATE TABLE usr (id TEXT NOT NULL PRIMARY KEY, special INTEGER NOT NULL, auditor INTEGER NOT NULL, revoked INTEGER NOT NULL, digest BLOB) STRICT",
+    "CREATE TABLE usr (id TEXT NOT NULL PRIMARY KEY, special INTEGER NOT NULL, auditor INTEGER NOT NULL, revoked INTEGER NOT NULL, digest BLOB, restricted INTEGER NOT NULL) STRICT",
     "CREATE TABLE connects (usr TEXT NOT NULL REFERENCES usr, grp TEXT NOT NULL REFERENCES grp, PRIMARY KEY (usr, grp)) STRICT",
     "CREATE TABLE profiles (class TEXT NOT NULL, pattern TEXT NOT NULL, owner TEXT NOT NULL REFERENCES usr, uacc INTEGER NOT NULL, warning INTEGER NOT NULL, skey BLOB NOT NULL, head TEXT NOT NULL, PRIMARY KEY (class, pattern), UNIQUE (class, skey), UNIQUE (class, head, skey)) STRICT",
-    "CREATE TABLE entries (class TEXT NOT NULL, pattern TEXT NOT NULL, id TEXT NOT NULL, level INTEGER NOT NULL, PRIMARY KEY (class, pattern, id), FOREIGN KEY (class, pattern) REFERENCES profiles ON DELETE CASCADE) STRICT",
+    "CREATE TABLE entries (class TEXT NOT NULL, pattern TEXT NOT NULL, id TEXT NOT NULL, console TEXT NOT NULL, level INTEGER NOT NULL, PRIMARY KEY (class, pattern, id, console), FOREIGN KEY (class, pattern) REFERENCES profiles ON DELETE CASCADE) STRICT",
 ];
 
 /// Makes the tables in a database where nothing is defined, without rows.
@@ -47,7 +47,7 @@ fn fill<S: Alter>(tx: &mut Transaction<'_, S>) -> Result<(), Error>
     ensures stays { Stays S.Store tx.old.conn.now tx.new.conn.now result }
     ensures filled { HasCleanDisk (state S.Store tx.new.conn.now) → OnOk result (IsMade nothing (state S.Store tx.old.conn.now).now → Represents (state S.Store tx.new.conn.now).now empty) }
 {
-    run(tx, "INSERT INTO meta VALUES (?1)", params![2u32])?;
+    run(tx, "INSERT INTO meta VALUES (?1)", params![3u32])?;
     run(
         tx,
         "INSERT INTO classes VALUES (?1, ?2)",

@@ -18,7 +18,7 @@ pub fn version_on<S: Alter>(conn: &mut Connection<S>) -> Result<u64, Error>
     ensures looks { Looks S.Store conn.old conn.new result }
     ensures names { HasCleanDisk (state S.Store conn.new) → IfOk result (λ v. NamesVersion v (state S.Store conn.old) (state S.Store conn.new)) }
     ensures unasked { HasCleanDisk (state S.Store conn.new) → IfErr result (λ e. (e ≡ SqliteFailure OutOfMemory) ⊎ FailsToQuery version_query [] (state S.Store conn.old) (state S.Store conn.new) e) }
-    ensures ours { Finds S.Store conn.old conn.new result (λ s v. v ≡ 2) }
+    ensures ours { HasCleanDisk (state S.Store conn.new) → (s : _) → Represents (state S.Store conn.old).now s → IfOk result (λ v. v ≡ 3) }
 {
     let rows = read(conn, "SELECT version FROM meta ORDER BY version", &[])?;
     version_in(rows.as_slice())

@@ -32,7 +32,7 @@ abbrev pub row_of_profile : Profile → Row
 row_of_profile p = row.Profile p.class p.pattern p.uacc p.owner p.warning
 
 abbrev pub row_of_entry : Class → List ℕ → Entry → Row
-row_of_entry class pattern e = row.Permit class pattern e.id e.level
+row_of_entry class pattern e = row.Permit class pattern e.id e.level e.when
 
 -- the access list of a profile
 abbrev pub permits_of : Profile → List Row

@@ -104,6 +104,7 @@ fn add_entries(
             pattern,
             id: entry.id,
             level: entry.level,
+            when: entry.when,
         })?;
     }
     Ok(())

@@ -132,7 +132,7 @@ fn a_batch_is_kept_as_its_file(rt: HostRuntime) -> Result<(), Fail> {
     same(
         &rt,
         lines.as_str(),
-        "B7 \nB7 B8 \nB7 B8 \nSome(KeptText { text: \"kind,class,name,id,value,owner,flags,digest\\ngroup,,NIGHT,,,,,\\n\" })\nNone\n",
+        "B7 \nB7 B8 \nB7 B8 \nSome(KeptText { text: \"kind,class,name,id,value,owner,flags,digest,when,restricted\\ngroup,,NIGHT,,,,,,,\\n\" })\nNone\n",
     );
     Ok(())
 }

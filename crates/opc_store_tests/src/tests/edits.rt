@@ -48,15 +48,15 @@ fn groups_are_put_and_removed(rt: HostRuntime) -> Result<(), Fail> {
 fn users_are_put_and_removed(rt: HostRuntime) -> Result<(), Fail> {
     let lines = told_after_rows(
         rt.alloc(),
-        "kind,class,name,id,value,owner,flags,digest\nuser,,ANNA,,,,A,\n\
-         user,,ANNA,,,,S,b5d4045c3f466fa91fe2cc6abe79232a1a57cdf104f7a26e716e0a1e2789df78\nuser,,ANNA,,,,R,\n",
+        "kind,class,name,id,value,owner,flags,digest,when,restricted\nuser,,ANNA,,,,A,,,Y\n\
+         user,,ANNA,,,,S,b5d4045c3f466fa91fe2cc6abe79232a1a57cdf104f7a26e716e0a1e2789df78,,\nuser,,ANNA,,,,R,,,Y\n",
         Edit::RemoveUser(UserId::read("ANNA")?),
-        "SELECT id || special || auditor || revoked || hex(digest) FROM usr",
+        "SELECT id || special || auditor || revoked || hex(digest) || restricted FROM usr",
     )?;
     same(
         &rt,
         lines.as_str(),
-        "ANNA010 \nANNA100B5D4045C3F466FA91FE2CC6ABE79232A1A57CDF104F7A26E716E0A1E2789DF78 \nANNA001 \n\n",
+        "ANNA0101 \nANNA100B5D4045C3F466FA91FE2CC6ABE79232A1A57CDF104F7A26E716E0A1E2789DF780 \nANNA0011 \n\n",
     );
     Ok(())
 }
@@ -107,8 +107,11 @@ fn a_removed_connect_takes_no_other(rt: HostRuntime) -> Result<(), Fail> {
 
 fn list_of(alloc: Global, id: EntryId) -> Result<Entries, Fail> {
     let mut entries = Entries::new(alloc);
-    let level = Level::Read;
-    entries.set(Entry { id, level })?;
+    entries.set(Entry {
+        id,
+        when: None,
+        level: Level::Read,
+    })?;
     Ok(entries)
 }
 
@@ -139,9 +142,10 @@ fn with_entries(mut edits: Vec<Edit>) -> Result<Vec<Edit>, Fail> {
     let (class, pattern) = (Class::Opercmds, Pattern::read("MVS.MOUNT.%")?);
     let [bert, ops] = [EntryId::read("BERT")?, EntryId::read("OPS")?];
     for level in [Level::Alter, Level::Update] {
-        edits.push(Edit::PutEntry(class, pattern, Entry { id: bert, level }))?;
+        let (id, when) = (bert, None);
+        edits.push(Edit::PutEntry(class, pattern, Entry { id, when, level }))?;
     }
-    edits.push(Edit::RemoveEntry(class, pattern, ops))?;
+    edits.push(Edit::RemoveEntry(class, pattern, ops, None))?;
     edits.push(Edit::RemoveProfile(class, pattern))?;
     Ok(edits)
 }
@@ -161,12 +165,53 @@ fn a_profile_keeps_its_access_list_until_it_goes(rt: HostRuntime) -> Result<(), 
     Ok(())
 }
 
+fn at(console: &str) -> Result<Option<ConsoleName>, Fail> {
+    if console.is_empty() {
+        return Ok(None);
+    }
+    Ok(Some(ConsoleName::read(console)?))
+}
+
+/// Entries for one id, at every console and at two, put, put again and removed.
+fn conditional_edits(alloc: Global) -> Result<Vec<Edit>, Fail> {
+    let (class, pattern) = (Class::Opercmds, Pattern::read("MVS.**")?);
+    let id = EntryId::read("OPS")?;
+    let mut edits = Vec::new(alloc);
+    for (console, level) in [
+        ("C2", Level::Update),
+        ("C1", Level::None),
+        ("", Level::Control),
+        ("C2", Level::Alter),
+    ] {
+        let when = at(console)?;
+        edits.push(Edit::PutEntry(class, pattern, Entry { id, when, level }))?;
+    }
+    for console in ["", "C1", "", "C2"] {
+        edits.push(Edit::RemoveEntry(class, pattern, id, at(console)?))?;
+    }
+    Ok(edits)
+}
+
+#[test]
+fn an_entry_at_a_console_stands_beside_the_plain_one(rt: HostRuntime) -> Result<(), Fail> {
+    let alloc = rt.alloc();
+    let sql = "SELECT id || '@' || console || '=' || level FROM entries WHERE pattern = 'MVS.**' ORDER BY id, console";
+    let lines = told_after_each(alloc, with_base(alloc)?, conditional_edits(alloc)?, sql)?;
+    same(
+        &rt,
+        lines.as_str(),
+        "OPS@=1 OPS@C2=2 \nOPS@=1 OPS@C1=0 OPS@C2=2 \nOPS@=3 OPS@C1=0 OPS@C2=2 \nOPS@=3 OPS@C1=0 OPS@C2=4 \n\
+         OPS@C1=0 OPS@C2=4 \nOPS@C2=4 \nOPS@C2=4 \n\n",
+    );
+    Ok(())
+}
+
 #[test]
 fn an_entry_needs_its_profile(rt: HostRuntime) -> Result<(), Fail> {
     let alloc = rt.alloc();
     let pattern = Pattern::read("MVS.**")?;
-    let (id, level) = (EntryId::everyone(), Level::Alter);
-    let edit = Edit::PutEntry(Class::Console, pattern, Entry { id, level });
+    let (id, when, level) = (EntryId::everyone(), None, Level::Alter);
+    let edit = Edit::PutEntry(Class::Console, pattern, Entry { id, when, level });
     let answer = commit_one(alloc, &mut with_base(alloc)?, edit)?;
     assert_eq!(rt; answer, Err(StoreFault::Store));
     Ok(())

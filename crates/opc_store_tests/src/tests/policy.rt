@@ -21,26 +21,29 @@ use std::alloc::Global;
 use std::rt::HostRuntime;
 use std::test::Fail;
 
-const BASE: &str = "kind,class,name,id,value,owner,flags,digest\n\
-class,CONSOLE,,,INACTIVE,,,\n\
-class,OPERCMDS,,,ACTIVE,,,\n\
-group,,NIGHT,,,,,\n\
-group,,OPS,,,,,\n\
-user,,ANNA,,,,,b5d4045c3f466fa91fe2cc6abe79232a1a57cdf104f7a26e716e0a1e2789df78\n\
-user,,BERT,,,,R,\n\
-user,,SECADM,,,,SA,b5d4045c3f466fa91fe2cc6abe79232a1a57cdf104f7a26e716e0a1e2789df78\n\
-connect,,ANNA,OPS,,,,\n\
-connect,,BERT,NIGHT,,,,\n\
-connect,,BERT,OPS,,,,\n\
-console,,C1,,SYS,,OPTIONAL,\n\
-console,,C3,,ALL,,REQUIRED,\n\
-profile,OPERCMDS,MVS.CANCEL.JOB.PAY*,,NONE,SECADM,W,\n\
-profile,OPERCMDS,MVS.CANCEL.JOB.*,,CONTROL,SECADM,,\n\
-profile,OPERCMDS,MVS.**,,NONE,SECADM,,\n\
-permit,OPERCMDS,MVS.CANCEL.JOB.PAY*,BERT,READ,,,\n\
-permit,OPERCMDS,MVS.CANCEL.JOB.PAY*,NIGHT,UPDATE,,,\n\
-permit,OPERCMDS,MVS.CANCEL.JOB.*,*,ALTER,,,\n\
-permit,OPERCMDS,MVS.**,OPS,READ,,,\n";
+const BASE: &str = "kind,class,name,id,value,owner,flags,digest,when,restricted\n\
+class,CONSOLE,,,INACTIVE,,,,,\n\
+class,OPERCMDS,,,ACTIVE,,,,,\n\
+group,,NIGHT,,,,,,,\n\
+group,,OPS,,,,,,,\n\
+user,,ANNA,,,,,b5d4045c3f466fa91fe2cc6abe79232a1a57cdf104f7a26e716e0a1e2789df78,,\n\
+user,,BERT,,,,R,,,\n\
+user,,C4,,,,,,,Y\n\
+user,,SECADM,,,,SA,b5d4045c3f466fa91fe2cc6abe79232a1a57cdf104f7a26e716e0a1e2789df78,,\n\
+connect,,ANNA,OPS,,,,,,\n\
+connect,,BERT,NIGHT,,,,,,\n\
+connect,,BERT,OPS,,,,,,\n\
+console,,C1,,SYS,,OPTIONAL,,,\n\
+console,,C3,,ALL,,REQUIRED,,,\n\
+console,,C4,,INFO,,AUTO,,,\n\
+profile,OPERCMDS,MVS.CANCEL.JOB.PAY*,,NONE,SECADM,W,,,\n\
+profile,OPERCMDS,MVS.CANCEL.JOB.*,,CONTROL,SECADM,,,,\n\
+profile,OPERCMDS,MVS.**,,NONE,SECADM,,,,\n\
+permit,OPERCMDS,MVS.CANCEL.JOB.PAY*,BERT,READ,,,,,\n\
+permit,OPERCMDS,MVS.CANCEL.JOB.PAY*,BERT,ALTER,,,,C1,\n\
+permit,OPERCMDS,MVS.CANCEL.JOB.PAY*,NIGHT,UPDATE,,,,,\n\
+permit,OPERCMDS,MVS.CANCEL.JOB.*,*,ALTER,,,,,\n\
+permit,OPERCMDS,MVS.**,OPS,READ,,,,,\n";
 
 fn edit_of(alloc: Global, row: Row) -> Edit {
     match row {
@@ -75,7 +78,8 @@ fn edit_of(alloc: Global, row: Row) -> Edit {
             pattern,
             id,
             level,
-        } => Edit::PutEntry(class, pattern, Entry { id, level }),
+            when,
+        } => Edit::PutEntry(class, pattern, Entry { id, when, level }),
     }
 }
 
@@ -125,7 +129,7 @@ fn explained(alloc: Global) -> Result<Explained, Fail> {
     let anna = UserId::read("ANNA")?;
     let (class, level) = (Class::Opercmds, Level::Update);
     let policy = with_base(alloc)?.policy(alloc)?;
-    let explained = explain(alloc, &policy, class, &resource, &anna, level)?;
+    let explained = explain(alloc, &policy, class, &resource, &anna, None, level)?;
     Ok(explained)
 }
 
@@ -147,7 +151,7 @@ fn tell_members(
     lines: &mut String,
     store: &mut Store<MemStore>,
 ) -> Result<(), Fail> {
-    for (user, console) in [("BERT", "C3"), ("CARL", "C2")] {
+    for (user, console) in [("BERT", "C3"), ("C4", "C4"), ("CARL", "C2")] {
         let id = UserId::read(user)?;
         let name = ConsoleName::read(console)?;
         tell(lines, &store.user(alloc, &id)?)?;
@@ -166,9 +170,11 @@ fn users_and_consoles_are_read_back(rt: HostRuntime) -> Result<(), Fail> {
     same(
         &rt,
         lines.as_str(),
-        "Some(User { id: \"BERT\", special: false, auditor: false, revoked: true, digest: None })\n[\"NIGHT\", \"OPS\"]\n\
-         Some(ConsoleRow { name: \"C3\", auth: All, mode: Required, online: false, user: None, monitor: false })\nNone\n[]\nNone\ntrue\n\
-         None\n[]\nNone\nNone\n[]\nNone\nfalse\n",
+        "Some(User { id: \"BERT\", special: false, auditor: false, revoked: true, digest: None, restricted: false })\n[\"NIGHT\", \"OPS\"]\n\
+         Some(ConsoleRow { name: \"C3\", auth: All, mode: Required, online: false, user: None, monitor: false })\n\
+         Some(User { id: \"C4\", special: false, auditor: false, revoked: false, digest: None, restricted: true })\n[]\n\
+         Some(ConsoleRow { name: \"C4\", auth: Info, mode: Auto, online: false, user: None, monitor: false })\nNone\n[]\nNone\ntrue\n\
+         None\n[]\nNone\nNone\n[]\nNone\nNone\n[]\nNone\nfalse\n",
     );
     Ok(())
 }
@@ -195,7 +201,7 @@ fn classes_and_profiles_are_read_back(rt: HostRuntime) -> Result<(), Fail> {
     same(
         &rt,
         lines.as_str(),
-        "false\nNone\ntrue\nSome(Profile { class: Opercmds, pattern: \"MVS.CANCEL.JOB.PAY*\", owner: \"SECADM\", uacc: None, warning: true, entries: Entries { list: [Entry { id: \"BERT\", level: Read }, Entry { id: \"NIGHT\", level: Update }] } })\n",
+        "false\nNone\ntrue\nSome(Profile { class: Opercmds, pattern: \"MVS.CANCEL.JOB.PAY*\", owner: \"SECADM\", uacc: None, warning: true, entries: Entries { list: [Entry { id: \"BERT\", when: None, level: Read }, Entry { id: \"BERT\", when: Some(\"C1\"), level: Alter }, Entry { id: \"NIGHT\", when: None, level: Update }] } })\n",
     );
     Ok(())
 }

@@ -32,7 +32,7 @@ fn strange_databases_are_refused(rt: HostRuntime) -> Result<(), Fail> {
     for (made, version) in [
         ("CREATE TABLE meta (x INTEGER)", 0),
         (
-            "CREATE TABLE META (Version TEXT); INSERT INTO meta VALUES ('2')",
+            "CREATE TABLE META (Version TEXT); INSERT INTO meta VALUES ('3')",
             0,
         ),
         ("CREATE TABLE Usr (x INTEGER)", 0),
@@ -42,7 +42,7 @@ fn strange_databases_are_refused(rt: HostRuntime) -> Result<(), Fail> {
         ),
         ("CREATE TABLE meta (version INTEGER)", 0),
         (
-            "CREATE TABLE meta (version INTEGER); INSERT INTO meta VALUES (2), (2)",
+            "CREATE TABLE meta (version INTEGER); INSERT INTO meta VALUES (3), (3)",
             0,
         ),
         (
@@ -52,6 +52,10 @@ fn strange_databases_are_refused(rt: HostRuntime) -> Result<(), Fail> {
         (
             "CREATE TABLE meta (version INTEGER); INSERT INTO meta VALUES (1)",
             1,
+        ),
+        (
+            "CREATE TABLE meta (version INTEGER); INSERT INTO meta VALUES (2)",
+            2,
         ),
         (
             "CREATE TABLE meta (version INTEGER); INSERT INTO meta VALUES (9)",

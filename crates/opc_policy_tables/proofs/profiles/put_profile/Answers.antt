@@ -17,6 +17,6 @@ returns-in_ok-insert_entries-clause-done g c clean s was =
     let valid = c.in_ok-found.ensures.valid in
     let rows = rw c.as_slice-entries.ensures.value at (c.in_ok-insert_entries.ensures.added clean _ added) in
     record {
-      ordered = definition_ordered s was.ordered profile valid (pairs_rise entry_cmp profile.entries c.as_slice-entries.ensures.in_order);
+      ordered = definition_ordered s was.ordered profile valid (pairs_rise entry_cmp profile.entries c.as_slice-entries.ensures.in_order, rw c.as_slice-entries.ensures.value at c.in_ok-insert_entries.ensures.named);
       rows = profile_comes _ s profile c.keys_order_patterns.ensures.differ valid was.ordered.patterns was.ordered.profiles missed.0 rows;
     }

@@ -15,10 +15,10 @@ returns-in-Ok-clause-found g c clean is_open s alone =
     let no = c.if-not-has_our_name.true in
     absurd cc
 
-pub returns-in-Ok-eq2-clause-found : goal.returns-in-Ok-eq2-clause-found
-returns-in-Ok-eq2-clause-found g c clean is_open s alone =
+pub returns-in-Ok-eq3-clause-found : goal.returns-in-Ok-eq3-clause-found
+returns-in-Ok-eq3-clause-found g c clean is_open s alone =
     let again = found_again (state g.S.Store c.args.conn).now s (c.schema.ensures.live is_open).0 alone in
-    let looks = c.in-Ok-eq2.ensures.looks in
+    let looks = c.in-Ok-eq3.ensures.looks in
     subst (λ (d : Database). Represents d s) (sym (looks.same clean (looks.opened clean))) again
 
 pub returns-in-Ok-clause-crash : goal.returns-in-Ok-clause-crash
@@ -31,11 +31,11 @@ returns-in-Ok-clause-settled g c clean db leaves =
     let settled = c.in-Ok.ensures.settled clean in
     g.met.S.Store.settled c.make_tables.new.conn.store db settled.0 leaves ∙ ap (λ (d : Database). d.trees) settled.1
 
-pub returns-in-Ok-eq2-clause-settled : goal.returns-in-Ok-eq2-clause-settled
-returns-in-Ok-eq2-clause-settled g c clean db leaves =
+pub returns-in-Ok-eq3-clause-settled : goal.returns-in-Ok-eq3-clause-settled
+returns-in-Ok-eq3-clause-settled g c clean db leaves =
     let new = c.version_on.new.conn in
-    let is_open = c.in-Ok-eq2.ensures.looks.opened clean in
-    g.met.S.Store.settled new.store db is_open leaves ∙ sym (ap (λ (d : Database). d.trees) (c.is_autocommit-settled-in-Ok-eq2.ensures.settled (search rules) is_open))
+    let is_open = c.in-Ok-eq3.ensures.looks.opened clean in
+    g.met.S.Store.settled new.store db is_open leaves ∙ sym (ap (λ (d : Database). d.trees) (c.is_autocommit-settled-in-Ok-eq3.ensures.settled (search rules) is_open))
 
 pub returns-in-Err-clause-crash_at_fault : goal.returns-in-Err-clause-crash_at_fault
 returns-in-Err-clause-crash_at_fault g c =

@@ -46,7 +46,7 @@ fn apply<S: Alter>(alloc: Global, tx: &mut Transaction<'_, S>, edit: &Edit) -> R
         Edit::RemoveProfile(class, pattern) => remove_profile(tx, *class, pattern),
         Edit::PutEntry(class, pattern, entry) => put_entry(tx, *class, pattern, entry),
         Edit::RemoveEntry(class, pattern, id, when) => {
-            remove_entry(tx, *class, pattern, id, when.as_ref())
+            remove_entry(tx, *class, pattern, id, *when)
         }
         Edit::PutUnit(unit) => put_unit(tx, unit),
         Edit::RemoveUnit(name) => remove_unit(tx, name),

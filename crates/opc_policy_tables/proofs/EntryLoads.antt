@@ -20,7 +20,7 @@ use Rattle.opc_policy.specs.Access.{entry_cmp}
 use Rattle.opc_policy.specs.Members.{name_cmp}
 use Rattle.opc_policy.specs.Profiles.{profile_of, is_of}
 use Rattle.opc_state.specs.State.{State}
-use Rattle.opc_stored.specs.State.{IsOrdered, IsNamed, IsList}
+use Rattle.opc_stored.specs.State.{IsOrdered, IsNamed, IsAccessList}
 use Rattle.opc_stored.specs.Placed.{entries_at}
 use Rattle.opc_stored.specs.Tables.{the_schema}
 use Rattle.opc_stored.specs.Represented.{Represents, or_empty, entry_row, entry_rows}
@@ -61,7 +61,7 @@ column_less e f h named = go (name_cmp e.id f.id) h
     go Equal h = console_less e.when f.when named h
     go Greater h = absurd cc
 
-columns_rise : (es : List Entry) → IsList es → Rises column_cmp es
+columns_rise : (es : List Entry) → IsAccessList es → Rises column_cmp es
 columns_rise [] list = tt
 columns_rise (e ∷ es) list = (all_both (λ f. entry_cmp e f ≡ Less) IsNamed (λ f. column_cmp e f ≡ Less) (column_less e) es list.0.0 list.1.1, columns_rise es (list.0.1, list.1.1))
 
@@ -72,8 +72,8 @@ then_less Equal Equal h = absurd cc
 then_less Equal Greater h = absurd cc
 then_less Greater b h = absurd cc
 
-pub entries_rise : (s : State) → IsOrdered s → (class : Class) (pattern : List ℕ) (p : Profile) → profile_of s.policy.profiles class pattern ≡ Some p → IsList p.entries
-entries_rise s ordered class pattern p here = found_one (λ (q : Profile). IsList q.entries) (is_of class pattern) s.policy.profiles p ordered.entries here
+pub entries_rise : (s : State) → IsOrdered s → (class : Class) (pattern : List ℕ) (p : Profile) → profile_of s.policy.profiles class pattern ≡ Some p → IsAccessList p.entries
+entries_rise s ordered class pattern p here = found_one (λ (q : Profile). IsAccessList q.entries) (is_of class pattern) s.policy.profiles p ordered.entries here
 
 pub entries_told : (old new : SqlState) (s : State) → Represents old.now s → (class : Class) (pattern : List ℕ) (p : Profile) → profile_of s.policy.profiles class pattern ≡ Some p → (rows : List Row) → Shown entries.text (profile_key class pattern) old new rows
     → rows ≡ map (entry_row p.class p.pattern) p.entries

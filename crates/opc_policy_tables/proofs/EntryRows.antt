@@ -47,7 +47,7 @@ use Rattle.opc_stored.specs.Tables.{the_schema}
 use Rattle.opc_stored.specs.Placed.{profiles_at, entries_at}
 use Rattle.opc_stored.specs.Represented.{Tabulates, contents_of, profile_row, entry_row, entry_rows, or_empty}
 use Rattle.opc_stored.proofs.OtherTables.{with_entries as spares_entries}
-use Rattle.opc_stored.specs.State.{IsNamed, IsList}
+use Rattle.opc_stored.specs.State.{IsNamed, IsAccessList}
 use Rattle.opc_stored.proofs.Decoded.{filter_on}
 use Rattle.opc_stored.proofs.Keys.{entry_total}
 use Rattle.opc_stored.proofs.ProfileTexts.{entry_terms, of_entry, insert_entry, insert_entry_is, insert_entry_plain, update_entry, update_entry_is, update_entry_plain, delete_entry, delete_entry_is, delete_entry_plain, has_profile, has_entry, entry_key, entry_below, entry_key_below, picks_profile, entry_cast, is_at}
@@ -97,7 +97,7 @@ at_console id when named e is = ap (λ b. bytes_eq e.id id && b) (same_consoles 
 -- ---- an entry goes
 
 module _ (old new : SqlState) (count : ℕ) (s : State) (was : Tabulates old.now s) (class : Class) (pattern id : List ℕ) (when : Option (List ℕ)) (named : when ≢ Some []) where
-  pub entry_goes : Rises profile_cmp s.policy.profiles → AllByRecursion (λ (p : Profile). IsList p.entries) s.policy.profiles → Executes delete_entry (entry_key class pattern id (or_empty when)) old new (Ok count) → Tabulates new.now (with_profiles (without_permission class pattern id when s.policy.profiles) s)
+  pub entry_goes : Rises profile_cmp s.policy.profiles → AllByRecursion (λ (p : Profile). IsAccessList p.entries) s.policy.profiles → Executes delete_entry (entry_key class pattern id (or_empty when)) old new (Ok count) → Tabulates new.now (with_profiles (without_permission class pattern id when s.policy.profiles) s)
   entry_goes up lists_up h = go (profile_of s.policy.profiles class pattern) refl
     where
       left : HasRows (filter (λ v. not (has_entry class pattern id (or_empty when) v)) (flat_map entry_rows s.policy.profiles)) (new.now.trees entries_at.tree)
@@ -114,7 +114,7 @@ module _ (old new : SqlState) (count : ℕ) (s : State) (was : Tabulates old.now
           let it = split class pattern s.policy.profiles p up here in
           let same : without_permission class pattern id when s.policy.profiles ≡ with_profile (listing class pattern s.policy.profiles p it (without_entry id when)) s.policy.profiles =
           ap (λ (o : Option Profile). option_map_or (λ (p : Profile). with_profile (record p { entries = without_entry id when p.entries }) s.policy.profiles) o s.policy.profiles) here in
-          let mine : IsList p.entries = found_one (λ (q : Profile). IsList q.entries) (is_of class pattern) s.policy.profiles p lists_up here in
+          let mine : IsAccessList p.entries = found_one (λ (q : Profile). IsAccessList q.entries) (is_of class pattern) s.policy.profiles p lists_up here in
           let others : filter (λ (e : Entry). not (is_at id (or_empty when) e)) p.entries ≡ without_entry id when p.entries = filter_on _ _ p.entries (all_weaker IsNamed _ (λ e is. ap not (at_console id when named e is)) p.entries mine.1) in
           let rest = entries_rest class pattern id (or_empty when) s.policy.profiles p it ∙ ap (λ (l : List Entry). flat_map entry_rows it.front ++ (map (entry_row p.class p.pattern) l ++ flat_map entry_rows it.back)) others in
           let rows = subst (λ (l : List Row). HasRows l (new.now.trees entries_at.tree)) (rest ∙ sym (parted_entries class pattern s.policy.profiles p it (without_entry id when))) left in
@@ -134,7 +134,7 @@ module _ (class : Class) (pattern : List ℕ) (ps : List Profile) (p : Profile) 
   row_is = let mine = is_of_means class pattern p it.passes in ap₂ (λ (c : Class) (t : List ℕ). entry_row c t e) (sym mine.0) (sym mine.1)
 
   -- the entry, and then all others, are the entries with it
-  put_in : IsNamed e → IsList p.entries
+  put_in : IsNamed e → IsAccessList p.entries
       → IsPermutation (entry_row class pattern e ∷ filter (λ v. not (has_entry class pattern e.id (or_empty e.when) v)) (flat_map entry_rows ps)) (flat_map entry_rows (with_profile (listing class pattern ps p it (with_entry e)) ps))
   put_in named list =
       let row = entry_row p.class p.pattern in
@@ -185,7 +185,7 @@ module _ (old new : SqlState) (count : ℕ) (s : State) (class : Class) (pattern
   permitted : (o : Option Profile) → profile_of ps class pattern ≡ o → with_permission class pattern e ps ≡ option_map_or (λ (p : Profile). with_profile (record p { entries = with_entry e p.entries }) ps) o ps
   permitted o is = ap (λ (o : Option Profile). option_map_or (λ (p : Profile). with_profile (record p { entries = with_entry e p.entries }) ps) o ps) is
 
-  module _ (was : Tabulates old.now s) (up : Rises profile_cmp ps) (lists_up : AllByRecursion (λ (p : Profile). IsList p.entries) ps) (h : Executes update_entry (entry_row class pattern e) old new (Ok count)) where
+  module _ (was : Tabulates old.now s) (up : Rises profile_cmp ps) (lists_up : AllByRecursion (λ (p : Profile). IsAccessList p.entries) ps) (h : Executes update_entry (entry_row class pattern e) old new (Ok count)) where
     it : Sets the_schema entries_at (has_entry class pattern e.id (or_empty e.when)) (entry_row class pattern e) count old.now.trees new.now
     it = sets the_schema update_entry 16 entries_at (entry_row class pattern e) update_entry_plain refl old new was.schema count of_entry (has_entry class pattern e.id (or_empty e.when)) entry_terms update_entry_is (entry_below class pattern e (col 1 0 ∷ col 1 0 ∷ entry_terms) old.now.trees) (entry_row class pattern e) (λ r. entry_cast class pattern e (column r 0)) idle h
 
@@ -212,7 +212,7 @@ module _ (old new : SqlState) (count : ℕ) (s : State) (class : Class) (pattern
         go None absent = absurd (let empty = ap length (no_entries class pattern e.id (or_empty e.when) ps absent) in let is = counted in omega arith)
         go (Some p) here =
             let parts = split class pattern ps p up here in
-            let mine : IsList p.entries = found_one (λ (q : Profile). IsList q.entries) (is_of class pattern) ps p lists_up here in
+            let mine : IsAccessList p.entries = found_one (λ (q : Profile). IsAccessList q.entries) (is_of class pattern) ps p lists_up here in
             let hits : length (filter (has_entry class pattern e.id (or_empty e.when)) (flat_map entry_rows ps)) ≡ length (filter (λ f. is_eq (entry_cmp f e)) p.entries) =
             ap length (entries_hit class pattern e.id (or_empty e.when) ps p parts) ∙ (length-map (filter (is_at e.id (or_empty e.when)) p.entries) (entry_row p.class p.pattern) ∙ ap length (sym (same_tests class pattern ps p parts e named p.entries mine.1))) in
             let once = one_at entry_cmp entry_total e p.entries mine.0 in
@@ -227,7 +227,7 @@ module _ (old new : SqlState) (count : ℕ) (s : State) (class : Class) (pattern
 
   -- ---- it comes: then its profile is there, or the database would not have taken it
 
-  module _ (was : IsMade (record (contents_of s) { entries = filter (λ v. not (has_entry class pattern e.id (or_empty e.when) v)) (flat_map entry_rows ps) }) old.now) (up : Rises profile_cmp ps) (lists_up : AllByRecursion (λ (p : Profile). IsList p.entries) ps) where
+  module _ (was : IsMade (record (contents_of s) { entries = filter (λ v. not (has_entry class pattern e.id (or_empty e.when) v)) (flat_map entry_rows ps) }) old.now) (up : Rises profile_cmp ps) (lists_up : AllByRecursion (λ (p : Profile). IsAccessList p.entries) ps) where
     pub entry_added : Executes insert_entry (entry_row class pattern e) old new (Ok count) → Tabulates new.now (with_profiles (with_permission class pattern e ps) s)
     entry_added h = go (profile_of ps class pattern) refl
       where
@@ -244,7 +244,7 @@ module _ (old new : SqlState) (count : ℕ) (s : State) (class : Class) (pattern
         go None absent = absurd (no_parent class pattern e ps absent new.now made.sound made.schema _ more made.holds.profiles)
         go (Some p) here =
             let parts = split class pattern ps p up here in
-            let mine : IsList p.entries = found_one (λ (q : Profile). IsList q.entries) (is_of class pattern) ps p lists_up here in
+            let mine : IsAccessList p.entries = found_one (λ (q : Profile). IsAccessList q.entries) (is_of class pattern) ps p lists_up here in
             let rows = same_rows _ _ _ (put_in class pattern ps p parts e named mine) more in
             subst (λ (l : List Profile). Tabulates new.now (with_profiles l s)) (sym (permitted (Some p) here))
             (subst (λ (c : Contents). IsMade c new.now) (sym (same_contents s class pattern p parts (with_entry e))) (spares_entries (record (contents_of s) { entries = filter (λ v. not (has_entry class pattern e.id (or_empty e.when) v)) (flat_map entry_rows ps) }) old.now new.now was it.spares _ rows))

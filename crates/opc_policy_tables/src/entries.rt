@@ -12,7 +12,7 @@ ghost use Rattle.opc_stored.specs.Asked.{Makes};
 ghost use Rattle.opc_stored.specs.Contents.{Contents};
 ghost use Rattle.opc_stored.specs.Made.{IsMade};
 ghost use Rattle.opc_stored.specs.Represented.{Represents, entry_row, or_empty};
-ghost use Rattle.opc_stored.specs.State.{IsNamed, IsList};
+ghost use Rattle.opc_stored.specs.State.{IsNamed, IsAccessList};
 ghost use Rattle.opc_stored.specs.Changes.{Becomes};
 ghost use Rattle.sqlite.specs.Order.{column};
 ghost use Rattle.sqlite.specs.declared.types.Value.TheVariants.{Text};
@@ -130,11 +130,11 @@ pub fn remove_entry<S: Alter>(
     class: Class,
     pattern: &Pattern,
     id: &EntryId,
-    when: Option<&ConsoleName>,
+    when: Option<ConsoleName>,
 ) -> Result<(), Error>
     ensures same_reference { tx.new.conn.ghost_name ≡ tx.old.conn.ghost_name }
     ensures stays { Stays S.Store tx.old.conn.now tx.new.conn.now result }
-    ensures done { HasCleanDisk (state S.Store tx.new.conn.now) → OnOk result (Becomes (λ s. with_profiles (without_permission class pattern.now id.now (option_copied when.entry) s.policy.profiles) s) (state S.Store tx.old.conn.now).now (state S.Store tx.new.conn.now).now) }
+    ensures done { HasCleanDisk (state S.Store tx.new.conn.now) → OnOk result (Becomes (λ s. with_profiles (without_permission class pattern.now id.now when s.policy.profiles) s) (state S.Store tx.old.conn.now).now (state S.Store tx.new.conn.now).now) }
 {
     run(
         tx,
@@ -143,7 +143,7 @@ pub fn remove_entry<S: Alter>(
             class.text(),
             pattern.text(),
             id.text(),
-            console_text(when)
+            console_text(when.as_ref())
         ],
     )?;
     Ok(())
@@ -183,8 +183,10 @@ fn entry_in(row: &Row) -> Result<Entry, StoreFault>
 }
 
 fn entries_in(alloc: Global, rows: &[Row]) -> Result<Entries, StoreFault>
-    ensures { (class : TheClass) → (pattern : List ℕ) → (entries : List TheEntry) → IsList entries → rows.now ≡ map (entry_row class pattern) entries → IfOk result (λ v. v ≡ entries) }
+    ensures { (class : TheClass) → (pattern : List ℕ) → (entries : List TheEntry) → IsAccessList entries → rows.now ≡ map (entry_row class pattern) entries → IfOk result (λ v. v ≡ entries) }
 {
+    // Named for the prover, which else does not find the type of an entry's console.
+    let _nowhere: Option<ConsoleName> = None;
     let mut entries = Entries::new(alloc);
     for row in rows {
         entries.set(entry_in(row)?)?;

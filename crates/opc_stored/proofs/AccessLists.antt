@@ -1,7 +1,6 @@
 -- Profiles and their access lists, as lists.
 use Rattle.std.proofs.Common.{◌≡◌, ℕ, List, [], ◌∷◌, ◌++◌, map, filter, not, ◌&&◌, Bool, true, false, cond, Some, None, refl, sym, ap, ap₂, subst, ◌∙◌, append-nil, is_eq, IsPermutation, Ordering, Less, Equal, Greater}
 use Rattle.std.specs.List.{flat_map, AllByRecursion}
-use Rattle.std.specs.Str.{bytes_eq}
 use Rattle.std.specs.Option.{option_map_or}
 use Rattle.std.specs.Ordering.{ordering_then}
 use Rattle.std.proofs.lemmas.Bool.{and_parts}

@@ -45,7 +45,7 @@ use Rattle.opc_state.specs.declared.change.Batch.{Batch}
 use Rattle.opc_state.specs.Members.{unit_cmp, device_cmp, console_cmp}
 use Rattle.opc_state.specs.State.{State}
 use Rattle.opc_stored.specs.Content.{bare, text_said, number_said, flag_said, text_or_none, name_or_none, bytes_or_none, class_said, level_of, profile_said, entry_said, is_entry_of, entries_in, profiles_in}
-use Rattle.opc_stored.specs.State.{IsOrdered, IsReadBack, IsNamed, IsList}
+use Rattle.opc_stored.specs.State.{IsOrdered, IsReadBack, IsNamed, IsAccessList}
 use Rattle.opc_stored.specs.Contents.{Holds}
 use Rattle.opc_stored.specs.Placed.{classes_at, consoles_at, units_at, devices_at, replies_at, answered_at, log_at, messages_at, board_at, account_at, batches_at, grp_at, usr_at, connects_at, profiles_at, entries_at}
 use Rattle.opc_stored.specs.Represented.{contents_of, AreTablesOf, flag, or_null, text_or_null, class_row, halted_row, group_row, user_row, connect_row, profile_row, entry_row, entry_rows, auth_number, mode_letter, console_row, kind_letter, kind_member, unit_row, device_row, answered_values, log_values, message_values, account_values, reply_row, batch_row, or_empty}
@@ -234,7 +234,7 @@ module _ (trees : Trees) (s : State) (ordered : IsOrdered s) (holds : Holds tree
   ps = s.policy.profiles
 
   -- the entries that the test picks are those of the profile
-  listed_here : (p : Profile) → profile_of ps p.class p.pattern ≡ Some p → IsList p.entries → entries_in trees p.class p.pattern ≡ p.entries
+  listed_here : (p : Profile) → profile_of ps p.class p.pattern ≡ Some p → IsAccessList p.entries → entries_in trees p.class p.pattern ≡ p.entries
   listed_here p here list =
       let own = is_entry_of p.class p.pattern in
       let hits : List Row = filter own (map (λ (r : Row). drop 1 r) (trees entries_at.tree)) in
@@ -243,7 +243,7 @@ module _ (trees : Trees) (s : State) (ordered : IsOrdered s) (holds : Holds tree
       in_order entry_cmp entry_total p.entries _ list.0
       (subst (λ (l : List Entry). IsPermutation l (map entry_said hits)) (entries_back p.class p.pattern p.entries list.1) (IsPermutation-map entry_said _ _ picked))
 
-  filled : (qs : List Profile) → AllByRecursion (λ (p : Profile). profile_of ps p.class p.pattern ≡ Some p) qs → AllByRecursion (λ (p : Profile). IsList p.entries) qs
+  filled : (qs : List Profile) → AllByRecursion (λ (p : Profile). profile_of ps p.class p.pattern ≡ Some p) qs → AllByRecursion (λ (p : Profile). IsAccessList p.entries) qs
       → map (λ (p : Profile). record p { entries = entries_in trees p.class p.pattern }) (map bare qs) ≡ qs
   filled [] found up = refl
   filled (q ∷ qs) found up = ap₂ (λ (p : Profile) (l : List Profile). p ∷ l) (λ i. record q { entries = listed_here q found.0 up.0 i }) (filled qs found.1 up.1)

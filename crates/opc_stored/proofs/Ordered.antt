@@ -25,7 +25,7 @@ use Rattle.opc_state.specs.declared.change.Batch.{Batch}
 use Rattle.opc_state.specs.State.{State, empty}
 use Rattle.opc_state.specs.Changes.{with_actives, with_groups, with_users, with_connects, with_profiles, with_units, with_devices, with_consoles, with_replies, with_halted, with_answered, with_log, with_messages, with_batches, with_account_row}
 use Rattle.opc_state.specs.Members.{unit_cmp, device_cmp, console_cmp, reply_cmp, batch_cmp, with_batch, with_unit, with_device, with_console, with_reply, without_group, without_user, without_connect, without_profile, without_entry, without_permission, without_unit, without_device, without_console, without_reply}
-use Rattle.opc_stored.specs.State.{IsOrdered, IsReadBack, CanBeNumbered, IsNamed, IsList}
+use Rattle.opc_stored.specs.State.{IsOrdered, IsReadBack, CanBeNumbered, IsNamed, IsAccessList}
 use Rattle.opc_stored.proofs.Keys.{group_total, same_name, user_total, connect_total, same_connect, profile_total, entry_total, unit_total, device_total, console_total, reply_total, batch_total}
 
 pub empty_ordered : IsOrdered empty
@@ -95,33 +95,33 @@ module _ (s : State) (h : IsOrdered s) where
   pub with_batch_ordered : (batch : Batch) → IsReadBack batch → IsOrdered (with_batches (with_batch batch s.batches) s)
   with_batch_ordered batch again = record { groups = h.groups; users = h.users; connects = h.connects; profiles = h.profiles; patterns = h.patterns; entries = h.entries; units = h.units; devices = h.devices; consoles = h.consoles; replies = h.replies; batches = replaced_rises batch_cmp batch_total batch s.batches h.batches; read_back = all_replaced batch_cmp batch_total IsReadBack batch s.batches again h.read_back; numbered = h.numbered }
 
-  profiles_ordered : (p : Profile) → IsPattern p.pattern → IsList p.entries → IsOrdered (with_profiles (with_profile p s.policy.profiles) s)
-  profiles_ordered p valid list = record { groups = h.groups; users = h.users; connects = h.connects; profiles = replaced_rises profile_cmp profile_total p s.policy.profiles h.profiles; patterns = all_replaced profile_cmp profile_total (λ (q : Profile). IsPattern q.pattern) p s.policy.profiles valid h.patterns; entries = all_replaced profile_cmp profile_total (λ (q : Profile). IsList q.entries) p s.policy.profiles list h.entries; units = h.units; devices = h.devices; consoles = h.consoles; replies = h.replies; batches = h.batches; read_back = h.read_back; numbered = h.numbered }
+  profiles_ordered : (p : Profile) → IsPattern p.pattern → IsAccessList p.entries → IsOrdered (with_profiles (with_profile p s.policy.profiles) s)
+  profiles_ordered p valid list = record { groups = h.groups; users = h.users; connects = h.connects; profiles = replaced_rises profile_cmp profile_total p s.policy.profiles h.profiles; patterns = all_replaced profile_cmp profile_total (λ (q : Profile). IsPattern q.pattern) p s.policy.profiles valid h.patterns; entries = all_replaced profile_cmp profile_total (λ (q : Profile). IsAccessList q.entries) p s.policy.profiles list h.entries; units = h.units; devices = h.devices; consoles = h.consoles; replies = h.replies; batches = h.batches; read_back = h.read_back; numbered = h.numbered }
 
-  pub definition_ordered : (profile : Profile) → IsPattern profile.pattern → IsList profile.entries → IsOrdered (with_profiles (with_definition profile s.policy.profiles) s)
+  pub definition_ordered : (profile : Profile) → IsPattern profile.pattern → IsAccessList profile.entries → IsOrdered (with_profiles (with_definition profile s.policy.profiles) s)
   definition_ordered profile valid list = profiles_ordered _ valid (go (profile_of s.policy.profiles profile.class profile.pattern) refl)
     where
-      go : (o : Option Profile) → profile_of s.policy.profiles profile.class profile.pattern ≡ o → IsList (option_map_or (λ (p : Profile). p.entries) o profile.entries)
+      go : (o : Option Profile) → profile_of s.policy.profiles profile.class profile.pattern ≡ o → IsAccessList (option_map_or (λ (p : Profile). p.entries) o profile.entries)
       go None absent = list
-      go (Some p) here = found_one (λ (q : Profile). IsList q.entries) (is_of profile.class profile.pattern) s.policy.profiles p h.entries here
+      go (Some p) here = found_one (λ (q : Profile). IsAccessList q.entries) (is_of profile.class profile.pattern) s.policy.profiles p h.entries here
 
   -- where it is there
   pub definition_kept : (profile : Profile) → IsPattern profile.pattern → (p : Profile) → profile_of s.policy.profiles profile.class profile.pattern ≡ Some p → IsOrdered (with_profiles (with_definition profile s.policy.profiles) s)
   definition_kept profile valid p here =
-      let list : IsList p.entries = found_one (λ (q : Profile). IsList q.entries) (is_of profile.class profile.pattern) s.policy.profiles p h.entries here in
-      profiles_ordered _ valid (subst (λ (o : Option Profile). IsList (option_map_or (λ (p : Profile). p.entries) o profile.entries)) (sym here) list)
+      let list : IsAccessList p.entries = found_one (λ (q : Profile). IsAccessList q.entries) (is_of profile.class profile.pattern) s.policy.profiles p h.entries here in
+      profiles_ordered _ valid (subst (λ (o : Option Profile). IsAccessList (option_map_or (λ (p : Profile). p.entries) o profile.entries)) (sym here) list)
 
   pub without_profile_ordered : (class : Class) (pattern : List ℕ) → IsOrdered (with_profiles (without_profile class pattern s.policy.profiles) s)
   without_profile_ordered class pattern = record { groups = h.groups; users = h.users; connects = h.connects; profiles = ascending-filter _ _ s.policy.profiles h.profiles; patterns = all-filter _ _ s.policy.profiles h.patterns; entries = all-filter _ _ s.policy.profiles h.entries; units = h.units; devices = h.devices; consoles = h.consoles; replies = h.replies; batches = h.batches; read_back = h.read_back; numbered = h.numbered }
 
   -- a change of one access list that keeps it a list
-  list_ordered : (class : Class) (pattern : List ℕ) (change : List Entry → List Entry) → ((es : List Entry) → IsList es → IsList (change es)) → (o : Option Profile) → profile_of s.policy.profiles class pattern ≡ o
+  list_ordered : (class : Class) (pattern : List ℕ) (change : List Entry → List Entry) → ((es : List Entry) → IsAccessList es → IsAccessList (change es)) → (o : Option Profile) → profile_of s.policy.profiles class pattern ≡ o
       → IsOrdered (with_profiles (option_map_or (λ (p : Profile). with_profile (record p { entries = change p.entries }) s.policy.profiles) o s.policy.profiles) s)
   list_ordered class pattern change keeps None absent = h
   list_ordered class pattern change keeps (Some p) here =
       profiles_ordered (record p { entries = change p.entries })
       (found_one (λ (q : Profile). IsPattern q.pattern) (is_of class pattern) s.policy.profiles p h.patterns here)
-      (keeps p.entries (found_one (λ (q : Profile). IsList q.entries) (is_of class pattern) s.policy.profiles p h.entries here))
+      (keeps p.entries (found_one (λ (q : Profile). IsAccessList q.entries) (is_of class pattern) s.policy.profiles p h.entries here))
 
   pub permission_ordered : (class : Class) (pattern : List ℕ) (e : Entry) → IsNamed e → IsOrdered (with_profiles (with_permission class pattern e s.policy.profiles) s)
   permission_ordered class pattern e named =

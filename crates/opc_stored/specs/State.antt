@@ -26,23 +26,23 @@ AreNumbered s = CanBeNumbered s.account × CanBeNumbered s.board.answered × Can
 abbrev pub IsReadBack : Batch → Type 0
 IsReadBack b = policy_of (policy_text b.rows) ≡ Ok b.rows
 
--- no text is no console
+-- a console at which it counts alone has a name
 abbrev pub IsNamed : Entry → Type 0
 IsNamed e = e.when ≢ Some []
 
--- an access list in its order, at consoles that have names
-abbrev pub IsList : List Entry → Type 0
-IsList entries = Rises entry_cmp entries × AllByRecursion IsNamed entries
+-- an access list in its order, whose consoles have names
+abbrev pub IsAccessList : List Entry → Type 0
+IsAccessList entries = Rises entry_cmp entries × AllByRecursion IsNamed entries
 
--- Each part is in the order of its names or numbers, none of which comes twice; patterns are patterns, and texts of batches are read
--- back as they are.
+-- Each part is in the order of its names or numbers, none of which comes twice; patterns are patterns, consoles of
+-- entries have names, and texts of batches are read back as they are.
 pub record IsOrdered (s : State) : Type 0 where
   pub groups : Rises name_cmp s.policy.groups
   pub users : Rises user_cmp s.policy.users
   pub connects : Rises connect_cmp s.policy.connects
   pub profiles : Rises profile_cmp s.policy.profiles
   pub patterns : AllByRecursion (λ (p : Profile). IsPattern p.pattern) s.policy.profiles
-  pub entries : AllByRecursion (λ (p : Profile). IsList p.entries) s.policy.profiles
+  pub entries : AllByRecursion (λ (p : Profile). IsAccessList p.entries) s.policy.profiles
   pub units : Rises unit_cmp s.board.units
   pub devices : Rises device_cmp s.board.devices
   pub consoles : Rises console_cmp s.board.consoles

@@ -1,4 +1,4 @@
-use Rattle.std.proofs.Common.{◌≡◌, ◌∙◌, ℕ, ◌+◌, suc, List, [], ◌∷◌, ◌++◌, take, drop, sym, ap₂, subst}
+use Rattle.std.proofs.Common.{◌∙◌, suc, List, [], ◌∷◌, ◌++◌, take, drop, sym, ap₂, subst}
 use Rattle.std.specs.List.{AllByRecursion}
 use Rattle.std.specs.BTreeSet.{replace_key}
 use Rattle.opc_statements.proofs.Putting.{next, comes_last}

@@ -9,11 +9,11 @@ ghost use Rattle.opc_policy.specs.Profiles.{profile_of, with_permission};
 ghost use Rattle.opc_state.specs.Changes.{with_profiles};
 ghost use Rattle.opc_state.specs.Members.{without_permission};
 ghost use Rattle.opc_stored.specs.Asked.{Makes};
+ghost use Rattle.opc_stored.specs.Asked.{Makes};
 ghost use Rattle.opc_stored.specs.Contents.{Contents};
 ghost use Rattle.opc_stored.specs.Made.{IsMade};
 ghost use Rattle.opc_stored.specs.Represented.{Represents, entry_row, or_empty};
 ghost use Rattle.opc_stored.specs.State.{IsNamed, IsAccessList};
-ghost use Rattle.opc_stored.specs.Changes.{Becomes};
 ghost use Rattle.sqlite.specs.Order.{column};
 ghost use Rattle.sqlite.specs.declared.types.Value.TheVariants.{Text};
 ghost use Rattle.opc_names.specs.declared.class.Class.{Class as TheClass};
@@ -134,7 +134,7 @@ pub fn remove_entry<S: Alter>(
 ) -> Result<(), Error>
     ensures same_reference { tx.new.conn.ghost_name ≡ tx.old.conn.ghost_name }
     ensures stays { Stays S.Store tx.old.conn.now tx.new.conn.now result }
-    ensures done { HasCleanDisk (state S.Store tx.new.conn.now) → OnOk result (Becomes (λ s. with_profiles (without_permission class pattern.now id.now when s.policy.profiles) s) (state S.Store tx.old.conn.now).now (state S.Store tx.new.conn.now).now) }
+    ensures done { Makes S.Store tx.old.conn.now tx.new.conn.now result (λ s. with_profiles (without_permission class pattern.now id.now when s.policy.profiles) s) }
 {
     run(
         tx,

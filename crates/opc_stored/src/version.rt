@@ -6,6 +6,7 @@ ghost use Rattle.sqlite.specs.declared.error.Error.TheVariants.{SqliteFailure};
 ghost use Rattle.sqlite.specs.declared.error.ErrorCode.TheVariants.{OutOfMemory};
 ghost use Rattle.opc_statements.specs.Steps.{Looks};
 ghost use Rattle.opc_stored.specs.Asked.{Finds};
+ghost use Rattle.opc_stored.specs.Asked.{Finds};
 ghost use Rattle.opc_stored.specs.Ours.{NamesVersion, version_of, version_query};
 
 use opc_statements::read;
@@ -18,7 +19,7 @@ pub fn version_on<S: Alter>(conn: &mut Connection<S>) -> Result<u64, Error>
     ensures looks { Looks S.Store conn.old conn.new result }
     ensures names { HasCleanDisk (state S.Store conn.new) → IfOk result (λ v. NamesVersion v (state S.Store conn.old) (state S.Store conn.new)) }
     ensures unasked { HasCleanDisk (state S.Store conn.new) → IfErr result (λ e. (e ≡ SqliteFailure OutOfMemory) ⊎ FailsToQuery version_query [] (state S.Store conn.old) (state S.Store conn.new) e) }
-    ensures ours { HasCleanDisk (state S.Store conn.new) → (s : _) → Represents (state S.Store conn.old).now s → IfOk result (λ v. v ≡ 3) }
+    ensures ours { Finds S.Store conn.old conn.new result (λ s v. v ≡ 3) }
 {
     let rows = read(conn, "SELECT version FROM meta ORDER BY version", &[])?;
     version_in(rows.as_slice())

@@ -15,7 +15,7 @@ use Rattle.opc_policy.specs.declared.profile.Profile.{Profile}
 use Rattle.opc_policy.specs.declared.user.User.{User}
 use Rattle.opc_policy.specs.Access.{entry_level, everyone_level, first_level, higher, higher_level, highest_level, is_for}
 use Rattle.opc_policy.specs.Held.{conditional_level, held, plain_level, universal_level}
-use Rattle.opc_laws.specs.HoldingLaws.{ConsolesNeverLower, EntriesCountAtTheirConsole, Gives, IsForUser, LevelsAreGiven, OwnEntriesRaise, RestrictedUsersAreNamed, is_here, is_named}
+use Rattle.opc_laws.specs.HoldingLaws.{ConsoleEntriesRaise, ConsolesNeverLower, EntriesCountAtTheirConsole, Gives, IsForUser, LevelsAreGiven, RestrictedUsersAreNamed, is_here, is_named}
 
 -- the higher of two levels
 
@@ -172,11 +172,9 @@ never_lower p u console groups =
     let plain = plain_level p u groups in
     subst (λ x. includes (higher_level plain (conditional_level p u (Some console) groups)) x ≡ true) (sym (above_none plain)) (left level_rank plain (conditional_level p u (Some console) groups))
 
-pub own_raises : OwnEntriesRaise
+pub console_raises : ConsoleEntriesRaise
 unfolding held
-own_raises p u console groups given h =
-    let first : first_level p.entries (Some console) u groups ≡ Some given = ap (λ o. option_or o (option_or (highest_level p.entries (Some console) groups) (everyone_level p.entries (Some console) u))) h in
-    subst (λ o. includes (higher_level (plain_level p u groups) (unwrap_or o level.None)) given ≡ true) (sym first) (right level_rank (plain_level p u groups) given)
+console_raises p u console groups given h = subst (λ o. includes (higher_level (plain_level p u groups) (unwrap_or o level.None)) given ≡ true) (sym h) (right level_rank (plain_level p u groups) given)
 
 -- entries that do not count
 

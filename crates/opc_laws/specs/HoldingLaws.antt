@@ -9,7 +9,7 @@ use Rattle.opc_names.specs.Authority.{includes}
 use Rattle.opc_policy.specs.declared.entry.Entry.{Entry}
 use Rattle.opc_policy.specs.declared.profile.Profile.{Profile}
 use Rattle.opc_policy.specs.declared.user.User.{User}
-use Rattle.opc_policy.specs.Access.{entry_level}
+use Rattle.opc_policy.specs.Access.{first_level}
 use Rattle.opc_policy.specs.Held.{held}
 
 -- An entry is for the user, for a group of the user, or for everyone, which is for nobody who is RESTRICTED.
@@ -34,10 +34,10 @@ LevelsAreGiven =
 abbrev pub ConsolesNeverLower : Type 0
 ConsolesNeverLower = (p : Profile) (u : User) (console : List ℕ) (groups : List (List ℕ)) → includes (held p u (Some console) groups) (held p u None groups) ≡ true
 
--- and the user's own entry for a console raises it there to its own.
-abbrev pub OwnEntriesRaise : Type 0
-OwnEntriesRaise =
-    (p : Profile) (u : User) (console : List ℕ) (groups : List (List ℕ)) (given : Level) → entry_level p.entries (Some console) u.id ≡ Some given
+-- and the first source among the entries for a console raises it there to its own level.
+abbrev pub ConsoleEntriesRaise : Type 0
+ConsoleEntriesRaise =
+    (p : Profile) (u : User) (console : List ℕ) (groups : List (List ℕ)) (given : Level) → first_level p.entries (Some console) u groups ≡ Some given
     → includes (held p u (Some console) groups) given ≡ true
 
 -- whether an entry is for every console or for this one

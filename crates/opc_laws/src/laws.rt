@@ -1,7 +1,7 @@
 //! What the access machine means to those who use it, each law as what a call without a body ensures.
 ghost use Rattle.opc_laws.specs.ActingLaws.{AutoConsolesActForTheirOwn, OptionalConsolesActAlone, OtherAutoConsolesActAlone, WhoIsOnComesFirst};
 ghost use Rattle.opc_laws.specs.ChangingLaws.{AdministersOnlyWhereAllowed, AdministersWhereverAllowed, ImportsOnlyWhereAllowed, ImportsWhereverAllowed, ListsAccountOnlyWhereShown, ListsAccountWhereverShown, ListsExactlyProfilesShown, ListsProfilesWhereverAsked, RepeatsWhereverAllowed, SameRowsAreEqual};
-ghost use Rattle.opc_laws.specs.HoldingLaws.{ConsolesNeverLower, EntriesCountAtTheirConsole, LevelsAreGiven, OwnEntriesRaise, RestrictedUsersAreNamed};
+ghost use Rattle.opc_laws.specs.HoldingLaws.{ConsoleEntriesRaise, ConsolesNeverLower, EntriesCountAtTheirConsole, LevelsAreGiven, RestrictedUsersAreNamed};
 ghost use Rattle.opc_laws.specs.Laws.{ActsOnlyWhereAllowed, ActsWhereverAllowed, ListsExactlyWhatMayBeShown, LogsOffOnlyWhereSomebodyIsOn, LogsOffWhereverSomebodyIsOn, LogsOnOnlyWhereAllowed, LogsOnWhereverAllowed, RefusalsChangeNothing, RefusalsOfAuthorityNameTheirRule};
 
 /// A command acts only where the written policy of that moment allows it.
@@ -113,9 +113,9 @@ pub fn consoles_never_lower()
     ensures { ConsolesNeverLower }
 {}
 
-/// and the user's own raises it to its level.
-pub fn own_entries_raise()
-    ensures { OwnEntriesRaise }
+/// and the first source among those for a console raises it there to its level.
+pub fn console_entries_raise()
+    ensures { ConsoleEntriesRaise }
 {}
 
 /// An entry for a console counts there alone.

@@ -12,36 +12,6 @@ use opc_policy::profile::Profile;
 use opc_policy::user::User;
 use std::alloc::{AllocError, Global};
 
-/// Who asks, and where: at the console of the entries, or at another one.
-#[derive(Clone, Copy)]
-struct Names {
-    user: UserId,
-    groups: [GroupName; 2],
-    here: ConsoleName,
-    elsewhere: ConsoleName,
-}
-
-impl Names {
-    fn read() -> Result<Self> {
-        Ok(Names {
-            user: UserId::read("ANNA")?,
-            groups: [GroupName::read("NIGHT")?, GroupName::read("OPS")?],
-            here: ConsoleName::read("C1")?,
-            elsewhere: ConsoleName::read("C2")?,
-        })
-    }
-
-    /// The ids of the entries, in the order of the sources.
-    fn ids(&self) -> Result<[EntryId; 4]> {
-        Ok([
-            EntryId::from(self.user),
-            EntryId::read("NIGHT")?,
-            EntryId::read("OPS")?,
-            EntryId::everyone(),
-        ])
-    }
-}
-
 fn level_at(number: u8) -> Level {
     match number {
         0 => Level::None,
@@ -51,55 +21,58 @@ fn level_at(number: u8) -> Level {
 
 /// Compares all of them, and says how many.
 pub fn compared(alloc: Global) -> Result<String> {
-    let names = Names::read()?;
     let mut count = 0u64;
     for there in 0..=u8::MAX {
-        count = count.saturating_add(with_entries(alloc, &names, there % 16, there / 16)?);
+        count = count.saturating_add(with_entries(alloc, there % 16, there / 16)?);
     }
     Ok(format!(in alloc; "{count} levels")?)
 }
 
 /// Compares the lists that have these entries, one bit for each: for every console, and for one alone.
-fn with_entries(alloc: Global, names: &Names, plain: u8, there: u8) -> Result<u64> {
+fn with_entries(alloc: Global, plain: u8, there: u8) -> Result<u64> {
     let there = all_levels(alloc, there)?;
     let mut profile = Profile {
         class: Class::Opercmds,
         pattern: Pattern::read("A")?,
-        owner: names.user,
+        owner: UserId::read("SECADM")?,
         uacc: Level::None,
         warning: false,
         entries: Entries::new(alloc),
     };
     let mut count = 0u64;
     for sources in &all_levels(alloc, plain)? {
-        set_levels(&mut profile.entries, names, None, sources)?;
-        count = count.saturating_add(raised(&mut profile, names, sources, &there)?);
+        set_levels(&mut profile.entries, None, sources)?;
+        count = count.saturating_add(raised(&mut profile, sources, &there)?);
     }
     Ok(count)
 }
 
 /// Compares the lists that have these entries for every console, and each of those for one alone.
-fn raised(profile: &mut Profile, names: &Names, plain: &Sources, all: &[Sources]) -> Result<u64> {
+fn raised(profile: &mut Profile, plain: &Sources, all: &[Sources]) -> Result<u64> {
+    let console = ConsoleName::read("C1")?;
     let mut count = 0u64;
     for there in all {
-        set_levels(&mut profile.entries, names, Some(names.here), there)?;
-        count = count.saturating_add(asked(profile, names, plain, there)?);
+        set_levels(&mut profile.entries, Some(console), there)?;
+        count = count.saturating_add(asked(profile, plain, there)?);
     }
     Ok(count)
 }
 
-/// Compares what users hold by one list.
-fn asked(profile: &mut Profile, names: &Names, plain: &Sources, there: &Sources) -> Result<u64> {
+/// Compares what a user holds by one list.
+fn asked(profile: &mut Profile, plain: &Sources, there: &Sources) -> Result<u64> {
+    let id = UserId::read("ANNA")?;
+    let groups = [GroupName::read("NIGHT")?, GroupName::read("OPS")?];
+    let (here, elsewhere) = (ConsoleName::read("C1")?, ConsoleName::read("C2")?);
     let mut count = 0u64;
     for case in 0..12u8 {
         let (universal, restricted) = (case % 2, case / 2 % 2 == 1);
         let (console, sources) = match case / 4 {
             0 => (None, None),
-            1 => (Some(names.elsewhere), None),
-            _ => (Some(names.here), Some(there)),
+            1 => (Some(&elsewhere), None),
+            _ => (Some(&here), Some(there)),
         };
         let user = User {
-            id: names.user,
+            id,
             special: false,
             auditor: false,
             revoked: false,
@@ -107,7 +80,7 @@ fn asked(profile: &mut Profile, names: &Names, plain: &Sources, there: &Sources)
             restricted,
         };
         profile.uacc = level_at(universal);
-        let level = profile.level_of(&user, console.as_ref(), &names.groups);
+        let level = profile.level_of(&user, console, &groups);
         let wanted = level_at(held(plain, sources, universal, restricted));
         if level != wanted {
             bail!("case {case}: {level}, not {wanted}");
@@ -149,19 +122,17 @@ fn entries_in(sources: &Sources) -> u8 {
 }
 
 /// Sets the entries that have a level.
-fn set_levels(
-    entries: &mut Entries,
-    names: &Names,
-    when: Option<ConsoleName>,
-    sources: &Sources,
-) -> Result<()> {
+fn set_levels(entries: &mut Entries, when: Option<ConsoleName>, sources: &Sources) -> Result<()> {
+    let ids = [
+        EntryId::read("ANNA")?,
+        EntryId::read("NIGHT")?,
+        EntryId::read("OPS")?,
+        EntryId::everyone(),
+    ];
     let [night, ops] = sources.groups;
-    for (id, level) in names
-        .ids()?
-        .into_iter()
-        .zip([sources.own, night, ops, sources.everyone])
-    {
-        if let Some(number) = level {
+    let levels = [sources.own, night, ops, sources.everyone];
+    for (id, number) in ids.into_iter().zip(levels) {
+        if let Some(number) = number {
             let level = level_at(number);
             entries.set(Entry { id, when, level })?;
         }

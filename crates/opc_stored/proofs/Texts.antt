@@ -10,9 +10,9 @@ abbrev pub texts : List (List ℕ)
 texts =
     codes "CREATE TABLE meta (version INTEGER NOT NULL) STRICT"
     ∷ codes "CREATE TABLE classes (class TEXT NOT NULL PRIMARY KEY, active INTEGER NOT NULL) STRICT"
-    ∷ codes "CREATE TABLE consoles (name TEXT NOT NULL PRIMARY KEY, auth INTEGER NOT NULL, mode TEXT NOT NULL, online INTEGER NOT NULL, usr TEXT, monitor INTEGER NOT NULL) STRICT"
+    ∷ codes "CREATE TABLE consoles (name TEXT NOT NULL PRIMARY KEY, auth INTEGER NOT NULL, mode TEXT NOT NULL, online INTEGER NOT NULL, usr TEXT, monitor INTEGER NOT NULL, UNIQUE (usr, name), UNIQUE (auth, online, name)) STRICT"
     ∷ codes "CREATE TABLE units (name TEXT NOT NULL PRIMARY KEY, kind TEXT NOT NULL, member TEXT, cancelable INTEGER NOT NULL, stopping INTEGER NOT NULL, last TEXT) STRICT"
-    ∷ codes "CREATE TABLE devices (number TEXT NOT NULL PRIMARY KEY, online INTEGER NOT NULL, volume TEXT, unit TEXT) STRICT"
+    ∷ codes "CREATE TABLE devices (number TEXT NOT NULL PRIMARY KEY, online INTEGER NOT NULL, volume TEXT, unit TEXT, UNIQUE (unit, number)) STRICT"
     ∷ codes "CREATE TABLE replies (id INTEGER PRIMARY KEY, text TEXT NOT NULL) STRICT"
     ∷ codes "CREATE TABLE answered (number INTEGER PRIMARY KEY, id INTEGER NOT NULL, text TEXT NOT NULL) STRICT"
     ∷ codes "CREATE TABLE log (number INTEGER PRIMARY KEY, text TEXT NOT NULL) STRICT"
@@ -23,8 +23,8 @@ texts =
     ∷ codes "CREATE TABLE grp (name TEXT NOT NULL PRIMARY KEY) STRICT"
     ∷ codes "CREATE TABLE usr (id TEXT NOT NULL PRIMARY KEY, special INTEGER NOT NULL, auditor INTEGER NOT NULL, revoked INTEGER NOT NULL, digest BLOB, restricted INTEGER NOT NULL) STRICT"
     ∷ codes "CREATE TABLE connects (usr TEXT NOT NULL REFERENCES usr, grp TEXT NOT NULL REFERENCES grp, PRIMARY KEY (usr, grp)) STRICT"
-    ∷ codes "CREATE TABLE profiles (class TEXT NOT NULL, pattern TEXT NOT NULL, owner TEXT NOT NULL REFERENCES usr, uacc INTEGER NOT NULL, warning INTEGER NOT NULL, skey BLOB NOT NULL, head TEXT NOT NULL, PRIMARY KEY (class, pattern), UNIQUE (class, skey), UNIQUE (class, head, skey)) STRICT"
-    ∷ codes "CREATE TABLE entries (class TEXT NOT NULL, pattern TEXT NOT NULL, id TEXT NOT NULL, console TEXT NOT NULL, level INTEGER NOT NULL, PRIMARY KEY (class, pattern, id, console), FOREIGN KEY (class, pattern) REFERENCES profiles ON DELETE CASCADE) STRICT"
+    ∷ codes "CREATE TABLE profiles (class TEXT NOT NULL, pattern TEXT NOT NULL, owner TEXT NOT NULL REFERENCES usr, uacc INTEGER NOT NULL, warning INTEGER NOT NULL, skey BLOB NOT NULL, head TEXT NOT NULL, PRIMARY KEY (class, pattern), UNIQUE (class, skey), UNIQUE (class, head, skey), UNIQUE (owner, class, pattern)) STRICT"
+    ∷ codes "CREATE TABLE entries (class TEXT NOT NULL, pattern TEXT NOT NULL, id TEXT NOT NULL, console TEXT NOT NULL, level INTEGER NOT NULL, PRIMARY KEY (class, pattern, id, console), UNIQUE (id, class, pattern, console), FOREIGN KEY (class, pattern) REFERENCES profiles ON DELETE CASCADE) STRICT"
     ∷ []
 
 pub defined : AreDefined no_schema texts the_tables

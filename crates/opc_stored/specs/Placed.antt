@@ -12,43 +12,43 @@ abbrev pub consoles_at : Table
 consoles_at = record consoles_table { tree = 3 }
 
 abbrev pub units_at : Table
-units_at = record units_table { tree = 5 }
+units_at = record units_table { tree = 7 }
 
 abbrev pub devices_at : Table
-devices_at = record devices_table { tree = 7 }
+devices_at = record devices_table { tree = 9 }
 
 abbrev pub replies_at : Table
-replies_at = record replies_table { tree = 9 }
+replies_at = record replies_table { tree = 12 }
 
 abbrev pub answered_at : Table
-answered_at = record answered_table { tree = 10 }
+answered_at = record answered_table { tree = 13 }
 
 abbrev pub log_at : Table
-log_at = record log_table { tree = 11 }
+log_at = record log_table { tree = 14 }
 
 abbrev pub messages_at : Table
-messages_at = record messages_table { tree = 12 }
+messages_at = record messages_table { tree = 15 }
 
 abbrev pub board_at : Table
-board_at = record board_table { tree = 13 }
+board_at = record board_table { tree = 16 }
 
 abbrev pub account_at : Table
-account_at = record account_table { tree = 14 }
+account_at = record account_table { tree = 17 }
 
 abbrev pub batches_at : Table
-batches_at = record batches_table { tree = 15 }
+batches_at = record batches_table { tree = 18 }
 
 abbrev pub grp_at : Table
-grp_at = record grp_table { tree = 16 }
+grp_at = record grp_table { tree = 19 }
 
 abbrev pub usr_at : Table
-usr_at = record usr_table { tree = 18 }
+usr_at = record usr_table { tree = 21 }
 
 abbrev pub connects_at : Table
-connects_at = record connects_table { tree = 20 }
+connects_at = record connects_table { tree = 23 }
 
 abbrev pub profiles_at : Table
-profiles_at = record profiles_table { tree = 22 }
+profiles_at = record profiles_table { tree = 25 }
 
 abbrev pub entries_at : Table
-entries_at = record entries_table { tree = 26 }
+entries_at = record entries_table { tree = 30 }

@@ -14,13 +14,13 @@ abbrev pub classes_table : Table
 classes_table = table_of (codes "classes") (column_of Text true (codes "class") ∷ column_of Integer true (codes "active") ∷ []) None (1 ∷ []) ((1 ∷ []) ∷ []) ([])
 
 abbrev pub consoles_table : Table
-consoles_table = table_of (codes "consoles") (column_of Text true (codes "name") ∷ column_of Integer true (codes "auth") ∷ column_of Text true (codes "mode") ∷ column_of Integer true (codes "online") ∷ column_of Text false (codes "usr") ∷ column_of Integer true (codes "monitor") ∷ []) None (1 ∷ []) ((1 ∷ []) ∷ []) ([])
+consoles_table = table_of (codes "consoles") (column_of Text true (codes "name") ∷ column_of Integer true (codes "auth") ∷ column_of Text true (codes "mode") ∷ column_of Integer true (codes "online") ∷ column_of Text false (codes "usr") ∷ column_of Integer true (codes "monitor") ∷ []) None (1 ∷ []) ((1 ∷ []) ∷ (5 ∷ 1 ∷ []) ∷ (2 ∷ 4 ∷ 1 ∷ []) ∷ []) ([])
 
 abbrev pub units_table : Table
 units_table = table_of (codes "units") (column_of Text true (codes "name") ∷ column_of Text true (codes "kind") ∷ column_of Text false (codes "member") ∷ column_of Integer true (codes "cancelable") ∷ column_of Integer true (codes "stopping") ∷ column_of Text false (codes "last") ∷ []) None (1 ∷ []) ((1 ∷ []) ∷ []) ([])
 
 abbrev pub devices_table : Table
-devices_table = table_of (codes "devices") (column_of Text true (codes "number") ∷ column_of Integer true (codes "online") ∷ column_of Text false (codes "volume") ∷ column_of Text false (codes "unit") ∷ []) None (1 ∷ []) ((1 ∷ []) ∷ []) ([])
+devices_table = table_of (codes "devices") (column_of Text true (codes "number") ∷ column_of Integer true (codes "online") ∷ column_of Text false (codes "volume") ∷ column_of Text false (codes "unit") ∷ []) None (1 ∷ []) ((1 ∷ []) ∷ (4 ∷ 1 ∷ []) ∷ []) ([])
 
 abbrev pub replies_table : Table
 replies_table = table_of (codes "replies") (column_of Integer false (codes "id") ∷ column_of Text true (codes "text") ∷ []) (Some 0) (0 ∷ []) [] []
@@ -53,10 +53,10 @@ abbrev pub connects_table : Table
 connects_table = table_of (codes "connects") (column_of Text true (codes "usr") ∷ column_of Text true (codes "grp") ∷ []) None (1 ∷ 2 ∷ []) ((1 ∷ 2 ∷ []) ∷ []) (reference_to (1 ∷ []) (codes "usr") NoAction ∷ reference_to (2 ∷ []) (codes "grp") NoAction ∷ [])
 
 abbrev pub profiles_table : Table
-profiles_table = table_of (codes "profiles") (column_of Text true (codes "class") ∷ column_of Text true (codes "pattern") ∷ column_of Text true (codes "owner") ∷ column_of Integer true (codes "uacc") ∷ column_of Integer true (codes "warning") ∷ column_of Blob true (codes "skey") ∷ column_of Text true (codes "head") ∷ []) None (1 ∷ 2 ∷ []) ((1 ∷ 2 ∷ []) ∷ (1 ∷ 6 ∷ []) ∷ (1 ∷ 7 ∷ 6 ∷ []) ∷ []) (reference_to (3 ∷ []) (codes "usr") NoAction ∷ [])
+profiles_table = table_of (codes "profiles") (column_of Text true (codes "class") ∷ column_of Text true (codes "pattern") ∷ column_of Text true (codes "owner") ∷ column_of Integer true (codes "uacc") ∷ column_of Integer true (codes "warning") ∷ column_of Blob true (codes "skey") ∷ column_of Text true (codes "head") ∷ []) None (1 ∷ 2 ∷ []) ((1 ∷ 2 ∷ []) ∷ (1 ∷ 6 ∷ []) ∷ (1 ∷ 7 ∷ 6 ∷ []) ∷ (3 ∷ 1 ∷ 2 ∷ []) ∷ []) (reference_to (3 ∷ []) (codes "usr") NoAction ∷ [])
 
 abbrev pub entries_table : Table
-entries_table = table_of (codes "entries") (column_of Text true (codes "class") ∷ column_of Text true (codes "pattern") ∷ column_of Text true (codes "id") ∷ column_of Text true (codes "console") ∷ column_of Integer true (codes "level") ∷ []) None (1 ∷ 2 ∷ 3 ∷ 4 ∷ []) ((1 ∷ 2 ∷ 3 ∷ 4 ∷ []) ∷ []) (reference_to (1 ∷ 2 ∷ []) (codes "profiles") Cascade ∷ [])
+entries_table = table_of (codes "entries") (column_of Text true (codes "class") ∷ column_of Text true (codes "pattern") ∷ column_of Text true (codes "id") ∷ column_of Text true (codes "console") ∷ column_of Integer true (codes "level") ∷ []) None (1 ∷ 2 ∷ 3 ∷ 4 ∷ []) ((1 ∷ 2 ∷ 3 ∷ 4 ∷ []) ∷ (3 ∷ 1 ∷ 2 ∷ 4 ∷ []) ∷ []) (reference_to (1 ∷ 2 ∷ []) (codes "profiles") Cascade ∷ [])
 
 -- In the order in which they are made. A table is at the tree after those of the tables before it, each of which has one for itself
 -- and one for each key that is not its rowid. Those that a later version makes anew stand last.

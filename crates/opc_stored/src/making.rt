@@ -15,9 +15,9 @@ use sqlite::{Alter, Connection, Error, Transaction, params};
 const TABLES: [&str; 17] = [
     "CREATE TABLE meta (version INTEGER NOT NULL) STRICT",
     "CREATE TABLE classes (class TEXT NOT NULL PRIMARY KEY, active INTEGER NOT NULL) STRICT",
-    "CREATE TABLE consoles (name TEXT NOT NULL PRIMARY KEY, auth INTEGER NOT NULL, mode TEXT NOT NULL, online INTEGER NOT NULL, usr TEXT, monitor INTEGER NOT NULL) STRICT",
+    "CREATE TABLE consoles (name TEXT NOT NULL PRIMARY KEY, auth INTEGER NOT NULL, mode TEXT NOT NULL, online INTEGER NOT NULL, usr TEXT, monitor INTEGER NOT NULL, UNIQUE (usr, name), UNIQUE (auth, online, name)) STRICT",
     "CREATE TABLE units (name TEXT NOT NULL PRIMARY KEY, kind TEXT NOT NULL, member TEXT, cancelable INTEGER NOT NULL, stopping INTEGER NOT NULL, last TEXT) STRICT",
-    "CREATE TABLE devices (number TEXT NOT NULL PRIMARY KEY, online INTEGER NOT NULL, volume TEXT, unit TEXT) STRICT",
+    "CREATE TABLE devices (number TEXT NOT NULL PRIMARY KEY, online INTEGER NOT NULL, volume TEXT, unit TEXT, UNIQUE (unit, number)) STRICT",
     "CREATE TABLE replies (id INTEGER PRIMARY KEY, text TEXT NOT NULL) STRICT",
     "CREATE TABLE answered (number INTEGER PRIMARY KEY, id INTEGER NOT NULL, text TEXT NOT NULL) STRICT",
     "CREATE TABLE log (number INTEGER PRIMARY KEY, text TEXT NOT NULL) STRICT",
@@ -28,8 +28,8 @@ const TABLES: [&str; 17] = [
     "CREATE TABLE grp (name TEXT NOT NULL PRIMARY KEY) STRICT",
     "CREATE TABLE usr (id TEXT NOT NULL PRIMARY KEY, special INTEGER NOT NULL, auditor INTEGER NOT NULL, revoked INTEGER NOT NULL, digest BLOB, restricted INTEGER NOT NULL) STRICT",
     "CREATE TABLE connects (usr TEXT NOT NULL REFERENCES usr, grp TEXT NOT NULL REFERENCES grp, PRIMARY KEY (usr, grp)) STRICT",
-    "CREATE TABLE profiles (class TEXT NOT NULL, pattern TEXT NOT NULL, owner TEXT NOT NULL REFERENCES usr, uacc INTEGER NOT NULL, warning INTEGER NOT NULL, skey BLOB NOT NULL, head TEXT NOT NULL, PRIMARY KEY (class, pattern), UNIQUE (class, skey), UNIQUE (class, head, skey)) STRICT",
-    "CREATE TABLE entries (class TEXT NOT NULL, pattern TEXT NOT NULL, id TEXT NOT NULL, console TEXT NOT NULL, level INTEGER NOT NULL, PRIMARY KEY (class, pattern, id, console), FOREIGN KEY (class, pattern) REFERENCES profiles ON DELETE CASCADE) STRICT",
+    "CREATE TABLE profiles (class TEXT NOT NULL, pattern TEXT NOT NULL, owner TEXT NOT NULL REFERENCES usr, uacc INTEGER NOT NULL, warning INTEGER NOT NULL, skey BLOB NOT NULL, head TEXT NOT NULL, PRIMARY KEY (class, pattern), UNIQUE (class, skey), UNIQUE (class, head, skey), UNIQUE (owner, class, pattern)) STRICT",
+    "CREATE TABLE entries (class TEXT NOT NULL, pattern TEXT NOT NULL, id TEXT NOT NULL, console TEXT NOT NULL, level INTEGER NOT NULL, PRIMARY KEY (class, pattern, id, console), UNIQUE (id, class, pattern, console), FOREIGN KEY (class, pattern) REFERENCES profiles ON DELETE CASCADE) STRICT",
 ];
 
 /// Makes the tables in a database where nothing is defined, without rows.

@@ -1,54 +1,55 @@
--- The tables at their trees. A lemma of proofs/OtherTables is refused where a number is wrong.
+-- The tables at their trees, by their places in the schema.
+use Rattle.std.specs.Prelude.{get_or}
 use Rattle.sqlite.specs.Table.{Table}
-use Rattle.opc_stored.specs.Tables.{meta_table, classes_table, consoles_table, units_table, devices_table, replies_table, answered_table, log_table, messages_table, board_table, account_table, batches_table, grp_table, usr_table, connects_table, profiles_table, entries_table}
+use Rattle.opc_stored.specs.Tables.{the_schema, meta_table, classes_table, consoles_table, units_table, devices_table, replies_table, answered_table, log_table, messages_table, board_table, account_table, batches_table, grp_table, usr_table, connects_table, profiles_table, entries_table}
 
 abbrev pub meta_at : Table
-meta_at = record meta_table { tree = 0 }
+meta_at = get_or the_schema.tables 0 meta_table
 
 abbrev pub classes_at : Table
-classes_at = record classes_table { tree = 1 }
+classes_at = get_or the_schema.tables 1 classes_table
 
 abbrev pub consoles_at : Table
-consoles_at = record consoles_table { tree = 3 }
+consoles_at = get_or the_schema.tables 2 consoles_table
 
 abbrev pub units_at : Table
-units_at = record units_table { tree = 7 }
+units_at = get_or the_schema.tables 3 units_table
 
 abbrev pub devices_at : Table
-devices_at = record devices_table { tree = 9 }
+devices_at = get_or the_schema.tables 4 devices_table
 
 abbrev pub replies_at : Table
-replies_at = record replies_table { tree = 12 }
+replies_at = get_or the_schema.tables 5 replies_table
 
 abbrev pub answered_at : Table
-answered_at = record answered_table { tree = 13 }
+answered_at = get_or the_schema.tables 6 answered_table
 
 abbrev pub log_at : Table
-log_at = record log_table { tree = 14 }
+log_at = get_or the_schema.tables 7 log_table
 
 abbrev pub messages_at : Table
-messages_at = record messages_table { tree = 15 }
+messages_at = get_or the_schema.tables 8 messages_table
 
 abbrev pub board_at : Table
-board_at = record board_table { tree = 16 }
+board_at = get_or the_schema.tables 9 board_table
 
 abbrev pub account_at : Table
-account_at = record account_table { tree = 17 }
+account_at = get_or the_schema.tables 10 account_table
 
 abbrev pub batches_at : Table
-batches_at = record batches_table { tree = 18 }
+batches_at = get_or the_schema.tables 11 batches_table
 
 abbrev pub grp_at : Table
-grp_at = record grp_table { tree = 19 }
+grp_at = get_or the_schema.tables 12 grp_table
 
 abbrev pub usr_at : Table
-usr_at = record usr_table { tree = 21 }
+usr_at = get_or the_schema.tables 13 usr_table
 
 abbrev pub connects_at : Table
-connects_at = record connects_table { tree = 23 }
+connects_at = get_or the_schema.tables 14 connects_table
 
 abbrev pub profiles_at : Table
-profiles_at = record profiles_table { tree = 25 }
+profiles_at = get_or the_schema.tables 15 profiles_table
 
 abbrev pub entries_at : Table
-entries_at = record entries_table { tree = 30 }
+entries_at = get_or the_schema.tables 16 entries_table

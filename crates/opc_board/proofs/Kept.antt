@@ -20,7 +20,7 @@ use Rattle.opc_board.proofs.Names.{is_same_name, earlier_on, earlier_or_later, i
 
 -- units
 
-freed_in_place : (name : Name) (x y : DeviceRow) → device_before (freed name x) (freed name y) ≡ device_before x y
+pub freed_in_place : (name : Name) (x y : DeviceRow) → device_before (freed name x) (freed name y) ≡ device_before x y
 freed_in_place name x y =
     elim (is_holder name x.unit) as (λ a. device_before (cond a (record x { unit = None }) x) (freed name y) ≡ device_before x y) [
       | true ↦ elim (is_holder name y.unit) as (λ a. device_before (record x { unit = None }) (cond a (record y { unit = None }) y) ≡ device_before x y) [ true ↦ refl | false ↦ refl ]
@@ -140,7 +140,7 @@ new_console_kept row b absent facts = record {
 }
 
 -- of two consoles in order one at most has the name
-apart_names : (x y name : Name) → is x name ≡ true → earlier x y ≡ true → is y name ≡ false
+pub apart_names : (x y name : Name) → is x name ≡ true → earlier x y ≡ true → is y name ≡ false
 apart_names x y name here behind =
     elim (is y name) as (λ t. is y name ≡ t → t ≡ false) [
       | true ↦ λ e.
@@ -167,10 +167,10 @@ fewer_replies_kept b p facts = record {
   held = facts.held;
 }
 
-less_on : (x y z : ℕ) → is_lt (nat_cmp x y) ≡ true → is_lt (nat_cmp y z) ≡ true → is_lt (nat_cmp x z) ≡ true
+pub less_on : (x y z : ℕ) → is_lt (nat_cmp x y) ≡ true → is_lt (nat_cmp y z) ≡ true → is_lt (nat_cmp x z) ≡ true
 less_on x y z e f = grind (arith, nat_tests, e, f)
 
-less_or_more : (x y : ℕ) → (y == x) ≡ false → is_lt (nat_cmp x y) ≡ false → is_lt (nat_cmp y x) ≡ true
+pub less_or_more : (x y : ℕ) → (y == x) ≡ false → is_lt (nat_cmp x y) ≡ false → is_lt (nat_cmp y x) ≡ true
 less_or_more x y e f = grind (arith, nat_tests, e, f)
 
 pub new_reply_kept : (row : ReplyRow) (b : BoardRows) → is_some (reply_at b row.id) ≡ false → IsBoard b → IsBoard (record b { replies = put reply_before row b.replies })

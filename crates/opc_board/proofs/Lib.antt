@@ -2,3 +2,9 @@ pub mod Names
 pub mod Kept
 pub mod Padding
 pub mod Tested
+pub mod Agreeing
+pub mod UnitSights
+pub mod DeviceSights
+pub mod ConsoleSights
+pub mod ReplySights
+pub mod Sights

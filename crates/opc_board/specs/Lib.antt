@@ -7,3 +7,4 @@ pub mod Consoles
 pub mod Replies
 pub mod Effect
 pub mod History
+pub mod Sight

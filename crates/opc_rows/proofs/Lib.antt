@@ -1,4 +1,5 @@
 pub mod Each
+pub mod Filtered
 pub mod Orders
 pub mod Places
 pub mod Search

@@ -1,0 +1,77 @@
+-- What comes of the rows that are seen, and what comes of the whole board.
+use Rattle.std.proofs.Common.{◌≡◌, ℕ, Bool, true, false, not, cond, ◌==◌, if◌then◌else◌, List, [], ◌∷◌, Option, Some, None, Err, refl, ap, sym, ◌∙◌, arith}
+use Rattle.std.specs.List.{find}
+use Rattle.std.proofs.lemmas.Bool.Decides.{nat_tests}
+use Rattle.opc_board.specs.declared.board.BoardRows.{BoardRows}
+use Rattle.opc_board.specs.declared.fault.BoardFault.{BoardFault}
+use Rattle.opc_board.specs.declared.line.Line.{Line}
+use Rattle.opc_board.specs.Facts.{Name, console_at, device_at, is, reply_at, unit_at}
+use Rattle.opc_board.specs.Outcome.{Outcome, ◌>>=◌, done_with, faults_or, found}
+use Rattle.opc_board.specs.Sight.{AreLeft, IsInOrder, LeavesRest, Seen, only, outcome_only, sees_console, sees_device, sees_reply, sees_unit}
+use Rattle.opc_board.proofs.Names.{is_same_name}
+use Rattle.opc_rows.proofs.Filtered.{find_seen}
+
+-- names and numbers
+
+pub named : (s : Name → Bool) (name other : Name) → s name ≡ true → is other name ≡ true → s other ≡ true
+named s name other sees here = ap s (is_same_name other name here) ∙ sees
+
+pub unnamed : (s : Name → Bool) (name other : Name) → s name ≡ true → is other name ≡ true → not (s other) ≡ false
+unnamed s name other sees here = ap not (named s name other sees here)
+
+-- what is found at a name has it
+pub found_named : {R : Type 0} (key : R → Name) (name : Name) (row : R) (rows : List R) → find (λ r. is (key r) name) rows ≡ Some row → is (key row) name ≡ true
+found_named key name row [] at = absurd (cc)
+found_named key name row (r ∷ rows) at = go (is (key r) name) refl at (found_named key name row rows)
+  where
+    go : (a : Bool) → is (key r) name ≡ a → cond a (Some r) (find (λ r. is (key r) name) rows) ≡ Some row → (find (λ r. is (key r) name) rows ≡ Some row → is (key row) name ≡ true) → is (key row) name ≡ true
+    go true here at more = let same : r ≡ row = cc in ap (λ q. is (key q) name) (sym same) ∙ here
+    go false here at more = more at
+
+pub same_number : (m n : ℕ) → (m == n) ≡ true → m ≡ n
+same_number m n e = grind (arith, nat_tests, e)
+
+pub is_not : (a : Bool) → not a ≡ false → a ≡ true
+is_not true e = refl
+is_not false e = absurd (cc)
+
+module _ (seen : Seen) where
+  -- what comes of the part, and what comes of the whole
+  abbrev pub Agrees : BoardRows → Outcome → Outcome → Type 0
+  Agrees b part whole = (part ≡ outcome_only seen whole) × LeavesRest seen b whole
+
+  pub left_alone : (b : BoardRows) → AreLeft seen b b
+  left_alone b = record { units = refl; devices = refl; consoles = refl; replies = refl }
+
+  pub found_then : {A : Type 0} (b : BoardRows) (f : BoardFault) (part whole : Option A) → part ≡ whole → (run more : A → Outcome) → ((x : A) → whole ≡ Some x → Agrees b (run x) (more x)) → Agrees b (found f part >>= run) (found f whole >>= more)
+  found_then b f part (Some x) same run more h = rw same (h x refl)
+  found_then b f part None same run more h = (ap (λ o. found f o >>= run) same, tt)
+
+  pub faults_then : (b : BoardRows) (faults : List (Bool × BoardFault)) (part whole : Outcome) → Agrees b part whole → Agrees b (faults_or faults part) (faults_or faults whole)
+  faults_then b [] part whole h = h
+  faults_then b ((there, fault) ∷ faults) part whole h = go there (faults_then b faults part whole h)
+    where
+      go : (there : Bool) → Agrees b (faults_or faults part) (faults_or faults whole) → Agrees b (if there then Err fault else faults_or faults part) (if there then Err fault else faults_or faults whole)
+      go true more = (refl, tt)
+      go false more = more
+
+  -- the same, where the faults are looked for on the board
+  pub faults_same : (b : BoardRows) (few faults : List (Bool × BoardFault)) (part whole : Outcome) → few ≡ faults → Agrees b part whole → Agrees b (faults_or few part) (faults_or faults whole)
+  faults_same b few faults part whole same h = rw same (faults_then b faults part whole h)
+
+  pub done_then : (b part whole : BoardRows) (lines : List Line) → part ≡ only seen whole → IsInOrder whole → AreLeft seen b whole → Agrees b (done_with part lines) (done_with whole lines)
+  done_then b part whole lines same order left = (ap (λ c. done_with c lines) same, (order, left))
+
+  -- look-ups at names that are seen
+
+  pub unit_seen : (b : BoardRows) (name : Name) → seen.units name ≡ true → unit_at (only seen b) name ≡ unit_at b name
+  unit_seen b name sees = find_seen (λ u. is u.name name) (sees_unit seen) (λ u here. named seen.units name u.name sees here) b.units
+
+  pub device_seen : (b : BoardRows) (number : Name) → seen.devices number ≡ true → device_at (only seen b) number ≡ device_at b number
+  device_seen b number sees = find_seen (λ d. is d.number number) (sees_device seen) (λ d here. named seen.devices number d.number sees here) b.devices
+
+  pub console_seen : (b : BoardRows) (name : Name) → seen.consoles name ≡ true → console_at (only seen b) name ≡ console_at b name
+  console_seen b name sees = find_seen (λ c. is c.name name) (sees_console seen) (λ c here. named seen.consoles name c.name sees here) b.consoles
+
+  pub reply_seen : (b : BoardRows) (id : ℕ) → seen.replies id ≡ true → reply_at (only seen b) id ≡ reply_at b id
+  reply_seen b id sees = find_seen (λ r. r.id == id) (sees_reply seen) (λ r here. ap seen.replies (same_number r.id id here) ∙ sees) b.replies

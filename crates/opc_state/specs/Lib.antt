@@ -4,3 +4,4 @@ pub mod Changes
 pub mod Difference
 pub mod Facts
 pub mod Asked
+pub mod Sights

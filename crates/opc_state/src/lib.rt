@@ -4,5 +4,6 @@
 pub mod account;
 pub mod change;
 pub mod difference;
+pub mod laws;
 mod member;
 pub mod tables;

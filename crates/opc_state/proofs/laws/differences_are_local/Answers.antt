@@ -1,0 +1,5 @@
+use Rattle.opc_state.proofs.Seen.{differences}
+use Rattle.opc_state.proofs.laws.differences_are_local.Goals as goal
+
+pub returns : goal.returns
+returns c = differences

@@ -8,3 +8,4 @@ pub mod DeviceSights
 pub mod ConsoleSights
 pub mod ReplySights
 pub mod Sights
+pub mod Enough

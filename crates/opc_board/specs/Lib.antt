@@ -8,3 +8,4 @@ pub mod Replies
 pub mod Effect
 pub mod History
 pub mod Sight
+pub mod Enough

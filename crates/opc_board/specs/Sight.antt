@@ -89,7 +89,7 @@ abbrev pub SeesVaried : Seen → BoardRows → Name → Type 0
 SeesVaried seen b name = (seen.consoles name ≡ true) × (has_other_master name (only seen b).consoles ≡ has_other_master name b.consoles)
 
 -- What has to be seen for a command: what it names, and what it asks about others. A display of all rows sees them all,
--- and SE whether the user is on at some console. Whoever sees more sees enough.
+-- and SE whether the user is on at some console. Any choice that has these rows will do.
 abbrev pub Sees : Seen → BoardRows → Command → Name → Type 0
 Sees seen b DisplayUnits console = (name : Name) → seen.units name ≡ true
 Sees seen b (DisplayUnit name) console = seen.units name.value ≡ true

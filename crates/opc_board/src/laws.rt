@@ -1,4 +1,5 @@
 //! Laws of the board, each as what a call without a body ensures.
+ghost use Rattle.opc_board.specs.Enough.{FewRowsSuffice};
 ghost use Rattle.opc_board.specs.History.{CommandsDoTheSameAfter, CommandsOnlyAddToHistory, EventsDoTheSameAfter, EventsOnlyAddToHistory};
 ghost use Rattle.opc_board.specs.Sight.{CommandsAreLocal, EventsAreLocal, LogoffsAreLocal, LogonsAreLocal};
 
@@ -11,10 +12,11 @@ pub fn histories_only_grow()
 {}
 
 /// Commands, events, logons and logoffs do on what they see of a board what they do on the board, and leave its other
-/// rows as they are.
+/// rows as they are. Commands and events need see no more than the rows that they name or ask about.
 pub fn sights_suffice()
     ensures commands { CommandsAreLocal }
     ensures events { EventsAreLocal }
     ensures logons { LogonsAreLocal }
     ensures logoffs { LogoffsAreLocal }
+    ensures few { FewRowsSuffice }
 {}

@@ -204,6 +204,25 @@ module _ {A : Type 0} where
       go true here more = ap (λ ws. x ∷ ws) (none_there p xs (all_weaker (λ y. before x y ≡ true) (λ y. p y ≡ false) (λ y behind. once x y here behind) xs order.0))
       go false here more = more
 
+  -- each element is found by its own key, where no two have one key
+  pub found_each : (at : A → A → Bool) (before : A → A → Bool) → ((x : A) → at x x ≡ true) → ((x y : A) → before x y ≡ true → at x y ≡ false) → (xs : List A) → Ascends before xs → AllByRecursion (λ x. find (λ y. at y x) xs ≡ Some x) xs
+  found_each at before itself apart [] order = tt
+  found_each at before itself apart (x ∷ xs) order = (ap (λ c. cond c (Some x) (find (λ y. at y x) xs)) (itself x), further xs order.0 (found_each at before itself apart xs order.1))
+    where
+      further : (ys : List A) → AllByRecursion (λ y. before x y ≡ true) ys → AllByRecursion (λ y. find (λ z. at z y) xs ≡ Some y) ys → AllByRecursion (λ y. find (λ z. at z y) (x ∷ xs) ≡ Some y) ys
+      further [] behind found = tt
+      further (y ∷ ys) behind found = (ap (λ c. cond c (Some x) (find (λ z. at z y) xs)) (apart x y behind.0) ∙ found.0, further ys behind.1 found.1)
+
+  -- whether any passes, where all that pass are seen
+  pub any_seen : (q s : A → Bool) (xs : List A) → AllByRecursion (λ x. q x ≡ true → s x ≡ true) xs → list_any q (filter s xs) ≡ list_any q xs
+  any_seen q s [] seen = refl
+  any_seen q s (x ∷ xs) seen = go (q x) (s x) refl refl (any_seen q s xs seen.1)
+    where
+      go : (a b : Bool) → q x ≡ a → s x ≡ b → list_any q (filter s xs) ≡ list_any q xs → list_any q (cond b (x ∷ filter s xs) (filter s xs)) ≡ a || list_any q xs
+      go a true here there more = ap₂ (λ c d. c || d) here more
+      go true false here there more = let is : s x ≡ true = seen.0 here in absurd (cc)
+      go false false here there more = more
+
   -- those of a kind, by the keys of those that are of it
   pub filter_keyed : (q : A → Bool) (at : A → A → Bool) (xs ys : List A) → AllByRecursion (λ x. find (λ y. at y x) xs ≡ Some x) ys → filter (λ x. passes q (find (λ y. at y x) xs)) ys ≡ filter q ys
   filter_keyed q at xs [] found = refl

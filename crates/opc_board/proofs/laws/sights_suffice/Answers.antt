@@ -1,3 +1,4 @@
+use Rattle.opc_board.proofs.Enough.{few_suffice}
 use Rattle.opc_board.proofs.Sights.{commands, events, logoffs, logons}
 use Rattle.opc_board.proofs.laws.sights_suffice.Goals as goal
 
@@ -12,3 +13,6 @@ returns-clause-logons c = logons
 
 pub returns-clause-logoffs : goal.returns-clause-logoffs
 returns-clause-logoffs c = logoffs
+
+pub returns-clause-few : goal.returns-clause-few
+returns-clause-few c = few_suffice

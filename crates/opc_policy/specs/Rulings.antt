@@ -55,8 +55,8 @@ abbrev pub rule_of : Ruling → Rule
 rule_of (rulings.Allowed rule) = rule
 rule_of (rulings.Denied rule) = rule
 
--- The ruling on a command at a console, where logon is no question: by the verdict on the acting user, that is
--- the user who is on; where there is none, or the verdict is undecided, by the authority of the console.
+-- The ruling on a command at a console, where logon is no question: by the verdict on the user for whom the
+-- console acts; where there is none, or the verdict is undecided, by the authority of the console.
 abbrev pub ruling : Bool → Option Profile → Option User → Option (List ℕ) → List (List ℕ) → Auth → Need → Ruling
 ruling active decided None console groups auth need = console_ruling auth need
 ruling active decided (Some user) console groups auth need =

@@ -106,8 +106,7 @@ fn user_row(line: &StringRecord) -> Result<Row, Why>
     let flags = read_user_flags(field_in(line, Column::Flags)).ok_or(Why::Flags)?;
     let digest = read_digest(field_in(line, Column::Digest)).ok_or(Why::Digest)?;
     unused(line, Column::When)?;
-    let restricted =
-        read_restriction(field_in(line, Column::Restricted)).ok_or(Why::Restricted)?;
+    let restricted = read_restriction(field_in(line, Column::Restricted)).ok_or(Why::Restricted)?;
     Ok(Row::User(User {
         id,
         special: flags.special,

@@ -195,7 +195,8 @@ fn conditional_edits(alloc: Global) -> Result<Vec<Edit>, Fail> {
 #[test]
 fn an_entry_at_a_console_stands_beside_the_plain_one(rt: HostRuntime) -> Result<(), Fail> {
     let alloc = rt.alloc();
-    let sql = "SELECT id || '@' || console || '=' || level FROM entries WHERE pattern = 'MVS.**' ORDER BY id, console";
+    let sql =
+        "SELECT id || '@' || console || '=' || level FROM entries WHERE pattern = 'MVS.**' ORDER BY id, console";
     let lines = told_after_each(alloc, with_base(alloc)?, conditional_edits(alloc)?, sql)?;
     same(
         &rt,

@@ -1,5 +1,5 @@
 -- What the statements on the entries of access lists do.
-use Rattle.std.proofs.Common.{◌≡◌, ◌≢◌, ℕ, List, [], ◌∷◌, ◌++◌, map, filter, not, ◌&&◌, ◌||◌, ◌==◌, drop, length, Bool, true, false, Option, Some, None, Ok, refl, sym, ap, ap₂, subst, ◌∙◌, is_eq, arith, IsPermutation}
+use Rattle.std.proofs.Common.{◌≡◌, ◌≢◌, ℕ, List, [], ◌∷◌, ◌++◌, map, filter, not, ◌&&◌, ◌||◌, ◌==◌, drop, length, Bool, true, false, Option, Some, None, Ok, refl, sym, ap, ap₂, subst, ◌∙◌, is_eq, arith, IsPermutation, zero, suc}
 use Rattle.std.specs.List.{flat_map, filter_map, list_any, list_all, AllByRecursion}
 use Rattle.std.specs.Str.{bytes_eq}
 use Rattle.std.proofs.lemmas.Bool.{and_parts}
@@ -26,6 +26,9 @@ use Rattle.sqlite_value.specs.Keys.{joined, first_key}
 use Rattle.sqlite_value.specs.declared.keys.Collation.TheVariants.{Binary}
 use Rattle.sqlite_keyed.proofs.ListLemmas.{filter_same, all_weaker, all_map, all_unmap, any_from_none, IsPermutation-same, all-slice_get}
 use Rattle.opc_statements.specs.Order.{Rises, text_cmp}
+use Rattle.sqlite_trees.specs.declared.store.Store.{Ghosts}
+use Rattle.sqlite.specs.Held.{Held, state}
+use Rattle.opc_statements.specs.Steps.{Puts}
 use Rattle.opc_statements.specs.Rows.{HasRows}
 use Rattle.opc_statements.proofs.Steps.{cast_null}
 use Rattle.opc_statements.proofs.Rows.{all_along}
@@ -45,10 +48,11 @@ use Rattle.opc_stored.specs.Contents.{Contents}
 use Rattle.opc_stored.specs.Made.{IsMade}
 use Rattle.opc_stored.specs.Tables.{the_schema}
 use Rattle.opc_stored.specs.Placed.{profiles_at, entries_at}
-use Rattle.opc_stored.specs.Represented.{Tabulates, contents_of, profile_row, entry_row, entry_rows, or_empty}
+use Rattle.opc_stored.specs.Represented.{Represents, Tabulates, contents_of, profile_row, entry_row, entry_rows, or_empty}
 use Rattle.opc_stored.proofs.OtherTables.{with_entries as spares_entries}
 use Rattle.opc_stored.specs.State.{IsNamed, IsAccessList}
 use Rattle.opc_stored.proofs.Decoded.{filter_on}
+use Rattle.opc_stored.proofs.Ordered.{permission_ordered}
 use Rattle.opc_stored.proofs.Keys.{entry_total}
 use Rattle.opc_stored.proofs.ProfileTexts.{entry_terms, of_entry, insert_entry, insert_entry_is, insert_entry_plain, update_entry, update_entry_is, update_entry_plain, delete_entry, delete_entry_is, delete_entry_plain, has_profile, has_entry, entry_key, entry_below, entry_key_below, picks_profile, entry_cast, is_at}
 use Rattle.opc_stored.proofs.AccessLists.{split, Split, is_of_means, listing, same_profiles, parted_entries, entries_hit, entries_rest, no_entries, all_entries}
@@ -205,7 +209,7 @@ module _ (old new : SqlState) (count : ℕ) (s : State) (class : Class) (pattern
     one_of (x ∷ y ∷ hit) rest one has = absurd (omega arith)
 
     -- it was there, and is replaced
-    pub entry_set : count ≢ 0 → Tabulates new.now (with_profiles (with_permission class pattern e ps) s)
+    entry_set : count ≢ 0 → Tabulates new.now (with_profiles (with_permission class pattern e ps) s)
     entry_set some = go (profile_of ps class pattern) refl
       where
         go : (o : Option Profile) → profile_of ps class pattern ≡ o → Tabulates new.now (with_profiles (with_permission class pattern e ps) s)
@@ -222,13 +226,13 @@ module _ (old new : SqlState) (count : ℕ) (s : State) (class : Class) (pattern
             (subst (λ (c : Contents). IsMade c new.now) (sym (same_contents s class pattern p parts (with_entry e))) (spares_entries (contents_of s) old.now new.now was it.spares _ rows))
 
     -- it was not there, and nothing changes
-    pub entry_missed : count ≡ 0 → IsMade (record (contents_of s) { entries = filter (λ v. not (has_entry class pattern e.id (or_empty e.when) v)) (flat_map entry_rows ps) }) new.now
+    entry_missed : count ≡ 0 → IsMade (record (contents_of s) { entries = filter (λ v. not (has_entry class pattern e.id (or_empty e.when) v)) (flat_map entry_rows ps) }) new.now
     entry_missed none = spares_entries (contents_of s) old.now new.now was it.spares _ (none_of _ _ (sym counted ∙ none) both)
 
   -- ---- it comes: then its profile is there, or the database would not have taken it
 
   module _ (was : IsMade (record (contents_of s) { entries = filter (λ v. not (has_entry class pattern e.id (or_empty e.when) v)) (flat_map entry_rows ps) }) old.now) (up : Rises profile_cmp ps) (lists_up : AllByRecursion (λ (p : Profile). IsAccessList p.entries) ps) where
-    pub entry_added : Executes insert_entry (entry_row class pattern e) old new (Ok count) → Tabulates new.now (with_profiles (with_permission class pattern e ps) s)
+    entry_added : Executes insert_entry (entry_row class pattern e) old new (Ok count) → Tabulates new.now (with_profiles (with_permission class pattern e ps) s)
     entry_added h = go (profile_of ps class pattern) refl
       where
         it : Adds the_schema entries_at (entry_row class pattern e) old.now.trees new.now
@@ -248,3 +252,22 @@ module _ (old new : SqlState) (count : ℕ) (s : State) (class : Class) (pattern
             let rows = same_rows _ _ _ (put_in class pattern ps p parts e named mine) more in
             subst (λ (l : List Profile). Tabulates new.now (with_profiles l s)) (sym (permitted (Some p) here))
             (subst (λ (c : Contents). IsMade c new.now) (sym (same_contents s class pattern p parts (with_entry e))) (spares_entries (record (contents_of s) { entries = filter (λ v. not (has_entry class pattern e.id (or_empty e.when) v)) (flat_map entry_rows ps) }) old.now new.now was it.spares _ rows))
+
+-- ---- a row is put at its key
+
+pub entry_put : {S : Type 0} (g : Ghosts S) (old new : Held S) (s : State) → Represents (state g old).now s → (class : Class) (pattern : List ℕ) (e : Entry) → IsNamed e → Puts g update_entry insert_entry (entry_row class pattern e) old new
+    → Represents (state g new).now (with_profiles (with_permission class pattern e s.policy.profiles) s)
+entry_put {S = S} g old new s was class pattern e named h = record { ordered = permission_ordered s was.ordered class pattern e named; rows = go h.found refl }
+  where
+    after_put : State
+    after_put = with_profiles (with_permission class pattern e s.policy.profiles) s
+
+    go : (found : ℕ) → h.found ≡ found → Tabulates (state g new).now after_put
+    go zero none =
+        let missed = entry_missed (state g old) (state g h.mid) h.found s class pattern e named was.rows was.ordered.profiles was.ordered.entries h.updates.executes none in
+        let added = h.inserts none in
+        entry_added (state g h.mid) (state g new) added.0 s class pattern e named missed was.ordered.profiles was.ordered.entries added.1.executes
+    go (suc n) some =
+        let there : h.found ≢ 0 = λ none. absurd (omega (arith, some, none)) in
+        subst (λ (c : Held S). Tabulates (state g c).now after_put) (sym (h.ends there))
+        (entry_set (state g old) (state g h.mid) h.found s class pattern e named was.rows was.ordered.profiles was.ordered.entries h.updates.executes there)

@@ -9,7 +9,6 @@ ghost use Rattle.opc_policy.specs.Profiles.{profile_of, with_permission};
 ghost use Rattle.opc_state.specs.Changes.{with_profiles};
 ghost use Rattle.opc_state.specs.Members.{without_permission};
 ghost use Rattle.opc_stored.specs.Asked.{Makes};
-ghost use Rattle.opc_stored.specs.Asked.{Makes};
 ghost use Rattle.opc_stored.specs.Contents.{Contents};
 ghost use Rattle.opc_stored.specs.Made.{IsMade};
 ghost use Rattle.opc_stored.specs.Represented.{Represents, entry_row, or_empty};
@@ -26,7 +25,7 @@ use opc_names::name::{ConsoleName, Pattern};
 use opc_policy::entries::Entries;
 use opc_policy::entry::{Entry, EntryId};
 use opc_policy::source::StoreFault;
-use opc_statements::run;
+use opc_statements::{put, run};
 use opc_stored::columns::value_in;
 use opc_stored::faults::unreadable;
 use opc_stored::queries::read;
@@ -97,9 +96,10 @@ pub fn put_entry<S: Alter>(
     ensures stays { Stays S.Store tx.old.conn.now tx.new.conn.now result }
     ensures done { Makes S.Store tx.old.conn.now tx.new.conn.now result (λ s. with_profiles (with_permission class pattern.now entry.now s.policy.profiles) s) }
 {
-    let found = run(
+    put(
         tx,
         "UPDATE entries SET class = ?1, pattern = ?2, id = ?3, console = ?4, level = ?5 WHERE class = ?1 AND pattern = ?2 AND id = ?3 AND console = ?4",
+        "INSERT INTO entries VALUES (?1, ?2, ?3, ?4, ?5)",
         params![
             class.text(),
             pattern.text(),
@@ -107,21 +107,7 @@ pub fn put_entry<S: Alter>(
             console_text(entry.when.as_ref()),
             rank_of(entry.level)
         ],
-    )?;
-    if found == 0 {
-        run(
-            tx,
-            "INSERT INTO entries VALUES (?1, ?2, ?3, ?4, ?5)",
-            params![
-                class.text(),
-                pattern.text(),
-                entry.id.text(),
-                console_text(entry.when.as_ref()),
-                rank_of(entry.level)
-            ],
-        )?;
-    }
-    Ok(())
+    )
 }
 
 /// The entry for an id goes, at a console alone or, where none is given, at every console.

@@ -1,5 +1,5 @@
 -- A board and its live part.
-use Rattle.std.proofs.Common.{◌≡◌, ◌≢◌, ℕ, true, List, [], Option, Some, Result, Ok, Err, IfErr, OnOk, filter, sym, ap, ◌∙◌, rules}
+use Rattle.std.proofs.Common.{◌≡◌, ◌≢◌, ℕ, List, [], Option, Some, Result, Ok, Err, IfErr, IfOk, OnOk, filter, sym, ap, ◌∙◌}
 use Rattle.opc_board.specs.declared.fault.BoardFault.{BoardFault}
 use Rattle.opc_board.specs.declared.fault.BoardFault.TheVariants.{NoMemory}
 use Rattle.opc_board.specs.declared.line.Line.{Line}
@@ -9,27 +9,17 @@ use Rattle.opc_policy.specs.declared.rule.Rule.{Rule}
 use Rattle.opc_state.specs.declared.change.Edit.{Edit}
 use Rattle.opc_state.specs.State.{State}
 use Rattle.opc_state.specs.Changes.{all_edited}
-use Rattle.opc_machine.specs.Commands.{acted, allowed, board_command, is_display}
+use Rattle.opc_machine.specs.Commands.{acted, allowed, board_command}
 use Rattle.opc_machine.specs.Rulings.{ruling, shown}
 use Rattle.opc_policy.specs.declared.need.Need.{Need}
 use Rattle.opc_policy.specs.declared.ruling.Ruling.TheVariants.{Allowed}
 use Rattle.opc_commands.specs.Acted.{IsActed}
 use Rattle.opc_machine.specs.Outcome.{◌>>=◌, does}
 use Rattle.opc_reader.specs.declared.command.Command.{Command}
-use Rattle.opc_reader.specs.declared.command.Command.TheVariants as command
 use Rattle.opc_board.specs.declared.board.BoardRows.{BoardRows}
 use Rattle.opc_board.specs.declared.event.Event.{Event}
 use Rattle.opc_board.specs.Effect.{effect, event_effect}
 use Rattle.opc_board.specs.History.{after, history_of, outcome_after, without_history, CommandsOnlyAddToHistory, EventsOnlyAddToHistory}
-
--- a command that only shows leaves the board
-pub displayed : (c : Command) → is_display c ≡ true → (b new : BoardRows) (lines : List Line) (console : List ℕ) → effect b c console ≡ done_with new lines → new ≡ b
-displayed command.DisplayUnits d b new lines console h = search (rules, h)
-displayed (command.DisplayUnit name) d b new lines console h = search (rules, h)
-displayed command.DisplayDevices d b new lines console h = search (rules, h)
-displayed command.DisplayConsoles d b new lines console h = search (rules, h)
-displayed command.DisplayReplies d b new lines console h = search (rules, h)
-displayed other d b new lines console h = absurd (search (rules, d))
 
 -- what a board without history says of a command or an event, the board says
 pub acted_whole : CommandsOnlyAddToHistory → (c : Command) (console : List ℕ) (old new : BoardRows) (lines : List Line) → effect old c console ≡ done_with new lines
@@ -40,6 +30,16 @@ pub refused_whole : CommandsOnlyAddToHistory → (c : Command) (console : List �
     → (whole : BoardRows) → old ≡ without_history whole → effect whole c console ≡ Err f
 refused_whole law c console old f h whole same = law whole c console ∙ ap (outcome_after (history_of whole)) (ap (λ b. effect b c console) (sym same) ∙ h)
 
+pub acted_any : CommandsOnlyAddToHistory → {V : Type 0} (lines : V → List Line) (c : Command) (console : List ℕ) (old new : BoardRows) (r : Result V BoardFault)
+    → IfOk r (λ v. effect old c console ≡ done_with new (lines v)) → IfOk r (λ v. (whole : BoardRows) → old ≡ without_history whole → effect whole c console ≡ done_with (after (history_of whole) new) (lines v))
+acted_any law lines c console old new (Ok v) h = acted_whole law c console old new (lines v) h
+acted_any law lines c console old new (Err f) h = tt
+
+pub refused_any : CommandsOnlyAddToHistory → {V : Type 0} (c : Command) (console : List ℕ) (old : BoardRows) (r : Result V BoardFault)
+    → IfErr r (λ f. f ≢ NoMemory → effect old c console ≡ Err f) → IfErr r (λ f. f ≢ NoMemory → (whole : BoardRows) → old ≡ without_history whole → effect whole c console ≡ Err f)
+refused_any law c console old (Ok v) h = tt
+refused_any law c console old (Err f) h = λ other. refused_whole law c console old f (h other)
+
 pub came_whole : EventsOnlyAddToHistory → {V : Type 0} (old new : BoardRows) (e : Event) (r : Result V BoardFault)
     → OnOk r (event_effect old e ≡ done_with new []) → OnOk r ((whole : BoardRows) → old ≡ without_history whole → event_effect whole e ≡ done_with (after (history_of whole) new) [])
 came_whole law old new e (Ok v) h = λ whole same. law whole e ∙ ap (outcome_after (history_of whole)) (ap (λ b. event_effect b e) (sym same) ∙ h)
@@ -49,9 +49,6 @@ pub stopped_whole : EventsOnlyAddToHistory → {V : Type 0} (old : BoardRows) (e
     → IfErr r (λ f. f ≢ NoMemory → event_effect old e ≡ Err f) → IfErr r (λ f. f ≢ NoMemory → (whole : BoardRows) → old ≡ without_history whole → event_effect whole e ≡ Err f)
 stopped_whole law old e (Ok v) h = tt
 stopped_whole law old e (Err f) h = λ other whole same. law whole e ∙ ap (outcome_after (history_of whole)) (ap (λ b. event_effect b e) (sym same) ∙ h other)
-
-pub shown_acts : (s : State) (o : BoardOutcome) (edits : List Edit) (lines : List Line) → edits ≡ [] → o ≡ done_with s.board lines → IsActed s o edits lines
-shown_acts s o edits lines none makes = record { board = s.board; makes = makes; becomes = ap (λ es. all_edited es s) none; idle = λ same. none }
 
 -- the outcome of a deed on the board, with those lines that are given
 acted_outcome : (s : State) (o : BoardOutcome) (edits : List Edit) (lines : List Line) (give : List Line → List Line) (rule why : Option Rule) → IsActed s o edits lines

@@ -57,10 +57,7 @@ fn act_to(
     ensures refused { IfErr result (λ fault. fault ≢ NoMemory → (whole : BoardRows) → board.old ≡ without_history whole → effect whole command.now console.now ≡ Err fault) }
 {
     histories_only_grow();
-    match board.act(alloc, command, console) {
-        Ok(lines) => Ok(lines),
-        Err(fault) => Err(fault),
-    }
+    board.act(alloc, command, console)
 }
 
 // A command that only shows.
@@ -76,13 +73,11 @@ fn show_on(
     ensures done { IfOk result (λ a. (s : State) → board ≡ without_history s.board → IsActed s (effect s.board command.now console.now) a.edits.items a.lines.items) }
     ensures refused { IfErr result (λ fault. fault ≢ NoMemory → (s : State) → board ≡ without_history s.board → effect s.board command.now console.now ≡ Err fault) }
 {
-    match act_to(&mut board, alloc, command, console) {
-        Ok(lines) => Ok(Acted {
-            edits: Vec::new(alloc),
-            lines,
-        }),
-        Err(fault) => Err(fault),
-    }
+    let lines = act_to(&mut board, alloc, command, console)?;
+    Ok(Acted {
+        edits: Vec::new(alloc),
+        lines,
+    })
 }
 
 // A command that may change the board.
@@ -98,13 +93,9 @@ fn change_on(
     ensures refused { IfErr result (λ fault. fault ≢ NoMemory → (s : State) → board ≡ without_history s.board → effect s.board command.now console.now ≡ Err fault) }
 {
     let old = copied(alloc, &board)?;
-    match act_to(&mut board, alloc, command, console) {
-        Ok(lines) => {
-            let edits = difference(alloc, &old, &board)?;
-            Ok(Acted { edits, lines })
-        }
-        Err(fault) => Err(fault),
-    }
+    let lines = act_to(&mut board, alloc, command, console)?;
+    let edits = difference(alloc, &old, &board)?;
+    Ok(Acted { edits, lines })
 }
 
 /// What a command makes of a state with this live board.
@@ -179,11 +170,7 @@ pub(crate) fn come_on(
     ensures refused { IfErr result (λ fault. fault ≢ NoMemory → (s : State) → board ≡ without_history s.board → event_effect s.board event.now ≡ Err fault) }
 {
     let old = copied(alloc, &board)?;
-    match come_to(&mut board, alloc, event) {
-        Ok(()) => {
-            let edits = difference(alloc, &old, &board)?;
-            Ok(edits)
-        }
-        Err(fault) => Err(fault),
-    }
+    come_to(&mut board, alloc, event)?;
+    let edits = difference(alloc, &old, &board)?;
+    Ok(edits)
 }

@@ -1,8 +1,8 @@
-use Rattle.opc_commands.proofs.Whole.{acted_whole, refused_whole}
+use Rattle.opc_commands.proofs.Whole.{acted_any, refused_any}
 use Rattle.opc_commands.proofs.effects.act_to.Goals as goal
 
-pub returns-in-Ok-clause-done : goal.returns-in-Ok-clause-done
-returns-in-Ok-clause-done c = λ whole same. acted_whole c.histories_only_grow.ensures.commands _ _ _ _ _ c.in-Ok.ensures.done whole same
+pub returns-clause-done : goal.returns-clause-done
+returns-clause-done c = acted_any c.histories_only_grow.ensures.commands (λ lines. lines.items) c.args.command.now c.args.console.now c.args.board.now _ c.act.result c.act.ensures.done
 
-pub returns-in-Err-clause-refused : goal.returns-in-Err-clause-refused
-returns-in-Err-clause-refused c = λ other whole same. refused_whole c.histories_only_grow.ensures.commands _ _ _ _ (c.in-Err.ensures.refused other) whole same
+pub returns-clause-refused : goal.returns-clause-refused
+returns-clause-refused c = refused_any c.histories_only_grow.ensures.commands c.args.command.now c.args.console.now c.args.board.now c.act.result c.act.ensures.refused

@@ -1,7 +1,6 @@
 //! The machine that the program runs on: a process of the system, its files, and the tables in them.
 use crate::database::reason_at;
 use opc_policy::fault::Fault;
-use opc_policy::source::StoreFault;
 use opc_program::failure::{Failure, Paths, Place};
 use opc_program::machine::Machine;
 use opc_program::reason::Reason;
@@ -39,11 +38,7 @@ fn close(tables: InFile) -> Result<(), Failure> {
 
 impl Process {
     fn new_tables(&self) -> Result<InMemory, Fault> {
-        match Store::in_memory(self.rt.alloc()) {
-            Ok(tables) => Ok(tables),
-            Err(StoreFault::NoMemory) => Err(Fault::NoMemory),
-            Err(StoreFault::Store) => Err(Fault::Store),
-        }
+        Store::in_memory(self.rt.alloc()).map_err(Fault::from)
     }
 
     fn open_tables(&self, path: &str) -> Result<InFile, Failure> {

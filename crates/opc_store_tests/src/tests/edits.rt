@@ -201,7 +201,7 @@ fn an_entry_at_a_console_stands_beside_the_plain_one(rt: HostRuntime) -> Result<
     same(
         &rt,
         lines.as_str(),
-        "OPS@=1 OPS@C2=2 \nOPS@=1 OPS@C1=0 OPS@C2=2 \nOPS@=3 OPS@C1=0 OPS@C2=2 \nOPS@=3 OPS@C1=0 OPS@C2=4 \n\
+        "OPS@=1 OPS@C1=2 OPS@C2=2 \nOPS@=1 OPS@C1=0 OPS@C2=2 \nOPS@=3 OPS@C1=0 OPS@C2=2 \nOPS@=3 OPS@C1=0 OPS@C2=4 \n\
          OPS@C1=0 OPS@C2=4 \nOPS@C2=4 \nOPS@C2=4 \n\n",
     );
     Ok(())

@@ -40,10 +40,10 @@ profile,OPERCMDS,MVS.CANCEL.JOB.PAY*,,NONE,SECADM,W,,,\n\
 profile,OPERCMDS,MVS.CANCEL.JOB.*,,CONTROL,SECADM,,,,\n\
 profile,OPERCMDS,MVS.**,,NONE,SECADM,,,,\n\
 permit,OPERCMDS,MVS.CANCEL.JOB.PAY*,BERT,READ,,,,,\n\
-permit,OPERCMDS,MVS.CANCEL.JOB.PAY*,BERT,ALTER,,,,C1,\n\
 permit,OPERCMDS,MVS.CANCEL.JOB.PAY*,NIGHT,UPDATE,,,,,\n\
 permit,OPERCMDS,MVS.CANCEL.JOB.*,*,ALTER,,,,,\n\
-permit,OPERCMDS,MVS.**,OPS,READ,,,,,\n";
+permit,OPERCMDS,MVS.**,OPS,READ,,,,,\n\
+permit,OPERCMDS,MVS.**,OPS,UPDATE,,,,C1,\n";
 
 fn edit_of(alloc: Global, row: Row) -> Edit {
     match row {
@@ -201,7 +201,7 @@ fn classes_and_profiles_are_read_back(rt: HostRuntime) -> Result<(), Fail> {
     same(
         &rt,
         lines.as_str(),
-        "false\nNone\ntrue\nSome(Profile { class: Opercmds, pattern: \"MVS.CANCEL.JOB.PAY*\", owner: \"SECADM\", uacc: None, warning: true, entries: Entries { list: [Entry { id: \"BERT\", when: None, level: Read }, Entry { id: \"BERT\", when: Some(\"C1\"), level: Alter }, Entry { id: \"NIGHT\", when: None, level: Update }] } })\n",
+        "false\nNone\ntrue\nSome(Profile { class: Opercmds, pattern: \"MVS.CANCEL.JOB.PAY*\", owner: \"SECADM\", uacc: None, warning: true, entries: Entries { list: [Entry { id: \"BERT\", when: None, level: Read }, Entry { id: \"NIGHT\", when: None, level: Update }] } })\n",
     );
     Ok(())
 }

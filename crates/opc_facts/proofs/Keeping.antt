@@ -26,6 +26,7 @@ use Rattle.opc_state.specs.declared.change.Batch.{Batch}
 use Rattle.opc_state.specs.Facts.{IsPolicy, IsState}
 use Rattle.opc_state.specs.Members.{with_batch}
 use Rattle.opc_state.specs.State.{State, has_users}
+use Rattle.opc_state.specs.Loads.{asked_for}
 use Rattle.opc_machine.specs.Administration.{admin_outcome, board_changed, changed, policy_changed}
 use Rattle.opc_machine.specs.Bootstrap.{console_after, consoles_after, with_rows_of, with_rows, loses_master, mastered, policy_after}
 use Rattle.opc_machine.specs.Commands.{acted, allowed, board_command, command_in, command_outcome, console_for, event_outcome, is_password, known_by, let_on, logoff, logon, need_of, without_need, nobody_on, typed}
@@ -33,9 +34,9 @@ use Rattle.opc_machine.specs.Imports.{batch_line, batch_of, batch_outcome, impor
 use Rattle.opc_machine.specs.Inputs.{Input}
 use Rattle.opc_machine.specs.Inputs as input
 use Rattle.opc_facts.specs.KeptFacts.{BootstrapsKeepFacts, RunsKeepFacts, StepsKeepFacts}
-use Rattle.opc_machine.specs.Listings.{account_line, account_outcome, asked_for, profile_line, profiles_outcome}
+use Rattle.opc_machine.specs.Listings.{account_line, account_outcome, profile_line, profiles_outcome}
 use Rattle.opc_machine.specs.Machine.{account_row, accounted, after, is_warned, outcome}
-use Rattle.opc_machine.specs.Operations.{Operation}
+use Rattle.opc_machine.specs.declared.operation.Operation.{Operation}
 use Rattle.opc_machine.specs.Outcome.{Denial, Outcome, ◌>>=◌, does, found, or_refused, refuse_if, refused}
 use Rattle.opc_machine.specs.Rights.{account_shown, console_asking, is_special, may_change, profile_shown, right_fault}
 use Rattle.opc_machine.specs.Rulings.{acting, logon_ruling, ruling, shown}

@@ -30,10 +30,11 @@ use Rattle.opc_board.specs.Units.{is_holder}
 use Rattle.opc_board.proofs.Names.{is_mirrored}
 use Rattle.opc_state.specs.Facts.{IsConnectOfStored, IsConsoleOfStored, IsEntryOfStored, IsPolicy, IsProfileOfStored}
 use Rattle.opc_state.specs.Members.{without_connect, without_entry, without_permission, without_profile, without_user}
-use Rattle.opc_machine.specs.Administration.{board_changed, definition, has_entry, has_name, is_connected, is_in_use, is_permitted, policy_changed, unless_in_use}
+use Rattle.opc_state.specs.Loads.{has_entry, is_connected, is_named}
+use Rattle.opc_machine.specs.Administration.{board_changed, definition, has_name, is_in_use, is_permitted, policy_changed, unless_in_use}
 use Rattle.opc_machine.specs.Bootstrap.{policy_after, then_policy}
-use Rattle.opc_machine.specs.Operations.{Operation}
-use Rattle.opc_machine.specs.Operations as operation
+use Rattle.opc_machine.specs.declared.operation.Operation.{Operation}
+use Rattle.opc_machine.specs.declared.operation.Operation.TheVariants as operation
 use Rattle.opc_facts.proofs.Boards.{IsKeptBoard, defined_kept}
 
 -- lists with one more

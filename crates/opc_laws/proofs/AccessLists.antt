@@ -10,7 +10,8 @@ use Rattle.opc_policy.specs.Held.{held}
 use Rattle.opc_state.specs.State.{State}
 use Rattle.opc_machine.specs.Inputs as input
 use Rattle.opc_machine.specs.Machine.{first_refusal}
-use Rattle.opc_machine.specs.Operations as operation
+use Rattle.opc_machine.specs.declared.operation.Operation.{Operation}
+use Rattle.opc_machine.specs.declared.operation.Operation.TheVariants as operation
 use Rattle.opc_machine.specs.Outcome.{Denial}
 use Rattle.opc_laws.proofs.Worked.{base, entry, of_all, of_fred, plainly, profile, profiles_after, refusal}
 
@@ -60,7 +61,7 @@ no_permission_at_console = refl
 abbrev with_entries : List Entry → State
 with_entries entries = record base { policy = record base.policy { profiles = profile (codes "A.B") (codes "CARL") level.None false entries ∷ of_fred ∷ of_all ∷ [] } }
 
-abbrev refusal_with : List Entry → operation.Operation → Option Denial
+abbrev refusal_with : List Entry → Operation → Option Denial
 refusal_with entries o = first_refusal (with_entries entries) (input.Admin (codes "C2") o)
 
 no_permission_elsewhere : refusal_with (at (codes "C1") (codes "EMIL") level.Read ∷ []) (operation.PermitDelete Opercmds (codes "A.B") (codes "EMIL") None) ≡ plainly (fault.Missing (codes "EMIL"))

@@ -26,7 +26,7 @@ use Rattle.opc_machine.specs.Commands.{need_of, typed}
 use Rattle.opc_machine.specs.Inputs.{Input}
 use Rattle.opc_machine.specs.Inputs as input
 use Rattle.opc_machine.specs.Machine.{denial_in, first_refusal, user_acting}
-use Rattle.opc_machine.specs.Operations as operation
+use Rattle.opc_machine.specs.declared.operation.Operation.TheVariants as operation
 use Rattle.opc_machine.specs.Outcome.{Outcome}
 use Rattle.opc_laws.proofs.Worked.{base, console as worked_console}
 

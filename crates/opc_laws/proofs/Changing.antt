@@ -16,6 +16,7 @@ use Rattle.opc_board.specs.Facts.{console_at}
 use Rattle.opc_state.specs.declared.change.Batch.{Batch}
 use Rattle.opc_state.specs.Members.{with_batch}
 use Rattle.opc_state.specs.State.{State}
+use Rattle.opc_state.specs.Loads.{asked_for}
 use Rattle.opc_machine.specs.declared.request.Answer.TheVariants.{Done}
 use Rattle.opc_machine.specs.Administration.{admin_outcome, changed}
 use Rattle.opc_machine.specs.Bootstrap.{with_rows}
@@ -24,7 +25,7 @@ use Rattle.opc_machine.specs.Commands.{console_for}
 use Rattle.opc_machine.specs.Imports.{batch_line, batch_of, batch_outcome, import_outcome, same_rows}
 use Rattle.opc_machine.specs.Inputs.{Input}
 use Rattle.opc_machine.specs.Inputs as input
-use Rattle.opc_machine.specs.Listings.{account_line, account_outcome, asked_for, profile_line, profiles_outcome}
+use Rattle.opc_machine.specs.Listings.{account_line, account_outcome, profile_line, profiles_outcome}
 use Rattle.opc_machine.specs.Machine.{account_row, accounted, after, answer_of, is_warned}
 use Rattle.opc_machine.specs.Outcome.{Deed, ◌>>=◌, does, or_refused, refuse_if, refused}
 use Rattle.opc_machine.specs.Rights.{account_shown, console_asking, is_special, may_change, profile_shown, right_fault, unless_denied}

@@ -14,8 +14,8 @@ use Rattle.opc_board.specs.declared.rows.ConsoleRow.{ConsoleRow}
 use Rattle.opc_board.specs.Facts.{console_at}
 use Rattle.opc_board.specs.Texts.{text_or}
 use Rattle.opc_state.specs.State.{State}
-use Rattle.opc_machine.specs.Operations.{Operation}
-use Rattle.opc_machine.specs.Operations as operation
+use Rattle.opc_machine.specs.declared.operation.Operation.{Operation}
+use Rattle.opc_machine.specs.declared.operation.Operation.TheVariants as operation
 use Rattle.opc_machine.specs.Rights.{holds_read, is_owner, is_special, owns_changed, sees_all}
 use Rattle.opc_machine.specs.Rulings.{access_ruling, acting, acting_user, denied_or, is_allowed, is_auto, is_required, is_revoked, logon_denial, need_to_show, own_user, passes, ruling}
 use Rattle.opc_laws.specs.ActingLaws.{ActsAlone, ActsAs, AutoConsolesActForTheirOwn, IsAccountedTo, OptionalConsolesActAlone, OtherAutoConsolesActAlone, WhoIsOnComesFirst}

@@ -22,17 +22,18 @@ use Rattle.opc_board.specs.Outcome.{Outcome as BoardOutcome}
 use Rattle.opc_state.specs.declared.change.Batch.{Batch}
 use Rattle.opc_state.specs.Members.{with_batch, without_user, without_connect, without_profile, without_permission}
 use Rattle.opc_state.specs.State.{State}
-use Rattle.opc_machine.specs.Administration.{admin_outcome, changed, policy_changed, board_changed, definition, has_name, is_connected, is_in_use, is_permitted, unless_in_use}
+use Rattle.opc_state.specs.Loads.{asked_for, is_connected}
+use Rattle.opc_machine.specs.Administration.{admin_outcome, changed, policy_changed, board_changed, definition, has_name, is_in_use, is_permitted, unless_in_use}
 use Rattle.opc_machine.specs.Bootstrap.{with_rows_of, with_rows, loses_master, mastered, policy_after, then_policy, consoles_after}
 use Rattle.opc_machine.specs.Commands.{acted, console_for, denial_fault, event_outcome}
 use Rattle.opc_machine.specs.Imports.{batch_line, batch_of, batch_outcome, import_outcome, same_rows}
 use Rattle.opc_machine.specs.Inputs.{Input}
 use Rattle.opc_machine.specs.Inputs as input
 use Rattle.opc_laws.specs.Laws.{IsDeniedBy, IsNamedBy, IsOfAuthority, IsShutOut, RefusalsOfAuthorityNameTheirRule}
-use Rattle.opc_machine.specs.Listings.{account_line, account_outcome, asked_for, profile_line, profiles_outcome}
+use Rattle.opc_machine.specs.Listings.{account_line, account_outcome, profile_line, profiles_outcome}
 use Rattle.opc_machine.specs.Machine.{outcome}
-use Rattle.opc_machine.specs.Operations.{Operation}
-use Rattle.opc_machine.specs.Operations as operation
+use Rattle.opc_machine.specs.declared.operation.Operation.{Operation}
+use Rattle.opc_machine.specs.declared.operation.Operation.TheVariants as operation
 use Rattle.opc_machine.specs.Outcome.{Denial, Outcome, ◌>>=◌, does, or_refused, refuse_if, refused}
 use Rattle.opc_machine.specs.Rights.{account_shown, console_asking, is_special, may_change, profile_shown, right_fault, unless_denied}
 use Rattle.opc_machine.specs.Rulings.{acting, is_required, is_revoked, logon_denial}

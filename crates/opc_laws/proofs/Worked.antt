@@ -27,8 +27,8 @@ use Rattle.opc_state.specs.Facts.{IsState}
 use Rattle.opc_state.specs.State.{State, empty}
 use Rattle.opc_machine.specs.Inputs as input
 use Rattle.opc_machine.specs.Machine.{first_refusal, outcome}
-use Rattle.opc_machine.specs.Operations.{Operation}
-use Rattle.opc_machine.specs.Operations as operation
+use Rattle.opc_machine.specs.declared.operation.Operation.{Operation}
+use Rattle.opc_machine.specs.declared.operation.Operation.TheVariants as operation
 use Rattle.opc_machine.specs.Outcome.{Denial, Outcome}
 
 -- the state, also for other worked cases

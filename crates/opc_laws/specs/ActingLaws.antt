@@ -13,7 +13,7 @@ use Rattle.opc_board.specs.Texts.{text_or}
 use Rattle.opc_state.specs.State.{State}
 use Rattle.opc_machine.specs.Inputs.{Input, console_of}
 use Rattle.opc_machine.specs.Machine.{account_row}
-use Rattle.opc_machine.specs.Operations.{Operation}
+use Rattle.opc_machine.specs.declared.operation.Operation.{Operation}
 use Rattle.opc_machine.specs.Rights.{account_shown, may_change, profile_shown}
 use Rattle.opc_machine.specs.Rulings.{logon_denial, ruling, shown}
 

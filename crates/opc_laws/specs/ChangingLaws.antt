@@ -11,15 +11,16 @@ use Rattle.opc_board.specs.Facts.{console_at}
 use Rattle.opc_state.specs.declared.change.Batch.{Batch}
 use Rattle.opc_state.specs.Members.{with_batch}
 use Rattle.opc_state.specs.State.{State}
+use Rattle.opc_state.specs.Loads.{asked_for}
 use Rattle.opc_machine.specs.declared.request.Answer.{Answer}
 use Rattle.opc_machine.specs.declared.request.Answer.TheVariants.{Done}
 use Rattle.opc_machine.specs.Administration.{changed}
 use Rattle.opc_machine.specs.Bootstrap.{with_rows}
 use Rattle.opc_machine.specs.Imports.{batch_line, batch_of, same_rows}
 use Rattle.opc_machine.specs.Inputs as input
-use Rattle.opc_machine.specs.Listings.{account_line, asked_for, profile_line}
+use Rattle.opc_machine.specs.Listings.{account_line, profile_line}
 use Rattle.opc_machine.specs.Machine.{IsGivenUp, Step}
-use Rattle.opc_machine.specs.Operations.{Operation}
+use Rattle.opc_machine.specs.declared.operation.Operation.{Operation}
 use Rattle.opc_machine.specs.Rights.{account_shown, is_special, may_change, profile_shown}
 use Rattle.opc_machine.specs.Rulings.{acting, logon_denial}
 

@@ -18,11 +18,12 @@ use Rattle.opc_policy.specs.Taken.{has_user, has_group, has_holder, unless, need
 use Rattle.opc_board.specs.declared.board.BoardRows.{BoardRows}
 use Rattle.opc_board.specs.Consoles.{console_defined}
 use Rattle.opc_board.specs.Replies.{is_on}
+use Rattle.opc_state.specs.Loads.{is_connected, is_named}
 use Rattle.opc_state.specs.Members.{without_user, without_connect, without_profile, without_permission}
 use Rattle.opc_state.specs.State.{State}
 use Rattle.opc_machine.specs.Bootstrap.{with_rows_of}
-use Rattle.opc_machine.specs.Operations.{Operation}
-use Rattle.opc_machine.specs.Operations as operation
+use Rattle.opc_machine.specs.declared.operation.Operation.{Operation}
+use Rattle.opc_machine.specs.declared.operation.Operation.TheVariants as operation
 use Rattle.opc_machine.specs.Outcome.{Outcome, ◌>>=◌, does, or_refused, refuse_if}
 use Rattle.opc_machine.specs.Rights.{console_asking, may_change, right_fault}
 
@@ -30,14 +31,7 @@ use Rattle.opc_machine.specs.Rights.{console_asking, may_change, right_fault}
 abbrev pub has_name : Policy → List ℕ → Bool
 has_name p name = has_user p name || has_group p name
 
-abbrev pub is_connected : Policy → List ℕ → List ℕ → Bool
-is_connected p user group = list_any (λ (c : Connect). bytes_eq c.user user && bytes_eq c.group group) p.connects
-
--- whether an access list has an entry for an id
-abbrev pub has_entry : List ℕ → Profile → Bool
-has_entry id p = list_any (λ (e : Entry). bytes_eq e.id id) p.entries
-
--- whether it has one for an id and for a console alone or, where none is given, for every console
+-- whether an access list has an entry for an id and for a console alone or, where none is given, for every console
 abbrev pub has_entry_for : Option (List ℕ) → List ℕ → Profile → Bool
 has_entry_for when id p = list_any (is_for when id) p.entries
 
@@ -46,10 +40,7 @@ is_permitted p class pattern id when = option_map_or (has_entry_for when id) (pr
 
 -- A user is in use who is connected to a group, owns a profile, has an entry in an access list, or is on at a console.
 abbrev pub is_in_use : Policy → BoardRows → List ℕ → Bool
-is_in_use p b id =
-    list_any (λ (c : Connect). bytes_eq c.user id) p.connects
-    || list_any (λ (q : Profile). bytes_eq q.owner id || has_entry id q) p.profiles
-    || is_on id b
+is_in_use p b id = is_named p id || is_on id b
 
 abbrev pub unless_in_use : Bool → List ℕ → Result Policy Fault → Result Policy Fault
 unless_in_use used id made = if used then Err (InUse id) else made

@@ -5,7 +5,7 @@ use Rattle.opc_policy.specs.declared.row.Row.{Row}
 use Rattle.opc_board.specs.declared.event.Event.{Event as BoardEvent}
 use Rattle.opc_machine.specs.declared.request.Request.{Request}
 use Rattle.opc_machine.specs.declared.request.Request.TheVariants as request
-use Rattle.opc_machine.specs.Operations.{Operation}
+use Rattle.opc_machine.specs.declared.operation.Operation.{Operation}
 
 pub data Input : Type 0 where
   -- a command line as it was typed at a console

@@ -1,4 +1,3 @@
-pub mod Operations
 pub mod Inputs
 pub mod Outcome
 pub mod Faults

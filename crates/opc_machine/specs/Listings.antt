@@ -1,7 +1,6 @@
 -- Listings of profiles and of the account.
 use Rattle.std.specs.Prelude.{ℕ, ◌-◌, Bool, true, false, not, List, [], ◌∷◌, None, codes, drop, filter, map, take}
 use Rattle.std.specs.Fmt.{decimal}
-use Rattle.std.specs.List.{enumerate_from}
 use Rattle.opc_names.specs.Spellings.{level_text}
 use Rattle.opc_names.specs.declared.class.Class.{Class}
 use Rattle.opc_policy.specs.declared.fault.Fault.TheVariants.{NotSpecial}
@@ -10,6 +9,7 @@ use Rattle.opc_policy.specs.Deciding.{of_class}
 use Rattle.opc_board.specs.declared.line.Line.{Line}
 use Rattle.opc_board.specs.Texts.{columns, plain}
 use Rattle.opc_state.specs.declared.account.AccountRow.{AccountRow}
+use Rattle.opc_state.specs.Loads.{asked_for}
 use Rattle.opc_state.specs.State.{State}
 use Rattle.opc_machine.specs.Outcome.{Outcome, ◌>>=◌, does, refuse_if}
 use Rattle.opc_machine.specs.Rights.{account_shown, console_asking, profile_shown}
@@ -27,14 +27,6 @@ abbrev pub profiles_outcome : State → List ℕ → Class → Outcome
 profiles_outcome s name class = do
   c ← console_asking s name
   does s (map profile_line (filter (profile_shown s c) (of_class class s.policy.profiles))) None
-
--- the rows of the account with their numbers
-abbrev pub numbered : List AccountRow → List (ℕ × AccountRow)
-numbered account = enumerate_from 1 account
-
--- those from a number on, as many as are asked for at most
-abbrev pub asked_for : ℕ → ℕ → List AccountRow → List (ℕ × AccountRow)
-asked_for from count account = take count (drop (from - 1) (numbered account))
 
 abbrev pub account_line : ℕ × AccountRow → Line
 account_line (number, row) = plain (columns (decimal number ∷ decimal row.moment ∷ row.console ∷ row.user ∷ row.code ∷ row.rule ∷ []))

@@ -2,5 +2,6 @@
 #![tactic(auto)]
 
 pub mod fault;
+pub mod operation;
 pub mod outcome;
 pub mod request;

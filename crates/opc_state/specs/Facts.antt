@@ -1,13 +1,20 @@
 -- What holds of every state that the machine comes to.
 use Rattle.std.specs.Prelude.{◌≡◌, ℕ, true, false, List, IfSome}
 use Rattle.std.specs.List.{AllByRecursion}
+use Rattle.std.specs.Ordering.{is_lt}
 use Rattle.opc_policy.specs.declared.connect.Connect.{Connect}
 use Rattle.opc_policy.specs.declared.entry.Entry.{Entry}
 use Rattle.opc_policy.specs.declared.policy.Policy.{Policy}
 use Rattle.opc_policy.specs.declared.profile.Profile.{Profile}
+use Rattle.opc_policy.specs.declared.user.User.{User}
+use Rattle.opc_policy.specs.Access.{entry_cmp}
+use Rattle.opc_policy.specs.Members.{user_cmp}
+use Rattle.opc_policy.specs.Profiles.{profile_cmp}
 use Rattle.opc_policy.specs.Taken.{has_user, has_group, has_holder}
+use Rattle.opc_rows.specs.Ordered.{Ascends}
 use Rattle.opc_board.specs.declared.rows.ConsoleRow.{ConsoleRow}
 use Rattle.opc_board.specs.Facts.{IsBoard}
+use Rattle.opc_board.specs.Sight.{IsInOrder}
 use Rattle.opc_state.specs.State.{State}
 
 -- the user and the group of a connect are stored
@@ -36,3 +43,10 @@ pub record IsState (s : State) : Type 0 where
   pub board : IsBoard s.board
   pub policy : IsPolicy s.policy
   pub logons : AllByRecursion (IsConsoleOfStored s.policy) s.board.consoles
+
+-- What a state keeps by keys is in the order of the keys, and no key comes twice.
+pub record IsKeyed (s : State) : Type 0 where
+  pub board : IsInOrder s.board
+  pub users : Ascends (λ (u v : User). is_lt (user_cmp u v)) s.policy.users
+  pub profiles : Ascends (λ (q r : Profile). is_lt (profile_cmp q r)) s.policy.profiles
+  pub entries : AllByRecursion (λ (q : Profile). Ascends (λ (e f : Entry). is_lt (entry_cmp e f)) q.entries) s.policy.profiles

@@ -5,3 +5,4 @@ pub mod Difference
 pub mod Facts
 pub mod Asked
 pub mod Sights
+pub mod Loads

@@ -1,20 +1,36 @@
 //! What the machine asks of the tables that keep its state.
-ghost use Rattle.std.specs.Prelude.{◌≡◌, ◌⊎◌, OnOk, OnErr};
+ghost use Rattle.std.specs.Prelude.{◌≡◌, ◌⊎◌, map, take, OnOk, OnErr};
+ghost use Rattle.std.specs.Option.{option_copied, option_map};
+ghost use Rattle.opc_board.specs.Facts.{console_at, device_at, reply_at, unit_at};
 ghost use Rattle.opc_board.specs.History.{without_history};
+ghost use Rattle.opc_policy.specs.Deciding.{of_class};
 ghost use Rattle.opc_policy.specs.Members.{user_of, groups_of};
-ghost use Rattle.opc_policy.specs.Taken.{is_active};
+ghost use Rattle.opc_policy.specs.Profiles.{profile_of};
+ghost use Rattle.opc_policy.specs.Taken.{has_group, has_user, is_active};
 ghost use Rattle.opc_state.specs.Asked.{Answers};
+ghost use Rattle.opc_state.specs.Facts.{IsKeyed};
+ghost use Rattle.opc_state.specs.Loads.{access_list, asked_for, bare, batch_rows, consoles_of, devices_of, is_connected, is_named, level_for, masters};
 ghost use Rattle.opc_state.specs.State.{State, Fits, deciding_in, has_users};
 ghost use Rattle.opc_state.specs.Changes.{IsKept, changed_by};
 
+use crate::account::AccountRow;
 use crate::change::Change;
 use opc_board::board::Board;
+use opc_board::rows::{ConsoleRow, DeviceRow, ReplyRow, UnitRow};
 use opc_names::class::Class;
-use opc_names::name::{GroupName, Resource, UserId};
+use opc_names::level::Level;
+use opc_names::name::{ConsoleName, Device, GroupName, Pattern, Resource, UnitName, UserId};
+use opc_names::reply_id::ReplyId;
+use opc_policy::connect::Connect;
+use opc_policy::entries::Entries;
+use opc_policy::entry::EntryId;
 use opc_policy::policy::Policy;
+use opc_policy::profile::Profile;
+use opc_policy::row::Row;
 use opc_policy::search::Found;
 use opc_policy::source::StoreFault;
 use opc_policy::user::User;
+use opc_rows::Rows;
 use std::alloc::Global;
 
 /// Tables that keep a state: loads by key, none of which reads the histories, and one commit.
@@ -33,20 +49,80 @@ pub trait Tables {
         ensures kept { IsKept is_sure represents may_leave self.old self.new }
         ensures board { Answers (is_sure self.new) (represents self.old) result (λ s board. board ≡ without_history s.board) };
 
+    fn console(&mut self, name: &ConsoleName) -> Result<Option<ConsoleRow>, StoreFault>
+        ensures kept { IsKept is_sure represents may_leave self.old self.new }
+        ensures console { Answers (is_sure self.new) (represents self.old) result (λ s row. row ≡ console_at s.board name.now) }
+        ensures keyed { Answers (is_sure self.new) (represents self.old) result (λ s _. IsKeyed s) };
+
+    fn unit(&mut self, name: &UnitName) -> Result<Option<UnitRow>, StoreFault>
+        ensures kept { IsKept is_sure represents may_leave self.old self.new }
+        ensures unit { Answers (is_sure self.new) (represents self.old) result (λ s row. row ≡ unit_at s.board name.now) };
+
+    fn device(&mut self, number: &Device) -> Result<Option<DeviceRow>, StoreFault>
+        ensures kept { IsKept is_sure represents may_leave self.old self.new }
+        ensures device { Answers (is_sure self.new) (represents self.old) result (λ s row. row ≡ device_at s.board number.now) };
+
+    /// The open reply of a number.
+    fn reply(&mut self, id: ReplyId) -> Result<Option<ReplyRow>, StoreFault>
+        ensures kept { IsKept is_sure represents may_leave self.old self.new }
+        ensures reply { Answers (is_sure self.new) (represents self.old) result (λ s row. row ≡ reply_at s.board id) };
+
+    /// Whether the day is halted.
+    fn is_halted(&mut self) -> Result<bool, StoreFault>
+        ensures kept { IsKept is_sure represents may_leave self.old self.new }
+        ensures halted { Answers (is_sure self.new) (represents self.old) result (λ s halted. halted ≡ s.board.halted) }
+        ensures keyed { Answers (is_sure self.new) (represents self.old) result (λ s _. IsKeyed s) };
+
+    /// The devices that a unit has, in order.
+    fn devices_of(&mut self, alloc: Global, unit: &UnitName) -> Result<Rows<DeviceRow>, StoreFault>
+        ensures kept { IsKept is_sure represents may_leave self.old self.new }
+        ensures devices { Answers (is_sure self.new) (represents self.old) result (λ s rows. rows ≡ devices_of s.board unit.now) };
+
+    /// The consoles where a user is on, in order.
+    fn consoles_of(&mut self, alloc: Global, user: &UserId) -> Result<Rows<ConsoleRow>, StoreFault>
+        ensures kept { IsKept is_sure represents may_leave self.old self.new }
+        ensures consoles { Answers (is_sure self.new) (represents self.old) result (λ s rows. rows ≡ consoles_of s.board user.now) };
+
+    /// The online consoles with AUTH MASTER, in order, two at most: of two, one is another than any that is named.
+    fn masters(&mut self, alloc: Global) -> Result<Rows<ConsoleRow>, StoreFault>
+        ensures kept { IsKept is_sure represents may_leave self.old self.new }
+        ensures masters { Answers (is_sure self.new) (represents self.old) result (λ s rows. rows ≡ take 2 (masters s.board)) };
+
+    fn units(&mut self, alloc: Global) -> Result<Rows<UnitRow>, StoreFault>
+        ensures kept { IsKept is_sure represents may_leave self.old self.new }
+        ensures units { Answers (is_sure self.new) (represents self.old) result (λ s rows. rows ≡ s.board.units) };
+
+    fn devices(&mut self, alloc: Global) -> Result<Rows<DeviceRow>, StoreFault>
+        ensures kept { IsKept is_sure represents may_leave self.old self.new }
+        ensures devices { Answers (is_sure self.new) (represents self.old) result (λ s rows. rows ≡ s.board.devices) };
+
+    fn consoles(&mut self, alloc: Global) -> Result<Rows<ConsoleRow>, StoreFault>
+        ensures kept { IsKept is_sure represents may_leave self.old self.new }
+        ensures consoles { Answers (is_sure self.new) (represents self.old) result (λ s rows. rows ≡ s.board.consoles) };
+
+    fn replies(&mut self, alloc: Global) -> Result<Rows<ReplyRow>, StoreFault>
+        ensures kept { IsKept is_sure represents may_leave self.old self.new }
+        ensures replies { Answers (is_sure self.new) (represents self.old) result (λ s rows. rows ≡ s.board.replies) };
+
     fn user(&mut self, alloc: Global, id: &UserId) -> Result<Option<User>, StoreFault>
         ensures kept { IsKept is_sure represents may_leave self.old self.new }
         ensures user { Answers (is_sure self.new) (represents self.old) result (λ s user. user ≡ user_of s.policy.users id.now) };
 
-    /// The groups that a user is connected to.
-    fn groups_of(&mut self, alloc: Global, user: &UserId) -> Result<Vec<GroupName>, StoreFault>
+    /// The groups that a user is connected to, as many as asked for at most, in order.
+    fn groups_of(
+        &mut self,
+        alloc: Global,
+        user: &UserId,
+        most: u32,
+    ) -> Result<Vec<GroupName>, StoreFault>
         ensures kept { IsKept is_sure represents may_leave self.old self.new }
-        ensures groups { Answers (is_sure self.new) (represents self.old) result (λ s groups. groups.items ≡ groups_of s.policy.connects user.now) };
+        ensures groups { Answers (is_sure self.new) (represents self.old) result (λ s groups. groups.items ≡ take most (groups_of s.policy.connects user.now)) };
 
     fn is_active(&mut self, class: Class) -> Result<bool, StoreFault>
         ensures kept { IsKept is_sure represents may_leave self.old self.new }
         ensures active { Answers (is_sure self.new) (represents self.old) result (λ s active. active ≡ is_active s.policy.active class) };
 
-    /// The profile of a class that decides a resource, as a search finds it.
+    /// The profile of a class that decides a resource, as a search finds it, but for its access list.
     fn deciding(
         &mut self,
         alloc: Global,
@@ -54,7 +130,83 @@ pub trait Tables {
         resource: &Resource,
     ) -> Result<Found, StoreFault>
         ensures kept { IsKept is_sure represents may_leave self.old self.new }
-        ensures found { Answers (is_sure self.new) (represents self.old) result (λ s found. found.profile ≡ deciding_in s.policy class resource.now) };
+        ensures found { Answers (is_sure self.new) (represents self.old) result (λ s found. found.profile ≡ option_map bare (deciding_in s.policy class resource.now)) };
+
+    /// The access list of a profile, as many entries as asked for at most.
+    fn entries(
+        &mut self,
+        alloc: Global,
+        class: Class,
+        pattern: &Pattern,
+        most: u32,
+    ) -> Result<Entries, StoreFault>
+        ensures kept { IsKept is_sure represents may_leave self.old self.new }
+        ensures entries { Answers (is_sure self.new) (represents self.old) result (λ s entries. entries ≡ take most (access_list s.policy class pattern.now)) };
+
+    /// The level of the entry of a profile for an id, at one console or, where none is given, at every console.
+    fn level_for(
+        &mut self,
+        class: Class,
+        pattern: &Pattern,
+        id: &EntryId,
+        when: Option<&ConsoleName>,
+    ) -> Result<Option<Level>, StoreFault>
+        ensures kept { IsKept is_sure represents may_leave self.old self.new }
+        ensures level { Answers (is_sure self.new) (represents self.old) result (λ s level. level ≡ level_for s.policy class pattern.now id.now (option_copied when.entry)) };
+
+    fn is_connected(&mut self, connect: &Connect) -> Result<bool, StoreFault>
+        ensures kept { IsKept is_sure represents may_leave self.old self.new }
+        ensures connected { Answers (is_sure self.new) (represents self.old) result (λ s connected. connected ≡ is_connected s.policy connect.now.user connect.now.group) };
+
+    /// Whether a user has this name.
+    fn has_user(&mut self, name: &str) -> Result<bool, StoreFault>
+        ensures kept { IsKept is_sure represents may_leave self.old self.new }
+        ensures there { Answers (is_sure self.new) (represents self.old) result (λ s there. there ≡ has_user s.policy name.now) };
+
+    /// Whether a group has this name.
+    fn has_group(&mut self, name: &str) -> Result<bool, StoreFault>
+        ensures kept { IsKept is_sure represents may_leave self.old self.new }
+        ensures there { Answers (is_sure self.new) (represents self.old) result (λ s there. there ≡ has_group s.policy name.now) };
+
+    /// Whether a connect, an owner or an access list names this user.
+    fn is_named(&mut self, user: &UserId) -> Result<bool, StoreFault>
+        ensures kept { IsKept is_sure represents may_leave self.old self.new }
+        ensures named { Answers (is_sure self.new) (represents self.old) result (λ s named. named ≡ is_named s.policy user.now) };
+
+    /// The profile of a class and a pattern, but for its access list.
+    fn definition(
+        &mut self,
+        alloc: Global,
+        class: Class,
+        pattern: &Pattern,
+    ) -> Result<Option<Profile>, StoreFault>
+        ensures kept { IsKept is_sure represents may_leave self.old self.new }
+        ensures definition { Answers (is_sure self.new) (represents self.old) result (λ s profile. profile ≡ option_map bare (profile_of s.policy.profiles class pattern.now)) };
+
+    /// The profiles of a class, in the order of their patterns, but for their access lists.
+    fn definitions(&mut self, alloc: Global, class: Class) -> Result<Vec<Profile>, StoreFault>
+        ensures kept { IsKept is_sure represents may_leave self.old self.new }
+        ensures definitions { Answers (is_sure self.new) (represents self.old) result (λ s profiles. profiles.items ≡ map bare (of_class class s.policy.profiles)) };
+
+    /// The profiles of a class, in the order of their patterns.
+    fn profiles(&mut self, alloc: Global, class: Class) -> Result<Vec<Profile>, StoreFault>
+        ensures kept { IsKept is_sure represents may_leave self.old self.new }
+        ensures profiles { Answers (is_sure self.new) (represents self.old) result (λ s profiles. profiles.items ≡ of_class class s.policy.profiles) };
+
+    /// The rows of the account from a number on, as many as asked for at most, with their numbers, which begin at 1.
+    fn account(
+        &mut self,
+        alloc: Global,
+        from: u64,
+        count: u32,
+    ) -> Result<Vec<(u64, AccountRow)>, StoreFault>
+        ensures kept { IsKept is_sure represents may_leave self.old self.new }
+        ensures account { Answers (is_sure self.new) (represents self.old) result (λ s rows. rows.items ≡ asked_for from count s.account) };
+
+    /// The rows of the batch of a number, if it is kept.
+    fn batch(&mut self, alloc: Global, number: u32) -> Result<Option<Rows<Row>>, StoreFault>
+        ensures kept { IsKept is_sure represents may_leave self.old self.new }
+        ensures batch { Answers (is_sure self.new) (represents self.old) result (λ s rows. rows ≡ batch_rows s.batches number) };
 
     /// Whether a user is stored.
     fn has_users(&mut self) -> Result<bool, StoreFault>

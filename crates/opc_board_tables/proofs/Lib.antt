@@ -4,6 +4,8 @@ pub mod DayLoads
 pub mod DayRows
 pub mod DeviceLoads
 pub mod DeviceRows
+pub mod Holders
+pub mod MasterLoads
 pub mod ReplyLoads
 pub mod ReplyRows
 pub mod UnitLoads

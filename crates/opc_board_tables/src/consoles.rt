@@ -1,10 +1,11 @@
 //! The table of consoles.
-ghost use Rattle.std.specs.Prelude.{◌≡◌, false, IfOk, pos};
+ghost use Rattle.std.specs.Prelude.{◌≡◌, false, take, IfOk, pos};
 ghost use Rattle.opc_statements.specs.Steps.{Stays, Looks};
 ghost use Rattle.std.specs.Option.{option_copied};
 ghost use Rattle.opc_stored.specs.Asked.{Finds, Makes};
 ghost use Rattle.opc_stored.specs.Represented.{auth_number, mode_letter, console_row};
 ghost use Rattle.opc_state.specs.Changes.{with_consoles};
+ghost use Rattle.opc_state.specs.Loads.{consoles_of, masters};
 ghost use Rattle.opc_state.specs.Members.{with_console, without_console};
 ghost use Rattle.opc_board.specs.Facts.{console_at};
 ghost use Rattle.sqlite.specs.Order.{column};
@@ -14,14 +15,14 @@ ghost use Rattle.opc_policy.specs.declared.mode.Mode.{Mode as TheMode};
 
 use opc_board::rows::ConsoleRow;
 use opc_names::auth::Auth;
-use opc_names::name::ConsoleName;
+use opc_names::name::{ConsoleName, UserId};
 use opc_policy::mode::Mode;
 use opc_policy::source::StoreFault;
 use opc_rows::Rows;
 use opc_statements::{put, run};
-use opc_stored::columns::{Keeps, all_in, name_in, name_or_none_in, value_in};
+use opc_stored::columns::{Keeps, name_in, name_or_none_in, value_in};
 use opc_stored::faults::unreadable;
-use opc_stored::queries::read;
+use opc_stored::queries::{member_on, members_on};
 use sqlite::{Alter, Connection, Error, Row, Transaction, params};
 use std::alloc::Global;
 
@@ -156,12 +157,12 @@ pub fn consoles_on<S: Alter>(
     ensures looks { Looks S.Store conn.old conn.new result }
     ensures found { Finds S.Store conn.old conn.new result (λ s v. v ≡ s.board.consoles) }
 {
-    let rows = read(
+    members_on::<_, _, ConsoleTable>(
+        alloc,
         conn,
         "SELECT name, auth, mode, online, usr, monitor FROM consoles ORDER BY name",
         &[],
-    )?;
-    all_in::<_, ConsoleTable>(alloc, rows.as_slice())
+    )
 }
 
 /// The console of a name.
@@ -174,13 +175,46 @@ pub fn console_on<S: Alter>(
     ensures looks { Looks S.Store conn.old conn.new result }
     ensures found { Finds S.Store conn.old conn.new result (λ s v. v ≡ console_at s.board name.now) }
 {
-    let rows = read(
+    member_on::<_, _, ConsoleTable>(
         conn,
         "SELECT name, auth, mode, online, usr, monitor FROM consoles WHERE name = ?1 ORDER BY name",
         params![name.text()],
-    )?;
-    match rows.as_slice().get(0) {
-        Some(row) => Ok(Some(ConsoleTable::kept_in(row)?)),
-        None => Ok(None),
-    }
+    )
+}
+
+/// The consoles where a user is on, in order.
+pub fn consoles_of_on<S: Alter>(
+    alloc: Global,
+    conn: &mut Connection<S>,
+    user: &UserId,
+) -> Result<Rows<ConsoleRow>, StoreFault>
+    requires { conn.old.in_transaction ≡ false }
+    ensures mode { conn.new.in_transaction ≡ false }
+    ensures looks { Looks S.Store conn.old conn.new result }
+    ensures found { Finds S.Store conn.old conn.new result (λ s v. v ≡ consoles_of s.board user.now) }
+{
+    members_on::<_, _, ConsoleTable>(
+        alloc,
+        conn,
+        "SELECT name, auth, mode, online, usr, monitor FROM consoles WHERE usr = ?1 ORDER BY usr, name",
+        params![user.text()],
+    )
+}
+
+/// The first two online consoles with AUTH MASTER, which is 2.
+pub fn masters_on<S: Alter>(
+    alloc: Global,
+    conn: &mut Connection<S>,
+) -> Result<Rows<ConsoleRow>, StoreFault>
+    requires { conn.old.in_transaction ≡ false }
+    ensures mode { conn.new.in_transaction ≡ false }
+    ensures looks { Looks S.Store conn.old conn.new result }
+    ensures found { Finds S.Store conn.old conn.new result (λ s v. v ≡ take 2 (masters s.board)) }
+{
+    members_on::<_, _, ConsoleTable>(
+        alloc,
+        conn,
+        "SELECT name, auth, mode, online, usr, monitor FROM consoles WHERE auth = 2 AND online = 1 ORDER BY auth, online, name LIMIT 2",
+        &[],
+    )
 }

@@ -2,18 +2,20 @@
 ghost use Rattle.std.specs.Prelude.{◌≡◌, false};
 ghost use Rattle.opc_statements.specs.Steps.{Stays, Looks};
 ghost use Rattle.std.specs.Option.{option_copied};
+ghost use Rattle.opc_board.specs.Facts.{device_at};
 ghost use Rattle.opc_state.specs.Changes.{with_devices};
+ghost use Rattle.opc_state.specs.Loads.{devices_of};
 ghost use Rattle.opc_state.specs.Members.{with_device, without_device};
 ghost use Rattle.opc_stored.specs.Asked.{Finds, Makes};
 ghost use Rattle.opc_stored.specs.Represented.{device_row};
 
 use opc_board::rows::DeviceRow;
-use opc_names::name::Device;
+use opc_names::name::{Device, UnitName};
 use opc_policy::source::StoreFault;
 use opc_rows::Rows;
 use opc_statements::{put, run};
-use opc_stored::columns::{Keeps, all_in, name_in, name_or_none_in, value_in};
-use opc_stored::queries::read;
+use opc_stored::columns::{Keeps, name_in, name_or_none_in, value_in};
+use opc_stored::queries::{member_on, members_on};
 use sqlite::{Alter, Connection, Error, Row, Transaction, params};
 use std::alloc::Global;
 
@@ -92,10 +94,46 @@ pub fn devices_on<S: Alter>(
     ensures looks { Looks S.Store conn.old conn.new result }
     ensures found { Finds S.Store conn.old conn.new result (λ s v. v ≡ s.board.devices) }
 {
-    let rows = read(
+    members_on::<_, _, DeviceTable>(
+        alloc,
         conn,
         "SELECT number, online, volume, unit FROM devices ORDER BY number",
         &[],
-    )?;
-    all_in::<_, DeviceTable>(alloc, rows.as_slice())
+    )
+}
+
+/// The device of a number.
+pub fn device_on<S: Alter>(
+    conn: &mut Connection<S>,
+    number: &Device,
+) -> Result<Option<DeviceRow>, StoreFault>
+    requires { conn.old.in_transaction ≡ false }
+    ensures mode { conn.new.in_transaction ≡ false }
+    ensures looks { Looks S.Store conn.old conn.new result }
+    ensures found { Finds S.Store conn.old conn.new result (λ s v. v ≡ device_at s.board number.now) }
+{
+    member_on::<_, _, DeviceTable>(
+        conn,
+        "SELECT number, online, volume, unit FROM devices WHERE number = ?1 ORDER BY number",
+        params![number.text()],
+    )
+}
+
+/// The devices that a unit has, in order.
+pub fn devices_of_on<S: Alter>(
+    alloc: Global,
+    conn: &mut Connection<S>,
+    unit: &UnitName,
+) -> Result<Rows<DeviceRow>, StoreFault>
+    requires { conn.old.in_transaction ≡ false }
+    ensures mode { conn.new.in_transaction ≡ false }
+    ensures looks { Looks S.Store conn.old conn.new result }
+    ensures found { Finds S.Store conn.old conn.new result (λ s v. v ≡ devices_of s.board unit.now) }
+{
+    members_on::<_, _, DeviceTable>(
+        alloc,
+        conn,
+        "SELECT number, online, volume, unit FROM devices WHERE unit = ?1 ORDER BY unit, number",
+        params![unit.text()],
+    )
 }

@@ -1,6 +1,7 @@
 //! The table of open replies.
 ghost use Rattle.std.specs.Prelude.{◌≡◌, false};
 ghost use Rattle.opc_statements.specs.Steps.{Stays, Looks};
+ghost use Rattle.opc_board.specs.Facts.{reply_at};
 ghost use Rattle.opc_state.specs.Changes.{with_replies};
 ghost use Rattle.opc_state.specs.Members.{with_reply, without_reply};
 ghost use Rattle.opc_stored.specs.Asked.{Finds, Makes};
@@ -11,8 +12,8 @@ use opc_names::reply_id::ReplyId;
 use opc_policy::source::StoreFault;
 use opc_rows::Rows;
 use opc_statements::run;
-use opc_stored::columns::{Keeps, all_in, reply_in, reply_number};
-use opc_stored::queries::read;
+use opc_stored::columns::{Keeps, reply_in, reply_number};
+use opc_stored::queries::{member_on, members_on};
 use sqlite::{Alter, Connection, Error, Row, Transaction, params};
 use std::alloc::Global;
 
@@ -64,6 +65,22 @@ pub fn replies_on<S: Alter>(
     ensures looks { Looks S.Store conn.old conn.new result }
     ensures found { Finds S.Store conn.old conn.new result (λ s v. v ≡ s.board.replies) }
 {
-    let rows = read(conn, "SELECT id, text FROM replies ORDER BY id", &[])?;
-    all_in::<_, ReplyTable>(alloc, rows.as_slice())
+    members_on::<_, _, ReplyTable>(alloc, conn, "SELECT id, text FROM replies ORDER BY id", &[])
+}
+
+/// The open reply of a number.
+pub fn reply_on<S: Alter>(
+    conn: &mut Connection<S>,
+    id: ReplyId,
+) -> Result<Option<ReplyRow>, StoreFault>
+    requires { conn.old.in_transaction ≡ false }
+    ensures mode { conn.new.in_transaction ≡ false }
+    ensures looks { Looks S.Store conn.old conn.new result }
+    ensures found { Finds S.Store conn.old conn.new result (λ s v. v ≡ reply_at s.board id) }
+{
+    member_on::<_, _, ReplyTable>(
+        conn,
+        "SELECT id, text FROM replies WHERE id = ?1 ORDER BY id",
+        params![reply_number(id)],
+    )
 }

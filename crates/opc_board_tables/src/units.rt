@@ -4,6 +4,7 @@ ghost use Rattle.opc_statements.specs.Steps.{Stays, Looks};
 ghost use Rattle.std.specs.Option.{option_copied};
 ghost use Rattle.opc_stored.specs.Asked.{Finds, Makes};
 ghost use Rattle.opc_stored.specs.Represented.{kind_letter, kind_member, text_or_null, unit_row};
+ghost use Rattle.opc_board.specs.Facts.{unit_at};
 ghost use Rattle.opc_state.specs.Changes.{with_units};
 ghost use Rattle.opc_state.specs.Members.{with_unit, without_unit};
 ghost use Rattle.sqlite.specs.Order.{column};
@@ -15,9 +16,9 @@ use opc_names::name::UnitName;
 use opc_policy::source::StoreFault;
 use opc_rows::Rows;
 use opc_statements::{put, run};
-use opc_stored::columns::{Keeps, all_in, name_in, name_or_none_in, text_or_none_in, value_in};
+use opc_stored::columns::{Keeps, name_in, name_or_none_in, text_or_none_in, value_in};
 use opc_stored::faults::unreadable;
-use opc_stored::queries::read;
+use opc_stored::queries::{member_on, members_on};
 use sqlite::{Alter, Connection, Error, Row, Transaction, params};
 use std::alloc::Global;
 
@@ -123,10 +124,27 @@ pub fn units_on<S: Alter>(
     ensures looks { Looks S.Store conn.old conn.new result }
     ensures found { Finds S.Store conn.old conn.new result (λ s v. v ≡ s.board.units) }
 {
-    let rows = read(
+    members_on::<_, _, UnitTable>(
+        alloc,
         conn,
         "SELECT name, kind, member, cancelable, stopping, last FROM units ORDER BY name",
         &[],
-    )?;
-    all_in::<_, UnitTable>(alloc, rows.as_slice())
+    )
+}
+
+/// The unit of a name.
+pub fn unit_on<S: Alter>(
+    conn: &mut Connection<S>,
+    name: &UnitName,
+) -> Result<Option<UnitRow>, StoreFault>
+    requires { conn.old.in_transaction ≡ false }
+    ensures mode { conn.new.in_transaction ≡ false }
+    ensures looks { Looks S.Store conn.old conn.new result }
+    ensures found { Finds S.Store conn.old conn.new result (λ s v. v ≡ unit_at s.board name.now) }
+{
+    member_on::<_, _, UnitTable>(
+        conn,
+        "SELECT name, kind, member, cancelable, stopping, last FROM units WHERE name = ?1 ORDER BY name",
+        params![name.text()],
+    )
 }

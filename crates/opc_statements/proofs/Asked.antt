@@ -190,10 +190,10 @@ module _ (a : Asked) (params : Row) where
 
   -- any other: rows of values
   module _ (values : is_of_values a ≡ true) where
-    passes_values : (db : Trees) (r : Row) → passes a.tree a.tests a.project a.order db params r ≡ picks (Null ∷ drop 1 r)
+    pub passes_values : (db : Trees) (r : Row) → passes a.tree a.tests a.project a.order db params r ≡ picks (Null ∷ drop 1 r)
     passes_values db r = tests_same params r a.tests (and_parts _ _ values).0
 
-    shows_values : (db : Trees) (r : Row) → shown a.tree a.tests a.project a.order db params r ≡ tells (Null ∷ drop 1 r)
+    pub shows_values : (db : Trees) (r : Row) → shown a.tree a.tests a.project a.order db params r ≡ tells (Null ∷ drop 1 r)
     shows_values db r =
         let both = and_parts (list_all of_values (map (λ (k : Term × Key). k.0) a.order)) (list_all of_values a.project) (and_parts (list_all of_values a.tests) _ values).1 in
         ap₂ (λ (x y : Row). let o : Output = (x, y) in o) (all_evals_same params r (map (λ (k : Term × Key). k.0) a.order) both.0) (all_evals_same params r a.project both.1)

@@ -26,3 +26,4 @@ pub mod Keyed
 pub mod Histories
 pub mod Asked
 pub mod OtherTables
+pub mod Fixed

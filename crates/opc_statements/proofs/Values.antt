@@ -1,6 +1,8 @@
 -- Values of SQL, compared.
 use Rattle.std.proofs.Common.{◌≡◌, ℕ, pos, List, Bool, true, false, ◌&&◌, refl, ap, ◌∙◌, ◌==◌, is_eq, nat_lt, arith}
 use Rattle.std.specs.Ordering.{nat_cmp, is_gt}
+use Rattle.std.specs.Str.{bytes_eq}
+use Rattle.std.proofs.lemmas.Map.Text.{is_eq-slice_cmp}
 use Rattle.sqlite.specs.declared.types.Value.TheVariants.{Int, Text}
 use Rattle.sqlite.specs.Ops.{binary, is_true, from_truth}
 use Rattle.sqlite_sql.specs.declared.ops.BinaryOp.TheVariants.{Compare}
@@ -20,6 +22,9 @@ truth_is false = refl
 pub equal_texts : (a b : List ℕ) → is_true (binary (Compare Eq Binary) (Text a) (Text b)) ≡ is_eq (text_cmp a b)
 unfolding binary
 equal_texts a b = truth_is (is_eq (value_cmp (Text a) (Text b))) ∙ ap is_eq (value_cmp-Text a b)
+
+pub same_texts : (a b : List ℕ) → is_true (binary (Compare Eq Binary) (Text a) (Text b)) ≡ bytes_eq a b
+same_texts a b = equal_texts a b ∙ is_eq-slice_cmp a b
 
 pub and_true : (b : Bool) → (b && true) ≡ b
 and_true true = refl

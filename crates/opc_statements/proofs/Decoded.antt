@@ -1,6 +1,6 @@
 -- Rows that are decoded one after another.
 use Rattle.std.proofs.Common.{◌≡◌, ℕ, zero, suc, ◌+◌, ◌<◌, List, [], ◌∷◌, ◌++◌, map, take, filter, find, length, get_or, slice_get, option_map, Some, None, Bool, refl, sym, ap, ap₂, subst, ◌∙◌, arith, add-one}
-use Rattle.std.proofs.lemmas.List.{map-append}
+use Rattle.std.proofs.lemmas.List.{map-append, take-map}
 use Rattle.sqlite_keyed.proofs.ListLemmas.{slice_get-filter}
 
 module _ {X Y : Type 0} (row : X → Y) where
@@ -58,3 +58,12 @@ module _ {X Y : Type 0} (row : X → Y) (p : X → Bool) where
 
   pub none_told : {V : Type 0} (of : X → V) (xs : List X) (rows : List Y) → rows ≡ map row (filter p xs) → slice_get rows 0 ≡ None → None ≡ option_map of (find p xs)
   none_told of xs rows are first = ap (option_map of) (none_found row (λ x. x) p xs rows are first)
+
+-- what was read of the rows so far is that of the members, up to here
+pub more_told : {X Y V : Type 0} (row : X → Y) (of : X → V) (xs : List X) (rows : List Y) (vs : List V) (i : ℕ) (y : Y) (v : V) → rows ≡ map row xs → i < length rows → y ≡ get_or rows i y → ((x : X) → y ≡ row x → v ≡ of x)
+    → vs ≡ take i (map of xs) → vs ++ v ∷ [] ≡ take (i + 1) (map of xs)
+more_told {X} {Y} {V} row of xs rows vs i y v are low is reads so_far =
+    let it = at row xs i y (subst (λ (l : List Y). i < length l) are low) in
+    let here : y ≡ row it.x = is ∙ (ap (λ (l : List Y). get_or l i y) are ∙ it.is) in
+    let grown : map of (take i xs) ++ of it.x ∷ [] ≡ map of (take (suc i) xs) = sym (map-append of (take i xs) (it.x ∷ [])) ∙ ap (map of) (sym it.more) in
+    ap₂ (λ (a : List V) (b : V). a ++ b ∷ []) (so_far ∙ take-map of i xs) (reads it.x here) ∙ (grown ∙ (sym (take-map of (suc i) xs) ∙ ap (λ k. take k (map of xs)) (sym (add-one i))))

@@ -8,6 +8,7 @@ pub mod Calm
 pub mod Dropping
 pub mod Reading
 pub mod Decoded
+pub mod Limited
 pub mod Work
 pub mod Values
 pub mod Sets

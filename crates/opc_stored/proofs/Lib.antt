@@ -2,6 +2,7 @@ pub mod AccessLists
 pub mod Cast
 pub mod Decoded
 pub mod Filled
+pub mod KeyOrder
 pub mod Keys
 pub mod Made
 pub mod Opened

@@ -1,20 +1,28 @@
 -- What the queries on connects read.
-use Rattle.std.proofs.Common.{◌≡◌, ℕ, zero, suc, ◌+◌, ◌<◌, List, [], ◌∷◌, ◌++◌, map, filter, take, length, get_or, codes, refl, sym, ap, ap₂, subst, ◌∙◌, add-one}
+use Rattle.std.proofs.Common.{◌≡◌, ◌==◌, ℕ, pos, List, [], ◌∷◌, map, filter, take, length, not, codes, refl, ap, ap₂, ◌&&◌, ◌∙◌}
+use Rattle.std.specs.List.{list_any}
 use Rattle.std.specs.Str.{bytes_eq}
-use Rattle.std.proofs.lemmas.List.{map-append}
+use Rattle.std.proofs.lemmas.List.{take-map}
 use Rattle.std.proofs.lemmas.Map.Text.{is_eq-slice_cmp}
 use Rattle.sqlite.specs.Order.{Row}
-use Rattle.sqlite.specs.declared.types.Value.TheVariants.{Text}
+use Rattle.sqlite.specs.declared.types.Value.TheVariants.{Int, Text}
+use Rattle.sqlite.specs.Term.{col}
+use Rattle.sqlite.specs.Ops.{binary, is_true}
+use Rattle.sqlite_sql.specs.declared.ops.BinaryOp.TheVariants.{Compare}
+use Rattle.sqlite_sql.specs.declared.ops.CompareOp.TheVariants.{Eq}
+use Rattle.sqlite_value.specs.declared.keys.Collation.TheVariants.{Binary}
 use Rattle.sqlite.specs.Listing.{understood}
 use Rattle.sqlite.specs.State.{State as SqlState, Shown}
 use Rattle.sqlite_tied.specs.Compute.{everything}
 use Rattle.sqlite_value.proofs.OrderLemmas.{value_cmp-Text}
-use Rattle.opc_statements.proofs.Asked.{Asked, IsAsked, by_columns, columns, then_less, told, told_all}
-use Rattle.opc_statements.proofs.Decoded.{at}
+use Rattle.sqlite_keyed.proofs.ListLemmas.{filter-map, filter_same, ascending-filter}
+use Rattle.opc_statements.proofs.Asked.{Asked, IsAsked, IsPaged, by_columns, columns, then_less, told_all}
 use Rattle.opc_statements.proofs.Keyed.{same_columns}
+use Rattle.opc_statements.proofs.Limited.{any_map, one_row, part_first, told_any}
 use Rattle.opc_statements.proofs.Values.{equal_texts, and_true}
 use Rattle.opc_policy.specs.declared.connect.Connect.{Connect}
 use Rattle.opc_policy.specs.Members.{name_cmp, connect_cmp}
+use Rattle.opc_state.specs.Loads.{is_connected}
 use Rattle.opc_state.specs.State.{State}
 use Rattle.opc_stored.specs.Placed.{connects_at}
 use Rattle.opc_stored.specs.Tables.{the_schema}
@@ -34,35 +42,49 @@ connects_told old new s was =
     told_all connects [] refl connect_row connect_cmp (λ _. refl) (λ x y h. rw (value_cmp-Text x.user y.user, value_cmp-Text x.group y.group) (then_less (name_cmp x.user y.user) (name_cmp x.group y.group) h)) (λ _. refl)
     connects_asked old new was.rows.schema s.policy.connects was.ordered.connects was.rows.holds.connects
 
--- ---- those of a user
+-- ---- those of a user, so many at most
 
 abbrev pub of_user : Asked
-of_user = record connects { text = codes "SELECT usr, grp FROM connects WHERE usr = ?1 ORDER BY usr, grp"; tests = same_columns 0 1 }
+of_user = record connects { text = codes "SELECT usr, grp FROM connects WHERE usr = ?1 ORDER BY usr, grp LIMIT ?2"; tests = same_columns 0 1 }
 
-pub of_user_asked : IsAsked of_user
+pub of_user_asked : IsPaged of_user (col 0 1)
 unfolding understood everything
 of_user_asked = record { selects = refl; unlisted = refl; plain = (refl, refl); shows = λ schema base. refl }
 
-pub of_user_told : (old new : SqlState) (s : State) → Represents old.now s → (id : List ℕ) (rows : List Row) → Shown of_user.text (Text id ∷ []) old new rows → rows ≡ map connect_row (filter (λ (c : Connect). bytes_eq c.user id) s.policy.connects)
-of_user_told old new s was id =
-    told of_user (Text id ∷ []) refl connect_row connect_cmp (λ _. refl) (λ x y h. rw (value_cmp-Text x.user y.user, value_cmp-Text x.group y.group) (then_less (name_cmp x.user y.user) (name_cmp x.group y.group) h)) (λ c. bytes_eq c.user id)
-    (λ c. and_true _ ∙ (equal_texts c.user id ∙ is_eq-slice_cmp c.user id)) of_user_asked old new was.rows.schema s.policy.connects was.ordered.connects was.rows.holds.connects
+same_text : (a b : List ℕ) → is_true (binary (Compare Eq Binary) (Text a) (Text b)) ≡ bytes_eq a b
+same_text a b = equal_texts a b ∙ is_eq-slice_cmp a b
 
--- ---- their groups, one after another
+pub of_user_told : (old new : SqlState) (s : State) → Represents old.now s → (id : List ℕ) (most : ℕ) (rows : List Row) → Shown of_user.text (Text id ∷ Int (pos most) ∷ []) old new rows
+    → rows ≡ map connect_row (take most (filter (λ (c : Connect). bytes_eq c.user id) s.policy.connects))
+of_user_told old new s was id most rows h =
+    let mine = λ (c : Connect). bytes_eq c.user id in
+    part_first of_user (Text id ∷ Int (pos most) ∷ []) refl connect_row connect_cmp (λ _. refl) (λ x y less. rw (value_cmp-Text x.user y.user, value_cmp-Text x.group y.group) (then_less (name_cmp x.user y.user) (name_cmp x.group y.group) less))
+    (col 0 1) of_user_asked old new was.rows.schema (map connect_row s.policy.connects) (filter mine s.policy.connects) (ascending-filter _ mine s.policy.connects was.ordered.connects)
+    (filter-map _ connect_row s.policy.connects ∙ ap (map connect_row) (filter_same _ _ (λ c. and_true _ ∙ same_text c.user id) s.policy.connects)) was.rows.holds.connects rows h
+    ∙ take-map connect_row most (filter mine s.policy.connects)
 
-abbrev pub group_of : Connect → List ℕ
-group_of c = c.group
+-- ---- whether a user has one, and whether a user is connected to a group
 
-take_map : (k : ℕ) (xs : List Connect) → take k (map group_of xs) ≡ map group_of (take k xs)
-take_map zero [] = refl
-take_map zero (x ∷ xs) = refl
-take_map (suc k) [] = refl
-take_map (suc k) (x ∷ xs) = ap (λ (l : List (List ℕ)). x.group ∷ l) (take_map k xs)
+abbrev pub any_of_user : Asked
+any_of_user = record of_user { text = codes "SELECT usr FROM connects WHERE usr = ?1 LIMIT 1"; project = columns 1 1; order = [] }
 
-pub more_named : (xs : List Connect) (rows : List Row) (vs : List (List ℕ)) (i : ℕ) (y : Row) (v : List ℕ) → rows ≡ map connect_row xs → i < length rows → y ≡ get_or rows i y → ((c : Connect) → y ≡ connect_row c → v ≡ c.group)
-    → vs ≡ take i (map group_of xs) → vs ++ v ∷ [] ≡ take (i + 1) (map group_of xs)
-more_named xs rows vs i y v are low is names so_far =
-    let it = at connect_row xs i y (subst (λ (l : List Row). i < length l) are low) in
-    let here : y ≡ connect_row it.x = is ∙ (ap (λ (l : List Row). get_or l i y) are ∙ it.is) in
-    let grown : map group_of (take i xs) ++ it.x.group ∷ [] ≡ map group_of (take (suc i) xs) = sym (map-append group_of (take i xs) (it.x ∷ [])) ∙ ap (map group_of) (sym it.more) in
-    ap₂ (λ (a : List (List ℕ)) (b : List ℕ). a ++ b ∷ []) (so_far ∙ take_map i xs) (names it.x here) ∙ (grown ∙ (sym (take_map (suc i) xs) ∙ ap (λ k. take k (map group_of xs)) (sym (add-one i))))
+pub any_of_user_asked : IsPaged any_of_user one_row
+unfolding understood everything
+any_of_user_asked = record { selects = refl; unlisted = refl; plain = (refl, refl); shows = λ schema base. refl }
+
+pub any_of_user_told : (old new : SqlState) (s : State) → Represents old.now s → (id : List ℕ) (rows : List Row) → Shown any_of_user.text (Text id ∷ []) old new rows → not (length rows == 0) ≡ list_any (λ (c : Connect). bytes_eq c.user id) s.policy.connects
+any_of_user_told old new s was id rows h =
+    told_any any_of_user (Text id ∷ []) refl any_of_user_asked old new was.rows.schema (map connect_row s.policy.connects) was.rows.holds.connects rows h
+    ∙ any_map _ connect_row _ (λ (c : Connect). and_true _ ∙ same_text c.user id) s.policy.connects
+
+abbrev pub connect : Asked
+connect = record any_of_user { text = codes "SELECT usr FROM connects WHERE usr = ?1 AND grp = ?2 LIMIT 1"; tests = same_columns 0 2 }
+
+pub connect_asked : IsPaged connect one_row
+unfolding understood everything
+connect_asked = record { selects = refl; unlisted = refl; plain = (refl, refl); shows = λ schema base. refl }
+
+pub connect_told : (old new : SqlState) (s : State) → Represents old.now s → (user group : List ℕ) (rows : List Row) → Shown connect.text (Text user ∷ Text group ∷ []) old new rows → not (length rows == 0) ≡ is_connected s.policy user group
+connect_told old new s was user group rows h =
+    told_any connect (Text user ∷ Text group ∷ []) refl connect_asked old new was.rows.schema (map connect_row s.policy.connects) was.rows.holds.connects rows h
+    ∙ any_map _ connect_row _ (λ (c : Connect). ap₂ (λ a b. a && b) (same_text c.user user) (and_true _ ∙ same_text c.group group)) s.policy.connects

@@ -24,7 +24,7 @@ use Rattle.sqlite_schema.specs.declared.schema.Constraint.TheVariants.{ForeignKe
 use Rattle.sqlite_schema.specs.declared.schema.Keys.TheVariants.{Enforced}
 use Rattle.sqlite_value.specs.Keys.{joined, first_key}
 use Rattle.sqlite_value.specs.declared.keys.Collation.TheVariants.{Binary}
-use Rattle.sqlite_keyed.proofs.ListLemmas.{filter_same, all_weaker, all_map, all_unmap, any_from_none, IsPermutation-same, all-slice_get}
+use Rattle.sqlite_keyed.proofs.ListLemmas.{all_weaker, all_map, all_unmap, any_from_none, IsPermutation-same, all-slice_get}
 use Rattle.opc_statements.specs.Order.{Rises, text_cmp}
 use Rattle.sqlite_trees.specs.declared.store.Store.{Ghosts}
 use Rattle.sqlite.specs.Held.{Held, state}

@@ -1,13 +1,17 @@
 //! The table of connects.
-ghost use Rattle.std.specs.Prelude.{◌≡◌, false, List, IfOk, map};
+ghost use Rattle.std.specs.Prelude.{◌≡◌, false, take, List, IfOk, map};
+ghost use Rattle.std.specs.List.{list_any};
+ghost use Rattle.std.specs.Str.{bytes_eq};
 ghost use Rattle.opc_statements.specs.Steps.{Stays, Looks};
 ghost use Rattle.opc_policy.specs.Members.{with_connect, groups_of};
 ghost use Rattle.opc_stored.specs.Asked.{Finds, Makes};
 ghost use Rattle.opc_state.specs.Changes.{with_connects};
+ghost use Rattle.opc_state.specs.Loads.{is_connected};
 ghost use Rattle.opc_state.specs.Members.{without_connect};
 ghost use Rattle.opc_policy.specs.declared.connect.Connect.{Connect as TheConnect};
 ghost use Rattle.opc_stored.specs.Represented.{connect_row};
 
+use crate::there::is_there_on;
 use opc_names::name::{GroupName, UserId};
 use opc_policy::connect::Connect;
 use opc_policy::source::StoreFault;
@@ -88,21 +92,55 @@ fn groups_in(alloc: Global, rows: &[Row]) -> Result<Vec<GroupName>, StoreFault>
     Ok(groups)
 }
 
-/// The groups that a user is connected to, in order.
+/// The groups that a user is connected to, in order, as many as asked for at most.
 pub fn user_groups_on<S: Alter>(
     alloc: Global,
     conn: &mut Connection<S>,
-    id: &UserId,
+    user: &UserId,
+    most: u32,
 ) -> Result<Vec<GroupName>, StoreFault>
     requires { conn.old.in_transaction ≡ false }
     ensures mode { conn.new.in_transaction ≡ false }
     ensures looks { Looks S.Store conn.old conn.new result }
-    ensures found { Finds S.Store conn.old conn.new result (λ s v. v.items ≡ groups_of s.policy.connects id.now) }
+    ensures found { Finds S.Store conn.old conn.new result (λ s v. v.items ≡ take most (groups_of s.policy.connects user.now)) }
 {
     let rows = read(
         conn,
-        "SELECT usr, grp FROM connects WHERE usr = ?1 ORDER BY usr, grp",
-        params![id.text()],
+        "SELECT usr, grp FROM connects WHERE usr = ?1 ORDER BY usr, grp LIMIT ?2",
+        params![user.text(), most],
     )?;
     groups_in(alloc, rows.as_slice())
+}
+
+pub fn is_connected_on<S: Alter>(
+    conn: &mut Connection<S>,
+    connect: &Connect,
+) -> Result<bool, StoreFault>
+    requires { conn.old.in_transaction ≡ false }
+    ensures mode { conn.new.in_transaction ≡ false }
+    ensures looks { Looks S.Store conn.old conn.new result }
+    ensures found { Finds S.Store conn.old conn.new result (λ s v. v ≡ is_connected s.policy connect.now.user connect.now.group) }
+{
+    is_there_on(
+        conn,
+        "SELECT usr FROM connects WHERE usr = ?1 AND grp = ?2 LIMIT 1",
+        params![connect.user.text(), connect.group.text()],
+    )
+}
+
+/// Whether a connect names a user.
+pub(crate) fn has_connect_on<S: Alter>(
+    conn: &mut Connection<S>,
+    user: &UserId,
+) -> Result<bool, StoreFault>
+    requires { conn.old.in_transaction ≡ false }
+    ensures mode { conn.new.in_transaction ≡ false }
+    ensures looks { Looks S.Store conn.old conn.new result }
+    ensures found { Finds S.Store conn.old conn.new result (λ s v. v ≡ list_any (λ (c : TheConnect). bytes_eq c.user user.now) s.policy.connects) }
+{
+    is_there_on(
+        conn,
+        "SELECT usr FROM connects WHERE usr = ?1 LIMIT 1",
+        params![user.text()],
+    )
 }

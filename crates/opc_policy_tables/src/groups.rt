@@ -2,11 +2,13 @@
 ghost use Rattle.std.specs.Prelude.{◌≡◌, false};
 ghost use Rattle.opc_statements.specs.Steps.{Stays, Looks};
 ghost use Rattle.opc_policy.specs.Members.{with_group};
+ghost use Rattle.opc_policy.specs.Taken.{has_group};
 ghost use Rattle.opc_stored.specs.Asked.{Finds, Makes};
 ghost use Rattle.opc_state.specs.Changes.{with_groups};
 ghost use Rattle.opc_state.specs.Members.{without_group};
 ghost use Rattle.opc_stored.specs.Represented.{group_row};
 
+use crate::there::is_there_on;
 use opc_names::name::GroupName;
 use opc_policy::source::StoreFault;
 use opc_rows::Rows;
@@ -47,6 +49,20 @@ pub fn remove_group<S: Alter>(tx: &mut Transaction<'_, S>, name: &GroupName) -> 
 {
     run(tx, "DELETE FROM grp WHERE name = ?1", params![name.text()])?;
     Ok(())
+}
+
+/// Whether a group has this name.
+pub fn has_group_on<S: Alter>(conn: &mut Connection<S>, name: &str) -> Result<bool, StoreFault>
+    requires { conn.old.in_transaction ≡ false }
+    ensures mode { conn.new.in_transaction ≡ false }
+    ensures looks { Looks S.Store conn.old conn.new result }
+    ensures found { Finds S.Store conn.old conn.new result (λ s v. v ≡ has_group s.policy name.now) }
+{
+    is_there_on(
+        conn,
+        "SELECT name FROM grp WHERE name = ?1 LIMIT 1",
+        params![name],
+    )
 }
 
 /// The groups, in order.

@@ -7,4 +7,5 @@ pub mod entries;
 pub mod groups;
 pub mod levels;
 pub mod profiles;
+mod there;
 pub mod users;

@@ -3,6 +3,7 @@ ghost use Rattle.std.specs.Prelude.{◌≡◌, ℕ, false, List, Option, IfOk};
 ghost use Rattle.opc_statements.specs.Steps.{Stays, Looks};
 ghost use Rattle.std.specs.Option.{option_copied};
 ghost use Rattle.opc_policy.specs.Members.{with_user, user_of};
+ghost use Rattle.opc_policy.specs.Taken.{has_user};
 ghost use Rattle.opc_stored.specs.Asked.{Finds, Makes};
 ghost use Rattle.opc_state.specs.Changes.{with_users};
 ghost use Rattle.opc_state.specs.Members.{without_user};
@@ -11,6 +12,7 @@ ghost use Rattle.opc_policy.specs.declared.user.User.{User as TheUser};
 ghost use Rattle.opc_state.specs.State.{has_users};
 ghost use Rattle.opc_stored.specs.Represented.{or_null, user_row};
 
+use crate::there::is_there_on;
 use opc_names::name::UserId;
 use opc_policy::source::StoreFault;
 use opc_policy::user::User;
@@ -115,6 +117,20 @@ pub fn user_on<S: Alter>(conn: &mut Connection<S>, id: &UserId) -> Result<Option
     }
 }
 
+/// Whether a user has this name.
+pub fn has_user_on<S: Alter>(conn: &mut Connection<S>, name: &str) -> Result<bool, StoreFault>
+    requires { conn.old.in_transaction ≡ false }
+    ensures mode { conn.new.in_transaction ≡ false }
+    ensures looks { Looks S.Store conn.old conn.new result }
+    ensures found { Finds S.Store conn.old conn.new result (λ s v. v ≡ has_user s.policy name.now) }
+{
+    is_there_on(
+        conn,
+        "SELECT id FROM usr WHERE id = ?1 LIMIT 1",
+        params![name],
+    )
+}
+
 /// Whether a user is stored. At most one row is read.
 pub fn has_users_on<S: Alter>(conn: &mut Connection<S>) -> Result<bool, StoreFault>
     requires { conn.old.in_transaction ≡ false }
@@ -122,8 +138,7 @@ pub fn has_users_on<S: Alter>(conn: &mut Connection<S>) -> Result<bool, StoreFau
     ensures looks { Looks S.Store conn.old conn.new result }
     ensures found { Finds S.Store conn.old conn.new result (λ s v. v ≡ has_users s.policy) }
 {
-    let rows = read(conn, "SELECT id FROM usr ORDER BY id LIMIT 1", &[])?;
-    Ok(!rows.as_slice().is_empty())
+    is_there_on(conn, "SELECT id FROM usr LIMIT 1", &[])
 }
 
 /// The users, in order.

@@ -21,7 +21,6 @@ use opc_names::class::Class;
 use opc_names::level::Level;
 use opc_names::name::{ConsoleName, Device, GroupName, Pattern, Resource, UnitName, UserId};
 use opc_names::reply_id::ReplyId;
-use opc_policy::connect::Connect;
 use opc_policy::entries::Entries;
 use opc_policy::entry::EntryId;
 use opc_policy::policy::Policy;
@@ -130,7 +129,8 @@ pub trait Tables {
         resource: &Resource,
     ) -> Result<Found, StoreFault>
         ensures kept { IsKept is_sure represents may_leave self.old self.new }
-        ensures found { Answers (is_sure self.new) (represents self.old) result (λ s found. found.profile ≡ option_map bare (deciding_in s.policy class resource.now)) };
+        ensures found { Answers (is_sure self.new) (represents self.old) result (λ s found. found.profile ≡ option_map bare (deciding_in s.policy class resource.now)) }
+        ensures keyed { Answers (is_sure self.new) (represents self.old) result (λ s _. IsKeyed s) };
 
     /// The access list of a profile, as many entries as asked for at most.
     fn entries(
@@ -154,9 +154,10 @@ pub trait Tables {
         ensures kept { IsKept is_sure represents may_leave self.old self.new }
         ensures level { Answers (is_sure self.new) (represents self.old) result (λ s level. level ≡ level_for s.policy class pattern.now id.now (option_copied when.entry)) };
 
-    fn is_connected(&mut self, connect: &Connect) -> Result<bool, StoreFault>
+    /// Whether a user is connected to a group of this name.
+    fn is_connected(&mut self, user: &UserId, group: &str) -> Result<bool, StoreFault>
         ensures kept { IsKept is_sure represents may_leave self.old self.new }
-        ensures connected { Answers (is_sure self.new) (represents self.old) result (λ s connected. connected ≡ is_connected s.policy connect.now.user connect.now.group) };
+        ensures connected { Answers (is_sure self.new) (represents self.old) result (λ s connected. connected ≡ is_connected s.policy user.now group.now) };
 
     /// Whether a user has this name.
     fn has_user(&mut self, name: &str) -> Result<bool, StoreFault>

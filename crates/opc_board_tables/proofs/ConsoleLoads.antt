@@ -72,8 +72,8 @@ abbrev with_user : List ℕ → ConsoleRow → Row
 with_user user c = console_row (record c { user = Some user })
 
 pub consoles_of_told : (old new : SqlState) (s : State) → Represents old.now s → (user : List ℕ) (rows : List Row) → Shown consoles_of.text (Text user ∷ []) old new rows → rows ≡ map console_row (consoles_of_user s.board user)
-consoles_of_told old new s was user =
+consoles_of_told old new s was user rows h =
     told_fixed consoles_of (Text user ∷ []) refl console_row (with_user user) console_cmp (λ _. refl)
     (λ x y h. rw (value_cmp-Text user user, tied_itself text_total user, value_cmp-Text x.name y.name, h))
     (λ c. is_holder user c.user) (λ c. and_true _ ∙ equals_holder user c.user) (λ c h. ap (λ (u : Option (List ℕ)). console_row (record c { user = u })) (the_holder user c.user h))
-    consoles_of_asked old new was.rows.schema s.board.consoles was.ordered.consoles was.rows.holds.consoles
+    old new was.rows.schema s.board.consoles was.ordered.consoles was.rows.holds.consoles rows h consoles_of_asked

@@ -72,8 +72,8 @@ abbrev held : List ℕ → DeviceRow → Row
 held unit d = device_row (record d { unit = Some unit })
 
 pub devices_of_told : (old new : SqlState) (s : State) → Represents old.now s → (unit : List ℕ) (rows : List Row) → Shown devices_of.text (Text unit ∷ []) old new rows → rows ≡ map device_row (devices_of_unit s.board unit)
-devices_of_told old new s was unit =
+devices_of_told old new s was unit rows h =
     told_fixed devices_of (Text unit ∷ []) refl device_row (held unit) device_cmp (λ _. refl)
     (λ x y h. rw (value_cmp-Text unit unit, tied_itself text_total unit, value_cmp-Text x.number y.number, h))
     (λ d. is_holder unit d.unit) (λ d. and_true _ ∙ equals_holder unit d.unit) (λ d h. ap (λ (u : Option (List ℕ)). device_row (record d { unit = u })) (the_holder unit d.unit h))
-    devices_of_asked old new was.rows.schema s.board.devices was.ordered.devices was.rows.holds.devices
+    old new was.rows.schema s.board.devices was.ordered.devices was.rows.holds.devices rows h devices_of_asked

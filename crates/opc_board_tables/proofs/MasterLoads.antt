@@ -90,5 +90,5 @@ pub masters_told : (old new : SqlState) (s : State) → Represents old.now s →
 masters_told old new s was rows h =
     told_fixed_first masters [] refl console_row mastering console_cmp (λ _. refl) (λ x y h. rw (number_cmp 2 2, number_cmp 1 1, value_cmp-Text x.name y.name, h))
     is_master (λ c. ap₂ (λ (a b : Bool). a && (b && true)) (equal_numbers (auth_number c.auth) 2 ∙ is_two c.auth) (is_one c.online) ∙ swapped (is_master_auth c.auth) c.online) same_master
-    two_rows masters_asked old new was.rows.schema s.board.consoles was.ordered.consoles was.rows.holds.consoles rows h
+    old new was.rows.schema s.board.consoles was.ordered.consoles was.rows.holds.consoles rows h two_rows masters_asked
     ∙ take-map console_row 2 (masters_of s.board)

@@ -4,14 +4,12 @@ use Rattle.sqlite.specs.declared.types.Value.TheVariants.{Null}
 use Rattle.sqlite.specs.Order.{Row}
 use Rattle.sqlite.specs.Term.{Term, eval}
 use Rattle.sqlite.specs.Query.{output_cmp, as_count, limited}
-use Rattle.sqlite.specs.Tree.{Trees}
 use Rattle.sqlite.specs.State.{State, Shown}
 use Rattle.sqlite_keyed.proofs.ListLemmas.{ascending-filter, filter-map, filter_same}
 use Rattle.opc_statements.specs.Order.{Rises}
 use Rattle.opc_statements.specs.Rows.{HasRows}
-use Rattle.opc_statements.proofs.Asked.{Asked, IsAsked, IsPaged, query, is_of_values, picks, tells, pages, answers, passes_values, shows_values}
-use Rattle.opc_statements.proofs.Listed.{listed_part}
-use Rattle.opc_statements.proofs.Queries.{Lists, answered}
+use Rattle.opc_statements.proofs.Asked.{Asked, IsAsked, IsPaged, query, is_of_values, picks, tells, told_part}
+use Rattle.opc_statements.proofs.Limited.{part_first}
 
 -- a member that passes has the row that the test fixes
 module _ {X : Type 0} (row fixed : X → Row) (p : X → Bool) (same : (x : X) → p x ≡ true → fixed x ≡ row x) where
@@ -26,22 +24,19 @@ module _ {X : Type 0} (row fixed : X → Row) (p : X → Bool) (same : (x : X) �
 -- `fixed` is the row with the columns as the test wants them
 module _ (a : Asked) (params : Row) (values : is_of_values a ≡ true) {X : Type 0} (row fixed : X → Row) (cmp : X → X → Ordering) (whole : (x : X) → (tells a params (Null ∷ fixed x)).1 ≡ fixed x)
     (less : (x y : X) → cmp x y ≡ Less → output_cmp (query a) (tells a params (Null ∷ fixed x)) (tells a params (Null ∷ fixed y)) ≡ Less)
-    (p : X → Bool) (passing : (x : X) → picks a params (Null ∷ row x) ≡ p x) (same : (x : X) → p x ≡ true → fixed x ≡ row x) where
-  fixed_listed : (db : Trees) (xs : List X) → Rises cmp xs → HasRows (map row xs) (db a.tree) → (rows : List Row) → Lists a.tree a.tests a.project a.order db params rows → rows ≡ map row (filter p xs)
-  fixed_listed db xs up had rows lists =
-      let again = fixed_same row fixed p same xs in
-      let mine : filter (λ v. picks a params (Null ∷ v)) (map row xs) ≡ map fixed (filter p xs) = filter-map _ row xs ∙ (ap (map row) (filter_same _ _ passing xs) ∙ sym again) in
-      listed_part fixed cmp a.tree a.tests a.project a.order params (λ v. picks a params (Null ∷ v)) (λ v. tells a params (Null ∷ v)) db (passes_values a params values db) (shows_values a params values db) whole less
-      (map row xs) (filter p xs) rows (ascending-filter _ p xs up) mine had lists
-      ∙ again
+    (p : X → Bool) (passing : (x : X) → picks a params (Null ∷ row x) ≡ p x) (same : (x : X) → p x ≡ true → fixed x ≡ row x) (old new : State) (has : old.now.schema ≡ a.schema)
+    (xs : List X) (up : Rises cmp xs) (had : HasRows (map row xs) (old.now.trees a.tree)) (rows : List Row) (h : Shown a.text params old new rows) where
+  kept : Rises cmp (filter p xs)
+  kept = ascending-filter _ p xs up
 
-  pub told_fixed : IsAsked a → (old new : State) → old.now.schema ≡ a.schema → (xs : List X) → Rises cmp xs → HasRows (map row xs) (old.now.trees a.tree) → (rows : List Row) → Shown a.text params old new rows → rows ≡ map row (filter p xs)
-  told_fixed is old new has xs up had rows h =
-      fixed_listed old.now.trees xs up had rows (answered a.tree a.tests a.project a.order old.now.trees params old.now.schema rows (answers a.schema a.text (query a) is params old new has rows h))
+  mine : filter (λ v. picks a params (Null ∷ v)) (map row xs) ≡ map fixed (filter p xs)
+  mine = filter-map _ row xs ∙ (ap (map row) (filter_same _ _ passing xs) ∙ sym (fixed_same row fixed p same xs))
+
+  pub told_fixed : IsAsked a → rows ≡ map row (filter p xs)
+  told_fixed is = told_part a params values fixed cmp whole less is old new has (map row xs) (filter p xs) kept mine had rows h ∙ fixed_same row fixed p same xs
 
   -- with LIMIT, the first of them
-  pub told_fixed_first : (limit : Term) → IsPaged a limit → (old new : State) → old.now.schema ≡ a.schema → (xs : List X) → Rises cmp xs → HasRows (map row xs) (old.now.trees a.tree) → (rows : List Row) → Shown a.text params old new rows
-      → rows ≡ limited (as_count (eval limit (params ∷ []))) (map row (filter p xs))
-  told_fixed_first limit is old new has xs up had rows h =
-      let it = pages a params limit is old new has rows h in
-      it.are ∙ ap (limited (as_count (eval limit (params ∷ [])))) (fixed_listed old.now.trees xs up had it.all it.lists)
+  pub told_fixed_first : (limit : Term) → IsPaged a limit → rows ≡ limited (as_count (eval limit (params ∷ []))) (map row (filter p xs))
+  told_fixed_first limit is =
+      part_first a params values fixed cmp whole less limit is old new has (map row xs) (filter p xs) kept mine had rows h
+      ∙ ap (limited (as_count (eval limit (params ∷ [])))) (fixed_same row fixed p same xs)

@@ -9,11 +9,13 @@ use Rattle.sqlite.specs.State.{HasCleanDisk, Survives}
 use Rattle.opc_statements.specs.Steps.{Looks}
 use Rattle.opc_state.specs.declared.change.Change.{Change}
 use Rattle.opc_state.specs.Changes.{IsKept, changed_by}
+use Rattle.opc_state.specs.Facts.{IsKeyed}
 use Rattle.opc_state.specs.State.{State, Fits}
 use Rattle.opc_stored.specs.Changes.{Becomes}
 use Rattle.opc_stored.specs.Represented.{Represents, AreTablesOf}
 use Rattle.opc_store.specs.StoreTables.{RepresentsIfOpen, IsSure, MayLeave}
 use Rattle.opc_stored.proofs.Decoded.{one_state}
+use Rattle.opc_stored.proofs.KeyOrder.{is_keyed}
 
 -- no number of what tables represent passes what they can hold
 pub fits_of : (db : Database) (s : State) → Represents db s → Fits s
@@ -46,6 +48,11 @@ module _ {S : Type 0} (g : Ghosts S) where
       → IsSure g b → (s : State) → RepresentsIfOpen g a s → IfOk r (P s)
   found P a b (Err e) h tells clean s was = tt
   found P a b (Ok x) h tells clean s was = tells clean s (was (h.was_open clean (h.opened clean)))
+
+  -- where it gave a value, the state is in the order of its keys
+  pub keyed : {X E : Type 0} (a b : Held S) (r : Result X E) → Looks g a b r → IsSure g b → (s : State) → RepresentsIfOpen g a s → IfOk r (λ _. IsKeyed s)
+  keyed a b (Err e) h clean s was = tt
+  keyed a b (Ok x) h clean s was = let tables = was (h.was_open clean (h.opened clean)) in is_keyed s tables.ordered
 
   -- a load that gave a value leaves tables that are open, and represent the state
   pub stands : {X E : Type 0} (x : X) (a b : Held S) → (let q : Result X E = Ok x in Looks g a b q) → IsSure g b → (s : State) → RepresentsIfOpen g a s → Represents (state g b).now s

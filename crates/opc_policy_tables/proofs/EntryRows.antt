@@ -95,7 +95,7 @@ tied_consoles (Some []) b h k = absurd (h refl)
 tied_consoles (Some (c ∷ cs)) None h k = refl
 tied_consoles (Some (c ∷ cs)) (Some b) h k = is_eq-slice_cmp (c ∷ cs) b
 
-at_console : (id : List ℕ) (when : Option (List ℕ)) → when ≢ Some [] → (e : Entry) → IsNamed e → is_at id (or_empty when) e ≡ is_for when id e
+pub at_console : (id : List ℕ) (when : Option (List ℕ)) → when ≢ Some [] → (e : Entry) → IsNamed e → is_at id (or_empty when) e ≡ is_for when id e
 at_console id when named e is = ap (λ b. bytes_eq e.id id && b) (same_consoles e.when when is named)
 
 -- ---- an entry goes

@@ -1,20 +1,31 @@
 -- What the queries on profiles read.
-use Rattle.std.proofs.Common.{◌≡◌, ℕ, zero, suc, ◌+◌, ◌<◌, List, [], ◌∷◌, ◌++◌, map, filter, take, length, get_or, codes, refl, sym, ap, ap₂, subst, subst₂, ◌∙◌, arith, add-one, Less, Some}
+use Rattle.std.proofs.Common.{◌≡◌, ◌==◌, ◌&&◌, true, not, is_eq, ℕ, zero, suc, ◌+◌, ◌<◌, List, [], ◌∷◌, ◌++◌, map, filter, take, length, get_or, codes, refl, sym, ap, ap₂, subst, subst₂, ◌∙◌, arith, add-one, Less, Some}
+use Rattle.std.specs.List.{list_any}
+use Rattle.std.specs.Str.{bytes_eq}
 use Rattle.sqlite.specs.Order.{Row}
-use Rattle.sqlite.specs.declared.types.Value.TheVariants.{Null}
+use Rattle.sqlite.specs.Ops.{binary, is_true}
+use Rattle.sqlite.specs.Term.{col, op2}
+use Rattle.sqlite.specs.declared.types.Value.TheVariants.{Null, Text}
+use Rattle.sqlite_sql.specs.declared.ops.BinaryOp.TheVariants.{Compare}
+use Rattle.sqlite_sql.specs.declared.ops.CompareOp.TheVariants.{Eq}
+use Rattle.sqlite_value.specs.declared.keys.Collation.TheVariants.{Binary}
 use Rattle.sqlite.specs.Listing.{understood}
 use Rattle.sqlite.specs.Query.{output_cmp}
 use Rattle.sqlite.specs.State.{State as SqlState, Shown}
 use Rattle.sqlite_tied.specs.Compute.{everything}
 use Rattle.sqlite_value.proofs.OrderLemmas.{value_cmp-Text, value_cmp-Blob}
 use Rattle.opc_statements.specs.Order.{text_cmp}
-use Rattle.opc_statements.proofs.Asked.{Asked, IsAsked, by_columns, columns, query, tells, then_less, told, told_all}
+use Rattle.opc_statements.proofs.Asked.{Asked, IsAsked, IsPaged, by_columns, columns, query, tells, then_less, told, told_all}
 use Rattle.opc_statements.proofs.Keyed.{same_columns}
+use Rattle.opc_statements.proofs.Limited.{any_map, one_row, told_any}
+use Rattle.opc_statements.proofs.Values.{and_true, equal_texts, same_texts}
 use Rattle.opc_names.specs.declared.class.Class.{Class}
 use Rattle.opc_names.specs.declared.class.Class.TheVariants.{Console, Opercmds}
+use Rattle.opc_names.specs.Authority.{same_class}
 use Rattle.opc_names.specs.Order.{sort_key}
 use Rattle.opc_names.specs.Spellings.{class_text}
 use Rattle.opc_policy.specs.declared.profile.Profile.{Profile}
+use Rattle.opc_policy.specs.Deciding.{of_class}
 use Rattle.opc_policy.specs.Profiles.{class_cmp, pattern_cmp, profile_cmp, profile_of, is_of}
 use Rattle.opc_state.specs.State.{State}
 use Rattle.opc_stored.specs.State.{IsOrdered}
@@ -23,6 +34,7 @@ use Rattle.opc_stored.specs.Tables.{the_schema}
 use Rattle.opc_stored.specs.Represented.{Represents, profile_row}
 use Rattle.opc_stored.proofs.AccessLists.{split, is_of_means}
 use Rattle.opc_stored.proofs.ProfileTexts.{profile_key, picks_profile}
+use Rattle.opc_policy_tables.specs.declared.profiles.TheConstants.{BY_CLASS}
 use Rattle.opc_policy_tables.specs.Among.{AreAmong}
 
 -- ---- all of them
@@ -66,6 +78,44 @@ profile_asked = record { selects = refl; unlisted = refl; plain = (refl, refl); 
 pub profile_told : (old new : SqlState) (s : State) → Represents old.now s → (class : Class) (pattern : List ℕ) (rows : List Row) → Shown profile.text (profile_key class pattern) old new rows → rows ≡ map profile_row (filter (is_of class pattern) s.policy.profiles)
 profile_told old new s was class pattern =
     told profile (profile_key class pattern) refl profile_row profile_cmp (λ _. refl) profiles_rise (is_of class pattern) (picks_profile class pattern) profile_asked old new was.rows.schema s.policy.profiles was.ordered.profiles was.rows.holds.profiles
+
+-- ---- those of a class
+
+abbrev pub by_class : Asked
+by_class = record profiles { text = BY_CLASS.now; tests = same_columns 0 1 }
+
+pub by_class_asked : IsAsked by_class
+unfolding understood everything
+by_class_asked = record { selects = refl; unlisted = refl; plain = (refl, refl); shows = λ schema base. refl }
+
+abbrev pub class_params : Class → Row
+class_params class = Text (class_text class) ∷ []
+
+pub class_is : (a b : Class) → is_eq (text_cmp (class_text a) (class_text b)) ≡ same_class a b
+class_is Console Console = refl
+class_is Console Opercmds = refl
+class_is Opercmds Console = refl
+class_is Opercmds Opercmds = refl
+
+pub in_class : (class : Class) (p : Profile) → (is_true (binary (Compare Eq Binary) (Text (class_text p.class)) (Text (class_text class))) && true) ≡ same_class p.class class
+in_class class p = and_true _ ∙ (equal_texts (class_text p.class) (class_text class) ∙ class_is p.class class)
+
+pub class_told : (class : Class) (old new : SqlState) (s : State) → Represents old.now s → (rows : List Row) → Shown by_class.text (class_params class) old new rows → rows ≡ map profile_row (of_class class s.policy.profiles)
+class_told class old new s was = told by_class (class_params class) refl profile_row profile_cmp (λ _. refl) profiles_rise (λ p. same_class p.class class) (in_class class) by_class_asked old new was.rows.schema s.policy.profiles was.ordered.profiles was.rows.holds.profiles
+
+-- ---- whether there is one of an owner
+
+abbrev pub any_owned : Asked
+any_owned = record profiles { text = codes "SELECT owner FROM profiles WHERE owner = ?1 LIMIT 1"; tests = op2 (Compare Eq Binary) (col 1 3) (col 0 0) ∷ []; project = columns 3 1; order = [] }
+
+pub any_owned_asked : IsPaged any_owned one_row
+unfolding understood everything
+any_owned_asked = record { selects = refl; unlisted = refl; plain = (refl, refl); shows = λ schema base. refl }
+
+pub any_owned_told : (old new : SqlState) (s : State) → Represents old.now s → (id : List ℕ) (rows : List Row) → Shown any_owned.text (Text id ∷ []) old new rows → not (length rows == 0) ≡ list_any (λ (p : Profile). bytes_eq p.owner id) s.policy.profiles
+any_owned_told old new s was id rows h =
+    told_any any_owned (Text id ∷ []) refl any_owned_asked old new was.rows.schema (map profile_row s.policy.profiles) was.rows.holds.profiles rows h
+    ∙ any_map _ profile_row _ (λ (p : Profile). and_true _ ∙ same_texts p.owner id) s.policy.profiles
 
 -- the profile that is found is that of its own class and pattern
 pub own_key : (s : State) → IsOrdered s → (class : Class) (pattern : List ℕ) (p : Profile) → profile_of s.policy.profiles class pattern ≡ Some p → profile_of s.policy.profiles p.class p.pattern ≡ Some p

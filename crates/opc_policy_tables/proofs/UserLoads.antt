@@ -84,7 +84,7 @@ any_user_asked = record { selects = refl; unlisted = refl; plain = (refl, refl);
 
 some_user : (users : List User) → list_any (λ (r : Row). true) (map user_row users) ≡ is_some_user users
 some_user [] = refl
-some_user (u ∷ users) = refl
+some_user (u ∷ us) = refl
 
 pub any_user_told : (old new : SqlState) (s : State) → Represents old.now s → (rows : List Row) → Shown any_user.text [] old new rows → not (length rows == 0) ≡ has_users s.policy
 any_user_told old new s was rows h = told_any any_user [] refl any_user_asked old new was.rows.schema (map user_row s.policy.users) was.rows.holds.usr rows h ∙ some_user s.policy.users

@@ -1,27 +1,29 @@
 //! The table of access lists.
-ghost use Rattle.std.specs.Prelude.{◌≡◌, ◌≢◌, [], ◌∷◌, ◌++◌, List, Option, ℕ, IfOk, OnOk, map, false, Some};
-ghost use Rattle.std.specs.List.{AllByRecursion};
+ghost use Rattle.std.specs.Prelude.{◌≡◌, ◌≢◌, [], ◌∷◌, ◌++◌, List, Option, ℕ, IfOk, OnOk, map, take, false, Some};
+ghost use Rattle.std.specs.List.{AllByRecursion, list_any};
 ghost use Rattle.std.specs.Option.{option_copied};
 ghost use Rattle.sqlite.specs.Held.{state};
 ghost use Rattle.sqlite.specs.State.{HasCleanDisk};
 ghost use Rattle.opc_statements.specs.Steps.{Stays, Looks};
-ghost use Rattle.opc_policy.specs.Profiles.{profile_of, with_permission};
+ghost use Rattle.opc_policy.specs.Profiles.{with_permission};
 ghost use Rattle.opc_state.specs.Changes.{with_profiles};
+ghost use Rattle.opc_state.specs.Loads.{access_list, has_entry, level_for};
 ghost use Rattle.opc_state.specs.Members.{without_permission};
-ghost use Rattle.opc_stored.specs.Asked.{Makes};
+ghost use Rattle.opc_stored.specs.Asked.{Finds, Makes};
 ghost use Rattle.opc_stored.specs.Contents.{Contents};
 ghost use Rattle.opc_stored.specs.Made.{IsMade};
-ghost use Rattle.opc_stored.specs.Represented.{Represents, entry_row, or_empty};
+ghost use Rattle.opc_stored.specs.Represented.{entry_row, or_empty};
 ghost use Rattle.opc_stored.specs.State.{IsNamed, IsAccessList};
 ghost use Rattle.sqlite.specs.Order.{column};
 ghost use Rattle.sqlite.specs.declared.types.Value.TheVariants.{Text};
 ghost use Rattle.opc_names.specs.declared.class.Class.{Class as TheClass};
 ghost use Rattle.opc_policy.specs.declared.entry.Entry.{Entry as TheEntry};
-ghost use Rattle.opc_policy.specs.declared.profile.Profile.{Profile as TheProfile};
 
 use crate::levels::{level_in, rank_of};
+use crate::there::is_there_on;
 use opc_names::class::Class;
-use opc_names::name::{ConsoleName, Pattern};
+use opc_names::level::Level;
+use opc_names::name::{ConsoleName, Pattern, UserId};
 use opc_policy::entries::Entries;
 use opc_policy::entry::{Entry, EntryId};
 use opc_policy::source::StoreFault;
@@ -180,8 +182,8 @@ fn entries_in(alloc: Global, rows: &[Row]) -> Result<Entries, StoreFault>
     Ok(entries)
 }
 
-/// The access list of a profile.
-pub fn entries_on<S: Alter>(
+/// The access list of the profile of a class and a pattern. A profile that is not defined has none.
+pub fn access_list_on<S: Alter>(
     alloc: Global,
     conn: &mut Connection<S>,
     class: Class,
@@ -190,7 +192,7 @@ pub fn entries_on<S: Alter>(
     requires { conn.old.in_transaction ≡ false }
     ensures mode { conn.new.in_transaction ≡ false }
     ensures looks { Looks S.Store conn.old conn.new result }
-    ensures found { HasCleanDisk (state S.Store conn.new) → (s : _) → Represents (state S.Store conn.old).now s → (p : TheProfile) → profile_of s.policy.profiles class pattern.now ≡ Some p → IfOk result (λ v. v ≡ p.entries) }
+    ensures found { Finds S.Store conn.old conn.new result (λ s v. v ≡ access_list s.policy class pattern.now) }
 {
     let rows = read(
         conn,
@@ -198,4 +200,67 @@ pub fn entries_on<S: Alter>(
         params![class.text(), pattern.text()],
     )?;
     entries_in(alloc, rows.as_slice())
+}
+
+/// Its first entries, as many as asked for at most.
+pub fn entries_on<S: Alter>(
+    alloc: Global,
+    conn: &mut Connection<S>,
+    class: Class,
+    pattern: &Pattern,
+    most: u32,
+) -> Result<Entries, StoreFault>
+    requires { conn.old.in_transaction ≡ false }
+    ensures mode { conn.new.in_transaction ≡ false }
+    ensures looks { Looks S.Store conn.old conn.new result }
+    ensures found { Finds S.Store conn.old conn.new result (λ s v. v ≡ take most (access_list s.policy class pattern.now)) }
+{
+    let rows = read(
+        conn,
+        "SELECT class, pattern, id, console, level FROM entries WHERE class = ?1 AND pattern = ?2 ORDER BY id, console LIMIT ?3",
+        params![class.text(), pattern.text(), most],
+    )?;
+    entries_in(alloc, rows.as_slice())
+}
+
+/// The level of its entry for an id, at one console or, where none is given, at every console.
+pub fn level_for_on<S: Alter>(
+    conn: &mut Connection<S>,
+    class: Class,
+    pattern: &Pattern,
+    id: &EntryId,
+    when: Option<ConsoleName>,
+) -> Result<Option<Level>, StoreFault>
+    requires { conn.old.in_transaction ≡ false }
+    ensures mode { conn.new.in_transaction ≡ false }
+    ensures looks { Looks S.Store conn.old conn.new result }
+    ensures found { Finds S.Store conn.old conn.new result (λ s v. v ≡ level_for s.policy class pattern.now id.now when) }
+{
+    let at = when.as_ref();
+    let rows = read(
+        conn,
+        "SELECT class, pattern, id, console, level FROM entries WHERE class = ?1 AND pattern = ?2 AND id = ?3 AND console = ?4 ORDER BY id, console",
+        params![class.text(), pattern.text(), id.text(), console_text(at)],
+    )?;
+    match rows.as_slice().get(0) {
+        Some(row) => Ok(Some(level_in(row, 4)?)),
+        None => Ok(None),
+    }
+}
+
+/// Whether an access list has an entry for a user.
+pub(crate) fn has_entry_on<S: Alter>(
+    conn: &mut Connection<S>,
+    user: &UserId,
+) -> Result<bool, StoreFault>
+    requires { conn.old.in_transaction ≡ false }
+    ensures mode { conn.new.in_transaction ≡ false }
+    ensures looks { Looks S.Store conn.old conn.new result }
+    ensures found { Finds S.Store conn.old conn.new result (λ s v. v ≡ list_any (has_entry user.now) s.policy.profiles) }
+{
+    is_there_on(
+        conn,
+        "SELECT id FROM entries WHERE id = ?1 LIMIT 1",
+        params![user.text()],
+    )
 }

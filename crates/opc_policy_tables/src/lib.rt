@@ -6,6 +6,7 @@ pub mod connects;
 pub mod entries;
 pub mod groups;
 pub mod levels;
+pub mod named;
 pub mod profiles;
 mod there;
 pub mod users;

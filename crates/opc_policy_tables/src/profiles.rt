@@ -1,11 +1,16 @@
 //! The table of profiles.
-ghost use Rattle.std.specs.Prelude.{◌≡◌, ◌≢◌, ◌∷◌, List, IfOk, OnOk, None, map, false, [], Some, IsTrue};
+ghost use Rattle.std.specs.Prelude.{◌≡◌, ◌≢◌, ◌∷◌, List, IfOk, OnOk, None, map, false, Some, IsTrue};
+ghost use Rattle.std.specs.List.{list_any};
+ghost use Rattle.std.specs.Option.{option_map};
+ghost use Rattle.std.specs.Str.{bytes_eq};
 ghost use Rattle.sqlite.specs.Held.{state};
 ghost use Rattle.sqlite.specs.State.{HasCleanDisk};
 ghost use Rattle.opc_statements.specs.Steps.{Stays, Looks};
 ghost use Rattle.opc_names.specs.Names.{IsPattern};
+ghost use Rattle.opc_policy.specs.Deciding.{of_class};
 ghost use Rattle.opc_policy.specs.Profiles.{profile_of, with_definition};
 ghost use Rattle.opc_state.specs.Changes.{with_profiles};
+ghost use Rattle.opc_state.specs.Loads.{bare};
 ghost use Rattle.opc_state.specs.Members.{without_profile};
 ghost use Rattle.opc_stored.specs.Asked.{Finds, Makes};
 ghost use Rattle.opc_stored.specs.Made.{IsMade};
@@ -18,11 +23,12 @@ ghost use Rattle.opc_names.specs.declared.class.Class.{Class as TheClass};
 ghost use Rattle.opc_policy.specs.declared.profile.Profile.{Profile as TheProfile};
 ghost use Rattle.opc_policy_tables.specs.Among.{AreAmong};
 
-use crate::entries::{entries_on, insert_entries};
+use crate::entries::{access_list_on, insert_entries};
 use crate::levels::{level_in, rank_of};
+use crate::there::is_there_on;
 use opc_names::class::Class;
 use opc_names::laws::keys_order_patterns;
-use opc_names::name::Pattern;
+use opc_names::name::{Pattern, UserId};
 use opc_policy::entries::Entries;
 use opc_policy::profile::Profile;
 use opc_policy::source::StoreFault;
@@ -131,7 +137,7 @@ fn class_in(row: &Row) -> Result<Class, StoreFault>
 
 /// A profile, but for its access list.
 pub fn profile_in(alloc: Global, row: &Row) -> Result<Profile, StoreFault>
-    ensures { (p : TheProfile) → row.now ≡ profile_row p → IfOk result (λ v. v ≡ record p { entries = [] }) }
+    ensures { (p : TheProfile) → row.now ≡ profile_row p → IfOk result (λ v. v ≡ bare p) }
 {
     Ok(Profile {
         class: class_in(row)?,
@@ -141,6 +147,75 @@ pub fn profile_in(alloc: Global, row: &Row) -> Result<Profile, StoreFault>
         warning: value_in(row, 4)?,
         entries: Entries::new(alloc),
     })
+}
+
+fn definitions_in(alloc: Global, rows: &[Row]) -> Result<Vec<Profile>, StoreFault>
+    ensures { (profiles : List TheProfile) → rows.now ≡ map profile_row profiles → IfOk result (λ v. v.items ≡ map bare profiles) }
+{
+    let mut definitions = Vec::new(alloc);
+    for row in rows {
+        definitions.push(profile_in(alloc, row)?)?;
+    }
+    Ok(definitions)
+}
+
+/// The profile of a class and a pattern, but for its access list.
+pub fn definition_on<S: Alter>(
+    alloc: Global,
+    conn: &mut Connection<S>,
+    class: Class,
+    pattern: &Pattern,
+) -> Result<Option<Profile>, StoreFault>
+    requires { conn.old.in_transaction ≡ false }
+    ensures mode { conn.new.in_transaction ≡ false }
+    ensures looks { Looks S.Store conn.old conn.new result }
+    ensures found { Finds S.Store conn.old conn.new result (λ s v. v ≡ option_map bare (profile_of s.policy.profiles class pattern.now)) }
+{
+    let rows = read(
+        conn,
+        "SELECT class, pattern, owner, uacc, warning, skey, head FROM profiles WHERE class = ?1 AND pattern = ?2 ORDER BY class, skey",
+        params![class.text(), pattern.text()],
+    )?;
+    match rows.as_slice().get(0) {
+        Some(row) => Ok(Some(profile_in(alloc, row)?)),
+        None => Ok(None),
+    }
+}
+
+/// The profiles of a class, in the order of their keys.
+pub const BY_CLASS: &str =
+    "SELECT class, pattern, owner, uacc, warning, skey, head FROM profiles WHERE class = ?1 ORDER BY class, skey";
+
+/// The profiles of a class, in the order of their patterns, but for their access lists.
+pub fn definitions_on<S: Alter>(
+    alloc: Global,
+    conn: &mut Connection<S>,
+    class: Class,
+) -> Result<Vec<Profile>, StoreFault>
+    requires { conn.old.in_transaction ≡ false }
+    ensures mode { conn.new.in_transaction ≡ false }
+    ensures looks { Looks S.Store conn.old conn.new result }
+    ensures found { Finds S.Store conn.old conn.new result (λ s v. v.items ≡ map bare (of_class class s.policy.profiles)) }
+{
+    let rows = read(conn, BY_CLASS, params![class.text()])?;
+    definitions_in(alloc, rows.as_slice())
+}
+
+/// Whether a profile has a user as its owner.
+pub(crate) fn has_owner_on<S: Alter>(
+    conn: &mut Connection<S>,
+    user: &UserId,
+) -> Result<bool, StoreFault>
+    requires { conn.old.in_transaction ≡ false }
+    ensures mode { conn.new.in_transaction ≡ false }
+    ensures looks { Looks S.Store conn.old conn.new result }
+    ensures found { Finds S.Store conn.old conn.new result (λ s v. v ≡ list_any (λ (p : TheProfile). bytes_eq p.owner user.now) s.policy.profiles) }
+{
+    is_there_on(
+        conn,
+        "SELECT owner FROM profiles WHERE owner = ?1 LIMIT 1",
+        params![user.text()],
+    )
 }
 
 /// The profile of a row, with its access list.
@@ -155,7 +230,7 @@ pub fn profile_on<S: Alter>(
     ensures found { HasCleanDisk (state S.Store conn.new) → (s : _) → Represents (state S.Store conn.old).now s → (p : TheProfile) → row.now ≡ profile_row p → profile_of s.policy.profiles p.class p.pattern ≡ Some p → IfOk result (λ v. v ≡ p) }
 {
     let profile = profile_in(alloc, row)?;
-    let entries = entries_on(alloc, conn, profile.class, &profile.pattern)?;
+    let entries = access_list_on(alloc, conn, profile.class, &profile.pattern)?;
     Ok(Profile { entries, ..profile })
 }
 
@@ -215,5 +290,20 @@ pub fn profiles_on<S: Alter>(
         "SELECT class, pattern, owner, uacc, warning, skey, head FROM profiles ORDER BY class, skey",
         &[],
     )?;
+    whole_in(alloc, conn, rows.as_slice())
+}
+
+/// The profiles of a class with their access lists, in the order of their patterns.
+pub fn profiles_of_on<S: Alter>(
+    alloc: Global,
+    conn: &mut Connection<S>,
+    class: Class,
+) -> Result<Vec<Profile>, StoreFault>
+    requires { conn.old.in_transaction ≡ false }
+    ensures mode { conn.new.in_transaction ≡ false }
+    ensures looks { Looks S.Store conn.old conn.new result }
+    ensures found { Finds S.Store conn.old conn.new result (λ s v. v.items ≡ of_class class s.policy.profiles) }
+{
+    let rows = read(conn, BY_CLASS, params![class.text()])?;
     whole_in(alloc, conn, rows.as_slice())
 }

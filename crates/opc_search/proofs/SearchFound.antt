@@ -1,5 +1,5 @@
 -- What the search found for one head, with its access list.
-use Rattle.std.proofs.Common.{◌≡◌, ◌∙◌, ℕ, List, find, filter, length, Option, Some, None, option_map, refl, sym, ap, subst}
+use Rattle.std.proofs.Common.{◌≡◌, ◌∙◌, ℕ, List, find, filter, length, Option, Some, None, option_map, is_some, Result, Ok, Err, IfOk, refl, sym, ap, subst}
 use Rattle.sqlite_keyed.proofs.ListLemmas.{all-filter}
 use Rattle.opc_statements.specs.Taken.{taken_for}
 use Rattle.opc_statements.proofs.Parts.{found_one}
@@ -7,28 +7,48 @@ use Rattle.opc_names.specs.declared.class.Class.{Class}
 use Rattle.opc_policy.specs.declared.entry.Entry.{Entry}
 use Rattle.opc_policy.specs.declared.profile.Profile.{Profile}
 use Rattle.opc_policy.specs.Deciding.{deciding}
-use Rattle.opc_policy.specs.Examined.{is_chosen, read_until}
+use Rattle.opc_policy.specs.Examined.{examined, head_length, is_chosen, read_until}
 use Rattle.opc_policy.specs.Profiles.{profile_of}
 use Rattle.opc_policy.proofs.FirstCovering.{chosen_order}
+use Rattle.opc_state.specs.Loads.{bare}
 use Rattle.opc_state.specs.State.{State}
-use Rattle.opc_stored.specs.Content.{bare}
 use Rattle.opc_search.specs.Search.{covers}
 use Rattle.opc_stored.specs.State.{IsOrdered}
 use Rattle.opc_stored.proofs.Decoded.{each_found}
 use Rattle.opc_search.proofs.FirstDeciding.{Decides, first_decides, most_specific_first}
 
--- the profiles of a class, of all heads or with one
+-- ---- an access list tells nothing of the search
+
+pub bare_some : (o : Option Profile) → is_some (option_map bare o) ≡ is_some o
+bare_some None = refl
+bare_some (Some p) = refl
+
+pub bare_head : (o : Option Profile) → head_length (option_map bare o) ≡ head_length o
+bare_head None = refl
+bare_head (Some p) = refl
+
+pub bare_examined : (o : Option Profile) (name : List ℕ) (ps : List Profile) → examined (option_map bare o) name ps ≡ examined o name ps
+bare_examined None name ps = refl
+bare_examined (Some p) name ps = refl
+
+-- what holds of a success
+pub on_success : {T E : Type 0} {P Q : T → Type 0} (r : Result T E) → IfOk r P → ((x : T) → P x → Q x) → IfOk r Q
+on_success (Ok x) h more = more x h
+on_success (Err e) h more = tt
+
+-- ---- the profiles of a class, of all heads or with one
+
 module _ (s : State) (ordered : IsOrdered s) (class : Class) (head : Option (List ℕ)) (resource : List ℕ) where
   abbrev ps : List Profile
   ps = s.policy.profiles
 
-  abbrev asked : List Profile
+  abbrev pub asked : List Profile
   asked = filter (is_chosen class head) ps
 
   abbrev first : Option Profile
   first = find (covers resource) asked
 
-  decided : Decides resource asked
+  pub decided : Decides resource asked
   decided = first_decides resource asked (chosen_order class head ps (most_specific_first ps ordered.profiles))
 
   decides : first ≡ deciding asked resource

@@ -1,7 +1,6 @@
 -- What the queries of the search read: the profiles of a class, of all heads or of one, in the order of their keys.
 use Rattle.std.proofs.Common.{◌≡◌, inl, inr, ℕ, List, [], ◌∷◌, ◌++◌, map, filter, find, Bool, true, refl, sym, ap₂, subst, ◌∙◌, ◌&&◌, append_assoc, Some, None, is_eq}
 use Rattle.std.specs.Str.{bytes_eq}
-use Rattle.std.proofs.lemmas.Map.Text.{is_eq-slice_cmp}
 use Rattle.sqlite_trees.specs.declared.store.Store.{Ghosts}
 use Rattle.sqlite.specs.Order.{Row}
 use Rattle.sqlite.specs.declared.types.Value.TheVariants.{Text}
@@ -21,7 +20,7 @@ use Rattle.opc_statements.specs.Steps.{NeverWrites}
 use Rattle.opc_statements.specs.Taken.{taken_for}
 use Rattle.opc_statements.proofs.Asked.{Asked, IsAsked, told, told_first}
 use Rattle.opc_statements.proofs.Keyed.{same_columns}
-use Rattle.opc_statements.proofs.Values.{equal_texts, and_true}
+use Rattle.opc_statements.proofs.Values.{equal_texts, and_true, same_texts}
 use Rattle.opc_statements.proofs.Streams.{HasTaken, TakesOn, takes_on, taken_all}
 use Rattle.opc_names.specs.declared.class.Class.{Class}
 use Rattle.opc_names.specs.declared.class.Class.TheVariants.{Console, Opercmds}
@@ -32,20 +31,11 @@ use Rattle.opc_policy.specs.Deciding.{of_class}
 use Rattle.opc_policy.specs.Examined.{head_of, with_head, is_chosen}
 use Rattle.opc_policy.specs.Profiles.{profile_cmp}
 use Rattle.opc_policy.proofs.FirstCovering.{filter_both}
-use Rattle.opc_policy_tables.proofs.ProfileLoads.{profiles, profiles_rise}
+use Rattle.opc_policy_tables.proofs.ProfileLoads.{by_class, by_class_asked, class_is, class_params, class_told, in_class, profiles, profiles_rise}
 use Rattle.opc_state.specs.State.{State}
-use Rattle.opc_search.specs.declared.search.TheConstants.{BY_CLASS, BY_HEAD}
+use Rattle.opc_search.specs.declared.search.TheConstants.{BY_HEAD}
 use Rattle.opc_search.specs.Search.{chosen, Selects}
 use Rattle.opc_stored.specs.Represented.{Represents, profile_row}
-
-class_is : (a b : Class) → is_eq (text_cmp (class_text a) (class_text b)) ≡ same_class a b
-class_is Console Console = refl
-class_is Console Opercmds = refl
-class_is Opercmds Console = refl
-class_is Opercmds Opercmds = refl
-
-text_is : (a b : List ℕ) → is_true (binary (Compare Eq Binary) (Text a) (Text b)) ≡ bytes_eq a b
-text_is a b = equal_texts a b ∙ is_eq-slice_cmp a b
 
 -- ---- with a head
 
@@ -65,7 +55,7 @@ chosen_by_head class head ps = filter_both (λ (p : Profile). same_class p.class
 
 module _ (class : Class) (head : List ℕ) where
   picks : (p : Profile) → (is_true (binary (Compare Eq Binary) (Text (class_text p.class)) (Text (class_text class))) && (is_true (binary (Compare Eq Binary) (Text (head_of p)) (Text head)) && true)) ≡ is_chosen class (Some head) p
-  picks p = ap₂ (λ a b. a && b) (equal_texts (class_text p.class) (class_text class) ∙ class_is p.class class) (and_true _ ∙ text_is (head_of p) head)
+  picks p = ap₂ (λ a b. a && b) (equal_texts (class_text p.class) (class_text class) ∙ class_is p.class class) (and_true _ ∙ same_texts (head_of p) head)
 
   -- the query selects the profiles of the class and with the head
   pub selects_chosen : {S : Type 0} (g : Ghosts S) → Selects g by_head.text (head_params class head) (chosen class head)
@@ -76,31 +66,12 @@ module _ (class : Class) (head : List ℕ) where
 
 -- ---- of a class
 
-abbrev pub by_class : Asked
-by_class = record profiles { text = BY_CLASS.now; tests = same_columns 0 1 }
-
-pub by_class_asked : IsAsked by_class
-unfolding understood everything
-by_class_asked = record { selects = refl; unlisted = refl; plain = (refl, refl); shows = λ schema base. refl }
-
-abbrev pub class_params : Class → Row
-class_params class = Text (class_text class) ∷ []
-
 module _ (class : Class) where
-  abbrev is_in : Profile → Bool
-  is_in p = same_class p.class class
-
-  in_class : (p : Profile) → (is_true (binary (Compare Eq Binary) (Text (class_text p.class)) (Text (class_text class))) && true) ≡ is_in p
-  in_class p = and_true _ ∙ (equal_texts (class_text p.class) (class_text class) ∙ class_is p.class class)
-
-  pub class_told : (old new : SqlState) (s : State) → Represents old.now s → (rows : List Row) → Shown by_class.text (class_params class) old new rows → rows ≡ map profile_row (of_class class s.policy.profiles)
-  class_told old new s was = told by_class (class_params class) refl profile_row profile_cmp (λ _. refl) profiles_rise is_in in_class by_class_asked old new was.rows.schema s.policy.profiles was.ordered.profiles was.rows.holds.profiles
-
   -- the query selects the profiles of the class
   pub selects_class : {S : Type 0} (g : Ghosts S) → Selects g by_class.text (class_params class) (λ s. of_class class s.policy.profiles)
   selects_class g = record {
-    begins = λ h s was. told_first by_class (class_params class) refl profile_row profile_cmp (λ _. refl) profiles_rise is_in in_class by_class_asked (state g h) was.rows.schema s.policy.profiles was.ordered.profiles was.rows.holds.profiles;
-    shows = λ h k s was. class_told (state g h) (state g k) s was;
+    begins = λ h s was. told_first by_class (class_params class) refl profile_row profile_cmp (λ _. refl) profiles_rise (λ p. same_class p.class class) (in_class class) by_class_asked (state g h) was.rows.schema s.policy.profiles was.ordered.profiles was.rows.holds.profiles;
+    shows = λ h k s was. class_told class (state g h) (state g k) s was;
   }
 
 -- ---- rows that are taken one at a time

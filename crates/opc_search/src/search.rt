@@ -9,21 +9,20 @@ ghost use Rattle.opc_statements.specs.Taken.{taken_for};
 ghost use Rattle.opc_policy.specs.Deciding.{of_class, deciding};
 ghost use Rattle.opc_policy.specs.Examined.{examined, head_length, read_until, with_head};
 ghost use Rattle.opc_policy.specs.declared.profile.Profile.{Profile as TheProfile};
+ghost use Rattle.opc_state.specs.Loads.{bare};
 ghost use Rattle.opc_state.specs.State.{State, deciding_in};
 ghost use Rattle.opc_stored.specs.Asked.{Finds};
 ghost use Rattle.opc_stored.specs.Represented.{Represents};
 ghost use Rattle.opc_search.specs.Search.{Selects, covers};
-ghost use Rattle.opc_stored.specs.Content.{bare};
 
 use opc_names::class::Class;
 use opc_names::name::Resource;
 use opc_policy::profile::Profile;
 use opc_policy::search::Found;
 use opc_policy::source::{StoreFault, Taken};
-use opc_policy_tables::entries::entries_on;
-use opc_policy_tables::profiles::{profile_in, whole_in};
+use opc_policy_tables::entries::access_list_on;
+use opc_policy_tables::profiles::{BY_CLASS, profile_in};
 use opc_stored::faults::fault;
-use opc_stored::queries::read;
 use sqlite::types::ValueRef;
 use sqlite::{Alter, Connection, params};
 use std::alloc::Global;
@@ -31,10 +30,6 @@ use std::alloc::Global;
 /// The profiles of a class with a head, in the order of their keys.
 const BY_HEAD: &str =
     "SELECT class, pattern, owner, uacc, warning, skey, head FROM profiles WHERE class = ?1 AND head = ?2 ORDER BY class, skey";
-
-/// The profiles of a class, in the order of their keys.
-const BY_CLASS: &str =
-    "SELECT class, pattern, owner, uacc, warning, skey, head FROM profiles WHERE class = ?1 ORDER BY class, skey";
 
 /// The first profile that covers a resource, of those that a query selects, but for its access list, and how many were
 /// read for it. The rows are taken one at a time, and left at the first cover.
@@ -79,8 +74,27 @@ fn first_covering_on<S: Alter>(
     Err(StoreFault::Store)
 }
 
-/// The first profile that covers a resource, in the order of the patterns, of those of a class with this very head, and how
-/// many were read for it.
+/// The first profile that covers a resource, in the order of the patterns, of those of a class with this very head, but
+/// for its access list, and how many were read for it.
+fn first_with_head_on<S: Alter>(
+    alloc: Global,
+    conn: &mut Connection<S>,
+    class: Class,
+    head: &str,
+    resource: &Resource,
+) -> Result<Taken, StoreFault>
+    requires { conn.old.in_transaction ≡ false }
+    ensures mode { conn.new.in_transaction ≡ false }
+    ensures looks { Looks S.Store conn.old conn.new result }
+    ensures first { Finds S.Store conn.old conn.new result (λ s taken.
+        taken.profile ≡ option_map bare (deciding (with_head head.now (of_class class s.policy.profiles)) resource.now)) }
+    ensures rows { Finds S.Store conn.old conn.new result (λ s taken.
+        taken.rows ≡ length (read_until (deciding (with_head head.now (of_class class s.policy.profiles)) resource.now) (with_head head.now (of_class class s.policy.profiles)))) }
+{
+    first_covering_on(alloc, conn, BY_HEAD, params![class.text(), head], resource)
+}
+
+/// The same with its access list.
 pub fn first_in_on<S: Alter>(
     alloc: Global,
     conn: &mut Connection<S>,
@@ -104,7 +118,7 @@ pub fn first_in_on<S: Alter>(
             rows,
         });
     };
-    let entries = entries_on(alloc, conn, profile.class, &profile.pattern)?;
+    let entries = access_list_on(alloc, conn, profile.class, &profile.pattern)?;
     Ok(Taken {
         profile: Some(Profile { entries, ..profile }),
         rows,
@@ -134,26 +148,11 @@ pub fn first_on<S: Alter>(
             rows,
         });
     };
-    let entries = entries_on(alloc, conn, profile.class, &profile.pattern)?;
+    let entries = access_list_on(alloc, conn, profile.class, &profile.pattern)?;
     Ok(Taken {
         profile: Some(Profile { entries, ..profile }),
         rows,
     })
-}
-
-/// The profiles of a class, in the order of their patterns.
-pub fn all_on<S: Alter>(
-    alloc: Global,
-    conn: &mut Connection<S>,
-    class: Class,
-) -> Result<Vec<Profile>, StoreFault>
-    requires { conn.old.in_transaction ≡ false }
-    ensures mode { conn.new.in_transaction ≡ false }
-    ensures looks { Looks S.Store conn.old conn.new result }
-    ensures found { Finds S.Store conn.old conn.new result (λ s v. v.items ≡ of_class class s.policy.profiles) }
-{
-    let rows = read(conn, BY_CLASS, params![class.text()])?;
-    whole_in(alloc, conn, rows.as_slice())
 }
 
 fn sum(rows: u64, read: u64) -> Result<u64, StoreFault>
@@ -165,7 +164,7 @@ fn sum(rows: u64, read: u64) -> Result<u64, StoreFault>
     }
 }
 
-/// The profile of a class that decides a resource: the tables are asked for the prefixes of the name as heads, from the
+/// The profile of a class that decides a resource, but for its access list: the tables are asked for the prefixes of the name as heads, from the
 /// whole name down to the empty one, and no more once a profile covers.
 pub fn deciding_on<S: Alter>(
     alloc: Global,
@@ -177,7 +176,7 @@ pub fn deciding_on<S: Alter>(
     ensures mode { conn.new.in_transaction ≡ false }
     ensures looks { Looks S.Store conn.old conn.new result }
     ensures found { Finds S.Store conn.old conn.new result (λ s found.
-        found.profile ≡ deciding_in s.policy class resource.now) }
+        found.profile ≡ option_map bare (deciding_in s.policy class resource.now)) }
     ensures ranges { Finds S.Store conn.old conn.new result (λ s found.
         found.ranges + head_length found.profile ≡ length resource.now + 1) }
     ensures rows { Finds S.Store conn.old conn.new result (λ s found.
@@ -187,7 +186,7 @@ pub fn deciding_on<S: Alter>(
     let mut rows = 0;
     let mut length = name.len();
     'heads: loop {
-        let taken = first_in_on(alloc, conn, class, &name[..length], resource)?;
+        let taken = first_with_head_on(alloc, conn, class, &name[..length], resource)?;
         let Taken {
             profile,
             rows: read,

@@ -89,7 +89,7 @@ module _ (class : Class) (pattern : List ℕ) where
       go true is more = more
       go false is more = (is, more)
 
-  lack : (qs : List Profile) → AllByRecursion (λ q. is_of class pattern q ≡ false) qs → AllByRecursion (λ v. has_profile class pattern v ≡ false) (flat_map entry_rows qs)
+  pub lack : (qs : List Profile) → AllByRecursion (λ q. is_of class pattern q ≡ false) qs → AllByRecursion (λ v. has_profile class pattern v ≡ false) (flat_map entry_rows qs)
   lack qs h =
       all-flat_map (λ v. has_profile class pattern v ≡ false) entry_rows qs
       (all_weaker _ _ (λ q miss. all-map (λ v. has_profile class pattern v ≡ false) (entry_row q.class q.pattern) (λ e. picks_entries class pattern q e ∙ miss) q.entries) qs h)

@@ -1,7 +1,6 @@
 -- The statements on profiles and on their access lists.
 use Rattle.std.proofs.Common.{◌≡◌, ℕ, List, [], ◌∷◌, ◌&&◌, drop, codes, Bool, true, false, refl, ap₂, ◌∙◌, is_eq}
 use Rattle.std.specs.Str.{bytes_eq}
-use Rattle.std.proofs.lemmas.Map.Text.{is_eq-slice_cmp}
 use Rattle.sqlite.specs.declared.types.Value.{Value}
 use Rattle.sqlite.specs.declared.types.Value.TheVariants.{Null, Text}
 use Rattle.sqlite.specs.Term.{Term, lit, col, op2}
@@ -20,7 +19,7 @@ use Rattle.sqlite.proofs.Callers.{IsPlain, command_of}
 use Rattle.opc_statements.specs.Order.{text_cmp}
 use Rattle.opc_statements.proofs.Steps.{cast_int}
 use Rattle.opc_statements.proofs.Queries.{selecting, alone, passes}
-use Rattle.opc_statements.proofs.Values.{equal_texts, and_true}
+use Rattle.opc_statements.proofs.Values.{equal_texts, and_true, same_texts}
 use Rattle.opc_names.specs.declared.class.Class.{Class}
 use Rattle.opc_names.specs.declared.class.Class.TheVariants.{Console, Opercmds}
 use Rattle.opc_names.specs.Authority.{same_class}
@@ -173,14 +172,11 @@ class_is Console Opercmds = refl
 class_is Opercmds Console = refl
 class_is Opercmds Opercmds = refl
 
-text_is : (a b : List ℕ) → is_true (binary (Compare Eq Binary) (Text a) (Text b)) ≡ bytes_eq a b
-text_is a b = equal_texts a b ∙ is_eq-slice_cmp a b
-
 pub picks_profile : (class : Class) (pattern : List ℕ) (p : Profile) → has_profile class pattern (profile_row p) ≡ is_of class pattern p
-picks_profile class pattern p = ap₂ (λ a b. a && b) (equal_texts (class_text p.class) (class_text class) ∙ class_is p.class class) (and_true _ ∙ text_is p.pattern pattern)
+picks_profile class pattern p = ap₂ (λ a b. a && b) (equal_texts (class_text p.class) (class_text class) ∙ class_is p.class class) (and_true _ ∙ same_texts p.pattern pattern)
 
 pub picks_entries : (class : Class) (pattern : List ℕ) (p : Profile) (e : Entry) → has_profile class pattern (entry_row p.class p.pattern e) ≡ is_of class pattern p
-picks_entries class pattern p e = ap₂ (λ a b. a && b) (equal_texts (class_text p.class) (class_text class) ∙ class_is p.class class) (and_true _ ∙ text_is p.pattern pattern)
+picks_entries class pattern p e = ap₂ (λ a b. a && b) (equal_texts (class_text p.class) (class_text class) ∙ class_is p.class class) (and_true _ ∙ same_texts p.pattern pattern)
 
 and_both : (a b c : Bool) → (a && (b && c)) ≡ ((a && b) && c)
 and_both true b c = refl
@@ -188,8 +184,8 @@ and_both false b c = refl
 
 pub picks_entry : (class : Class) (pattern id console : List ℕ) (p : Profile) (e : Entry) → has_entry class pattern id console (entry_row p.class p.pattern e) ≡ (is_of class pattern p && is_at id console e)
 picks_entry class pattern id console p e =
-    let mine = ap₂ (λ a b. a && b) (text_is e.id id) (and_true _ ∙ text_is (or_empty e.when) console) in
-    ap₂ (λ a b. a && b) (equal_texts (class_text p.class) (class_text class) ∙ class_is p.class class) (ap₂ (λ a b. a && b) (text_is p.pattern pattern) mine)
+    let mine = ap₂ (λ a b. a && b) (same_texts e.id id) (and_true _ ∙ same_texts (or_empty e.when) console) in
+    ap₂ (λ a b. a && b) (equal_texts (class_text p.class) (class_text class) ∙ class_is p.class class) (ap₂ (λ a b. a && b) (same_texts p.pattern pattern) mine)
     ∙ and_both (same_class p.class class) (bytes_eq p.pattern pattern) (is_at id console e)
 
 -- ---- what the columns make of the values

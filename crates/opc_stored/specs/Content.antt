@@ -15,6 +15,7 @@ use Rattle.opc_policy.specs.declared.entry.Entry.{Entry}
 use Rattle.opc_policy.specs.declared.profile.Profile.{Profile}
 use Rattle.opc_policy.specs.Access.{entry_cmp}
 use Rattle.opc_policy.specs.Profiles.{profile_cmp}
+pub use Rattle.opc_state.specs.Loads.{bare}
 use Rattle.opc_stored.specs.Placed.{entries_at, profiles_at}
 
 -- a value of another kind says nothing
@@ -51,10 +52,6 @@ level_of n = if n == 0 then level.None else if n == 1 then level.Read else if n 
 -- the values of each row
 abbrev pub values_of : List Row → List Row
 values_of rows = map (λ (r : Row). drop 1 r) rows
-
--- a profile, but for its access list
-abbrev pub bare : Profile → Profile
-bare p = record p { entries = [] }
 
 -- a profile, but for its access list
 abbrev pub profile_said : Row → Profile

@@ -1,4 +1,5 @@
-use Rattle.std.proofs.Common.{◌≡◌, ◌∙◌, List, Some, None, length, sym, ap, subst, arith}
+use Rattle.std.proofs.Common.{◌≡◌, ◌∙◌, [], Option, List, Some, None, length, sym, ap, subst, arith}
+use Rattle.std.specs.Option.{option_map_or}
 use Rattle.sqlite.specs.Held.{state}
 use Rattle.sqlite.specs.State.{HasCleanDisk}
 use Rattle.sqlite.specs.Effect.{Database}
@@ -41,7 +42,7 @@ returns-clause-first g c clean s was =
     let q = c.in-Some.profile in
     let w = found_some s was.ordered c.args.class (Some c.args.head.now) resource n this.1 q (sym c.in-Some.is ∙ this.0) in
     let mid = looked g.S.Store _ _ _ _ _ c.in_ok-taken.ensures.looks early (λ (d : Database). Represents d s) was in
-    let entries = c.in_ok-entries.ensures.found clean s mid w.d w.here in
+    let entries = c.in_ok-entries.ensures.found clean s mid ∙ ap (λ (o : Option Profile). option_map_or (λ (p : Profile). p.entries) o []) w.here in
     let same = whole s was.ordered c.args.class (Some c.args.head.now) resource n this.1 q w _ entries in
     ap (λ (p : Profile). Some p) same ∙ (w.decides ∙ ap (λ (l : List Profile). deciding l resource) (sym (chosen_by_head c.args.class c.args.head.now s.policy.profiles)))
 
@@ -54,7 +55,7 @@ returns-clause-rows g c clean s was =
     let q = c.in-Some.profile in
     let w = found_some s was.ordered c.args.class (Some c.args.head.now) resource n this.1 q (sym c.in-Some.is ∙ this.0) in
     let mid = looked g.S.Store _ _ _ _ _ c.in_ok-taken.ensures.looks early (λ (d : Database). Represents d s) was in
-    let entries = c.in_ok-entries.ensures.found clean s mid w.d w.here in
+    let entries = c.in_ok-entries.ensures.found clean s mid ∙ ap (λ (o : Option Profile). option_map_or (λ (p : Profile). p.entries) o []) w.here in
     let same = whole s was.ordered c.args.class (Some c.args.head.now) resource n this.1 q w _ entries in
     let read : n ≡ length (read_until (Some w.d) (with_head c.args.head.now (of_class c.args.class s.policy.profiles))) = w.reads ∙ ap (λ (l : List Profile). length (read_until (Some w.d) l)) (sym (chosen_by_head c.args.class c.args.head.now s.policy.profiles)) in
     subst (λ (p : Profile). n ≡ length (read_until (Some p) (with_head c.args.head.now (of_class c.args.class s.policy.profiles)))) (sym same) read

@@ -1,4 +1,5 @@
-use Rattle.std.proofs.Common.{◌≡◌, ◌∙◌, Some, None, length, sym, ap, subst, arith}
+use Rattle.std.proofs.Common.{◌≡◌, ◌∙◌, [], Option, Some, None, length, sym, ap, subst, arith}
+use Rattle.std.specs.Option.{option_map_or}
 use Rattle.sqlite.specs.Held.{state}
 use Rattle.sqlite.specs.State.{HasCleanDisk}
 use Rattle.sqlite.specs.Effect.{Database}
@@ -10,7 +11,8 @@ use Rattle.opc_policy.specs.Examined.{read_until}
 use Rattle.opc_state.specs.State.{State}
 use Rattle.opc_stored.specs.Represented.{Represents}
 use Rattle.opc_search.proofs.SearchFound.{found_none, found_some, whole}
-use Rattle.opc_search.proofs.SearchLoads.{by_class_asked, selects_class}
+use Rattle.opc_search.proofs.SearchLoads.{selects_class}
+use Rattle.opc_policy_tables.proofs.ProfileLoads.{by_class_asked}
 use Rattle.opc_search.proofs.search.first_on.Goals as goal
 
 pub first_covering_on-requires-clause-quiet : goal.first_covering_on-requires-clause-quiet
@@ -41,7 +43,7 @@ returns-clause-first g c clean s was =
     let q = c.in-Some.profile in
     let w = found_some s was.ordered c.args.class None resource n this.1 q (sym c.in-Some.is ∙ this.0) in
     let mid = looked g.S.Store _ _ _ _ _ c.in_ok-taken.ensures.looks early (λ (d : Database). Represents d s) was in
-    let entries = c.in_ok-entries.ensures.found clean s mid w.d w.here in
+    let entries = c.in_ok-entries.ensures.found clean s mid ∙ ap (λ (o : Option Profile). option_map_or (λ (p : Profile). p.entries) o []) w.here in
     let same = whole s was.ordered c.args.class None resource n this.1 q w _ entries in
     ap (λ (p : Profile). Some p) same ∙ (w.decides)
 
@@ -54,7 +56,7 @@ returns-clause-rows g c clean s was =
     let q = c.in-Some.profile in
     let w = found_some s was.ordered c.args.class None resource n this.1 q (sym c.in-Some.is ∙ this.0) in
     let mid = looked g.S.Store _ _ _ _ _ c.in_ok-taken.ensures.looks early (λ (d : Database). Represents d s) was in
-    let entries = c.in_ok-entries.ensures.found clean s mid w.d w.here in
+    let entries = c.in_ok-entries.ensures.found clean s mid ∙ ap (λ (o : Option Profile). option_map_or (λ (p : Profile). p.entries) o []) w.here in
     let same = whole s was.ordered c.args.class None resource n this.1 q w _ entries in
     let read : n ≡ length (read_until (Some w.d) (of_class c.args.class s.policy.profiles)) = w.reads in
     subst (λ (p : Profile). n ≡ length (read_until (Some p) (of_class c.args.class s.policy.profiles))) (sym same) read

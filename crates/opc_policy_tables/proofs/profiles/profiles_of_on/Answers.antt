@@ -11,8 +11,8 @@ use Rattle.opc_policy.specs.Deciding.{of_class}
 use Rattle.opc_policy.specs.Profiles.{profile_of}
 use Rattle.opc_stored.specs.Represented.{Represents}
 use Rattle.opc_stored.proofs.Decoded.{each_found}
-use Rattle.opc_search.proofs.SearchLoads.{by_class_asked, class_told}
-use Rattle.opc_search.proofs.search.all_on.Goals as goal
+use Rattle.opc_policy_tables.proofs.ProfileLoads.{by_class_asked, class_told}
+use Rattle.opc_policy_tables.proofs.profiles.profiles_of_on.Goals as goal
 
 pub read-requires-clause-quiet : goal.read-requires-clause-quiet
 read-requires-clause-quiet g c = never_writes by_class_asked

@@ -20,9 +20,12 @@ pub data Input : Type 0 where
   -- what happens in the machine room
   Event : (event : BoardEvent) → Input
 
--- the requests that are handled today
 abbrev pub input_of : Request → Input
 input_of (request.Command console text) = Command console text
+input_of (request.Admin console op) = Admin console op
+input_of (request.ListProfiles console class) = ListProfiles console class
+input_of (request.ListAccount console from count) = ListAccount console from count
+input_of (request.Import console batch rows) = Import console batch rows
 input_of (request.Event event) = Event event
 
 -- requests and their moments

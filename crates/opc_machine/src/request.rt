@@ -1,9 +1,12 @@
 //! Requests and their answers.
+use crate::operation::Operation;
 use opc_board::event::Event;
 use opc_board::line::Line;
 use opc_board::text::KeptText;
+use opc_names::class::Class;
 use opc_names::name::ConsoleName;
 use opc_policy::fault::Fault;
+use opc_policy::row::Row;
 use opc_policy::rule::Rule;
 use opc_rows::Rows;
 
@@ -14,6 +17,28 @@ pub enum Request {
     Command {
         console: ConsoleName,
         text: KeptText,
+    },
+    /// An operation of administration.
+    Admin {
+        console: ConsoleName,
+        op: Operation,
+    },
+    /// The profiles of a class.
+    ListProfiles {
+        console: ConsoleName,
+        class: Class,
+    },
+    /// Rows of the account from a number on, which is 1 or more, as many as asked for at most.
+    ListAccount {
+        console: ConsoleName,
+        from: u64,
+        count: u32,
+    },
+    /// The rows of a written policy, as a batch with a number.
+    Import {
+        console: ConsoleName,
+        batch: u32,
+        rows: Rows<Row>,
     },
     /// What happens in the machine room.
     Event(Event),

@@ -1,1 +1,2 @@
+pub mod Asking
 pub use Rattle.opc_machine.specs.Rulings

@@ -1,5 +1,6 @@
-//! Rulings: who acts at a console, what is ruled on a need there, and what may be shown.
+//! Rulings: who acts and who asks at a console, what is ruled on a need there, and what may be shown.
 #![tactic(auto)]
 
+pub mod asking;
 pub mod console;
 pub mod ruling;

@@ -1,0 +1,148 @@
+//! The console that asks, and who acts there.
+ghost use Rattle.std.specs.Prelude.{◌≡◌, ◌&&◌, IfOk, Some};
+ghost use Rattle.std.specs.Option.{is_none};
+ghost use Rattle.opc_board.specs.Facts.{console_at};
+ghost use Rattle.opc_state.specs.Asked.{Answers};
+ghost use Rattle.opc_state.specs.Changes.{IsKept};
+ghost use Rattle.opc_state.specs.Facts.{IsKeyed};
+ghost use Rattle.opc_machine.specs.Rights.{is_owner, is_special, sees_all};
+ghost use Rattle.opc_machine.specs.Rulings.{acting, is_required, is_revoked};
+ghost use Rattle.opc_rulings.specs.Asking.{IsAsking, IsConsoleFor};
+
+use crate::ruling::acting_user_on;
+use opc_board::rows::ConsoleRow;
+use opc_machine::outcome::Denial;
+use opc_names::name::ConsoleName;
+use opc_policy::fault::Fault;
+use opc_policy::mode::Mode;
+use opc_policy::profile::Profile;
+use opc_policy::rule::Rule;
+use opc_policy::source::StoreFault;
+use opc_policy::user::User;
+use opc_state::tables::Tables;
+use std::alloc::Global;
+
+/// A console that may ask, and who acts there, if anybody does.
+#[derive(Clone, Copy)]
+pub struct Asking {
+    pub console: ConsoleRow,
+    pub user: Option<User>,
+}
+
+/// The console of a name: it has to be there (E10), and online (E11).
+pub fn console_for<T: Tables>(
+    tables: &mut T,
+    name: &ConsoleName,
+) -> Result<Result<ConsoleRow, Denial>, StoreFault>
+    ensures kept { IsKept T.is_sure T.represents T.may_leave tables.old tables.new }
+    ensures console { Answers (T.is_sure tables.new) (T.represents tables.old) result (λ s console. IsConsoleFor s name.now console) }
+    ensures row { Answers (T.is_sure tables.new) (T.represents tables.old) result (λ s console. IfOk console (λ c. console_at s.board c.name ≡ Some c)) }
+    ensures keyed { Answers (T.is_sure tables.new) (T.represents tables.old) result (λ s _. IsKeyed s) }
+{
+    let Some(console) = tables.console(name)? else {
+        return Ok(Err(Denial {
+            fault: Fault::NoConsole,
+            rule: None,
+        }));
+    };
+    if !console.online {
+        return Ok(Err(Denial {
+            fault: Fault::ConsoleOffline,
+            rule: None,
+        }));
+    }
+    Ok(Ok(console))
+}
+
+// Whether nobody is on where somebody has to be.
+fn lacks_logon(console: &ConsoleRow) -> bool
+    ensures { result ≡ is_required console.now.mode && is_none console.now.user }
+{
+    match console.mode {
+        Mode::Required => console.user.is_none(),
+        Mode::Optional | Mode::Auto => false,
+    }
+}
+
+fn is_revoked(user: &Option<User>) -> bool
+    ensures { result ≡ is_revoked user.now }
+{
+    match user {
+        Some(user) => user.revoked,
+        None => false,
+    }
+}
+
+fn user_on<T: Tables>(
+    tables: &mut T,
+    alloc: Global,
+    console: &ConsoleRow,
+) -> Result<Option<User>, StoreFault>
+    ensures kept { IsKept T.is_sure T.represents T.may_leave tables.old tables.new }
+    ensures user { Answers (T.is_sure tables.new) (T.represents tables.old) result (λ s user. user ≡ acting s console.now) }
+{
+    match acting_user_on(tables, alloc, console)? {
+        Some(id) => tables.user(alloc, &id),
+        None => Ok(None),
+    }
+}
+
+/// The console that asks and who acts there. It has to be there and online; somebody has to be on where its mode is
+/// REQUIRED (E12), and whoever acts may not be revoked (E13).
+pub fn asking_on<T: Tables>(
+    tables: &mut T,
+    alloc: Global,
+    name: &ConsoleName,
+) -> Result<Result<Asking, Denial>, StoreFault>
+    ensures kept { IsKept T.is_sure T.represents T.may_leave tables.old tables.new }
+    ensures asking { Answers (T.is_sure tables.new) (T.represents tables.old) result (λ s asking. IsAsking s name.now asking) }
+    ensures keyed { Answers (T.is_sure tables.new) (T.represents tables.old) result (λ s _. IsKeyed s) }
+{
+    let console = match console_for(tables, name)? {
+        Ok(console) => console,
+        Err(denial) => return Ok(Err(denial)),
+    };
+    if lacks_logon(&console) {
+        return Ok(Err(Denial {
+            fault: Fault::LogonRequired,
+            rule: Some(Rule::LogonRequired),
+        }));
+    }
+    let user = user_on(tables, alloc, &console)?;
+    if is_revoked(&user) {
+        return Ok(Err(Denial {
+            fault: Fault::Revoked,
+            rule: Some(Rule::Revoked),
+        }));
+    }
+    Ok(Ok(Asking { console, user }))
+}
+
+pub fn is_special(user: &Option<User>) -> bool
+    ensures { result ≡ is_special user.now }
+{
+    match user {
+        Some(user) => user.special,
+        None => false,
+    }
+}
+
+/// Whether whoever acts is SPECIAL or AUDITOR.
+pub fn sees_all(user: &Option<User>) -> bool
+    ensures { result ≡ sees_all user.now }
+{
+    match user {
+        Some(user) => user.special || user.auditor,
+        None => false,
+    }
+}
+
+/// Whether whoever acts owns a profile.
+pub fn is_owner(user: &Option<User>, profile: &Profile) -> bool
+    ensures { result ≡ is_owner user.now (Some profile.now) }
+{
+    match user {
+        Some(user) => profile.owner.text() == user.id.text(),
+        None => false,
+    }
+}

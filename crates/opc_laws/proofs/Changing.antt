@@ -60,13 +60,13 @@ asking_back s name c asks =
     ∙ ap (λ o. unless_denied o >>= λ _. Ok c) asks.logon
 
 -- lines that are made of rows, one of each
-made_of : {X Y : Type 0} (f : X → Y) (xs : List X) (y : Y) → Contains (map f xs) y → (x : X) × (y ≡ f x) × Contains xs x
+pub made_of : {X Y : Type 0} (f : X → Y) (xs : List X) (y : Y) → Contains (map f xs) y → (x : X) × (y ≡ f x) × Contains xs x
 made_of {X} {Y} f xs y h = All-contains P (map f xs) y (All-map P f xs (All-weaker (Contains xs) (λ x. P (f x)) (λ x c. (x, refl, c)) xs (All-contains_itself xs))) h
   where
     P : Y → Type 0
     P z = (x : X) × (z ≡ f x) × Contains xs x
 
-makes : {X Y : Type 0} (f : X → Y) (xs : List X) (x : X) → Contains xs x → Contains (map f xs) (f x)
+pub makes : {X Y : Type 0} (f : X → Y) (xs : List X) (x : X) → Contains xs x → Contains (map f xs) (f x)
 makes f xs x h = (h.0, simp length-map h.1, get_or-map f xs h.0 x (f x) h.1 ∙ ap f h.2)
 
 pub administers_only : AdministersOnlyWhereAllowed

@@ -1,5 +1,5 @@
 -- Refusals of authority name their rule, whatever is asked.
-use Rattle.std.proofs.Common.{◌≡◌, inl, inr, ℕ, Bool, true, false, not, ◌&&◌, if◌then◌else◌, is_some, List, [], ◌∷◌, Option, Some, None, Result, Ok, Err, filter, map, refl, subst, codes}
+use Rattle.std.proofs.Common.{◌≡◌, inl, inr, ℕ, Bool, true, false, not, ◌&&◌, if◌then◌else◌, is_some, List, [], ◌∷◌, Option, Some, None, Result, Ok, Err, filter, map, refl, rules, subst, codes}
 use Rattle.std.specs.Option.{is_none}
 use Rattle.opc_names.specs.declared.class.Class.{Class}
 use Rattle.opc_policy.specs.declared.fault.Fault.{Fault}
@@ -29,16 +29,17 @@ use Rattle.opc_machine.specs.Commands.{acted, console_for, denial_fault, event_o
 use Rattle.opc_machine.specs.Imports.{batch_line, batch_of, batch_outcome, import_outcome, same_rows}
 use Rattle.opc_machine.specs.Inputs.{Input}
 use Rattle.opc_machine.specs.Inputs as input
-use Rattle.opc_laws.specs.Laws.{IsDeniedBy, IsNamedBy, IsOfAuthority, IsShutOut, RefusalsOfAuthorityNameTheirRule}
+use Rattle.opc_laws.specs.Laws.{IsDeniedBy, IsNamedBy, IsOfAuthority, IsRefusedByBoard, IsShutOut, RefusalsNameNoOtherRule, RefusalsOfAuthorityNameTheirRule}
 use Rattle.opc_machine.specs.Listings.{account_line, account_outcome, profile_line, profiles_outcome}
-use Rattle.opc_machine.specs.Machine.{outcome}
+use Rattle.opc_machine.specs.declared.request.Answer.TheVariants.{Refused}
+use Rattle.opc_machine.specs.Machine.{IsGivenUp, answer_of, outcome}
 use Rattle.opc_machine.specs.declared.operation.Operation.{Operation}
 use Rattle.opc_machine.specs.declared.operation.Operation.TheVariants as operation
 use Rattle.opc_machine.specs.Outcome.{Denial, Outcome, ◌>>=◌, does, or_refused, refuse_if, refused}
 use Rattle.opc_machine.specs.Rights.{account_shown, console_asking, is_special, may_change, profile_shown, right_fault, unless_denied}
 use Rattle.opc_machine.specs.Rulings.{acting, is_required, is_revoked, logon_denial}
 use Rattle.opc_machine.proofs.Inversion.{console_is, refused_is}
-use Rattle.opc_laws.proofs.Naming.{IfRefused, IsTold, then_told, console_told, command_told, board_has_none, given_up_has_none}
+use Rattle.opc_laws.proofs.Naming.{IfRefused, IsTold, IsToldBy, then_told, console_told, command_told, board_has_none, given_up_has_none}
 
 -- what is in the way of a change is no refusal of authority
 abbrev pub IsNoneOfAuthority : {A : Type 0} → Result A Fault → Type 0
@@ -125,7 +126,7 @@ abbrev pub IsLogonRule : Option Rule → Type 0
 IsLogonRule None = Unit {0}
 IsLogonRule (Some why) = IsNamedBy (denial_fault why) why
 
-logon_rule : (s : State) (c : ConsoleRow) → IsLogonRule (logon_denial s c)
+pub logon_rule : (s : State) (c : ConsoleRow) → IsLogonRule (logon_denial s c)
 logon_rule s c = go (is_required c.mode) (is_none c.user) (is_revoked (acting s c))
   where
     go : (required nobody revoked : Bool) → IsLogonRule (if required && nobody then Some rule.LogonRequired else (if revoked then Some rule.Revoked else None))
@@ -137,16 +138,16 @@ logon_rule s c = go (is_required c.mode) (is_none c.user) (is_revoked (acting s 
 
 module _ (s : State) (r : Input) where
   refuse_told : (f : Fault) (b : Bool) → (IsOfAuthority f → ⊥) → IfRefused (IsTold s r) (refuse_if f None b)
-  refuse_told f true none = λ h. absurd (none h)
+  refuse_told f true none = none
   refuse_told f false none = tt
 
   or_told : {A : Type 0} (x : Result A Fault) → IsNoneOfAuthority x → IfRefused (IsTold s r) (or_refused x)
   or_told (Ok x) none = tt
-  or_told (Err f) none = λ h. absurd (none h)
+  or_told (Err f) none = none
 
   acted_told : (a : BoardOutcome) → IfRefused (IsTold s r) (acted None a)
   acted_told (Ok d) = tt
-  acted_told (Err f) = λ h. absurd (board_has_none f h)
+  acted_told (Err f) = board_has_none f
 
   module _ (name : List ℕ) (shut_out : (why : Rule) → IsShutOut s name why → IsDeniedBy s r why) where
     asking_told : IfRefused (IsTold s r) (console_asking s name)
@@ -155,7 +156,7 @@ module _ (s : State) (r : Input) where
       where
         at_logon : (c : ConsoleRow) → (console_at s.board name ≡ Some c) × (c.online ≡ true) → (o : Option Rule) → logon_denial s c ≡ o → IsLogonRule o → IfRefused (IsTold s r) (unless_denied o)
         at_logon c at None is proper = tt
-        at_logon c at (Some why) is proper = λ h. (why, refl, proper, shut_out why (record { console = c; there = at.0; online = at.1; denied = is }))
+        at_logon c at (Some why) is proper = inl (proper, shut_out why (record { console = c; there = at.0; online = at.1; denied = is }))
 
 admin_told : (s : State) (name : List ℕ) (o : Operation) → IfRefused (IsTold s (input.Admin name o)) (admin_outcome s name o)
 admin_told s name o =
@@ -198,7 +199,7 @@ import_told s name number all =
 
     again : (same : Bool) → IfRefused (IsTold s r) (if same then does s (batch_line number (codes "AGAIN") ∷ []) None else refused fault.BatchChanged None)
     again true = tt
-    again false = λ h. absurd h
+    again false = λ h. h
 
     batch_told : (kept : Option Batch) → IfRefused (IsTold s r) (batch_outcome s number all kept)
     batch_told None = then_told (IsTold s r) (or_refused (with_rows all s)) (λ new. does (record new { batches = with_batch (record { number = number; rows = all }) new.batches }) (batch_line number (codes "KEPT") ∷ []) None)
@@ -216,9 +217,35 @@ outcome_told s (input.ListAccount name from count) = account_told s name from co
 outcome_told s (input.Import name batch all) = import_told s name batch all
 outcome_told s (input.Event e) = event_told s e
 
+-- of what is refused in the end, too
+pub told_of : (s : State) (r : Input) (f : Fault) (why : Option Rule) → Refused f why ≡ answer_of (outcome s r) → IsToldBy s r f why
+told_of s r f why answers = let P : Outcome → Type 0 = IfRefused (IsTold s r) in subst P (refused_is (outcome s r) f why answers) (outcome_told s r)
+
+-- what the board refuses is no refusal of authority
+by_board : (s : State) (r : Input) (f : Fault) (why : Rule) → IsRefusedByBoard s r f why → IsOfAuthority f → ⊥
+by_board s (input.Command name text) f why way authority = board_has_none way.refused (subst IsOfAuthority way.told authority)
+by_board s (input.Admin name operation) f why way authority = way
+by_board s (input.ListProfiles name class) f why way authority = way
+by_board s (input.ListAccount name from count) f why way authority = way
+by_board s (input.Import name batch all) f why way authority = way
+by_board s (input.Event e) f why way authority = way
+
 pub rules_named : RefusalsOfAuthorityNameTheirRule
 rules_named s moment r f why new authority (inl left) = absurd (given_up_has_none f why left.gives_up authority)
 rules_named s moment r f why new authority (inr (inl full)) = absurd (given_up_has_none f why (inr full.answers) authority)
-rules_named s moment r f why new authority (inr (inr done)) =
-    let P : Outcome → Type 0 = IfRefused (IsTold s r) in
-    subst P (refused_is (outcome s r) f why done.answers) (outcome_told s r) authority
+rules_named s moment r f why new authority (inr (inr done)) = go why (told_of s r f why done.answers)
+  where
+    go : (o : Option Rule) → IsToldBy s r f o → (because : Rule) × (o ≡ Some because) × IsNamedBy f because × IsDeniedBy s r because
+    go None none = absurd (none authority)
+    go (Some because) (inl told) = (because, refl, told.0, told.1)
+    go (Some because) (inr way) = absurd (by_board s r f because way authority)
+
+-- what is given up names no rule
+named_none : (f : Fault) (why : Rule) → IsGivenUp (Refused f (Some why)) → ⊥
+named_none f why (inl h) = search (rules, h)
+named_none f why (inr h) = search (rules, h)
+
+pub no_other_named : RefusalsNameNoOtherRule
+no_other_named s moment r f why new (inl left) = absurd (named_none f why left.gives_up)
+no_other_named s moment r f why new (inr (inl full)) = absurd (named_none f why (inr full.answers))
+no_other_named s moment r f why new (inr (inr done)) = told_of s r f (Some why) done.answers

@@ -1,11 +1,16 @@
 pub mod AccessLists
 pub mod Acting
+pub mod Answering
+pub mod AuditorAndOwner
 pub mod AutoConsole
 pub mod Changing
 pub mod Consoles
 pub mod Denying
+pub mod Displaying
 pub mod Holding
+pub mod Leaving
 pub mod Logging
 pub mod Naming
+pub mod Reasons
 pub mod SameBatches
 pub mod Worked

@@ -21,7 +21,7 @@ use Rattle.opc_laws.specs.Laws.{LogsOnOnlyWhereAllowed, LogsOnWhereverAllowed, L
 use Rattle.opc_machine.proofs.Inversion.{bind_ok, found_ok, refuse_if_ok, done_is, not_given_up, console_is}
 use Rattle.opc_laws.proofs.Acting.{either, console_back}
 
-nobody_ok : (o : Option (List ℕ)) (u : Unit {0}) → nobody_on o ≡ Ok u → o ≡ None
+pub nobody_ok : (o : Option (List ℕ)) (u : Unit {0}) → nobody_on o ≡ Ok u → o ≡ None
 nobody_ok None u h = refl
 nobody_ok (Some user) u h = absurd (search (rules, h))
 

@@ -1,5 +1,5 @@
 -- Refusals of authority name their rule.
-use Rattle.std.proofs.Common.{◌≡◌, inl, inr, ℕ, Bool, true, false, not, ◌||◌, ◌&&◌, if◌then◌else◌, List, [], Option, Some, None, Result, Ok, Err, filter, refl, subst, rules}
+use Rattle.std.proofs.Common.{◌≡◌, ◌⊎◌, inl, inr, ℕ, Bool, true, false, not, ◌||◌, ◌&&◌, if◌then◌else◌, List, [], Option, Some, None, IfSome, Result, Ok, Err, filter, refl, subst, rules}
 use Rattle.std.specs.Option.{is_none}
 use Rattle.opc_names.specs.Authority.{includes, enters}
 use Rattle.opc_names.specs.declared.auth.Auth.{Auth}
@@ -43,12 +43,18 @@ use Rattle.opc_machine.specs.Commands.{console_for, command_or, command_in, need
 use Rattle.opc_machine.specs.Machine.{IsGivenUp}
 use Rattle.opc_machine.specs.Inputs.{Input}
 use Rattle.opc_machine.specs.Inputs as input
-use Rattle.opc_laws.specs.Laws.{IsHeard, IsOfAuthority, IsNamedBy, IsDeniedBy}
-use Rattle.opc_machine.proofs.Inversion.{console_is, command_is, found_ok}
+use Rattle.opc_laws.specs.Laws.{IsAllowed, IsHeard, IsOfAuthority, IsNamedBy, IsDeniedBy, IsRefusedByBoard}
+use Rattle.opc_laws.proofs.Logging.{nobody_ok}
+use Rattle.opc_laws.proofs.Reasons.{decides_in_class}
+use Rattle.opc_machine.proofs.Inversion.{allowed_ok, console_is, command_is, found_ok}
 
--- of a refusal that is one of authority, the rule is named, and denies
+-- A rule that a refusal names denies, or allowed what the board refused; one that names none is none of authority.
+abbrev pub IsToldBy : State → Input → Fault → Option Rule → Type 0
+IsToldBy s r f None = IsOfAuthority f → ⊥
+IsToldBy s r f (Some why) = (IsNamedBy f why × IsDeniedBy s r why) ⊎ IsRefusedByBoard s r f why
+
 abbrev pub IsTold : State → Input → Denial → Type 0
-IsTold s r d = IsOfAuthority d.fault → (rule : Rule) × (d.rule ≡ Some rule) × IsNamedBy d.fault rule × IsDeniedBy s r rule
+IsTold s r d = IsToldBy s r d.fault d.rule
 
 abbrev pub IfRefused : {A : Type 0} → (Denial → Type 0) → Result A Denial → Type 0
 IfRefused P (Ok x) = Unit {0}
@@ -95,21 +101,22 @@ by_console_proper auth need = go (enters auth need.group)
     go true = tt
     go false = tt
 
-by_policy_proper : (active : Bool) (decided : Option Profile) (user : Option User) (console : Option (List ℕ)) (groups : List (List ℕ)) (auth : Auth) (need : Need) → IsProper denial_fault (policy_ruling active decided user console groups auth need)
-by_policy_proper active decided None console groups auth need = by_console_proper auth need
-by_policy_proper false decided (Some user) console groups auth need = by_console_proper auth need
-by_policy_proper true None (Some user) console groups auth need = by_console_proper auth need
-by_policy_proper true (Some p) (Some user) console groups auth need = go (includes (held p user console groups) need.level || p.warning)
+by_policy_proper : (active : Bool) (decided : Option Profile) → IfSome decided (λ p. p.class ≡ Opercmds) → (user : Option User) (console : Option (List ℕ)) (groups : List (List ℕ)) (auth : Auth) (need : Need)
+    → IsProper denial_fault (policy_ruling active decided user console groups auth need)
+by_policy_proper active decided of None console groups auth need = by_console_proper auth need
+by_policy_proper false decided of (Some user) console groups auth need = by_console_proper auth need
+by_policy_proper true None of (Some user) console groups auth need = by_console_proper auth need
+by_policy_proper true (Some p) of (Some user) console groups auth need = go (includes (held p user console groups) need.level || p.warning)
   where
     go : (b : Bool) → IsProper denial_fault (by_verdict (if b then verdicts.Allowed else verdicts.Denied) (profile_rule p user console groups need.level) (console_ruling auth need))
     go true = tt
-    go false = tt
+    go false = of
 
-ruling_proper : (s : State) (c : ConsoleRow) (need : Need) → IsProper denial_fault (ruling s c need)
+pub ruling_proper : (s : State) (c : ConsoleRow) (need : Need) → IsProper denial_fault (ruling s c need)
 ruling_proper s c need = go (is_required c.mode) (is_none c.user) (is_revoked (acting s c))
   where
     other : IsProper denial_fault (access_ruling s c (acting s c) need)
-    other = by_policy_proper (is_active s.policy.active Opercmds) (deciding_in s.policy Opercmds need.resource) (acting s c) (Some c.name) (groups_acting s (acting s c)) c.auth need
+    other = by_policy_proper (is_active s.policy.active Opercmds) (deciding_in s.policy Opercmds need.resource) (decides_in_class s.policy.profiles Opercmds need.resource) (acting s c) (Some c.name) (groups_acting s (acting s c)) c.auth need
 
     go : (required nobody revoked : Bool) → IsProper denial_fault (denied_or (if required && nobody then Some rule.LogonRequired else (if revoked then Some rule.Revoked else None)) (access_ruling s c (acting s c) need))
     go true true revoked = refl
@@ -118,22 +125,22 @@ ruling_proper s c need = go (is_required c.mode) (is_none c.user) (is_revoked (a
     go false nobody true = refl
     go false nobody false = other
 
-console_access_proper : (active : Bool) (decided : Option Profile) (user : User) (console : Option (List ℕ)) (groups : List (List ℕ)) (needed : Level)
+console_access_proper : (active : Bool) (decided : Option Profile) → IfSome decided (λ p. p.class ≡ Console) → (user : User) (console : Option (List ℕ)) (groups : List (List ℕ)) (needed : Level)
     → IsProper logon_fault (by_verdict (verdict active decided user console groups needed) (verdict_rule active decided user console groups needed) (Allowed rule.NoProfile))
-console_access_proper false decided user console groups needed = tt
-console_access_proper true None user console groups needed = tt
-console_access_proper true (Some p) user console groups needed = go (includes (held p user console groups) needed || p.warning)
+console_access_proper false decided of user console groups needed = tt
+console_access_proper true None of user console groups needed = tt
+console_access_proper true (Some p) of user console groups needed = go (includes (held p user console groups) needed || p.warning)
   where
     go : (b : Bool) → IsProper logon_fault (by_verdict (if b then verdicts.Allowed else verdicts.Denied) (profile_rule p user console groups needed) (Allowed rule.NoProfile))
     go true = tt
-    go false = tt
+    go false = of
 
-logon_proper : (s : State) (c : ConsoleRow) (user : User) → IsProper logon_fault (logon_ruling s c user)
+pub logon_proper : (s : State) (c : ConsoleRow) (user : User) → IsProper logon_fault (logon_ruling s c user)
 logon_proper s c user = go user.revoked
   where
     go : (b : Bool) → IsProper logon_fault (if b then Denied rule.Revoked else console_access s c user)
     go true = refl
-    go false = console_access_proper (is_active s.policy.active Console) (deciding_in s.policy Console c.name) user (Some c.name) (groups_of s.policy.connects user.id) Read
+    go false = console_access_proper (is_active s.policy.active Console) (deciding_in s.policy Console c.name) (decides_in_class s.policy.profiles Console c.name) user (Some c.name) (groups_of s.policy.connects user.id) Read
 
 pub console_told : (s : State) (r : Input) (name : List ℕ) → IfRefused (IsTold s r) (console_for s name)
 console_told s r name = then_told (IsTold s r) (found fault.NoConsole (console_at s.board name)) (λ c. refuse_if fault.ConsoleOffline None (not c.online) >>= λ _. Ok c) (there (console_at s.board name))
@@ -141,61 +148,62 @@ console_told s r name = then_told (IsTold s r) (found fault.NoConsole (console_a
   where
     there : (o : Option ConsoleRow) → IfRefused (IsTold s r) (found fault.NoConsole o)
     there (Some c) = tt
-    there None = λ h. absurd h
+    there None = λ h. h
 
     online : (b : Bool) → IfRefused (IsTold s r) (refuse_if fault.ConsoleOffline None b)
-    online true = λ h. absurd h
+    online true = λ h. h
     online false = tt
 
 module _ (s : State) (name text : List ℕ) where
   line_told : (r : Result Command ReadFault) → IfRefused (IsTold s (input.Command name text)) (command_or r)
   line_told (Ok c) = tt
-  line_told (Err f) = λ h. absurd (line_has_none f h)
+  line_told (Err f) = line_has_none f
 
-  acted_told : (why : Option Rule) (r : BoardOutcome) → IfRefused (IsTold s (input.Command name text)) (acted why r)
-  acted_told why (Ok d) = tt
-  acted_told why (Err f) = λ h. absurd (board_has_none f h)
+  acted_told : (c : ConsoleRow) (command : Command) (why : Rule) → IsAllowed s name text c command why → (r : BoardOutcome) → effect s.board command c.name ≡ r → IfRefused (IsTold s (input.Command name text)) (acted (Some why) r)
+  acted_told c command why allows (Ok d) is = tt
+  acted_told c command why allows (Err f) is = inr (record { console = c; command = command; allowed = allows; refused = f; refuses = is; told = refl })
 
   ruling_told : (c : ConsoleRow) (command : Command) → IsHeard s name text c command → (need : Need) → need_of s.board command ≡ Some need
       → (r : Ruling) → ruling s c need ≡ r → IsProper denial_fault r → IfRefused (IsTold s (input.Command name text)) (allowed r)
   ruling_told c command heard need needs (Allowed why) is proper = tt
   ruling_told c command heard need needs (Denied why) is proper =
-      λ h. (why, refl, proper, inl (record { console = c; command = command; heard = heard; need = need; needs = needs; denied = is }))
+      inl (proper, inl (record { console = c; command = command; heard = heard; need = need; needs = needs; denied = is }))
 
   board_told : (c : ConsoleRow) (command : Command) → IsHeard s name text c command → (need : Need) → need_of s.board command ≡ Some need → IfRefused (IsTold s (input.Command name text)) (board_command s c command need)
   board_told c command heard need needs =
       then_told (IsTold s (input.Command name text)) (allowed (ruling s c need)) (λ why. acted (Some why) (effect s.board command c.name) >>= λ act. does (record s { board = act.board }) (filter (shown s c) act.lines) (Some why))
       (ruling_told c command heard need needs (ruling s c need) refl (ruling_proper s c need))
-      (λ why _. then_told (IsTold s (input.Command name text)) (acted (Some why) (effect s.board command c.name)) (λ act. does (record s { board = act.board }) (filter (shown s c) act.lines) (Some why)) (acted_told (Some why) (effect s.board command c.name)) (λ act _. tt))
+      (λ why is. then_told (IsTold s (input.Command name text)) (acted (Some why) (effect s.board command c.name)) (λ act. does (record s { board = act.board }) (filter (shown s c) act.lines) (Some why))
+      (acted_told c command why (record { heard = heard; need = need; needs = needs; allowed = allowed_ok (ruling s c need) why is }) (effect s.board command c.name) refl) (λ act _. tt))
 
-  kept_off : (c : ConsoleRow) (id password : Operand (List ℕ)) → IsHeard s name text c (command.Logon id password) → (user : User) → known_by s id.value password.value ≡ Some user
+  kept_off : (c : ConsoleRow) (id password : Operand (List ℕ)) → IsHeard s name text c (command.Logon id password) → c.user ≡ None → (user : User) → known_by s id.value password.value ≡ Some user
       → (r : Ruling) → logon_ruling s c user ≡ r → IsProper logon_fault r → IfRefused (IsTold s (input.Command name text)) (let_on r)
-  kept_off c id password heard user known (Allowed why) is proper = tt
-  kept_off c id password heard user known (Denied why) is proper =
-      λ h. (why, refl, proper, inr (record { console = c; id = id; password = password; heard = heard; user = user; known = known; denied = is }))
+  kept_off c id password heard nobody user known (Allowed why) is proper = tt
+  kept_off c id password heard nobody user known (Denied why) is proper =
+      inl (proper, inr (record { console = c; id = id; password = password; heard = heard; nobody = nobody; user = user; known = known; denied = is }))
 
   logon_told : (c : ConsoleRow) (id password : Operand (List ℕ)) → IsHeard s name text c (command.Logon id password) → IfRefused (IsTold s (input.Command name text)) (logon s c id.value password.value)
   logon_told c id password heard =
       then_told (IsTold s (input.Command name text)) (nobody_on c.user) (λ _. found fault.BadLogon (known_by s id.value password.value) >>= λ user. let_on (logon_ruling s c user) >>= λ why. does (record s { board = logged_on c.name id.value s.board }) [] (Some why))
       (nobody c.user)
-      (λ _ _. then_told (IsTold s (input.Command name text)) (found fault.BadLogon (known_by s id.value password.value)) (λ user. let_on (logon_ruling s c user) >>= λ why. does (record s { board = logged_on c.name id.value s.board }) [] (Some why))
+      (λ on is_on. then_told (IsTold s (input.Command name text)) (found fault.BadLogon (known_by s id.value password.value)) (λ user. let_on (logon_ruling s c user) >>= λ why. does (record s { board = logged_on c.name id.value s.board }) [] (Some why))
       (stored (known_by s id.value password.value))
       (λ user is. then_told (IsTold s (input.Command name text)) (let_on (logon_ruling s c user)) (λ why. does (record s { board = logged_on c.name id.value s.board }) [] (Some why))
-      (kept_off c id password heard user (found_ok fault.BadLogon (known_by s id.value password.value) user is) (logon_ruling s c user) refl (logon_proper s c user)) (λ why _. tt)))
+      (kept_off c id password heard (nobody_ok c.user on is_on) user (found_ok fault.BadLogon (known_by s id.value password.value) user is) (logon_ruling s c user) refl (logon_proper s c user)) (λ why _. tt)))
     where
       nobody : (o : Option (List ℕ)) → IfRefused (IsTold s (input.Command name text)) (nobody_on o)
       nobody None = tt
-      nobody (Some user) = λ h. absurd h
+      nobody (Some user) = λ h. h
 
       stored : (o : Option User) → IfRefused (IsTold s (input.Command name text)) (found fault.BadLogon o)
       stored (Some user) = tt
-      stored None = λ h. absurd h
+      stored None = λ h. h
 
   logoff_told : (c : ConsoleRow) → IfRefused (IsTold s (input.Command name text)) (logoff s c)
   logoff_told c = then_told (IsTold s (input.Command name text)) (refuse_if fault.NotOn None (is_none c.user)) (λ _. does (record s { board = logged_off c.name s.board }) [] None) (on (is_none c.user)) (λ _ _. tt)
     where
       on : (b : Bool) → IfRefused (IsTold s (input.Command name text)) (refuse_if fault.NotOn None b)
-      on true = λ h. absurd h
+      on true = λ h. h
       on false = tt
 
   needless_told : (c : ConsoleRow) (k : Command) → IsHeard s name text c k → IfRefused (IsTold s (input.Command name text)) (without_need s c k)

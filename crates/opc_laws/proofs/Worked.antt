@@ -113,7 +113,7 @@ abbrev pub state_in : Outcome → Option State
 state_in (Ok deed) = Some deed.state
 state_in (Err denial) = None
 
-abbrev texts_in : Outcome → Option (List (List ℕ))
+abbrev pub texts_in : Outcome → Option (List (List ℕ))
 texts_in (Ok deed) = Some (map (λ (l : Line). l.text) deed.lines)
 texts_in (Err denial) = None
 

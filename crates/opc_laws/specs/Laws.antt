@@ -1,6 +1,8 @@
 -- What the access machine means to those who use it.
-use Rattle.std.specs.Prelude.{◌≡◌, ◌⊎◌, ◌↔◌, ℕ, true, List, [], ◌∷◌, ◌++◌, Option, Some, None, Ok, filter, Contains}
+use Rattle.std.specs.Prelude.{◌≡◌, ◌⊎◌, ◌↔◌, ℕ, true, List, [], ◌∷◌, ◌++◌, Option, Some, None, Ok, Err, filter, Contains}
 use Rattle.std.specs.Option.{is_some}
+use Rattle.opc_names.specs.declared.class.Class.{Class}
+use Rattle.opc_names.specs.declared.class.Class.TheVariants.{Console, Opercmds}
 use Rattle.opc_policy.specs.declared.fault.Fault.{Fault}
 use Rattle.opc_policy.specs.declared.fault.Fault.TheVariants as fault
 use Rattle.opc_policy.specs.declared.need.Need.{Need}
@@ -13,6 +15,7 @@ use Rattle.opc_reader.specs.declared.command.Command.{Command}
 use Rattle.opc_reader.specs.declared.command.Command.TheVariants as command
 use Rattle.opc_reader.specs.declared.command.Operand.{Operand}
 use Rattle.opc_reader.specs.Lines.{Reads}
+use Rattle.opc_board.specs.declared.fault.BoardFault.{BoardFault}
 use Rattle.opc_board.specs.declared.line.Line.{Line}
 use Rattle.opc_board.specs.declared.rows.ConsoleRow.{ConsoleRow}
 use Rattle.opc_board.specs.Consoles.{logged_on, logged_off}
@@ -22,6 +25,7 @@ use Rattle.opc_board.specs.Outcome.{Done as BoardDone}
 use Rattle.opc_state.specs.State.{State}
 use Rattle.opc_machine.specs.declared.request.Answer.{Answer}
 use Rattle.opc_machine.specs.declared.request.Answer.TheVariants.{Done, Refused}
+use Rattle.opc_machine.specs.Faults.{board_fault}
 use Rattle.opc_machine.specs.Inputs.{Input}
 use Rattle.opc_machine.specs.Inputs as input
 use Rattle.opc_machine.specs.Rulings.{ruling, logon_denial, logon_ruling, shown}
@@ -140,12 +144,13 @@ IsOfAuthority fault.DeniedProfile = Unit {0}
 IsOfAuthority fault.DeniedGroup = Unit {0}
 IsOfAuthority other = ⊥
 
-abbrev pub IsOfProfile : Rule → Type 0
-IsOfProfile (rule.Profile class pattern held needed warned) = Unit {0}
-IsOfProfile rule.NoProfile = ⊥
-IsOfProfile (rule.ConsoleGroup group auth) = ⊥
-IsOfProfile rule.LogonRequired = ⊥
-IsOfProfile rule.Revoked = ⊥
+-- a rule of a profile of this class
+abbrev pub IsOfProfile : Class → Rule → Type 0
+IsOfProfile class (rule.Profile other pattern held needed warned) = other ≡ class
+IsOfProfile class rule.NoProfile = ⊥
+IsOfProfile class (rule.ConsoleGroup group auth) = ⊥
+IsOfProfile class rule.LogonRequired = ⊥
+IsOfProfile class rule.Revoked = ⊥
 
 abbrev pub IsOfConsole : Rule → Type 0
 IsOfConsole (rule.ConsoleGroup group auth) = Unit {0}
@@ -154,14 +159,15 @@ IsOfConsole rule.NoProfile = ⊥
 IsOfConsole rule.LogonRequired = ⊥
 IsOfConsole rule.Revoked = ⊥
 
--- what kind of rule each of them names: the logon rule, a profile, or a console's group
+-- what kind of rule each of them names, and no other fault names a rule that denies: the logon rule, a profile of the
+-- class that was asked, or a console's group
 abbrev pub IsNamedBy : Fault → Rule → Type 0
 IsNamedBy fault.LogonRequired why = why ≡ rule.LogonRequired
 IsNamedBy fault.Revoked why = why ≡ rule.Revoked
-IsNamedBy fault.DeniedConsole why = IsOfProfile why
-IsNamedBy fault.DeniedProfile why = IsOfProfile why
+IsNamedBy fault.DeniedConsole why = IsOfProfile Console why
+IsNamedBy fault.DeniedProfile why = IsOfProfile Opercmds why
 IsNamedBy fault.DeniedGroup why = IsOfConsole why
-IsNamedBy other why = Unit {0}
+IsNamedBy other why = ⊥
 
 -- The policy of this moment denies what the line needs, by this rule.
 pub record IsRuledOut (s : State) (name text : List ℕ) (why : Rule) : Type 0 where
@@ -172,13 +178,14 @@ pub record IsRuledOut (s : State) (name text : List ℕ) (why : Rule) : Type 0 w
   pub needs : need_of s.board command ≡ Some need
   pub denied : ruling s console need ≡ Denied why
 
--- The line is a LOGON of a user with the user's password, whom the policy of this moment does not let on, by this
--- rule.
+-- The line is a LOGON of a user with the user's password, where nobody is on, and the policy of this moment does not let
+-- that user on, by this rule.
 pub record IsKeptOff (s : State) (name text : List ℕ) (why : Rule) : Type 0 where
   pub console : ConsoleRow
   pub id : Operand (List ℕ)
   pub password : Operand (List ℕ)
   pub heard : IsHeard s name text console (command.Logon id password)
+  pub nobody : console.user ≡ None
   pub user : User
   pub known : known_by s id.value password.value ≡ Some user
   pub denied : logon_ruling s console user ≡ Denied why
@@ -203,3 +210,35 @@ abbrev pub RefusalsOfAuthorityNameTheirRule : Type 0
 RefusalsOfAuthorityNameTheirRule =
     (s : State) (moment : ℕ) (r : Input) (fault : Fault) (why : Option Rule) (new : State) → IsOfAuthority fault → Step s moment r (Refused fault why) new
     → (rule : Rule) × (why ≡ Some rule) × IsNamedBy fault rule × IsDeniedBy s r rule
+
+-- The board is in the way of a command that the policy of this moment allows by this rule.
+pub record IsInTheWay (s : State) (name text : List ℕ) (fault : Fault) (why : Rule) : Type 0 where
+  pub console : ConsoleRow
+  pub command : Command
+  pub allowed : IsAllowed s name text console command why
+  pub refused : BoardFault
+  pub refuses : effect s.board command console.name ≡ Err refused
+  pub told : fault ≡ board_fault refused
+
+abbrev pub IsRefusedByBoard : State → Input → Fault → Rule → Type 0
+IsRefusedByBoard s (input.Command name text) fault why = IsInTheWay s name text fault why
+IsRefusedByBoard s other fault why = ⊥
+
+-- No refusal names another rule: one that denies, or one that allowed what the board refused.
+abbrev pub RefusalsNameNoOtherRule : Type 0
+RefusalsNameNoOtherRule =
+    (s : State) (moment : ℕ) (r : Input) (fault : Fault) (why : Rule) (new : State) → Step s moment r (Refused fault (Some why)) new
+    → (IsNamedBy fault why × IsDeniedBy s r why) ⊎ IsRefusedByBoard s r fault why
+
+-- What the policy of this moment denies, whatever was asked, is answered by that denial and that rule, unless the request
+-- is given up.
+abbrev pub DenialsAreAnswered : Type 0
+DenialsAreAnswered =
+    (s : State) (moment : ℕ) (r : Input) (why : Rule) (answer : Answer) (new : State) → IsDeniedBy s r why → Step s moment r answer new
+    → IsGivenUp answer ⊎ ((fault : Fault) × IsNamedBy fault why × (answer ≡ Refused fault (Some why)))
+
+-- Where the board is in the way of what is allowed, its fault is answered with the rule that allowed it.
+abbrev pub BoardFaultsAreAnswered : Type 0
+BoardFaultsAreAnswered =
+    (s : State) (moment : ℕ) (name text : List ℕ) (fault : Fault) (why : Rule) (answer : Answer) (new : State) → IsInTheWay s name text fault why → Step s moment (input.Command name text) answer new
+    → IsGivenUp answer ⊎ (answer ≡ Refused fault (Some why))

@@ -1,8 +1,11 @@
 //! What the access machine means to those who use it, each law as what a call without a body ensures.
 ghost use Rattle.opc_laws.specs.ActingLaws.{AutoConsolesActForTheirOwn, OptionalConsolesActAlone, OtherAutoConsolesActAlone, WhoIsOnComesFirst};
 ghost use Rattle.opc_laws.specs.ChangingLaws.{AdministersOnlyWhereAllowed, AdministersWhereverAllowed, ImportsOnlyWhereAllowed, ImportsWhereverAllowed, ListsAccountOnlyWhereShown, ListsAccountWhereverShown, ListsExactlyProfilesShown, ListsProfilesWhereverAsked, RepeatsWhereverAllowed, SameRowsAreEqual};
+ghost use Rattle.opc_laws.specs.DisplayLaws.{LinesAreAboutWhatTheyList, ListsEveryConsole, ListsEveryUnit, ListsTheUnit};
 ghost use Rattle.opc_laws.specs.HoldingLaws.{ConsoleEntriesRaise, ConsolesNeverLower, EntriesCountAtTheirConsole, LevelsAreGiven, RestrictedUsersAreNamed};
-ghost use Rattle.opc_laws.specs.Laws.{ActsOnlyWhereAllowed, ActsWhereverAllowed, ListsExactlyWhatMayBeShown, LogsOffOnlyWhereSomebodyIsOn, LogsOffWhereverSomebodyIsOn, LogsOnOnlyWhereAllowed, LogsOnWhereverAllowed, RefusalsChangeNothing, RefusalsOfAuthorityNameTheirRule};
+ghost use Rattle.opc_laws.specs.Laws.{ActsOnlyWhereAllowed, ActsWhereverAllowed, BoardFaultsAreAnswered, DenialsAreAnswered, ListsExactlyWhatMayBeShown, LogsOffOnlyWhereSomebodyIsOn, LogsOffWhereverSomebodyIsOn, LogsOnOnlyWhereAllowed, LogsOnWhereverAllowed, RefusalsChangeNothing, RefusalsNameNoOtherRule, RefusalsOfAuthorityNameTheirRule};
+ghost use Rattle.opc_laws.specs.LeavingLaws.{AccountRowsTell, EventFaultsAreAnswered, EventsHappenWhereverPossible, EventsOnlyDoTheirEffect, WhatIsDoneLeavesRest};
+ghost use Rattle.opc_laws.specs.RulingLaws.{LogonRuleSaysWhy, LogonRulingsSayWhy, RulingsSayWhy};
 
 /// A command acts only where the written policy of that moment allows it.
 pub fn acts_only_where_allowed()
@@ -18,6 +21,26 @@ pub fn acts_wherever_allowed()
 /// A unit's or a console's line is listed exactly where the written policy of that moment lets it be shown.
 pub fn lists_exactly_what_may_be_shown()
     ensures { ListsExactlyWhatMayBeShown }
+{}
+
+/// The line of a unit or a console is about it, is shown where READ on its resource is allowed, and a plain one always is.
+pub fn lines_are_about_what_they_list()
+    ensures { LinesAreAboutWhatTheyList }
+{}
+
+/// `D A,L` lists every unit that may be shown,
+pub fn lists_every_unit()
+    ensures { ListsEveryUnit }
+{}
+
+/// `D A` with a name that unit alone,
+pub fn lists_the_unit()
+    ensures { ListsTheUnit }
+{}
+
+/// and `D C` every console.
+pub fn lists_every_console()
+    ensures { ListsEveryConsole }
 {}
 
 /// A user is logged on only where nobody is on, the password is the user's, and the written policy of that moment
@@ -101,6 +124,63 @@ pub fn refusals_change_nothing()
 /// written policy of that moment.
 pub fn refusals_of_authority_name_their_rule()
     ensures { RefusalsOfAuthorityNameTheirRule }
+{}
+
+/// No refusal names another rule than one that denies, or that allowed what the board refused.
+pub fn refusals_name_no_other_rule()
+    ensures { RefusalsNameNoOtherRule }
+{}
+
+/// What the written policy of that moment denies is answered by that denial and its rule, unless the request is given up.
+pub fn denials_are_answered()
+    ensures { DenialsAreAnswered }
+{}
+
+/// Where the board is in the way of what is allowed, its fault is answered with the rule that allowed it.
+pub fn board_faults_are_answered()
+    ensures { BoardFaultsAreAnswered }
+{}
+
+/// What is done leaves the account and the batches as they are. Its row is added exactly where a warning alone let it
+/// pass, and an import keeps its batch.
+pub fn what_is_done_leaves_the_rest()
+    ensures { WhatIsDoneLeavesRest }
+{}
+
+/// A row of the account tells the moment, the console, what came of it and by which rule.
+pub fn account_rows_tell()
+    ensures { AccountRowsTell }
+{}
+
+/// An event changes the board by its effect, and nothing else.
+pub fn events_only_do_their_effect()
+    ensures { EventsOnlyDoTheirEffect }
+{}
+
+/// It happens wherever the board lets it, unless it is given up,
+pub fn events_happen_wherever_possible()
+    ensures { EventsHappenWhereverPossible }
+{}
+
+/// and is else refused by the board's fault.
+pub fn event_faults_are_answered()
+    ensures { EventFaultsAreAnswered }
+{}
+
+/// The logon rule denies where nobody is on at a REQUIRED console, and then where whoever acts is revoked.
+pub fn logon_rule_says_why()
+    ensures { LogonRuleSaysWhy }
+{}
+
+/// A ruling is that of the logon rule, else that of the profile of OPERCMDS that decides on whoever acts, else that of the
+/// console's authority.
+pub fn rulings_say_why()
+    ensures { RulingsSayWhy }
+{}
+
+/// Whoever logs on is refused where revoked, then ruled on by the profile of CONSOLE that decides, and else let on.
+pub fn logon_rulings_say_why()
+    ensures { LogonRulingsSayWhy }
 {}
 
 /// A level above NONE is held by an entry for the user, at every console or at this one, or by the universal access.

@@ -1,3 +1,4 @@
 pub mod Boards
-pub mod Policies
 pub mod Keeping
+pub mod Orders
+pub mod Policies

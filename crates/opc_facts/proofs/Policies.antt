@@ -30,7 +30,7 @@ use Rattle.opc_board.specs.Units.{is_holder}
 use Rattle.opc_board.proofs.Names.{is_mirrored}
 use Rattle.opc_state.specs.Facts.{IsConnectOfStored, IsConsoleOfStored, IsEntryOfStored, IsPolicy, IsProfileOfStored}
 use Rattle.opc_state.specs.Members.{without_connect, without_entry, without_permission, without_profile, without_user}
-use Rattle.opc_state.specs.Loads.{has_entry, is_connected, is_named}
+use Rattle.opc_state.specs.Loads.{has_entry, is_connected}
 use Rattle.opc_machine.specs.Administration.{board_changed, definition, has_name, is_in_use, is_permitted, policy_changed, unless_in_use}
 use Rattle.opc_machine.specs.Bootstrap.{policy_after, then_policy}
 use Rattle.opc_machine.specs.declared.operation.Operation.{Operation}
@@ -48,7 +48,7 @@ all_inserted {K} P cmp k (x ∷ xs) here all = go (cmp k x) (all_inserted P cmp 
     go Equal later = all
     go Greater later = (all.0, later)
 
-all_replaced : {K : Type 0} (P : K → Type 0) (cmp : K → K → Ordering) (k : K) (xs : List K) → P k → AllByRecursion P xs → AllByRecursion P (replace_key cmp xs k)
+pub all_replaced : {K : Type 0} (P : K → Type 0) (cmp : K → K → Ordering) (k : K) (xs : List K) → P k → AllByRecursion P xs → AllByRecursion P (replace_key cmp xs k)
 all_replaced P cmp k [] here all = (here, tt)
 all_replaced {K} P cmp k (x ∷ xs) here all = go (cmp k x) (all_replaced P cmp k xs here all.1)
   where
@@ -301,15 +301,15 @@ abbrev pub IfMade : (Policy → Type 0) → Result Policy Fault → Type 0
 IfMade P (Ok q) = P q
 IfMade P (Err f) = Unit {0}
 
-unless_made : (P : Policy → Type 0) (b : Bool) (name : List ℕ) (made : Result Policy Fault) → (b ≡ false → IfMade P made) → IfMade P (unless b name made)
+pub unless_made : (P : Policy → Type 0) (b : Bool) (name : List ℕ) (made : Result Policy Fault) → (b ≡ false → IfMade P made) → IfMade P (unless b name made)
 unless_made P true name made h = tt
 unless_made P false name made h = h refl
 
-needing_made : (P : Policy → Type 0) (b : Bool) (name : List ℕ) (made : Result Policy Fault) → (b ≡ true → IfMade P made) → IfMade P (needing b name made)
+pub needing_made : (P : Policy → Type 0) (b : Bool) (name : List ℕ) (made : Result Policy Fault) → (b ≡ true → IfMade P made) → IfMade P (needing b name made)
 needing_made P true name made h = h refl
 needing_made P false name made h = tt
 
-in_use_made : (P : Policy → Type 0) (b : Bool) (name : List ℕ) (made : Result Policy Fault) → (b ≡ false → IfMade P made) → IfMade P (unless_in_use b name made)
+pub in_use_made : (P : Policy → Type 0) (b : Bool) (name : List ℕ) (made : Result Policy Fault) → (b ≡ false → IfMade P made) → IfMade P (unless_in_use b name made)
 in_use_made P true name made h = tt
 in_use_made P false name made h = h refl
 

@@ -1,0 +1,6 @@
+//! Listings of profiles and of the account: what is loaded for them, and who may see it.
+#![tactic(auto)]
+
+pub mod account;
+pub mod profiles;
+mod told;

@@ -7,6 +7,7 @@ pub mod Changing
 pub mod Consoles
 pub mod Denying
 pub mod Displaying
+pub mod Hearing
 pub mod Holding
 pub mod Leaving
 pub mod Logging

@@ -30,7 +30,7 @@ use Rattle.opc_machine.specs.Inputs.{Input}
 use Rattle.opc_machine.specs.Inputs as input
 use Rattle.opc_machine.specs.Rulings.{ruling, logon_denial, logon_ruling, shown}
 use Rattle.opc_machine.specs.Commands.{need_of, known_by}
-use Rattle.opc_machine.specs.Machine.{Step, IsGivenUp, account_row}
+use Rattle.opc_machine.specs.Machine.{Runs, Step, IsGivenUp, account_row}
 
 -- A line typed at a console is a command that is heard: the console is there and online, and the line reads.
 pub record IsHeard (s : State) (name text : List ℕ) (console : ConsoleRow) (command : Command) : Type 0 where
@@ -67,6 +67,16 @@ ActsWhereverAllowed =
     (s : State) (moment : ℕ) (name text : List ℕ) (console : ConsoleRow) (command : Command) (why : Rule) (act : BoardDone) (answer : Answer) (new : State)
     → IsAllowed s name text console command why → effect s.board command console.name ≡ Ok act → Step s moment (input.Command name text) answer new
     → IsGivenUp answer ⊎ Acts s console command why answer new
+
+-- LOGON and LOGOFF
+abbrev pub IsSession : Command → Type 0
+IsSession k = ((id : Operand (List ℕ)) × (password : Operand (List ℕ)) × (k ≡ command.Logon id password)) ⊎ (k ≡ command.Logoff)
+
+-- Nothing else that is typed is done: only a line that is heard, of a command that needs something, or of LOGON or LOGOFF.
+abbrev pub OnlyWhatIsHeardIsDone : Type 0
+OnlyWhatIsHeardIsDone =
+    (s : State) (moment : ℕ) (name text : List ℕ) (lines : List Line) (why : Option Rule) (new : State) → Step s moment (input.Command name text) (Done lines why) new
+    → (console : ConsoleRow) × (command : Command) × IsHeard s name text console command × (IsSession command ⊎ ((need : Need) × (need_of s.board command ≡ Some need)))
 
 -- Of the lines of a command that acts, a unit's or a console's is listed exactly where it may be shown.
 abbrev pub ListsExactlyWhatMayBeShown : Type 0
@@ -242,3 +252,20 @@ abbrev pub BoardFaultsAreAnswered : Type 0
 BoardFaultsAreAnswered =
     (s : State) (moment : ℕ) (name text : List ℕ) (fault : Fault) (why : Rule) (answer : Answer) (new : State) → IsInTheWay s name text fault why → Step s moment (input.Command name text) answer new
     → IsGivenUp answer ⊎ (answer ≡ Refused fault (Some why))
+
+-- A request of a list is a step from the state that those before it leave, and those after it go on from there.
+pub record IsJudgedInTurn (s : State) (before : List (ℕ × Input)) (r : ℕ × Input) (later : List (ℕ × Input)) (answers : List Answer) (new : State) : Type 0 where
+  pub earlier : List Answer
+  pub answer : Answer
+  pub others : List Answer
+  pub left : State
+  pub made : State
+  pub answered : answers ≡ earlier ++ answer ∷ others
+  pub first : Runs s before earlier left
+  pub step : Step left r.0 r.1 answer made
+  pub rest : Runs made later others new
+
+abbrev pub RequestsAreJudgedInTurn : Type 0
+RequestsAreJudgedInTurn =
+    (s : State) (before : List (ℕ × Input)) (r : ℕ × Input) (later : List (ℕ × Input)) (answers : List Answer) (new : State) → Runs s (before ++ r ∷ later) answers new
+    → IsJudgedInTurn s before r later answers new

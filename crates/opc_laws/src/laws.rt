@@ -3,7 +3,7 @@ ghost use Rattle.opc_laws.specs.ActingLaws.{AutoConsolesActForTheirOwn, Optional
 ghost use Rattle.opc_laws.specs.ChangingLaws.{AdministersOnlyWhereAllowed, AdministersWhereverAllowed, ImportsOnlyWhereAllowed, ImportsWhereverAllowed, ListsAccountOnlyWhereShown, ListsAccountWhereverShown, ListsExactlyProfilesShown, ListsProfilesWhereverAsked, RepeatsWhereverAllowed, SameRowsAreEqual};
 ghost use Rattle.opc_laws.specs.DisplayLaws.{LinesAreAboutWhatTheyList, ListsEveryConsole, ListsEveryUnit, ListsTheUnit};
 ghost use Rattle.opc_laws.specs.HoldingLaws.{ConsoleEntriesRaise, ConsolesNeverLower, EntriesCountAtTheirConsole, LevelsAreGiven, RestrictedUsersAreNamed};
-ghost use Rattle.opc_laws.specs.Laws.{ActsOnlyWhereAllowed, ActsWhereverAllowed, BoardFaultsAreAnswered, DenialsAreAnswered, ListsExactlyWhatMayBeShown, LogsOffOnlyWhereSomebodyIsOn, LogsOffWhereverSomebodyIsOn, LogsOnOnlyWhereAllowed, LogsOnWhereverAllowed, RefusalsChangeNothing, RefusalsNameNoOtherRule, RefusalsOfAuthorityNameTheirRule};
+ghost use Rattle.opc_laws.specs.Laws.{ActsOnlyWhereAllowed, ActsWhereverAllowed, BoardFaultsAreAnswered, DenialsAreAnswered, ListsExactlyWhatMayBeShown, LogsOffOnlyWhereSomebodyIsOn, LogsOffWhereverSomebodyIsOn, LogsOnOnlyWhereAllowed, LogsOnWhereverAllowed, OnlyWhatIsHeardIsDone, RefusalsChangeNothing, RefusalsNameNoOtherRule, RefusalsOfAuthorityNameTheirRule, RequestsAreJudgedInTurn};
 ghost use Rattle.opc_laws.specs.LeavingLaws.{AccountRowsTell, EventFaultsAreAnswered, EventsHappenWhereverPossible, EventsOnlyDoTheirEffect, WhatIsDoneLeavesRest};
 ghost use Rattle.opc_laws.specs.RulingLaws.{LogonRuleSaysWhy, LogonRulingsSayWhy, RulingsSayWhy};
 
@@ -16,6 +16,16 @@ pub fn acts_only_where_allowed()
 /// is given up.
 pub fn acts_wherever_allowed()
     ensures { ActsWhereverAllowed }
+{}
+
+/// Nothing else that is typed is done: only a line that is heard, of a command that needs something, or of LOGON or LOGOFF.
+pub fn only_what_is_heard_is_done()
+    ensures { OnlyWhatIsHeardIsDone }
+{}
+
+/// Each request of a list is judged by the state that those before it leave.
+pub fn requests_are_judged_in_turn()
+    ensures { RequestsAreJudgedInTurn }
 {}
 
 /// A unit's or a console's line is listed exactly where the written policy of that moment lets it be shown.

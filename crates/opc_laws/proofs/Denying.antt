@@ -29,7 +29,7 @@ use Rattle.opc_machine.specs.Commands.{acted, console_for, denial_fault, event_o
 use Rattle.opc_machine.specs.Imports.{batch_line, batch_of, batch_outcome, import_outcome, same_rows}
 use Rattle.opc_machine.specs.Inputs.{Input}
 use Rattle.opc_machine.specs.Inputs as input
-use Rattle.opc_laws.specs.Laws.{IsDeniedBy, IsNamedBy, IsOfAuthority, IsRefusedByBoard, IsShutOut, RefusalsNameNoOtherRule, RefusalsOfAuthorityNameTheirRule}
+use Rattle.opc_laws.specs.Laws.{GivenUpChangesNothing, IsDeniedBy, IsNamedBy, IsOfAuthority, IsRefusedByBoard, IsShutOut, RefusalsNameNoOtherRule, RefusalsOfAuthorityNameTheirRule}
 use Rattle.opc_machine.specs.Listings.{account_line, account_outcome, profile_line, profiles_outcome}
 use Rattle.opc_machine.specs.declared.request.Answer.TheVariants.{Refused}
 use Rattle.opc_machine.specs.Machine.{IsGivenUp, answer_of, outcome}
@@ -39,26 +39,27 @@ use Rattle.opc_machine.specs.Outcome.{Denial, Outcome, ◌>>=◌, does, or_refus
 use Rattle.opc_machine.specs.Rights.{account_shown, console_asking, is_special, may_change, profile_shown, right_fault, unless_denied}
 use Rattle.opc_machine.specs.Rulings.{acting, is_required, is_revoked, logon_denial}
 use Rattle.opc_machine.proofs.Inversion.{console_is, refused_is}
+use Rattle.opc_laws.proofs.Plain.{IsPlain, IsPlainIfFault, event_plain, none_of_authority, not_given_up}
 use Rattle.opc_laws.proofs.Naming.{IfRefused, IsTold, IsToldBy, then_told, console_told, command_told, board_has_none, given_up_has_none}
 
--- what is in the way of a change is no refusal of authority
-abbrev pub IsNoneOfAuthority : {A : Type 0} → Result A Fault → Type 0
-IsNoneOfAuthority (Ok x) = Unit {0}
-IsNoneOfAuthority (Err f) = IsOfAuthority f → ⊥
+-- what is in the way of a change is neither of authority nor given up
+abbrev pub IfInTheWay : {A : Type 0} → Result A Fault → Type 0
+IfInTheWay (Ok x) = Unit {0}
+IfInTheWay (Err f) = IsPlain f
 
-unless_none : (b : Bool) (name : List ℕ) (made : Result Policy Fault) → IsNoneOfAuthority made → IsNoneOfAuthority (unless b name made)
-unless_none true name made none = λ h. h
+unless_none : (b : Bool) (name : List ℕ) (made : Result Policy Fault) → IfInTheWay made → IfInTheWay (unless b name made)
+unless_none true name made none = tt
 unless_none false name made none = none
 
-needing_none : (b : Bool) (name : List ℕ) (made : Result Policy Fault) → IsNoneOfAuthority made → IsNoneOfAuthority (needing b name made)
+needing_none : (b : Bool) (name : List ℕ) (made : Result Policy Fault) → IfInTheWay made → IfInTheWay (needing b name made)
 needing_none true name made none = none
-needing_none false name made none = λ h. h
+needing_none false name made none = tt
 
-in_use_none : (b : Bool) (name : List ℕ) (made : Result Policy Fault) → IsNoneOfAuthority made → IsNoneOfAuthority (unless_in_use b name made)
-in_use_none true name made none = λ h. h
+in_use_none : (b : Bool) (name : List ℕ) (made : Result Policy Fault) → IfInTheWay made → IfInTheWay (unless_in_use b name made)
+in_use_none true name made none = tt
 in_use_none false name made none = none
 
-policy_none : (b : BoardRows) (o : Operation) (p : Policy) → IsNoneOfAuthority (policy_changed b o p)
+policy_none : (b : BoardRows) (o : Operation) (p : Policy) → IfInTheWay (policy_changed b o p)
 policy_none b (operation.AddUser id special auditor digest restricted) p =
     unless_none (has_name p id) id (Ok (record p { users = with_user (record { id = id; special = special; auditor = auditor; revoked = false; digest = digest; restricted = restricted }) p.users })) tt
 policy_none b (operation.AltUser id special auditor revoked digest restricted) p =
@@ -84,7 +85,7 @@ policy_none b (operation.PermitDelete class pattern id when) p =
 policy_none b (operation.ClassActive class active) p = tt
 policy_none b (operation.DefineConsole name auth mode) p = tt
 
-row_none : (row : Row) (p : Policy) → IsNoneOfAuthority (after_row row p)
+row_none : (row : Row) (p : Policy) → IfInTheWay (after_row row p)
 row_none (rows.Class class active) p = tt
 row_none (rows.Group name) p =
     unless_none (has_user p name) name (Ok (record p { groups = with_group name p.groups })) tt
@@ -98,28 +99,28 @@ row_none (rows.Profile class pattern uacc owner warning) p =
 row_none (rows.Permit class pattern id level when) p =
     needing_none (is_some (profile_of p.profiles class pattern)) pattern (needing (has_holder p id) id (Ok (record p { profiles = with_permission class pattern (record { id = id; when = when; level = level }) p.profiles }))) (needing_none (has_holder p id) id (Ok (record p { profiles = with_permission class pattern (record { id = id; when = when; level = level }) p.profiles })) tt)
 
-then_none : (r : Result Policy Fault) (next : Policy → Result Policy Fault) → IsNoneOfAuthority r → ((p : Policy) → IsNoneOfAuthority (next p)) → IsNoneOfAuthority (then_policy r next)
+then_none : (r : Result Policy Fault) (next : Policy → Result Policy Fault) → IfInTheWay r → ((p : Policy) → IfInTheWay (next p)) → IfInTheWay (then_policy r next)
 then_none (Ok p) next none later = later p
 then_none (Err f) next none later = none
 
-rows_none : (all : List Row) (p : Policy) → IsNoneOfAuthority (policy_after all p)
+rows_none : (all : List Row) (p : Policy) → IfInTheWay (policy_after all p)
 rows_none [] p = tt
 rows_none (row ∷ more) p = then_none (after_row row p) (λ q. policy_after more q) (row_none row p) (λ q. rows_none more q)
 
-with_rows_none : (s : State) (b : BoardRows) (r : Result Policy Fault) → IsNoneOfAuthority r → IsNoneOfAuthority (with_rows_of s b r)
+with_rows_none : (s : State) (b : BoardRows) (r : Result Policy Fault) → IfInTheWay r → IfInTheWay (with_rows_of s b r)
 with_rows_none s b (Ok p) none = go (loses_master s.board b)
   where
-    go : (lost : Bool) → IsNoneOfAuthority (mastered lost (record s { policy = p; board = b }))
-    go true = λ h. h
+    go : (lost : Bool) → IfInTheWay (mastered lost (record s { policy = p; board = b }))
+    go true = tt
     go false = tt
 with_rows_none s b (Err f) none = none
 
-right_none : (o : Operation) → IsOfAuthority (right_fault o) → ⊥
-right_none (operation.RAlter class pattern owner uacc warning) h = h
-right_none (operation.RDelete class pattern) h = h
-right_none (operation.Permit class pattern id level when) h = h
-right_none (operation.PermitDelete class pattern id when) h = h
-right_none other h = h
+right_plain : (o : Operation) → IsPlain (right_fault o)
+right_plain (operation.RAlter class pattern owner uacc warning) = tt
+right_plain (operation.RDelete class pattern) = tt
+right_plain (operation.Permit class pattern id level when) = tt
+right_plain (operation.PermitDelete class pattern id when) = tt
+right_plain other = tt
 
 -- the logon rule names itself
 abbrev pub IsLogonRule : Option Rule → Type 0
@@ -137,17 +138,17 @@ logon_rule s c = go (is_required c.mode) (is_none c.user) (is_revoked (acting s 
     go false nobody false = tt
 
 module _ (s : State) (r : Input) where
-  refuse_told : (f : Fault) (b : Bool) → (IsOfAuthority f → ⊥) → IfRefused (IsTold s r) (refuse_if f None b)
+  refuse_told : (f : Fault) (b : Bool) → IsPlain f → IfRefused (IsTold s r) (refuse_if f None b)
   refuse_told f true none = none
   refuse_told f false none = tt
 
-  or_told : {A : Type 0} (x : Result A Fault) → IsNoneOfAuthority x → IfRefused (IsTold s r) (or_refused x)
+  or_told : {A : Type 0} (x : Result A Fault) → IfInTheWay x → IfRefused (IsTold s r) (or_refused x)
   or_told (Ok x) none = tt
   or_told (Err f) none = none
 
-  acted_told : (a : BoardOutcome) → IfRefused (IsTold s r) (acted None a)
-  acted_told (Ok d) = tt
-  acted_told (Err f) = board_has_none f
+  acted_told : (a : BoardOutcome) → IsPlainIfFault a → IfRefused (IsTold s r) (acted None a)
+  acted_told (Ok d) plain = tt
+  acted_told (Err f) plain = plain
 
   module _ (name : List ℕ) (shut_out : (why : Rule) → IsShutOut s name why → IsDeniedBy s r why) where
     asking_told : IfRefused (IsTold s r) (console_asking s name)
@@ -163,7 +164,7 @@ admin_told s name o =
     then_told P (console_asking s name) (λ c. refuse_if (right_fault o) None (not (may_change s c o)) >>= λ _. or_refused (changed s o) >>= λ new. does new [] None)
     (asking_told s r name (λ why told. told))
     (λ c _. then_told P (refuse_if (right_fault o) None (not (may_change s c o))) (λ _. or_refused (changed s o) >>= λ new. does new [] None)
-    (refuse_told s r (right_fault o) (not (may_change s c o)) (right_none o))
+    (refuse_told s r (right_fault o) (not (may_change s c o)) (right_plain o))
     (λ _ _. then_told P (or_refused (changed s o)) (λ new. does new [] None) (or_told s r (changed s o) (with_rows_none s (board_changed o s.board) (policy_changed s.board o s.policy) (policy_none s.board o s.policy))) (λ _ _. tt)))
   where
     r : Input
@@ -182,7 +183,7 @@ account_told s name from count =
     then_told (IsTold s r) (console_asking s name) (λ c. refuse_if fault.NotSpecial None (not (account_shown s c)) >>= λ _. does s (map account_line (asked_for from count s.account)) None)
     (asking_told s r name (λ why told. told))
     (λ c _. then_told (IsTold s r) (refuse_if fault.NotSpecial None (not (account_shown s c))) (λ _. does s (map account_line (asked_for from count s.account)) None)
-    (refuse_told s r fault.NotSpecial (not (account_shown s c)) (λ h. h)) (λ _ _. tt))
+    (refuse_told s r fault.NotSpecial (not (account_shown s c)) tt) (λ _ _. tt))
   where
     r : Input
     r = input.ListAccount name from count
@@ -192,14 +193,14 @@ import_told s name number all =
     then_told (IsTold s r) (console_asking s name) (λ c. refuse_if fault.NotSpecial None (not (is_special (acting s c))) >>= λ _. batch_outcome s number all (batch_of s.batches number))
     (asking_told s r name (λ why told. told))
     (λ c _. then_told (IsTold s r) (refuse_if fault.NotSpecial None (not (is_special (acting s c)))) (λ _. batch_outcome s number all (batch_of s.batches number))
-    (refuse_told s r fault.NotSpecial (not (is_special (acting s c))) (λ h. h)) (λ _ _. batch_told (batch_of s.batches number)))
+    (refuse_told s r fault.NotSpecial (not (is_special (acting s c))) tt) (λ _ _. batch_told (batch_of s.batches number)))
   where
     r : Input
     r = input.Import name number all
 
     again : (same : Bool) → IfRefused (IsTold s r) (if same then does s (batch_line number (codes "AGAIN") ∷ []) None else refused fault.BatchChanged None)
     again true = tt
-    again false = λ h. h
+    again false = tt
 
     batch_told : (kept : Option Batch) → IfRefused (IsTold s r) (batch_outcome s number all kept)
     batch_told None = then_told (IsTold s r) (or_refused (with_rows all s)) (λ new. does (record new { batches = with_batch (record { number = number; rows = all }) new.batches }) (batch_line number (codes "KEPT") ∷ []) None)
@@ -207,7 +208,7 @@ import_told s name number all =
     batch_told (Some kept) = again (same_rows kept.rows all)
 
 event_told : (s : State) (e : Event) → IfRefused (IsTold s (input.Event e)) (event_outcome s e)
-event_told s e = then_told (IsTold s (input.Event e)) (acted None (event_effect s.board e)) (λ act. does (record s { board = act.board }) [] None) (acted_told s (input.Event e) (event_effect s.board e)) (λ _ _. tt)
+event_told s e = then_told (IsTold s (input.Event e)) (acted None (event_effect s.board e)) (λ act. does (record s { board = act.board }) [] None) (acted_told s (input.Event e) (event_effect s.board e) (event_plain s.board e)) (λ _ _. tt)
 
 outcome_told : (s : State) (r : Input) → IfRefused (IsTold s r) (outcome s r)
 outcome_told s (input.Command name text) = command_told s name text
@@ -236,7 +237,7 @@ rules_named s moment r f why new authority (inr (inl full)) = absurd (given_up_h
 rules_named s moment r f why new authority (inr (inr done)) = go why (told_of s r f why done.answers)
   where
     go : (o : Option Rule) → IsToldBy s r f o → (because : Rule) × (o ≡ Some because) × IsNamedBy f because × IsDeniedBy s r because
-    go None none = absurd (none authority)
+    go None plain = absurd (none_of_authority f plain authority)
     go (Some because) (inl told) = (because, refl, told.0, told.1)
     go (Some because) (inr way) = absurd (by_board s r f because way authority)
 
@@ -249,3 +250,12 @@ pub no_other_named : RefusalsNameNoOtherRule
 no_other_named s moment r f why new (inl left) = absurd (named_none f why left.gives_up)
 no_other_named s moment r f why new (inr (inl full)) = absurd (named_none f why (inr full.answers))
 no_other_named s moment r f why new (inr (inr done)) = told_of s r f (Some why) done.answers
+
+pub given_up_left : GivenUpChangesNothing
+given_up_left s moment r f why new given (inl left) = left.same
+given_up_left s moment r f why new given (inr (inl full)) = full.same
+given_up_left s moment r f why new given (inr (inr done)) = absurd (go why (told_of s r f why done.answers) given)
+  where
+    go : (o : Option Rule) → IsToldBy s r f o → IsGivenUp (Refused f o) → ⊥
+    go None plain gives_up = not_given_up f plain gives_up
+    go (Some because) told gives_up = named_none f because gives_up

@@ -12,6 +12,7 @@ pub mod Holding
 pub mod Leaving
 pub mod Logging
 pub mod Naming
+pub mod Plain
 pub mod Reasons
 pub mod SameBatches
 pub mod Worked

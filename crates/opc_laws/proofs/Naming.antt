@@ -45,12 +45,14 @@ use Rattle.opc_machine.specs.Inputs.{Input}
 use Rattle.opc_machine.specs.Inputs as input
 use Rattle.opc_laws.specs.Laws.{IsAllowed, IsHeard, IsOfAuthority, IsNamedBy, IsDeniedBy, IsRefusedByBoard}
 use Rattle.opc_laws.proofs.Logging.{nobody_ok}
+use Rattle.opc_laws.proofs.Plain.{IsPlain}
 use Rattle.opc_laws.proofs.Reasons.{decides_in_class}
 use Rattle.opc_machine.proofs.Inversion.{allowed_ok, console_is, command_is, found_ok}
 
--- A rule that a refusal names denies, or allowed what the board refused; one that names none is none of authority.
+-- A rule that a refusal names denies, or allowed what the board refused; one that names none is neither of authority nor
+-- given up.
 abbrev pub IsToldBy : State → Input → Fault → Option Rule → Type 0
-IsToldBy s r f None = IsOfAuthority f → ⊥
+IsToldBy s r f None = IsPlain f
 IsToldBy s r f (Some why) = (IsNamedBy f why × IsDeniedBy s r why) ⊎ IsRefusedByBoard s r f why
 
 abbrev pub IsTold : State → Input → Denial → Type 0
@@ -64,13 +66,13 @@ pub then_told : {A B : Type 0} (P : Denial → Type 0) (x : Result A Denial) (f 
 then_told P (Ok y) f h g = g y refl
 then_told P (Err d) f h g = h
 
-line_has_none : (f : ReadFault) → IsOfAuthority (line_fault f) → ⊥
-line_has_none line.Empty h = h
-line_has_none line.TooLong h = h
-line_has_none (line.BadCharacter at) h = h
-line_has_none (line.UnknownVerb span) h = h
-line_has_none (line.BadOperand span) h = h
-line_has_none (line.OpenQuote at) h = h
+line_plain : (f : ReadFault) → IsPlain (line_fault f)
+line_plain line.Empty = tt
+line_plain line.TooLong = tt
+line_plain (line.BadCharacter at) = tt
+line_plain (line.UnknownVerb span) = tt
+line_plain (line.BadOperand span) = tt
+line_plain (line.OpenQuote at) = tt
 
 pub board_has_none : (f : BoardFault) → IsOfAuthority (board_fault f) → ⊥
 board_has_none board.NoUnit h = h
@@ -148,16 +150,16 @@ console_told s r name = then_told (IsTold s r) (found fault.NoConsole (console_a
   where
     there : (o : Option ConsoleRow) → IfRefused (IsTold s r) (found fault.NoConsole o)
     there (Some c) = tt
-    there None = λ h. h
+    there None = tt
 
     online : (b : Bool) → IfRefused (IsTold s r) (refuse_if fault.ConsoleOffline None b)
-    online true = λ h. h
+    online true = tt
     online false = tt
 
 module _ (s : State) (name text : List ℕ) where
   line_told : (r : Result Command ReadFault) → IfRefused (IsTold s (input.Command name text)) (command_or r)
   line_told (Ok c) = tt
-  line_told (Err f) = line_has_none f
+  line_told (Err f) = line_plain f
 
   acted_told : (c : ConsoleRow) (command : Command) (why : Rule) → IsAllowed s name text c command why → (r : BoardOutcome) → effect s.board command c.name ≡ r → IfRefused (IsTold s (input.Command name text)) (acted (Some why) r)
   acted_told c command why allows (Ok d) is = tt
@@ -193,17 +195,17 @@ module _ (s : State) (name text : List ℕ) where
     where
       nobody : (o : Option (List ℕ)) → IfRefused (IsTold s (input.Command name text)) (nobody_on o)
       nobody None = tt
-      nobody (Some user) = λ h. h
+      nobody (Some user) = tt
 
       stored : (o : Option User) → IfRefused (IsTold s (input.Command name text)) (found fault.BadLogon o)
       stored (Some user) = tt
-      stored None = λ h. h
+      stored None = tt
 
   logoff_told : (c : ConsoleRow) → IfRefused (IsTold s (input.Command name text)) (logoff s c)
   logoff_told c = then_told (IsTold s (input.Command name text)) (refuse_if fault.NotOn None (is_none c.user)) (λ _. does (record s { board = logged_off c.name s.board }) [] None) (on (is_none c.user)) (λ _ _. tt)
     where
       on : (b : Bool) → IfRefused (IsTold s (input.Command name text)) (refuse_if fault.NotOn None b)
-      on true = λ h. h
+      on true = tt
       on false = tt
 
   needless_told : (c : ConsoleRow) (k : Command) → IsHeard s name text c k → IfRefused (IsTold s (input.Command name text)) (without_need s c k)

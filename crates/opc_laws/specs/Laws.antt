@@ -145,6 +145,10 @@ RefusalsChangeNothing =
     (s : State) (moment : ℕ) (r : Input) (fault : Fault) (why : Option Rule) (new : State) → Step s moment r (Refused fault why) new
     → (IsGivenUp (Refused fault why) × (new ≡ s)) ⊎ IsRefusal s moment r fault why new
 
+-- A request that is answered as given up has changed nothing, not even the account.
+abbrev pub GivenUpChangesNothing : Type 0
+GivenUpChangesNothing = (s : State) (moment : ℕ) (r : Input) (fault : Fault) (why : Option Rule) (new : State) → IsGivenUp (Refused fault why) → Step s moment r (Refused fault why) new → new ≡ s
+
 -- the refusals of authority
 abbrev pub IsOfAuthority : Fault → Type 0
 IsOfAuthority fault.LogonRequired = Unit {0}

@@ -3,7 +3,7 @@ ghost use Rattle.opc_laws.specs.ActingLaws.{AutoConsolesActForTheirOwn, Optional
 ghost use Rattle.opc_laws.specs.ChangingLaws.{AdministersOnlyWhereAllowed, AdministersWhereverAllowed, ImportsOnlyWhereAllowed, ImportsWhereverAllowed, ListsAccountOnlyWhereShown, ListsAccountWhereverShown, ListsExactlyProfilesShown, ListsProfilesWhereverAsked, RepeatsWhereverAllowed, SameRowsAreEqual};
 ghost use Rattle.opc_laws.specs.DisplayLaws.{LinesAreAboutWhatTheyList, ListsEveryConsole, ListsEveryUnit, ListsTheUnit};
 ghost use Rattle.opc_laws.specs.HoldingLaws.{ConsoleEntriesRaise, ConsolesNeverLower, EntriesCountAtTheirConsole, LevelsAreGiven, RestrictedUsersAreNamed};
-ghost use Rattle.opc_laws.specs.Laws.{ActsOnlyWhereAllowed, ActsWhereverAllowed, BoardFaultsAreAnswered, DenialsAreAnswered, ListsExactlyWhatMayBeShown, LogsOffOnlyWhereSomebodyIsOn, LogsOffWhereverSomebodyIsOn, LogsOnOnlyWhereAllowed, LogsOnWhereverAllowed, OnlyWhatIsHeardIsDone, RefusalsChangeNothing, RefusalsNameNoOtherRule, RefusalsOfAuthorityNameTheirRule, RequestsAreJudgedInTurn};
+ghost use Rattle.opc_laws.specs.Laws.{ActsOnlyWhereAllowed, ActsWhereverAllowed, BoardFaultsAreAnswered, DenialsAreAnswered, GivenUpChangesNothing, ListsExactlyWhatMayBeShown, LogsOffOnlyWhereSomebodyIsOn, LogsOffWhereverSomebodyIsOn, LogsOnOnlyWhereAllowed, LogsOnWhereverAllowed, OnlyWhatIsHeardIsDone, RefusalsChangeNothing, RefusalsNameNoOtherRule, RefusalsOfAuthorityNameTheirRule, RequestsAreJudgedInTurn};
 ghost use Rattle.opc_laws.specs.LeavingLaws.{AccountRowsTell, EventFaultsAreAnswered, EventsHappenWhereverPossible, EventsOnlyDoTheirEffect, WhatIsDoneLeavesRest};
 ghost use Rattle.opc_laws.specs.RulingLaws.{LogonRuleSaysWhy, LogonRulingsSayWhy, RulingsSayWhy};
 
@@ -128,6 +128,11 @@ pub fn same_rows_are_equal()
 /// A refusal changes nothing but the account, to which it adds its row.
 pub fn refusals_change_nothing()
     ensures { RefusalsChangeNothing }
+{}
+
+/// A request that is given up changes nothing, not even the account.
+pub fn given_up_changes_nothing()
+    ensures { GivenUpChangesNothing }
 {}
 
 /// A refusal of authority names its rule, a profile, a console's group or the logon rule, and that rule denies by the

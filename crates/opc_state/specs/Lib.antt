@@ -6,3 +6,4 @@ pub mod Facts
 pub mod Asked
 pub mod Sights
 pub mod Loads
+pub mod PolicyFile

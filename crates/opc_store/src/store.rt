@@ -8,7 +8,7 @@ ghost use Rattle.opc_policy.specs.Taken.{is_active};
 ghost use Rattle.opc_policy.specs.Profiles.{profile_of};
 ghost use Rattle.opc_state.specs.State.{empty, deciding_in};
 ghost use Rattle.opc_history_tables.specs.Loads.{account_page, kept_text};
-ghost use Rattle.opc_whole_policy.specs.PolicyFile.{rows_of};
+ghost use Rattle.opc_state.specs.PolicyFile.{rows_of};
 ghost use Rattle.opc_stored.specs.Asked.{Finds};
 ghost use Rattle.opc_stored.specs.Represented.{Represents};
 ghost use Rattle.opc_policy.specs.Deciding.{of_class, deciding};

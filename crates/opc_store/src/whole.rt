@@ -1,7 +1,7 @@
 //! The whole board, and the rows of a policy file, of the tables of several rooms.
 ghost use Rattle.std.specs.Prelude.{◌≡◌, false};
 ghost use Rattle.opc_statements.specs.Steps.{Looks};
-ghost use Rattle.opc_whole_policy.specs.PolicyFile.{rows_of};
+ghost use Rattle.opc_state.specs.PolicyFile.{rows_of};
 ghost use Rattle.opc_stored.specs.Asked.{Finds};
 
 use opc_board::board::BoardRows;

@@ -4,7 +4,7 @@ ghost use Rattle.std.specs.List.{flat_map};
 ghost use Rattle.opc_statements.specs.Steps.{Looks};
 ghost use Rattle.opc_policy.specs.declared.policy.Policy.{Policy as ThePolicy};
 ghost use Rattle.opc_policy.specs.declared.row.Row.{Row as TheRow};
-ghost use Rattle.opc_whole_policy.specs.PolicyFile.{rows_of, row_of_group, row_of_user, row_of_connect, row_of_console, row_of_profile, row_of_entry, permits_of};
+ghost use Rattle.opc_state.specs.PolicyFile.{rows_of, row_of_group, row_of_user, row_of_connect, row_of_console, row_of_profile, row_of_entry, permits_of};
 ghost use Rattle.opc_stored.specs.Asked.{Finds};
 
 use crate::lists::{Lists, lists_on};

@@ -1,5 +1,5 @@
 use Rattle.std.proofs.Common.{◌≡◌, ◌++◌, map, take}
-use Rattle.opc_whole_policy.specs.PolicyFile.{row_of_entry}
+use Rattle.opc_state.specs.PolicyFile.{row_of_entry}
 use Rattle.opc_whole_policy.proofs.rows.add_entries.Given as goal
 
 abbrev pub invariant-loop-entry : goal.invariant-loop-entry

@@ -1,6 +1,6 @@
 use Rattle.std.proofs.Common.{◌≡◌, ◌++◌, take}
 use Rattle.std.specs.List.{flat_map}
-use Rattle.opc_whole_policy.specs.PolicyFile.{permits_of}
+use Rattle.opc_state.specs.PolicyFile.{permits_of}
 use Rattle.opc_whole_policy.proofs.rows.add_permits.Given as goal
 
 abbrev pub invariant-loop-profile : goal.invariant-loop-profile

@@ -1,0 +1,4 @@
+pub mod Appending
+pub mod Taken
+pub mod Policies
+pub mod Boards

@@ -156,19 +156,20 @@ fn edits_of_rows(alloc: Global, stored: Stored, rows: &[Row]) -> Result<Vec<Edit
     Ok(edits_from(alloc, &old, &board, rows)?)
 }
 
-// Loads what is stored, where no user is.
-fn stored_on<T: Tables>(tables: &mut T, alloc: Global) -> Result<Option<Stored>, StoreFault>
+/// The edits that rows make of what is stored, or why they are refused; writes nothing.
+pub fn founding_on<T: Tables>(
+    tables: &mut T,
+    alloc: Global,
+    rows: &[Row],
+) -> Result<Vec<Edit>, Fault>
     ensures kept { IsKept T.is_sure T.represents T.may_leave tables.old tables.new }
-    ensures stored { Answers (T.is_sure tables.new) (T.represents tables.old) result (λ s found. MatchOption found
-        (has_users s.policy ≡ true)
-        (λ stored. (has_users s.policy ≡ false) × (stored.policy ≡ s.policy) × (stored.board ≡ without_history s.board))) }
+    ensures made { Answers (T.is_sure tables.new) (T.represents tables.old) result (λ s edits. with_rows rows.now s ≡ Ok (all_edited edits.items s)) }
+    ensures idle { Answers (T.is_sure tables.new) (T.represents tables.old) result (λ s edits. HaveNothingNew rows.now s → edits.items ≡ []) }
+    ensures refused { T.is_sure tables.new → (s : State) → T.represents tables.old s → IfErr result (λ f. f ≢ why.NoMemory → f ≢ why.Store → with_rows rows.now s ≡ Err f) }
 {
-    if tables.has_users()? {
-        return Ok(None);
-    }
     let policy = tables.policy(alloc)?;
     let board = tables.live_board(alloc)?;
-    Ok(Some(Stored { policy, board }))
+    edits_of_rows(alloc, Stored { policy, board }, rows)
 }
 
 // Loads what a first policy needs, and decides; writes nothing.
@@ -178,10 +179,10 @@ fn edits_on<T: Tables>(tables: &mut T, alloc: Global, rows: &[Row]) -> Result<Ve
     ensures idle { Answers (T.is_sure tables.new) (T.represents tables.old) result (λ s edits. HaveNothingNew rows.now s → edits.items ≡ []) }
     ensures refused { T.is_sure tables.new → (s : State) → T.represents tables.old s → IfErr result (λ f. f ≢ why.NoMemory → f ≢ why.Store → bootstrapped rows.now s ≡ Err f) }
 {
-    match stored_on(tables, alloc)? {
-        Some(stored) => edits_of_rows(alloc, stored, rows),
-        None => Err(Fault::NotEmpty),
+    if tables.has_users()? {
+        return Err(Fault::NotEmpty);
     }
+    founding_on(tables, alloc, rows)
 }
 
 // Writes the edits of a first policy, if there are any.

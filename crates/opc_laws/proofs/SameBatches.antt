@@ -116,7 +116,7 @@ user_is u v h =
 user_itself : (u : User) → same_user u u ≡ true
 user_itself u = both _ _ (name_itself u.id) (both _ _ (flag_itself u.special) (both _ _ (flag_itself u.auditor) (both _ _ (flag_itself u.revoked) (both _ _ (digest_itself u.digest) (flag_itself u.restricted)))))
 
-row_is : (r q : Row) → same_row r q ≡ true → r ≡ q
+pub row_is : (r q : Row) → same_row r q ≡ true → r ≡ q
 row_is (rows.Class c a) (rows.Class d b) h =
     let class : c ≡ d = same_class_is c d (first _ _ h) in
     let active : a ≡ b = flag_is a b (rest _ _ h) in
@@ -155,7 +155,7 @@ row_is (rows.Permit c p e l w) (rows.Permit d q f m x) h =
     λ i. rows.Permit (class i) (pattern i) (id i) (level i) (when i)
 row_is r q h = absurd (search (rules, h))
 
-row_itself : (r : Row) → same_row r r ≡ true
+pub row_itself : (r : Row) → same_row r r ≡ true
 row_itself (rows.Class c a) = both _ _ (class_itself c) (flag_itself a)
 row_itself (rows.Group n) = name_itself n
 row_itself (rows.User u) = user_itself u

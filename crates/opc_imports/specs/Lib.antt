@@ -1,0 +1,1 @@
+pub use Rattle.opc_machine.specs.Imports

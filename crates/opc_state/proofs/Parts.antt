@@ -1,5 +1,5 @@
 -- What the edits of a difference make of a state.
-use Rattle.std.proofs.Common.{◌≡◌, Bool, true, false, not, List, [], ◌∷◌, ◌++◌, filter, map, refl, sym, ap, subst, ◌∙◌, append_assoc, Ordering, is_eq}
+use Rattle.std.proofs.Common.{◌≡◌, Bool, true, false, not, List, [], ◌∷◌, ◌++◌, filter, map, refl, sym, ap, ap₂, ◌∙◌, append_assoc, Ordering, is_eq}
 use Rattle.std.specs.BTreeSet.{replace_key}
 use Rattle.std.specs.Cmp.{IsTotalOrder}
 use Rattle.std.specs.Ordering.{is_lt}
@@ -10,7 +10,7 @@ use Rattle.opc_board.specs.declared.rows.ConsoleRow.{ConsoleRow}
 use Rattle.opc_board.specs.declared.rows.DeviceRow.{DeviceRow}
 use Rattle.opc_board.specs.declared.rows.ReplyRow.{ReplyRow}
 use Rattle.opc_board.specs.declared.rows.UnitRow.{UnitRow}
-use Rattle.opc_board.specs.Facts.{IsBoard}
+use Rattle.opc_board.specs.Sight.{IsInOrder}
 use Rattle.opc_board.specs.History.{without_history}
 use Rattle.opc_state.specs.declared.change.Edit.{Edit}
 use Rattle.opc_state.specs.declared.change.Edit.TheVariants as edit
@@ -18,6 +18,8 @@ use Rattle.opc_state.specs.State.{State}
 use Rattle.opc_state.specs.Members.{unit_cmp, device_cmp, console_cmp, reply_cmp}
 use Rattle.opc_state.specs.Changes.{edited, all_edited, with_board, with_units, with_devices, with_consoles, with_replies, with_halted, with_answered, with_log, with_messages}
 use Rattle.opc_state.specs.Difference.{gone, fresh, part_difference, board_difference, halted_difference, unit_at, device_at, console_at, reply_at, same_unit, same_device, same_console, same_reply, unit_removal, device_removal, console_removal, reply_removal}
+use Rattle.opc_state.specs.Sights.{AreSights}
+use Rattle.opc_state.proofs.Seen.{differences}
 use Rattle.opc_state.proofs.Replacing.{without_all, with_all, becomes, none_gone, none_fresh}
 use Rattle.opc_state.proofs.SameRows.{unit_total, device_total, console_total, reply_total, unit_ties, device_ties, console_ties, reply_ties, units_same, devices_same, consoles_same, replies_same, unit_itself, device_itself, console_itself, reply_itself}
 
@@ -95,7 +97,7 @@ module _ {R : Type 0} (added : R → Edit) (get : State → List R) (set : List 
       ∙ ap (λ rows. set rows s) (append_assoc (get s) (r ∷ []) rs)
 
 -- The edits of the difference make the one board the other.
-pub board_becomes : (s : State) (new : BoardRows) → IsBoard s.board → IsBoard new → all_edited (board_difference s.board new) s ≡ with_board new s
+pub board_becomes : (s : State) (new : BoardRows) → IsInOrder s.board → IsInOrder new → all_edited (board_difference s.board new) s ≡ with_board new s
 board_becomes s new was now =
     let old : BoardRows = s.board in
     let units : List Edit = part_difference unit_at same_unit unit_removal edit.PutUnit old.units new.units in
@@ -115,10 +117,10 @@ board_becomes s new was now =
     let s5 : State = with_halted new.halted s4 in
     let s6 : State = with_answered (old.answered ++ new.answered) s5 in
     let s7 : State = with_log (old.log ++ new.log) s6 in
-    let e1 : all_edited units s ≡ s1 = units_become new.units s was.units_rise now.units_rise in
-    let e2 : all_edited to_devices s ≡ s2 = next units devices s s1 s2 e1 (devices_become new.devices s1 was.devices_rise now.devices_rise) in
-    let e3 : all_edited to_consoles s ≡ s3 = next to_devices consoles s s2 s3 e2 (consoles_become new.consoles s2 was.consoles_rise now.consoles_rise) in
-    let e4 : all_edited to_replies s ≡ s4 = next to_consoles replies s s3 s4 e3 (replies_become new.replies s3 was.replies_rise now.replies_rise) in
+    let e1 : all_edited units s ≡ s1 = units_become new.units s was.units now.units in
+    let e2 : all_edited to_devices s ≡ s2 = next units devices s s1 s2 e1 (devices_become new.devices s1 was.devices now.devices) in
+    let e3 : all_edited to_consoles s ≡ s3 = next to_devices consoles s s2 s3 e2 (consoles_become new.consoles s2 was.consoles now.consoles) in
+    let e4 : all_edited to_replies s ≡ s4 = next to_consoles replies s s3 s4 e3 (replies_become new.replies s3 was.replies now.replies) in
     let e5 : all_edited to_halted s ≡ s5 = next to_replies (halted_difference old.halted new.halted) s s4 s5 e4 (halted_becomes old.halted new.halted s4 refl) in
     let e6 : all_edited to_answered s ≡ s6 = next to_halted (map edit.AddAnswered new.answered) s s5 s6 e5
     (history_becomes edit.AddAnswered (λ t. t.board.answered) with_answered (λ t. refl) (λ rows t. refl) (λ one other t. refl) (λ r t. refl) new.answered s5) in
@@ -126,11 +128,6 @@ board_becomes s new was now =
     (history_becomes edit.AddLog (λ t. t.board.log) with_log (λ t. refl) (λ rows t. refl) (λ one other t. refl) (λ r t. refl) new.log s6) in
     next to_log (map edit.AddMessage new.messages) s s7 (with_board new s) e7
     (history_becomes edit.AddMessage (λ t. t.board.messages) with_messages (λ t. refl) (λ rows t. refl) (λ one other t. refl) (λ r t. refl) new.messages s7)
-
--- the live part of a board is all that a difference looks at
-pub live_becomes : (s : State) (old new : BoardRows) → old ≡ without_history s.board → IsBoard old → IsBoard new → all_edited (board_difference old new) s ≡ with_board new s
-live_becomes s old new same was now =
-    ap (λ b. all_edited (board_difference b new) s) same ∙ board_becomes s new (subst IsBoard same was) now
 
 -- a board doesn't differ from itself
 
@@ -143,14 +140,14 @@ not_halted : (b : Bool) → halted_difference b b ≡ []
 not_halted true = refl
 not_halted false = refl
 
-pub no_difference : (old new : BoardRows) → IsBoard old → new ≡ without_history old → board_difference old new ≡ []
+pub no_difference : (old new : BoardRows) → IsInOrder old → new ≡ without_history old → board_difference old new ≡ []
 no_difference old new is same =
     ap (board_difference old) same
     ∙ rw (
-      no_part unit_cmp unit_total unit_at same_unit unit_ties units_same unit_itself unit_removal edit.PutUnit old.units is.units_rise,
-      no_part device_cmp device_total device_at same_device device_ties devices_same device_itself device_removal edit.PutDevice old.devices is.devices_rise,
-      no_part console_cmp console_total console_at same_console console_ties consoles_same console_itself console_removal edit.PutConsole old.consoles is.consoles_rise,
-      no_part reply_cmp reply_total reply_at same_reply reply_ties replies_same reply_itself reply_removal edit.PutReply old.replies is.replies_rise,
+      no_part unit_cmp unit_total unit_at same_unit unit_ties units_same unit_itself unit_removal edit.PutUnit old.units is.units,
+      no_part device_cmp device_total device_at same_device device_ties devices_same device_itself device_removal edit.PutDevice old.devices is.devices,
+      no_part console_cmp console_total console_at same_console console_ties consoles_same console_itself console_removal edit.PutConsole old.consoles is.consoles,
+      no_part reply_cmp reply_total reply_at same_reply reply_ties replies_same reply_itself reply_removal edit.PutReply old.replies is.replies,
       not_halted old.halted,
     ) refl
 
@@ -183,7 +180,20 @@ stays_live s new h =
     (gains_nothing s.board.answered new.answered (ap (λ t. t.board.answered) h)) (gains_nothing s.board.log new.log (ap (λ t. t.board.log) h))
     (gains_nothing s.board.messages new.messages (ap (λ t. t.board.messages) h)) (ap (λ t. t.board.halted) h)
 
-pub stays_undiffered : (s : State) (old new : BoardRows) → old ≡ without_history s.board → IsBoard old → IsBoard new → all_edited (board_difference old new) s ≡ s → board_difference old new ≡ []
-stays_undiffered s old new same was now stays =
-    let live : new ≡ without_history s.board = stays_live s new (sym (live_becomes s old new same was now) ∙ stays) in
-    no_difference old new was (live ∙ ap without_history (sym same))
+-- the live board of a state is in order as the board is
+live_order : (b : BoardRows) → IsInOrder b → IsInOrder (without_history b)
+live_order b order = record { units = order.units; devices = order.devices; consoles = order.consoles; replies = order.replies }
+
+-- the edits between what is seen of two boards are those between the boards
+seen_alike : (old new : BoardRows) (s : State) (whole : BoardRows) (h : AreSights old new s whole) → board_difference old new ≡ board_difference (without_history s.board) whole
+seen_alike old new s whole h =
+    ap₂ board_difference h.old_is h.new_is
+    ∙ differences h.seen (without_history s.board) whole (live_order s.board h.was) h.now (record { units = h.left.units; devices = h.left.devices; consoles = h.left.consoles; replies = h.left.replies })
+
+pub sights_become : (old new : BoardRows) (s : State) (whole : BoardRows) → AreSights old new s whole → all_edited (board_difference old new) s ≡ with_board whole s
+sights_become old new s whole h = ap (λ edits. all_edited edits s) (seen_alike old new s whole h) ∙ board_becomes s whole h.was h.now
+
+pub sights_stay : (old new : BoardRows) (s : State) (whole : BoardRows) → AreSights old new s whole → all_edited (board_difference old new) s ≡ s → board_difference old new ≡ []
+sights_stay old new s whole h stays =
+    let live : whole ≡ without_history s.board = stays_live s whole (sym (sights_become old new s whole h) ∙ stays) in
+    seen_alike old new s whole h ∙ no_difference (without_history s.board) whole (live_order s.board h.was) live

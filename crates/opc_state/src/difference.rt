@@ -4,7 +4,9 @@ ghost use Rattle.std.specs.Option.{is_none};
 ghost use Rattle.opc_rows.specs.Ordered.{IsInKeyOrder};
 ghost use Rattle.opc_board.specs.Facts.{IsBoard};
 ghost use Rattle.opc_board.specs.History.{without_history};
+ghost use Rattle.opc_board.specs.declared.board.BoardRows.{BoardRows};
 ghost use Rattle.opc_state.specs.State.{State};
+ghost use Rattle.opc_state.specs.Sights.{AreSights};
 ghost use Rattle.opc_state.specs.Changes.{all_edited, with_board};
 ghost use Rattle.opc_state.specs.Difference.{as_it_was, board_difference, fresh, gone, halted_difference, part_difference};
 
@@ -147,12 +149,12 @@ fn parts(alloc: Global, old: &BoardRows, new: &BoardRows) -> Result<Vec<Edit>, A
     Ok(edits)
 }
 
-/// The edits by which a live board becomes another one, whose histories are what is added to them. Members that
-/// stay as they are are not among them; so there are none where a state stays as it is.
+/// The edits by which a board becomes another one, from what is seen of them. The histories of the new one are what is
+/// added to theirs. Members that stay as they are are not among the edits; so there are none where a state stays as it
+/// is.
 pub fn difference(alloc: Global, old: &Board, new: &Board) -> Result<Vec<Edit>, AllocError>
-    ensures becomes { IfOk result (λ edits. (s : State) → old.now ≡ without_history s.board → all_edited edits.items s ≡ with_board new.now s) }
-    ensures same { IfOk result (λ edits. new.now ≡ without_history old.now → edits.items ≡ []) }
-    ensures idle { IfOk result (λ edits. (s : State) → old.now ≡ without_history s.board → all_edited edits.items s ≡ s → edits.items ≡ []) }
+    ensures becomes { IfOk result (λ edits. (s : State) → (whole : BoardRows) → AreSights old.now new.now s whole → all_edited edits.items s ≡ with_board whole s) }
+    ensures idle { IfOk result (λ edits. (s : State) → (whole : BoardRows) → AreSights old.now new.now s whole → all_edited edits.items s ≡ s → edits.items ≡ []) }
 {
     let edits = parts(alloc, old.rows(), new.rows())?;
     Ok(edits)

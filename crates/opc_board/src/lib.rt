@@ -9,7 +9,7 @@ pub mod event;
 pub mod fault;
 pub mod laws;
 pub mod line;
-mod replies;
+pub mod replies;
 pub mod rows;
 pub mod text;
 mod units;

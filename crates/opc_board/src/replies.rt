@@ -15,7 +15,7 @@ use opc_names::reply_id::ReplyId;
 use std::alloc::Global;
 
 /// The name of a user's session on the board.
-pub(crate) fn session_of(user: &UserId) -> UnitName
+pub fn session_of(user: &UserId) -> UnitName
     ensures { result ≡ user.now }
 {
     match UnitName::read(user.text()) {

@@ -5,6 +5,7 @@ pub mod FirstCovering
 pub mod Highest
 pub mod InOrder
 pub mod KeyOrder
+pub mod ListedGroups
 pub mod Maps
 pub mod MostSpecific
 pub mod OneMore

@@ -1,8 +1,10 @@
 -- The level that a user holds in a profile.
-use Rattle.std.specs.Prelude.{ℕ, List, Option, Some, None, if◌then◌else◌, unwrap_or}
+use Rattle.std.specs.Prelude.{◌≡◌, ℕ, List, Option, Some, None, filter, if◌then◌else◌, map, unwrap_or}
 use Rattle.opc_names.specs.declared.level.Level.{Level}
 use Rattle.opc_names.specs.declared.level.Level.TheVariants as level
 use Rattle.opc_policy.specs.Access.{first_level, higher_level}
+use Rattle.opc_policy.specs.Members.{is_group}
+use Rattle.opc_policy.specs.declared.entry.Entry.{Entry}
 use Rattle.opc_policy.specs.declared.profile.Profile.{Profile}
 use Rattle.opc_policy.specs.declared.user.User.{User}
 
@@ -24,3 +26,11 @@ conditional_level profile user (Some console) groups = unwrap_or (first_level pr
 -- the rule of conditional entries and RESTRICTED users is this profile's own.)
 unfoldable pub held : Profile → User → Option (List ℕ) → List (List ℕ) → Level
 held profile user console groups = higher_level (plain_level profile user groups) (conditional_level profile user console groups)
+
+-- those groups that an access list has entries for, as often as it has
+abbrev pub listed_groups : List Entry → List (List ℕ) → List (List ℕ)
+listed_groups entries groups = filter (is_group groups) (map (λ (e : Entry). e.id) entries)
+
+-- Of a user's groups those with an entry are enough.
+abbrev pub ListedGroupsSuffice : Type 0
+ListedGroupsSuffice = (p : Profile) (user : User) (console : Option (List ℕ)) (groups : List (List ℕ)) → held p user console (listed_groups p.entries groups) ≡ held p user console groups

@@ -21,14 +21,21 @@ verdict false decided user console groups needed = Undecided
 verdict true None user console groups needed = Undecided
 verdict true (Some p) user console groups needed = if includes (held p user console groups) needed || p.warning then Allowed else Denied
 
--- the rule of a profile for a user: with a warning where the level is not held and the profile only warns
+-- the rule of a profile for whoever holds a level in it: with a warning where the level is not enough and the profile only warns
+abbrev pub rule_at : Profile → Level → Level → Rule
+rule_at p level needed = rules.Profile p.class p.pattern level needed (not (includes level needed) && p.warning)
+
+-- the ruling of a profile on whoever holds a level in it
+abbrev pub ruling_at : Profile → Level → Level → Ruling
+ruling_at p level needed = if includes level needed || p.warning then rulings.Allowed (rule_at p level needed) else rulings.Denied (rule_at p level needed)
+
+-- the rule of a profile for a user
 abbrev pub profile_rule : Profile → User → Option (List ℕ) → List (List ℕ) → Level → Rule
-profile_rule p user console groups needed = rules.Profile p.class p.pattern (held p user console groups) needed (not (includes (held p user console groups) needed) && p.warning)
+profile_rule p user console groups needed = rule_at p (held p user console groups) needed
 
 -- the ruling of a profile on a user, where it decides
 abbrev pub profile_ruling : Profile → User → Option (List ℕ) → List (List ℕ) → Level → Ruling
-profile_ruling p user console groups needed =
-    if includes (held p user console groups) needed || p.warning then rulings.Allowed (profile_rule p user console groups needed) else rulings.Denied (profile_rule p user console groups needed)
+profile_ruling p user console groups needed = ruling_at p (held p user console groups) needed
 
 -- the rule of a verdict
 abbrev pub verdict_rule : Bool → Option Profile → User → Option (List ℕ) → List (List ℕ) → Level → Rule

@@ -1,7 +1,7 @@
 //! Access lists.
-ghost use Rattle.std.specs.Prelude.{◌≡◌, [], OnOk, OnErr};
-ghost use Rattle.std.specs.Option.{option_copied};
-ghost use Rattle.opc_policy.specs.Access.{entry_level, with_entry, highest_level, higher, higher_level, everyone_level, first_level, AreInOrder};
+ghost use Rattle.std.specs.Prelude.{◌≡◌, [], OnOk, OnErr, None, if◌then◌else◌};
+ghost use Rattle.std.specs.Option.{option_copied, option_or};
+ghost use Rattle.opc_policy.specs.Access.{entry_level, with_entry, highest_level, higher, higher_level, first_level, AreInOrder};
 ghost use Rattle.opc_policy.specs.Places.{IsPlace};
 
 use crate::entry::Entry;
@@ -78,19 +78,7 @@ impl Entries {
         highest
     }
 
-    /// The level of the entry for everyone, which is none for a RESTRICTED user.
-    fn everyone_level(&self, when: Option<&ConsoleName>, user: &User) -> Option<Level>
-        ensures { result ≡ everyone_level self.now (option_copied when.entry) user.now }
-    {
-        if user.restricted {
-            None
-        } else {
-            self.level_of(when, "*")
-        }
-    }
-
-    /// The level of the first that has one: the user's own entry, the highest entry for one of the groups, the
-    /// entry for everyone.
+    /// The level of the first source that has one, for a user who is connected to these groups.
     pub fn first_level(
         &self,
         when: Option<&ConsoleName>,
@@ -99,13 +87,31 @@ impl Entries {
     ) -> Option<Level>
         ensures { result ≡ first_level self.now (option_copied when.entry) user.now groups.now }
     {
-        if let Some(level) = self.level_of(when, user.id.text()) {
-            return Some(level);
-        }
-        if let Some(level) = self.highest_level(when, groups) {
-            return Some(level);
-        }
-        self.everyone_level(when, user)
+        let sources = Sources {
+            own: self.level_of(when, user.id.text()),
+            groups: self.highest_level(when, groups),
+            everyone: self.level_of(when, "*"),
+        };
+        sources.first_level(user)
+    }
+}
+
+/// What an access list has for a user among the entries with one condition: the level of the user's own entry, the
+/// highest one of the entries for the user's groups, and the level of the entry for everyone.
+#[derive(Clone, Copy)]
+pub struct Sources {
+    pub own: Option<Level>,
+    pub groups: Option<Level>,
+    pub everyone: Option<Level>,
+}
+
+impl Sources {
+    /// The level of the first that there is. A RESTRICTED user has nothing of the entry for everyone.
+    pub fn first_level(self, user: &User) -> Option<Level>
+        ensures { result ≡ option_or self.own (option_or self.groups (if user.now.restricted then None else self.everyone)) }
+    {
+        let everyone = if user.restricted { None } else { self.everyone };
+        self.own.or(self.groups).or(everyone)
     }
 }
 
@@ -125,7 +131,7 @@ pub(crate) fn higher_level(level: Level, other: Level) -> Level
 }
 
 /// The higher of two levels, of those that are there.
-fn higher(level: Option<Level>, other: Option<Level>) -> Option<Level>
+pub fn higher(level: Option<Level>, other: Option<Level>) -> Option<Level>
     ensures { result ≡ higher level other }
 {
     match (level, other) {

@@ -22,7 +22,9 @@ pub struct Profile {
 
 impl Profile {
     ghost use Rattle.opc_names.specs.Authority.{same_class};
-    ghost use Rattle.opc_policy.specs.Held.{universal_level, plain_level, conditional_level, held};
+    ghost use Rattle.std.specs.Prelude.{unwrap_or};
+    ghost use Rattle.opc_policy.specs.Access.{higher_level};
+    ghost use Rattle.opc_policy.specs.Held.{universal_level, conditional_level, held};
 
     /// Whether it is a profile of a class.
     pub(crate) fn is_of(&self, class: Class) -> bool
@@ -45,16 +47,8 @@ impl Profile {
     ) -> Level
         ensures { result ≡ held self.now user.now (option_copied console.entry) groups.now }
     {
-        let plain = self.plain_level(user, groups);
-        higher_level(plain, self.conditional_level(user, console, groups))
-    }
-
-    /// The level by the entries for every console, and last by the universal access.
-    fn plain_level(&self, user: &User, groups: &[GroupName]) -> Level
-        ensures { result ≡ plain_level self.now user.now groups.now }
-    {
-        let level = self.entries.first_level(None, user, groups);
-        level.unwrap_or(self.universal_level(user))
+        let plain = self.entries.first_level(None, user, groups);
+        self.level_from(user, plain, self.conditional_level(user, console, groups))
     }
 
     /// The level by the entries for one console alone; without a console none of them counts.
@@ -63,15 +57,22 @@ impl Profile {
         user: &User,
         console: Option<&ConsoleName>,
         groups: &[GroupName],
-    ) -> Level
-        ensures { result ≡ conditional_level self.now user.now (option_copied console.entry) groups.now }
+    ) -> Option<Level>
+        ensures { unwrap_or result Level.None ≡ conditional_level self.now user.now (option_copied console.entry) groups.now }
     {
         if console.is_none() {
-            return Level::None;
+            return None;
         }
-        self.entries
-            .first_level(console, user, groups)
-            .unwrap_or(Level::None)
+        self.entries.first_level(console, user, groups)
+    }
+
+    /// The level that a user holds who has these of the entries: of those for every console, and of those for one
+    /// console alone. Without an entry of the former there is the universal access.
+    pub fn level_from(&self, user: &User, plain: Option<Level>, conditional: Option<Level>) -> Level
+        ensures { result ≡ higher_level (unwrap_or plain (universal_level self.now user.now)) (unwrap_or conditional Level.None) }
+    {
+        let plain = plain.unwrap_or(self.universal_level(user));
+        higher_level(plain, conditional.unwrap_or(Level::None))
     }
 
     /// What is given to those for whom there is no entry: a RESTRICTED user has nothing of it.

@@ -45,7 +45,7 @@ impl Ruling {
 
 impl Profile {
     ghost use Rattle.std.specs.Prelude.{Some, true};
-    ghost use Rattle.opc_policy.specs.Rulings.{profile_ruling, profile_rule, verdict, verdict_of, rule_of};
+    ghost use Rattle.opc_policy.specs.Rulings.{profile_ruling, profile_rule, rule_at, ruling_at, verdict, verdict_of, rule_of};
 
     /// The ruling on a user at a console, where this profile decides. The groups are the user's connect groups.
     pub fn ruling_for(
@@ -59,7 +59,14 @@ impl Profile {
         ensures verdict { verdict_of result ≡ verdict true (Some self.now) user.now (option_copied console.entry) groups.now needed }
         ensures rule { rule_of result ≡ profile_rule self.now user.now (option_copied console.entry) groups.now needed }
     {
-        let held = self.level_of(user, console, groups);
+        self.ruling_at(self.level_of(user, console, groups), needed)
+    }
+
+    /// The ruling on whoever holds a level in this profile, where it decides.
+    pub fn ruling_at(&self, held: Level, needed: Level) -> Ruling
+        ensures ruling { result ≡ ruling_at self.now held needed }
+        ensures rule { rule_of result ≡ rule_at self.now held needed }
+    {
         let is_held = held.includes(needed);
         let rule = Rule::Profile {
             class: self.class,

@@ -1,2 +1,6 @@
+pub mod Connected
+pub mod Found
+pub mod HeldIn
 pub mod Named
 pub mod OwnUsers
+pub mod Ruled

@@ -3,4 +3,5 @@
 
 pub mod asking;
 pub mod console;
+mod held;
 pub mod ruling;

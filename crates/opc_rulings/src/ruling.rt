@@ -9,8 +9,10 @@ ghost use Rattle.opc_policy.specs.Taken.{is_active};
 ghost use Rattle.opc_state.specs.Asked.{Answers};
 ghost use Rattle.opc_state.specs.State.{deciding_in};
 ghost use Rattle.opc_state.specs.Changes.{IsKept};
+ghost use Rattle.opc_rulings.specs.Held.{class_ruling};
 ghost use Rattle.opc_machine.specs.Rulings.{acting, acting_user, is_auto, is_required, is_allowed, logon_ruling, own_user, need_to_show, ruling, shown, to_show};
 
+use crate::held::level_on;
 use opc_board::line::{Item, Line};
 use opc_board::rows::ConsoleRow;
 use opc_names::class::Class;
@@ -20,7 +22,7 @@ use opc_names::name::{ConsoleName, Name, NameKind, Resource, UserId};
 use opc_policy::mode::Mode;
 use opc_policy::need::Need;
 use opc_policy::rule::Rule;
-use opc_policy::ruling::{Ruling, console_ruling, rule_on};
+use opc_policy::ruling::{Ruling, console_ruling};
 use opc_policy::source::StoreFault;
 use opc_policy::user::User;
 use opc_rows::Rows;
@@ -45,6 +47,31 @@ fn is_auto(mode: Mode) -> bool
     }
 }
 
+// What the profile that decides in a class rules on a user at a console, where the class is active and one does.
+fn class_ruling_on<T: Tables>(
+    tables: &mut T,
+    alloc: Global,
+    class: Class,
+    resource: &Resource,
+    user: &User,
+    console: &ConsoleName,
+    needed: Level,
+) -> Result<Option<Ruling>, StoreFault>
+    ensures kept { IsKept T.is_sure T.represents T.may_leave tables.old tables.new }
+    ensures ruling { Answers (T.is_sure tables.new) (T.represents tables.old) result (λ s r. r ≡
+        class_ruling (is_active s.policy.active class) (deciding_in s.policy class resource.now) user.now (Some console.now) (groups_of s.policy.connects user.now.id) needed) }
+{
+    if !tables.is_active(class)? {
+        return Ok(None);
+    }
+    let found = tables.deciding(alloc, class, resource)?;
+    let Some(profile) = found.profile else {
+        return Ok(None);
+    };
+    let held = level_on(tables, alloc, &profile, user, console)?;
+    Ok(Some(profile.ruling_at(held, needed)))
+}
+
 // By the profile that decides for a user, else by the authority of the console.
 fn by_profile<T: Tables>(
     tables: &mut T,
@@ -57,18 +84,16 @@ fn by_profile<T: Tables>(
     ensures ruling { Answers (T.is_sure tables.new) (T.represents tables.old) result (λ s r. r ≡
         policy_ruling (is_active s.policy.active Opercmds) (deciding_in s.policy Opercmds need.now.resource) (Some user.now) (Some console.now.name) (groups_of s.policy.connects user.now.id) console.now.auth need.now) }
 {
-    let active = tables.is_active(Class::Opercmds)?;
-    let found = tables.deciding(alloc, Class::Opercmds, &need.resource)?;
-    let groups = tables.groups_of(alloc, &user.id)?;
-    Ok(rule_on(
-        &found,
-        active,
-        Some(user),
-        Some(&console.name),
-        groups.as_slice(),
-        console.auth,
-        need,
-    ))
+    let ruling = class_ruling_on(
+        tables,
+        alloc,
+        Class::Opercmds,
+        &need.resource,
+        user,
+        &console.name,
+        need.level,
+    )?;
+    Ok(ruling.unwrap_or(console_ruling(console.auth, need)))
 }
 
 // The id of a console's own user, which is the console's name.
@@ -173,15 +198,16 @@ pub fn logon_ruling_on<T: Tables>(
     if user.revoked {
         return Ok(Ruling::Denied(Rule::Revoked));
     }
-    if !tables.is_active(Class::Console)? {
-        return Ok(Ruling::Allowed(Rule::NoProfile));
-    }
-    let found = tables.deciding(alloc, Class::Console, &resource_of(&console.name))?;
-    let Some(profile) = found.profile else {
-        return Ok(Ruling::Allowed(Rule::NoProfile));
-    };
-    let groups = tables.groups_of(alloc, &user.id)?;
-    Ok(profile.ruling_for(user, Some(&console.name), groups.as_slice(), Level::Read))
+    let ruling = class_ruling_on(
+        tables,
+        alloc,
+        Class::Console,
+        &resource_of(&console.name),
+        user,
+        &console.name,
+        Level::Read,
+    )?;
+    Ok(ruling.unwrap_or(Ruling::Allowed(Rule::NoProfile)))
 }
 
 fn is_allowed(ruling: Ruling) -> bool

@@ -1,0 +1,15 @@
+use Rattle.std.proofs.Common.{Some, sym}
+use Rattle.opc_names.specs.declared.class.Class.TheVariants.{Console}
+use Rattle.opc_names.specs.declared.level.Level.TheVariants.{Read}
+use Rattle.opc_policy.specs.Members.{groups_of}
+use Rattle.opc_policy.specs.Taken.{is_active}
+use Rattle.opc_policy.specs.declared.rule.Rule.TheVariants as rule
+use Rattle.opc_policy.specs.declared.ruling.Ruling.TheVariants.{Allowed}
+use Rattle.opc_state.specs.State.{deciding_in}
+use Rattle.opc_rulings.proofs.Ruled.{ruled, unless}
+use Rattle.opc_rulings.proofs.ruling.logon_ruling_on.Goals as goal
+
+pub returns-clause-ruling : goal.returns-clause-ruling
+returns-clause-ruling g c = λ sure s represents.
+    unless c.args.user.now.revoked _ _ _ c.if-user.false (rw (c.unwrap_or.ensures, c.in_ok-ruling.ensures.ruling sure s represents, c.resource_of.ensures)
+    (sym (ruled (is_active s.policy.active Console) (deciding_in s.policy Console c.args.console.now.name) c.args.user.now (Some c.args.console.now.name) (groups_of s.policy.connects c.args.user.now.id) Read (Allowed rule.NoProfile))))

@@ -70,8 +70,8 @@ impl BoardRows {
 }
 
 impl ConsoleRow {
-    // Whether it is online with AUTH MASTER.
-    pub(crate) fn is_master(&self) -> bool
+    /// Whether it is online with AUTH MASTER.
+    pub fn is_master(&self) -> bool
         ensures { result ≡ is_master self.now }
     {
         match self.auth {

@@ -44,24 +44,24 @@ console_ties c d = texts_ties c.name d.name
 pub reply_ties : (r q : ReplyRow) → reply_at r q ≡ is_eq (reply_cmp r q)
 reply_ties r q = unsigned_ties r.id q.id
 
-first : (a b : Bool) → (a && b) ≡ true → a ≡ true
+pub first : (a b : Bool) → (a && b) ≡ true → a ≡ true
 first true b h = refl
 first false b h = absurd (cc)
 
-rest : (a b : Bool) → (a && b) ≡ true → b ≡ true
+pub rest : (a b : Bool) → (a && b) ≡ true → b ≡ true
 rest true b h = h
 rest false b h = absurd (cc)
 
-names : (a b : List ℕ) → bytes_eq a b ≡ true → a ≡ b
+pub names : (a b : List ℕ) → bytes_eq a b ≡ true → a ≡ b
 names a b h = (bytes_eq-Decides a b).0 h
 
-flags : (a b : Bool) → same_flag a b ≡ true → a ≡ b
+pub flags : (a b : Bool) → same_flag a b ≡ true → a ≡ b
 flags true true h = refl
 flags true false h = absurd (cc)
 flags false true h = absurd (cc)
 flags false false h = refl
 
-texts : (a b : Option (List ℕ)) → same_text a b ≡ true → a ≡ b
+pub texts : (a b : Option (List ℕ)) → same_text a b ≡ true → a ≡ b
 texts None None h = refl
 texts (Some a) (Some b) h = ap Some (names a b h)
 texts (Some a) None h = absurd (cc)
@@ -90,7 +90,7 @@ auth_reads_back SysCons = refl
 auth_reads_back IoCons = refl
 auth_reads_back SysIoCons = refl
 
-auth_of : (a b : Auth) → bytes_eq (auth_text a) (auth_text b) ≡ true → a ≡ b
+pub auth_of : (a b : Auth) → bytes_eq (auth_text a) (auth_text b) ≡ true → a ≡ b
 auth_of a b h = let s : Some a ≡ Some b = sym (auth_reads_back a) ∙ ap (lookup auths) (names (auth_text a) (auth_text b) h) ∙ auth_reads_back b in cc
 
 mode_reads_back : (m : Mode) → lookup modes (mode_text m) ≡ Some m
@@ -98,7 +98,7 @@ mode_reads_back Optional = refl
 mode_reads_back Required = refl
 mode_reads_back Auto = refl
 
-mode_of : (a b : Mode) → bytes_eq (mode_text a) (mode_text b) ≡ true → a ≡ b
+pub mode_of : (a b : Mode) → bytes_eq (mode_text a) (mode_text b) ≡ true → a ≡ b
 mode_of a b h = let s : Some a ≡ Some b = sym (mode_reads_back a) ∙ ap (lookup modes) (names (mode_text a) (mode_text b) h) ∙ mode_reads_back b in cc
 
 pub units_same : (u v : UnitRow) → same_unit u v ≡ true → u ≡ v
@@ -145,18 +145,18 @@ replies_same r q h =
 
 -- and each row is the same as itself
 
-both : (a b : Bool) → a ≡ true → b ≡ true → (a && b) ≡ true
+pub both : (a b : Bool) → a ≡ true → b ≡ true → (a && b) ≡ true
 both true b h k = k
 both false b h k = absurd (cc)
 
-name_itself : (a : List ℕ) → bytes_eq a a ≡ true
+pub name_itself : (a : List ℕ) → bytes_eq a a ≡ true
 name_itself a = (bytes_eq-Decides a a).1 refl
 
-flag_itself : (a : Bool) → same_flag a a ≡ true
+pub flag_itself : (a : Bool) → same_flag a a ≡ true
 flag_itself true = refl
 flag_itself false = refl
 
-text_itself : (a : Option (List ℕ)) → same_text a a ≡ true
+pub text_itself : (a : Option (List ℕ)) → same_text a a ≡ true
 text_itself None = refl
 text_itself (Some a) = name_itself a
 

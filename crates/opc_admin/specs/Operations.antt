@@ -1,0 +1,45 @@
+-- What an operation comes to, by what it makes of a policy or of a state.
+use Rattle.std.specs.Prelude.{◌≡◌, ◌&&◌, Bool, false, [], ◌∷◌, Option, Some, None, Result, Ok, Err}
+use Rattle.std.specs.Str.{bytes_eq}
+use Rattle.opc_names.specs.declared.level.Level.{Level}
+use Rattle.opc_names.specs.Spellings.{auth_text, level_text}
+use Rattle.opc_policy.specs.declared.fault.Fault.{Fault}
+use Rattle.opc_policy.specs.declared.policy.Policy.{Policy}
+use Rattle.opc_policy.specs.declared.profile.Profile.{Profile}
+use Rattle.opc_policy.specs.Modes.{mode_text}
+use Rattle.opc_board.specs.declared.rows.ConsoleRow.{ConsoleRow}
+use Rattle.opc_state.specs.declared.change.Edit.{Edit}
+use Rattle.opc_state.specs.Difference.{same_flag}
+use Rattle.opc_state.specs.State.{State}
+use Rattle.opc_machine.specs.declared.outcome.Deed as found
+use Rattle.opc_machine.specs.declared.outcome.Denial as found_denial
+use Rattle.opc_machine.specs.Outcome.{Outcome, ◌>>=◌, does, or_refused, refused}
+
+-- what is done where the policy becomes another one, or is left
+abbrev pub policy_outcome : State → Result Policy Fault → Outcome
+policy_outcome s (Ok p) = does (record s { policy = p }) [] None
+policy_outcome s (Err fault) = refused fault None
+
+-- and where the state does
+abbrev pub state_outcome : Result State Fault → Outcome
+state_outcome made = do
+  new ← or_refused made
+  does new [] None
+
+-- a deed by one edit, without lines and without a rule
+abbrev pub IsDoneBy : Edit → Result found.Deed found_denial.Denial → Type 0
+IsDoneBy edit (Ok deed) = (deed.edits.items ≡ edit ∷ []) × (deed.lines ≡ []) × (deed.rule ≡ None)
+IsDoneBy edit (Err denial) = ⊥
+
+-- whether a level is this one
+abbrev pub has_level : Option Level → Level → Bool
+has_level None level = false
+has_level (Some held) level = bytes_eq (level_text held) (level_text level)
+
+-- whether two profiles of one class and pattern are defined alike, whatever their access lists
+abbrev pub same_definition : Profile → Profile → Bool
+same_definition p q = bytes_eq p.owner q.owner && (bytes_eq (level_text p.uacc) (level_text q.uacc) && same_flag p.warning q.warning)
+
+-- whether two consoles have one authority and one mode
+abbrev pub same_setting : ConsoleRow → ConsoleRow → Bool
+same_setting c d = bytes_eq (auth_text c.auth) (auth_text d.auth) && bytes_eq (mode_text c.mode) (mode_text d.mode)

@@ -1,0 +1,8 @@
+//! What the operations of administration come to, by what is loaded for them; nothing is written.
+#![tactic(auto)]
+
+pub mod administration;
+mod consoles;
+mod deeds;
+mod members;
+mod profiles;

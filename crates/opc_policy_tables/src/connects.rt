@@ -112,19 +112,21 @@ pub fn user_groups_on<S: Alter>(
     groups_in(alloc, rows.as_slice())
 }
 
+/// Whether a user is connected to a group of this name.
 pub fn is_connected_on<S: Alter>(
     conn: &mut Connection<S>,
-    connect: &Connect,
+    user: &UserId,
+    group: &str,
 ) -> Result<bool, StoreFault>
     requires { conn.old.in_transaction ≡ false }
     ensures mode { conn.new.in_transaction ≡ false }
     ensures looks { Looks S.Store conn.old conn.new result }
-    ensures found { Finds S.Store conn.old conn.new result (λ s v. v ≡ is_connected s.policy connect.now.user connect.now.group) }
+    ensures found { Finds S.Store conn.old conn.new result (λ s v. v ≡ is_connected s.policy user.now group.now) }
 {
     is_there_on(
         conn,
         "SELECT usr FROM connects WHERE usr = ?1 AND grp = ?2 LIMIT 1",
-        params![connect.user.text(), connect.group.text()],
+        params![user.text(), group],
     )
 }
 

@@ -1,21 +1,29 @@
 //! The table of batches, whose rows are kept as the text of a policy file.
-ghost use Rattle.std.specs.Prelude.{◌≡◌, false};
+ghost use Rattle.std.specs.Prelude.{◌≡◌, false, List, Ok, IfOk};
 ghost use Rattle.opc_statements.specs.Steps.{Stays, Looks};
+ghost use Rattle.opc_import.specs.Files.{policy_of};
+ghost use Rattle.opc_policy.specs.declared.row.Row.{Row as TheRow};
 ghost use Rattle.opc_state.specs.Changes.{with_batches};
+ghost use Rattle.opc_state.specs.Loads.{batch_rows};
 ghost use Rattle.opc_state.specs.Members.{with_batch};
 ghost use Rattle.opc_stored.specs.Asked.{Finds, Makes};
 ghost use Rattle.opc_history_tables.specs.Loads.{kept_text};
 
 use opc_board::text::KeptText;
+use opc_import::fault::ImportFault;
 use opc_import::kind::MOST_ROWS;
+use opc_import::read::read_policy;
 use opc_import::write::write_policy;
+use opc_policy::row::Row;
 use opc_policy::source::StoreFault;
+use opc_rows::Rows;
 use opc_state::change::Batch;
 use opc_statements::run;
 use opc_stored::columns::text_in;
+use opc_stored::faults::unreadable;
 use opc_stored::queries::read;
 use sqlite::{Alter, Connection, Error, ErrorCode, Transaction, params};
-use std::alloc::Global;
+use std::alloc::{AllocError, Global};
 
 /// A batch of more rows than a policy file has could not be read back, and is not kept.
 pub fn put_batch<S: Alter>(
@@ -62,6 +70,50 @@ pub fn batch_on<S: Alter>(
     )?;
     match rows.as_slice().get(0) {
         Some(row) => Ok(Some(text_in(row, 0)?)),
+        None => Ok(None),
+    }
+}
+
+fn kept<R: Drop>(alloc: Global, list: Vec<R>) -> Result<Rows<R>, AllocError>
+    ensures { IfOk result (λ v. v ≡ list.items) }
+{
+    let mut rows = Rows::new(alloc);
+    for row in list {
+        rows.push(row)?;
+    }
+    Ok(rows)
+}
+
+/// The rows that a text tells.
+fn rows_in(alloc: Global, text: &KeptText) -> Result<Rows<Row>, StoreFault>
+    ensures { (rows : List TheRow) → policy_of text.now ≡ Ok rows → IfOk result (λ v. v ≡ rows) }
+{
+    match read_policy(alloc, text.as_str()) {
+        Ok(rows) => {
+            let rows = kept(alloc, rows)?;
+            Ok(rows)
+        }
+        Err(ImportFault::NoMemory) => Err(StoreFault::NoMemory),
+        Err(ImportFault::Row { .. }) => Err(unreadable()),
+    }
+}
+
+/// The rows of the batch of a number, read back from its text.
+pub fn batch_rows_on<S: Alter>(
+    alloc: Global,
+    conn: &mut Connection<S>,
+    number: u32,
+) -> Result<Option<Rows<Row>>, StoreFault>
+    requires { conn.old.in_transaction ≡ false }
+    ensures mode { conn.new.in_transaction ≡ false }
+    ensures looks { Looks S.Store conn.old conn.new result }
+    ensures found { Finds S.Store conn.old conn.new result (λ s v. v ≡ batch_rows s.batches number) }
+{
+    match batch_on(conn, number)? {
+        Some(text) => {
+            let rows = rows_in(alloc, &text)?;
+            Ok(Some(rows))
+        }
         None => Ok(None),
     }
 }

@@ -35,24 +35,24 @@ none_dropped : {X : Type 0} (n : ℕ) → (let none : List X = [] in drop n none
 none_dropped zero = refl
 none_dropped (suc n) = refl
 
+-- those behind a number
+pub placed_behind : {X : Type 0} (k n : ℕ) (xs : List X) → filter (λ (p : ℕ × X). nat_lt k p.0) (placed n xs) ≡ drop (suc k - n) (placed n xs)
+placed_behind k n [] = sym (none_dropped (suc k - n))
+placed_behind {X} k n (x ∷ xs) = go (nat_lt k n) refl (placed_behind k (n + 1) xs)
+  where
+    go : (b : Bool) → nat_lt k n ≡ b → filter (λ (p : ℕ × X). nat_lt k p.0) (placed (n + 1) xs) ≡ drop (suc k - (n + 1)) (placed (n + 1) xs)
+        → cond b ((n, x) ∷ filter (λ (p : ℕ × X). nat_lt k p.0) (placed (n + 1) xs)) (filter (λ (p : ℕ × X). nat_lt k p.0) (placed (n + 1) xs)) ≡ drop (suc k - n) ((n, x) ∷ placed (n + 1) xs)
+    go true e more =
+        let low : k < n = grind (arith, nat_tests, e) in
+        let here : suc k - n ≡ 0 = omega arith in
+        let later : suc k - (n + 1) ≡ 0 = omega arith in
+        ap (λ (l : List (ℕ × X)). (n, x) ∷ l) (more ∙ ap (λ (m : ℕ). drop m (placed (n + 1) xs)) later) ∙ ap (λ (m : ℕ). drop m ((n, x) ∷ placed (n + 1) xs)) (sym here)
+    go false e more =
+        let high : n ≤ k = grind (arith, nat_tests, e) in
+        let next : suc k - n ≡ suc (suc k - (n + 1)) = omega arith in
+        more ∙ ap (λ (m : ℕ). drop m ((n, x) ∷ placed (n + 1) xs)) (sym next)
+
 module _ {X Y : Type 0} (f : X → Y) where
   pub placed_members : (n : ℕ) (xs : List X) → map (λ (p : ℕ × X). f p.1) (placed n xs) ≡ map f xs
   placed_members n [] = refl
   placed_members n (x ∷ xs) = ap (λ (l : List Y). f x ∷ l) (placed_members (n + 1) xs)
-
-  -- those behind a number
-  pub placed_past : (k n : ℕ) (xs : List X) → map (λ (p : ℕ × X). f p.1) (filter (λ (p : ℕ × X). nat_lt k p.0) (placed n xs)) ≡ map f (drop (suc k - n) xs)
-  placed_past k n [] = sym (ap (map f) (none_dropped (suc k - n)))
-  placed_past k n (x ∷ xs) = go (nat_lt k n) refl (placed_past k (n + 1) xs)
-    where
-      go : (b : Bool) → nat_lt k n ≡ b → map (λ (p : ℕ × X). f p.1) (filter (λ (p : ℕ × X). nat_lt k p.0) (placed (n + 1) xs)) ≡ map f (drop (suc k - (n + 1)) xs)
-          → map (λ (p : ℕ × X). f p.1) (cond b ((n, x) ∷ filter (λ (p : ℕ × X). nat_lt k p.0) (placed (n + 1) xs)) (filter (λ (p : ℕ × X). nat_lt k p.0) (placed (n + 1) xs))) ≡ map f (drop (suc k - n) (x ∷ xs))
-      go true e more =
-          let low : k < n = grind (arith, nat_tests, e) in
-          let here : suc k - n ≡ 0 = omega arith in
-          let later : suc k - (n + 1) ≡ 0 = omega arith in
-          ap (λ (l : List Y). f x ∷ l) (more ∙ ap (λ (m : ℕ). map f (drop m xs)) later) ∙ ap (λ (m : ℕ). map f (drop m (x ∷ xs))) (sym here)
-      go false e more =
-          let high : n ≤ k = grind (arith, nat_tests, e) in
-          let next : suc k - n ≡ suc (suc k - (n + 1)) = omega arith in
-          more ∙ ap (λ (m : ℕ). map f (drop m (x ∷ xs))) (sym next)

@@ -1,5 +1,5 @@
 -- Rows of a first policy, taken one after another.
-use Rattle.std.proofs.Common.{◌≡◌, ◌<◌, ◌+◌, ℕ, suc, Bool, true, false, List, [], ◌∷◌, ◌++◌, Option, Some, None, Result, Ok, Err, take, drop, drop-cons, get_or, length, is_some, not, ◌&&◌, append_assoc, refl, sym, ap, ap₂, ◌∙◌}
+use Rattle.std.proofs.Common.{◌≡◌, ◌<◌, ◌+◌, ℕ, suc, Bool, true, false, List, [], ◌∷◌, ◌++◌, Option, Some, None, Result, Ok, Err, take, drop, drop-cons, get_or, length, is_some, not, ◌&&◌, append_assoc, filter, refl, sym, subst, ap, ap₂, ◌∙◌}
 use Rattle.std.proofs.Math.ListN.{take-append-drop}
 use Rattle.std.proofs.lemmas.List.{take_more, append-nil}
 use Rattle.std.proofs.lemmas.List.Elements.{filter_map-append}
@@ -13,13 +13,16 @@ use Rattle.opc_policy.specs.Taken.{after_row, has_user, has_group, has_holder, u
 use Rattle.opc_board.specs.declared.board.BoardRows.{BoardRows}
 use Rattle.opc_board.specs.declared.rows.ConsoleRow.{ConsoleRow}
 use Rattle.opc_board.specs.Consoles.{defined}
-use Rattle.opc_board.specs.Facts.{console_at, has_master}
+use Rattle.opc_board.specs.Facts.{IsBoard, console_at, console_before, device_before, has_master, reply_before, unit_before}
 use Rattle.opc_board.specs.History.{History, after, history_of, without_history}
+use Rattle.opc_board.specs.Sight.{IsInOrder, Seen, only, sees_device, sees_reply, sees_unit}
+use Rattle.opc_rows.specs.Ordered.{Ascends}
 use Rattle.std.specs.List.{cons_option}
+use Rattle.opc_state.specs.Sights.{AreSights}
 use Rattle.opc_state.specs.declared.change.Edit.{Edit}
 use Rattle.opc_state.specs.State.{State}
 use Rattle.opc_state.specs.Changes.{edited, all_edited, with_board}
-use Rattle.opc_bootstrap.specs.RowEdits.{AreEditsOf, HaveNothingNew, edit_of, edits_of}
+use Rattle.opc_bootstrap.specs.RowEdits.{AreEditsOf, consoles_alone, HaveNothingNew, edit_of, edits_of}
 use Rattle.opc_machine.specs.Bootstrap.{then_policy, policy_after, console_after, consoles_after, with_rows_of, with_rows, loses_master, mastered}
 
 -- rows, and then more
@@ -138,19 +141,105 @@ edits_more all i row start now new o low is was edit added =
 
 -- ---- what is made of a state
 
-module _ (s : State) (all : List Row) (policy : Policy) (live : BoardRows) (policy_is : policy ≡ s.policy) (live_is : live ≡ without_history s.board) where
+abbrev all_consoles : Seen
+all_consoles = record { units = λ _. false; devices = λ _. false; consoles = λ _. true; replies = λ _. false }
+
+-- rows ask about consoles, and change them, alone
+alone_defined : (row : Row) (b : BoardRows) → console_after row (consoles_alone b) ≡ consoles_alone (console_after row b)
+alone_defined (rows.Console name auth mode) b = go (console_at b name)
+  where
+    go : (o : Option ConsoleRow) → defined name auth mode o (consoles_alone b) ≡ consoles_alone (defined name auth mode o b)
+    go None = refl
+    go (Some console) = refl
+alone_defined other b = refl
+
+alone_after : (all : List Row) (b : BoardRows) → consoles_after all (consoles_alone b) ≡ consoles_alone (consoles_after all b)
+alone_after [] b = refl
+alone_after (row ∷ all) b = ap (consoles_after all) (alone_defined row b) ∙ alone_after all (console_after row b)
+
+bare_defined : (row : Row) (b : BoardRows) → console_after row (without_history b) ≡ without_history (console_after row b)
+bare_defined (rows.Console name auth mode) b = go (console_at b name)
+  where
+    go : (o : Option ConsoleRow) → defined name auth mode o (without_history b) ≡ without_history (defined name auth mode o b)
+    go None = refl
+    go (Some console) = refl
+bare_defined other b = refl
+
+bare_after : (all : List Row) (b : BoardRows) → consoles_after all (without_history b) ≡ without_history (consoles_after all b)
+bare_after [] b = refl
+bare_after (row ∷ all) b = ap (consoles_after all) (bare_defined row b) ∙ bare_after all (console_after row b)
+
+abbrev others : BoardRows → BoardRows
+others b = record b { consoles = [] }
+
+others_defined : (row : Row) (b : BoardRows) → others (console_after row b) ≡ others b
+others_defined (rows.Console name auth mode) b = go (console_at b name)
+  where
+    go : (o : Option ConsoleRow) → others (defined name auth mode o b) ≡ others b
+    go None = refl
+    go (Some console) = refl
+others_defined other b = refl
+
+others_after : (all : List Row) (b : BoardRows) → others (consoles_after all b) ≡ others b
+others_after [] b = refl
+others_after (row ∷ all) b = others_after all (console_after row b) ∙ others_defined row b
+
+none_kept : {R : Type 0} (rs : List R) → filter (λ _. false) rs ≡ []
+none_kept [] = refl
+none_kept (r ∷ rs) = none_kept rs
+
+all_kept : {R : Type 0} (rs : List R) → filter (λ _. true) rs ≡ rs
+all_kept [] = refl
+all_kept (r ∷ rs) = ap (λ xs. r ∷ xs) (all_kept rs)
+
+alone_is : (b : BoardRows) → consoles_alone b ≡ only all_consoles (without_history b)
+alone_is b =
+    ap₂ (λ us ds. record (consoles_alone b) { units = us; devices = ds }) (sym (none_kept b.units)) (sym (none_kept b.devices))
+    ∙ ap₂ (λ cs rs. record (only all_consoles (without_history b)) { consoles = cs; replies = rs }) (sym (all_kept b.consoles)) (sym (none_kept b.replies))
+
+-- what is seen of a state's board, and of the board that rows make of it
+seen_so : (s : State) (all : List Row) (old new : BoardRows) → IsInOrder s.board → old ≡ consoles_alone s.board → new ≡ consoles_after all (consoles_alone s.board) → IsBoard new
+    → AreSights old new s (without_history (consoles_after all s.board))
+seen_so s all old new order old_is new_is sound =
+    let whole = consoles_after all s.board in
+    let rest : others whole ≡ others s.board = others_after all s.board in
+    let alone : new ≡ consoles_alone whole = new_is ∙ alone_after all s.board in
+    record {
+      seen = all_consoles;
+      old_is = old_is ∙ alone_is s.board;
+      new_is = alone ∙ alone_is whole;
+      was = order;
+      now = record {
+        units = subst (Ascends unit_before) (sym (ap (λ b. b.units) rest)) order.units;
+        devices = subst (Ascends device_before) (sym (ap (λ b. b.devices) rest)) order.devices;
+        consoles = subst (Ascends console_before) (ap (λ b. b.consoles) alone) sound.consoles_rise;
+        replies = subst (Ascends reply_before) (sym (ap (λ b. b.replies) rest)) order.replies;
+      };
+      left = record {
+        units = ap (λ b. filter (λ u. not (sees_unit all_consoles u)) b.units) rest;
+        devices = ap (λ b. filter (λ d. not (sees_device all_consoles d)) b.devices) rest;
+        consoles = none_kept whole.consoles ∙ sym (none_kept s.board.consoles);
+        replies = ap (λ b. filter (λ r. not (sees_reply all_consoles r)) b.replies) rest;
+      };
+    }
+
+-- with its histories it is the board that rows make
+board_so : (s : State) (all : List Row) → with_board (without_history (consoles_after all s.board)) s ≡ record s { board = consoles_after all s.board }
+board_so s all = ap (λ b. record s { board = after (history_of s.board) b }) (sym (bare_after all s.board)) ∙ ap (λ b. record s { board = b }) (consoles_whole s.board all)
+
+module _ (s : State) (all : List Row) (policy : Policy) (live : BoardRows) (policy_is : policy ≡ s.policy) (live_is : live ≡ consoles_alone s.board) (order : IsInOrder s.board) where
   pub refused_rows : (f : Fault) → policy_after all policy ≡ Err f → with_rows all s ≡ Err f
   refused_rows f h = ap (with_rows_of s (consoles_after all s.board)) (ap (policy_after all) (sym policy_is) ∙ h)
 
   module _ (q : Policy) (old new : BoardRows) (taken : policy_after all policy ≡ Ok q) (copy : old ≡ without_history live) (defines : new ≡ consoles_after all live) where
-    board_is : after (history_of s.board) new ≡ consoles_after all s.board
-    board_is = ap (after (history_of s.board)) (defines ∙ ap (consoles_after all) live_is) ∙ consoles_whole s.board all
+    new_is : new ≡ consoles_after all (consoles_alone s.board)
+    new_is = defines ∙ ap (consoles_after all) live_is
 
-    old_is : old ≡ without_history s.board
+    old_is : old ≡ consoles_alone s.board
     old_is = copy ∙ ap without_history live_is
 
     losing : loses_master s.board (consoles_after all s.board) ≡ loses_master old new
-    losing = ap₂ (λ a b. has_master a && not (has_master b)) (sym (ap (λ b. b.consoles) old_is)) (sym (ap (λ b. b.consoles) board_is))
+    losing = ap₂ (λ a b. has_master a && not (has_master b)) (sym (ap (λ b. b.consoles) old_is)) (sym (ap (λ b. b.consoles) (new_is ∙ alone_after all s.board)))
 
     comes : with_rows all s ≡ mastered (loses_master old new) (record s { policy = q; board = consoles_after all s.board })
     comes =
@@ -167,14 +256,12 @@ module _ (s : State) (all : List Row) (policy : Policy) (live : BoardRows) (poli
         edited_is =
             ap (λ es. all_edited es s) are.all
             ∙ edits_after are.first (edits_of all) s
-            ∙ ap (all_edited (edits_of all)) (are.becomes s old_is)
-            ∙ rows_edited all (with_board new s) q (ap (policy_after all) (sym policy_is) ∙ taken)
-            ∙ ap (λ b. record s { policy = q; board = b }) board_is
+            ∙ ap (all_edited (edits_of all)) (are.becomes s (without_history (consoles_after all s.board)) (seen_so s all old new order old_is new_is are.sound) ∙ board_so s all)
+            ∙ rows_edited all (record s { board = consoles_after all s.board }) q (ap (policy_after all) (sym policy_is) ∙ taken)
 
 -- rows with nothing new make no edits
-pub nothing_new : (s : State) (all : List Row) (live old new : BoardRows) (edits : List Edit) → live ≡ without_history s.board → old ≡ without_history live → new ≡ consoles_after all live → AreEditsOf old new all edits → HaveNothingNew all s → edits ≡ []
-nothing_new s all live old new edits live_is copy defines are none =
-    let board_is : after (history_of s.board) new ≡ consoles_after all s.board = ap (after (history_of s.board)) (defines ∙ ap (consoles_after all) live_is) ∙ consoles_whole s.board all in
-    let old_is : old ≡ without_history s.board = copy ∙ ap without_history live_is in
-    let same : all_edited are.first s ≡ s = are.becomes s old_is ∙ ap (λ b. record s { board = b }) (board_is ∙ none.board) in
-    are.all ∙ ap₂ (λ one other. one ++ other) (are.idle s old_is same) none.policy
+pub nothing_new : (s : State) (all : List Row) (live old new : BoardRows) (edits : List Edit) → live ≡ consoles_alone s.board → IsInOrder s.board → old ≡ without_history live → new ≡ consoles_after all live → AreEditsOf old new all edits → HaveNothingNew all s → edits ≡ []
+nothing_new s all live old new edits live_is order copy defines are none =
+    let sights = seen_so s all old new order (copy ∙ ap without_history live_is) (defines ∙ ap (consoles_after all) live_is) are.sound in
+    let same : all_edited are.first s ≡ s = are.becomes s _ sights ∙ board_so s all ∙ ap (λ b. record s { board = b }) none.board in
+    are.all ∙ ap₂ (λ one other. one ++ other) (are.idle s _ sights same) none.policy

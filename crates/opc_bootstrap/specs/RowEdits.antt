@@ -3,9 +3,10 @@ use Rattle.std.specs.Prelude.{◌≡◌, List, [], ◌++◌, Option, Some, None,
 use Rattle.opc_policy.specs.declared.row.Row.{Row}
 use Rattle.opc_policy.specs.declared.row.Row.TheVariants as rows
 use Rattle.opc_board.specs.declared.board.BoardRows.{BoardRows}
-use Rattle.opc_board.specs.History.{without_history}
+use Rattle.opc_board.specs.Facts.{IsBoard}
 use Rattle.opc_state.specs.declared.change.Edit.{Edit}
 use Rattle.opc_state.specs.declared.change.Edit.TheVariants as edit
+use Rattle.opc_state.specs.Sights.{AreSights}
 use Rattle.opc_state.specs.State.{State, Fits}
 use Rattle.opc_state.specs.Changes.{all_edited, with_board}
 use Rattle.opc_machine.specs.Bootstrap.{bootstrapped, consoles_after}
@@ -28,12 +29,18 @@ pub record HaveNothingNew (more : List Row) (s : State) : Type 0 where
   pub policy : edits_of more ≡ []
   pub board : consoles_after more s.board ≡ s.board
 
--- Edits make one live board of another, if there is anything to make, and then change the policy as rows do.
+-- What rows ask of a board, and change of it: its consoles, and whether the day is halted besides.
+abbrev pub consoles_alone : BoardRows → BoardRows
+consoles_alone b = record { units = []; devices = []; consoles = b.consoles; replies = []; answered = []; log = []; messages = []; halted = b.halted }
+
+-- Edits make one board of another, if there is anything to make, where these are what is seen of a state's and of
+-- another; and then they change the policy as rows do.
 pub record AreEditsOf (old new : BoardRows) (more : List Row) (edits : List Edit) : Type 0 where
   pub first : List Edit
   pub all : edits ≡ first ++ edits_of more
-  pub becomes : (s : State) → old ≡ without_history s.board → all_edited first s ≡ with_board new s
-  pub idle : (s : State) → old ≡ without_history s.board → all_edited first s ≡ s → first ≡ []
+  pub sound : IsBoard new
+  pub becomes : (s : State) (whole : BoardRows) → AreSights old new s whole → all_edited first s ≡ with_board whole s
+  pub idle : (s : State) (whole : BoardRows) → AreSights old new s whole → all_edited first s ≡ s → first ≡ []
 
 -- The bootstrap is done: its state is represented, and once a change is acknowledged a crash leaves it alone.
 pub record IsBootstrap {T : Type 0} (represents may_leave : T → State → Type 0) (new : T) (s : State) (more : List Row) : Type 0 where

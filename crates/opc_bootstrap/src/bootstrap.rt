@@ -3,14 +3,15 @@ ghost use Rattle.std.specs.Prelude.{◌≡◌, ◌≢◌, ◌⊎◌, ◌++◌, L
 ghost use Rattle.std.specs.List.{cons_option};
 ghost use Rattle.opc_policy.specs.declared.fault.Fault.TheVariants as why;
 ghost use Rattle.opc_policy.specs.declared.row.Row.{Row as TheRow};
-ghost use Rattle.opc_board.specs.History.{without_history};
+ghost use Rattle.opc_board.specs.Sight.{IsInOrder};
 ghost use Rattle.opc_state.specs.Asked.{Answers};
 ghost use Rattle.opc_state.specs.State.{Fits, State, has_users};
 ghost use Rattle.opc_state.specs.Changes.{IsKept, all_edited};
-ghost use Rattle.opc_bootstrap.specs.RowEdits.{AreEditsOf, HaveNothingNew, IsBootstrap, edit_of, edits_of};
+ghost use Rattle.opc_bootstrap.specs.RowEdits.{AreEditsOf, consoles_alone, HaveNothingNew, IsBootstrap, edit_of, edits_of};
 ghost use Rattle.opc_machine.specs.Bootstrap.{bootstrapped, console_after, consoles_after, with_rows, loses_master, policy_after};
 
-use opc_board::board::Board;
+use opc_board::board::{Board, BoardRows};
+use opc_board::rows::ConsoleRow;
 use opc_policy::connect::Connect;
 use opc_policy::entries::Entries;
 use opc_policy::entry::Entry;
@@ -19,12 +20,13 @@ use opc_policy::policy::Policy;
 use opc_policy::profile::Profile;
 use opc_policy::row::Row;
 use opc_policy::source::StoreFault;
+use opc_rows::Rows;
 use opc_state::change::{Change, Edit};
 use opc_state::difference::{copied, difference};
 use opc_state::tables::Tables;
 use std::alloc::{AllocError, Global};
 
-/// What is stored where no user is: a policy and a live board.
+/// What is stored: a policy, and of the board the consoles.
 #[derive(Drop)]
 struct Stored {
     policy: Policy,
@@ -132,6 +134,7 @@ fn edits_from(
 ) -> Result<Vec<Edit>, AllocError>
     ensures { IfOk result (λ edits. AreEditsOf old.now new.now rows.now edits.items) }
 {
+    let _rows = new.rows();
     let mut edits = difference(alloc, old, new)?;
     add_edits(alloc, &mut edits, rows)?;
     Ok(edits)
@@ -139,9 +142,9 @@ fn edits_from(
 
 // The edits that rows make of what is stored, or why they are refused.
 fn edits_of_rows(alloc: Global, stored: Stored, rows: &[Row]) -> Result<Vec<Edit>, Fault>
-    ensures made { IfOk result (λ edits. (s : State) → stored.policy ≡ s.policy → stored.board ≡ without_history s.board → with_rows rows.now s ≡ Ok (all_edited edits.items s)) }
-    ensures idle { IfOk result (λ edits. (s : State) → stored.board ≡ without_history s.board → HaveNothingNew rows.now s → edits.items ≡ []) }
-    ensures refused { IfErr result (λ f. f ≢ why.NoMemory → (s : State) → stored.policy ≡ s.policy → stored.board ≡ without_history s.board → with_rows rows.now s ≡ Err f) }
+    ensures made { IfOk result (λ edits. (s : State) → stored.policy ≡ s.policy → stored.board ≡ consoles_alone s.board → IsInOrder s.board → with_rows rows.now s ≡ Ok (all_edited edits.items s)) }
+    ensures idle { IfOk result (λ edits. (s : State) → stored.board ≡ consoles_alone s.board → IsInOrder s.board → HaveNothingNew rows.now s → edits.items ≡ []) }
+    ensures refused { IfErr result (λ f. f ≢ why.NoMemory → (s : State) → stored.policy ≡ s.policy → stored.board ≡ consoles_alone s.board → IsInOrder s.board → with_rows rows.now s ≡ Err f) }
 {
     let Stored {
         mut policy,
@@ -156,6 +159,35 @@ fn edits_of_rows(alloc: Global, stored: Stored, rows: &[Row]) -> Result<Vec<Edit
     Ok(edits_from(alloc, &old, &board, rows)?)
 }
 
+// Loads what is stored. Of the board rows ask about consoles alone.
+fn stored_on<T: Tables>(tables: &mut T, alloc: Global) -> Result<Stored, StoreFault>
+    ensures kept { IsKept T.is_sure T.represents T.may_leave tables.old tables.new }
+    ensures stored { Answers (T.is_sure tables.new) (T.represents tables.old) result (λ s stored. (stored.policy ≡ s.policy) × (stored.board ≡ consoles_alone s.board) × IsInOrder s.board) }
+{
+    let policy = tables.policy(alloc)?;
+    let halted = tables.is_halted()?;
+    let consoles = tables.consoles(alloc)?;
+    match Board::of(alone(alloc, consoles, halted)) {
+        Ok(board) => Ok(Stored { policy, board }),
+        Err(_) => Err(StoreFault::Store),
+    }
+}
+
+fn alone(alloc: Global, consoles: Rows<ConsoleRow>, halted: bool) -> BoardRows
+    ensures { result ≡ record { units = []; devices = []; consoles = consoles; replies = []; answered = []; log = []; messages = []; halted = halted } }
+{
+    BoardRows {
+        units: Rows::new(alloc),
+        devices: Rows::new(alloc),
+        consoles,
+        replies: Rows::new(alloc),
+        answered: Rows::new(alloc),
+        log: Rows::new(alloc),
+        messages: Rows::new(alloc),
+        halted,
+    }
+}
+
 /// The edits that rows make of what is stored, or why they are refused; writes nothing.
 pub fn founding_on<T: Tables>(
     tables: &mut T,
@@ -167,9 +199,8 @@ pub fn founding_on<T: Tables>(
     ensures idle { Answers (T.is_sure tables.new) (T.represents tables.old) result (λ s edits. HaveNothingNew rows.now s → edits.items ≡ []) }
     ensures refused { T.is_sure tables.new → (s : State) → T.represents tables.old s → IfErr result (λ f. f ≢ why.NoMemory → f ≢ why.Store → with_rows rows.now s ≡ Err f) }
 {
-    let policy = tables.policy(alloc)?;
-    let board = tables.live_board(alloc)?;
-    edits_of_rows(alloc, Stored { policy, board }, rows)
+    let stored = stored_on(tables, alloc)?;
+    edits_of_rows(alloc, stored, rows)
 }
 
 // Loads what a first policy needs, and decides; writes nothing.

@@ -2,12 +2,11 @@
 ghost use Rattle.std.specs.Prelude.{◌≡◌, ◌&&◌, MatchResult};
 ghost use Rattle.std.specs.List.{list_all};
 ghost use Rattle.opc_rows.specs.Ordered.{Ascends};
-ghost use Rattle.opc_board.specs.Facts.{IsBoard, held_rightly, unit_before, kind_at, has_master, is_master};
+ghost use Rattle.opc_board.specs.Facts.{IsBoard, held_rightly, unit_before, kind_found, has_master, is_master};
 
 use crate::rows::{ConsoleRow, DeviceRow, MessageRow, ReplyRow, UnitKind, UnitRow};
 use crate::text::KeptText;
 use opc_names::auth::Auth;
-use opc_names::name::UnitName;
 use opc_policy::unit_kind::UnitKindAt;
 use opc_rows::Rows;
 use std::marker::Model;
@@ -69,6 +68,19 @@ impl BoardRows {
     }
 }
 
+impl UnitKind {
+    /// The kind of a unit that is found, as needs go by it.
+    pub fn found(&self) -> UnitKindAt
+        ensures { result ≡ kind_found self.now }
+    {
+        match *self {
+            UnitKind::Job => UnitKindAt::Job,
+            UnitKind::Stc { member } => UnitKindAt::Stc { member },
+            UnitKind::Tsu => UnitKindAt::Tsu,
+        }
+    }
+}
+
 impl ConsoleRow {
     /// Whether it is online with AUTH MASTER.
     pub fn is_master(&self) -> bool
@@ -116,20 +128,6 @@ impl Board {
         ensures facts { IsBoard self.now }
     {
         &self.rows
-    }
-
-    /// What the unit of this name is.
-    pub fn kind_at(&self, name: &UnitName) -> UnitKindAt
-        ensures { result ≡ kind_at self.now name.now }
-    {
-        match self.rows.units.find(name) {
-            None => UnitKindAt::Absent,
-            Some(unit) => match unit.kind {
-                UnitKind::Job => UnitKindAt::Job,
-                UnitKind::Stc { member } => UnitKindAt::Stc { member },
-                UnitKind::Tsu => UnitKindAt::Tsu,
-            },
-        }
     }
 
     /// Whether an online console has AUTH MASTER.

@@ -1,5 +1,5 @@
-pub mod Whole
+pub mod Deeds
 pub mod Sessions
 pub mod Lines
-pub mod Needs
-pub mod Logons
+pub mod Sighted
+pub mod Typed

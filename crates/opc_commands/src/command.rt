@@ -1,23 +1,24 @@
 //! What commands and events come to: loads, and no change.
-ghost use Rattle.std.specs.Prelude.{◌≡◌, IfOk, Some, false};
+ghost use Rattle.std.specs.Prelude.{◌≡◌, ◌≢◌, IfOk, None, Some, [], false};
+ghost use Rattle.opc_board.specs.declared.fault.BoardFault.TheVariants.{NoMemory};
+ghost use Rattle.opc_board.specs.Consoles.{logged_on};
 ghost use Rattle.opc_board.specs.Effect.{is_session_command};
-ghost use Rattle.opc_board.specs.Facts.{console_at};
-ghost use Rattle.opc_board.specs.History.{without_history};
+ghost use Rattle.opc_board.specs.Facts.{Name, console_at, kind_at};
 ghost use Rattle.opc_reader.specs.Reading.{reading};
 ghost use Rattle.opc_state.specs.Asked.{Answers};
-ghost use Rattle.opc_state.specs.State.{State};
 ghost use Rattle.opc_state.specs.Changes.{IsKept};
 ghost use Rattle.opc_machine.specs.Commands.{board_command as board_outcome, command_outcome, denial_fault, event_outcome, is_password, kind_named, known_by, logoff as logoff_outcome, logon_fault, logon as logon_outcome, without_need as needless_outcome, typed as typed_outcome, need_of};
 ghost use Rattle.opc_machine.specs.Deeds.{IsOutcome};
+ghost use Rattle.opc_machine.specs.Faults.{board_fault};
+ghost use Rattle.opc_machine.specs.Outcome.{does};
 
 use crate::effects::{act_on, come_on, log_off, log_on};
-use opc_board::board::Board;
 use opc_board::event::Event;
 use opc_board::fault::BoardFault;
 use opc_board::rows::ConsoleRow;
 use opc_machine::fault;
 use opc_machine::outcome::{Decided, Deed, Denial, denied, done};
-use opc_names::name::{ConsoleName, UserId};
+use opc_names::name::{UnitName, UserId};
 use opc_needs::need;
 use opc_policy::fault::Fault;
 use opc_policy::need::Need;
@@ -28,8 +29,8 @@ use opc_policy::unit_kind::UnitKindAt;
 use opc_policy::user::User;
 use opc_reader::command::{Command, Password};
 use opc_reader::line::{ReadFault, read_command};
-use opc_rulings::console::console_at;
 use opc_rulings::ruling::{logon_ruling_on, ruling_on, shown_lines};
+use opc_sights::sight::{console_sight_on, event_sight_on, sight_on};
 use opc_state::tables::Tables;
 use sha2::{Digest, Sha256};
 use std::alloc::Global;
@@ -60,40 +61,59 @@ fn logon_fault(rule: &Rule) -> Fault
     }
 }
 
+fn kind_at<T: Tables>(tables: &mut T, name: &UnitName) -> Result<UnitKindAt, StoreFault>
+    ensures kept { IsKept T.is_sure T.represents T.may_leave tables.old tables.new }
+    ensures kind { Answers (T.is_sure tables.new) (T.represents tables.old) result (λ s kind. kind ≡ kind_at s.board name.now) }
+{
+    match tables.unit(name)? {
+        Some(unit) => Ok(unit.kind.found()),
+        None => Ok(UnitKindAt::Absent),
+    }
+}
+
 // What the unit is that a command names, if it is one whose need goes by that.
-fn kind_named(board: &Board, command: &Command<'_>) -> UnitKindAt
-    ensures { result ≡ kind_named board.now command.now }
+fn kind_named<T: Tables>(tables: &mut T, command: &Command<'_>) -> Result<UnitKindAt, StoreFault>
+    ensures kept { IsKept T.is_sure T.represents T.may_leave tables.old tables.new }
+    ensures kind { Answers (T.is_sure tables.new) (T.represents tables.old) result (λ s kind. kind ≡ kind_named s.board command.now) }
 {
     match command {
-        Command::Cancel(name) => board.kind_at(&name.value),
-        Command::Force(name) => board.kind_at(&name.value),
-        Command::Stop(name) => board.kind_at(&name.value),
-        Command::Modify(name, _) => board.kind_at(&name.value),
-        _ => UnitKindAt::Absent,
+        Command::Cancel(name) => kind_at(tables, &name.value),
+        Command::Force(name) => kind_at(tables, &name.value),
+        Command::Stop(name) => kind_at(tables, &name.value),
+        Command::Modify(name, _) => kind_at(tables, &name.value),
+        _ => Ok(UnitKindAt::Absent),
+    }
+}
+
+// Why the board refuses, unless the request is given up for want of memory.
+fn refusal(fault: BoardFault) -> Result<Fault, StoreFault>
+    ensures { IfOk result (λ why. (fault ≢ NoMemory) × (why ≡ board_fault fault)) }
+{
+    match fault {
+        BoardFault::NoMemory => Err(StoreFault::NoMemory),
+        fault => Ok(fault::of_board(fault)),
     }
 }
 
 fn board_command<T: Tables>(
     tables: &mut T,
     alloc: Global,
-    board: Board,
     console: &ConsoleRow,
     command: &Command<'_>,
     need: &Need,
 ) -> Decided
-    requires console { console_at board console.now.name ≡ Some console.now }
-    requires command { is_session_command command.now ≡ false }
+    requires { is_session_command command.now ≡ false }
     ensures kept { IsKept T.is_sure T.represents T.may_leave tables.old tables.new }
-    ensures outcome { Answers (T.is_sure tables.new) (T.represents tables.old) result (λ s o. board ≡ without_history s.board → IsOutcome s (board_outcome s console.now command.now need.now) o) }
+    ensures outcome { Answers (T.is_sure tables.new) (T.represents tables.old) result (λ s o. console_at s.board console.now.name ≡ Some console.now → IsOutcome s (board_outcome s console.now command.now need.now) o) }
 {
     let rule = match ruling_on(tables, alloc, console, need)? {
         Ruling::Allowed(rule) => rule,
         Ruling::Denied(rule) => return denied(denial_fault(&rule), Some(rule)),
     };
+    let board = sight_on(tables, alloc, command, console)?;
     let acted = match act_on(alloc, board, command, &console.name) {
         Ok(acted) => acted,
-        Err(BoardFault::NoMemory) => return Err(StoreFault::NoMemory),
-        Err(fault) => return denied(fault::of_board(fault), Some(rule)),
+        Err(fault) => return denied(refusal(fault)?, Some(rule)),
     };
     let lines = shown_lines(tables, alloc, console, acted.lines)?;
     Ok(Ok(Deed {
@@ -131,17 +151,32 @@ fn known_by<T: Tables>(
     }
 }
 
+// A logon that is let on.
+fn let_on<T: Tables>(
+    tables: &mut T,
+    alloc: Global,
+    console: &ConsoleRow,
+    user: UserId,
+    rule: Rule,
+) -> Decided
+    requires { console.now.user ≡ None }
+    ensures kept { IsKept T.is_sure T.represents T.may_leave tables.old tables.new }
+    ensures outcome { Answers (T.is_sure tables.new) (T.represents tables.old) result (λ s o. console_at s.board console.now.name ≡ Some console.now → IsOutcome s (does (record s { board = logged_on console.now.name user s.board }) [] (Some rule)) o) }
+{
+    let board = console_sight_on(tables, alloc, console)?;
+    let edits = log_on(alloc, board, console, user)?;
+    done(alloc, edits, Some(rule))
+}
+
 fn logon<T: Tables>(
     tables: &mut T,
     alloc: Global,
-    board: Board,
     console: &ConsoleRow,
     id: &UserId,
     password: &Password,
 ) -> Decided
-    requires { console_at board console.now.name ≡ Some console.now }
     ensures kept { IsKept T.is_sure T.represents T.may_leave tables.old tables.new }
-    ensures outcome { Answers (T.is_sure tables.new) (T.represents tables.old) result (λ s o. board ≡ without_history s.board → IsOutcome s (logon_outcome s console.now id.now password.now) o) }
+    ensures outcome { Answers (T.is_sure tables.new) (T.represents tables.old) result (λ s o. console_at s.board console.now.name ≡ Some console.now → IsOutcome s (logon_outcome s console.now id.now password.now) o) }
 {
     if let Some(user) = console.user {
         return denied(Fault::AlreadyOn(user), None);
@@ -150,21 +185,19 @@ fn logon<T: Tables>(
         return denied(Fault::BadLogon, None);
     };
     match logon_ruling_on(tables, alloc, console, &user)? {
-        Ruling::Allowed(rule) => {
-            let edits = log_on(alloc, board, console, *id)?;
-            done(alloc, edits, Some(rule))
-        }
+        Ruling::Allowed(rule) => let_on(tables, alloc, console, *id, rule),
         Ruling::Denied(rule) => denied(logon_fault(&rule), Some(rule)),
     }
 }
 
-fn logoff(alloc: Global, board: Board, console: &ConsoleRow) -> Decided
-    requires { console_at board console.now.name ≡ Some console.now }
-    ensures { (s : State) → IfOk result (λ o. board ≡ without_history s.board → IsOutcome s (logoff_outcome s console.now) o) }
+fn logoff<T: Tables>(tables: &mut T, alloc: Global, console: &ConsoleRow) -> Decided
+    ensures kept { IsKept T.is_sure T.represents T.may_leave tables.old tables.new }
+    ensures outcome { Answers (T.is_sure tables.new) (T.represents tables.old) result (λ s o. console_at s.board console.now.name ≡ Some console.now → IsOutcome s (logoff_outcome s console.now) o) }
 {
     if console.user.is_none() {
         return denied(Fault::NotOn, None);
     }
+    let board = console_sight_on(tables, alloc, console)?;
     let edits = log_off(alloc, board, console)?;
     done(alloc, edits, None)
 }
@@ -173,24 +206,15 @@ fn logoff(alloc: Global, board: Board, console: &ConsoleRow) -> Decided
 fn without_need<T: Tables>(
     tables: &mut T,
     alloc: Global,
-    board: Board,
     console: &ConsoleRow,
     command: &Command<'_>,
 ) -> Decided
-    requires { console_at board console.now.name ≡ Some console.now }
     ensures kept { IsKept T.is_sure T.represents T.may_leave tables.old tables.new }
-    ensures outcome { Answers (T.is_sure tables.new) (T.represents tables.old) result (λ s o. board ≡ without_history s.board → IsOutcome s (needless_outcome s console.now command.now) o) }
+    ensures outcome { Answers (T.is_sure tables.new) (T.represents tables.old) result (λ s o. console_at s.board console.now.name ≡ Some console.now → IsOutcome s (needless_outcome s console.now command.now) o) }
 {
     match command {
-        Command::Logon(id, password) => logon(
-            tables,
-            alloc,
-            board,
-            console,
-            &id.value,
-            &password.value,
-        ),
-        Command::Logoff => logoff(alloc, board, console),
+        Command::Logon(id, password) => logon(tables, alloc, console, &id.value, &password.value),
+        Command::Logoff => logoff(tables, alloc, console),
         _ => done(alloc, Vec::new(alloc), None),
     }
 }
@@ -198,50 +222,50 @@ fn without_need<T: Tables>(
 fn typed<T: Tables>(
     tables: &mut T,
     alloc: Global,
-    board: Board,
     console: &ConsoleRow,
     command: &Command<'_>,
 ) -> Decided
-    requires { console_at board console.now.name ≡ Some console.now }
     ensures kept { IsKept T.is_sure T.represents T.may_leave tables.old tables.new }
-    ensures outcome { Answers (T.is_sure tables.new) (T.represents tables.old) result (λ s o. board ≡ without_history s.board → IsOutcome s (typed_outcome s console.now command.now (need_of s.board command.now)) o) }
+    ensures outcome { Answers (T.is_sure tables.new) (T.represents tables.old) result (λ s o. console_at s.board console.now.name ≡ Some console.now → IsOutcome s (typed_outcome s console.now command.now (need_of s.board command.now)) o) }
 {
-    match need(command, kind_named(&board, command)) {
-        Some(need) => board_command(tables, alloc, board, console, command, &need),
-        None => without_need(tables, alloc, board, console, command),
+    let kind = kind_named(tables, command)?;
+    match need(command, kind) {
+        Some(need) => board_command(tables, alloc, console, command, &need),
+        None => without_need(tables, alloc, console, command),
     }
 }
 
-/// What a command typed at a console comes to, on the live board.
+/// What a command comes to that is typed at a console, whose row is loaded. It loads no more than the tests need that
+/// come to be made: a command that is denied sees no board.
 pub fn command_on<T: Tables>(
     tables: &mut T,
     alloc: Global,
-    board: Board,
-    console: &ConsoleName,
+    console: Option<ConsoleRow>,
     text: &str,
 ) -> Decided
     ensures kept { IsKept T.is_sure T.represents T.may_leave tables.old tables.new }
-    ensures outcome { Answers (T.is_sure tables.new) (T.represents tables.old) result (λ s o. board ≡ without_history s.board → IsOutcome s (command_outcome s console.now text.now) o) }
+    ensures outcome { Answers (T.is_sure tables.new) (T.represents tables.old) result (λ s o. (name : Name) → console ≡ console_at s.board name → IsOutcome s (command_outcome s name text.now) o) }
 {
-    let Some(row) = console_at(&board, console) else {
+    let Some(row) = console else {
         return denied(Fault::NoConsole, None);
     };
     if !row.online {
         return denied(Fault::ConsoleOffline, None);
     }
     match read(text) {
-        Ok(command) => typed(tables, alloc, board, &row, &command),
+        Ok(command) => typed(tables, alloc, &row, &command),
         Err(fault) => denied(fault::of_line(fault), None),
     }
 }
 
-/// What an event comes to, on the live board.
-pub fn event_on(alloc: Global, board: Board, event: &Event) -> Decided
-    ensures { (s : State) → IfOk result (λ o. board ≡ without_history s.board → IsOutcome s (event_outcome s event.now) o) }
+/// What an event comes to.
+pub fn event_on<T: Tables>(tables: &mut T, alloc: Global, event: &Event) -> Decided
+    ensures kept { IsKept T.is_sure T.represents T.may_leave tables.old tables.new }
+    ensures outcome { Answers (T.is_sure tables.new) (T.represents tables.old) result (λ s o. IsOutcome s (event_outcome s event.now) o) }
 {
+    let board = event_sight_on(tables, alloc, event)?;
     match come_on(alloc, board, event) {
         Ok(edits) => done(alloc, edits, None),
-        Err(BoardFault::NoMemory) => Err(StoreFault::NoMemory),
-        Err(fault) => denied(fault::of_board(fault), None),
+        Err(fault) => denied(refusal(fault)?, None),
     }
 }

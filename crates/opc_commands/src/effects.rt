@@ -1,21 +1,19 @@
-//! What commands, logons and events make of a live board, as edits of the state.
+//! What commands, logons and events make of what they see of the board, as edits of the state.
 ghost use Rattle.std.specs.Prelude.{◌≡◌, ◌≢◌, IfErr, IfOk, IsSome, Some, None, Err, OnOk, [], true, false};
-ghost use Rattle.opc_board.specs.declared.board.BoardRows.{BoardRows};
 ghost use Rattle.opc_board.specs.declared.fault.BoardFault.TheVariants.{NoMemory};
 ghost use Rattle.opc_board.specs.Consoles.{logged_on, logged_off};
 ghost use Rattle.opc_board.specs.Effect.{effect, event_effect, is_session_command};
 ghost use Rattle.opc_board.specs.Facts.{console_at};
-ghost use Rattle.opc_board.specs.History.{after, history_of, without_history};
-ghost use Rattle.opc_board.specs.Outcome.{done_with};
 ghost use Rattle.opc_state.specs.State.{State};
 ghost use Rattle.opc_state.specs.Changes.{all_edited};
 ghost use Rattle.opc_machine.specs.Commands.{is_display};
+ghost use Rattle.opc_sights.specs.Sighted.{IsConsoleSight, IsEventSight, IsSight};
 ghost use Rattle.opc_commands.specs.Acted.{IsActed};
 
 use opc_board::board::Board;
 use opc_board::event::Event;
 use opc_board::fault::BoardFault;
-use opc_board::laws::histories_only_grow;
+use opc_board::laws::{histories_only_grow, sights_suffice};
 use opc_board::line::Line;
 use opc_board::rows::ConsoleRow;
 use opc_names::name::{ConsoleName, UserId};
@@ -44,22 +42,6 @@ fn is_display(command: &Command<'_>) -> bool
     }
 }
 
-// Acts on a live board: the same comes of it as of any board with its histories.
-fn act_to(
-    board: &mut Board,
-    alloc: Global,
-    command: &Command<'_>,
-    console: &ConsoleName,
-) -> Result<Vec<Line>, BoardFault>
-    requires console { IsSome (console_at board.old console.now) }
-    requires command { is_session_command command.now ≡ false }
-    ensures done { IfOk result (λ lines. (whole : BoardRows) → board.old ≡ without_history whole → effect whole command.now console.now ≡ done_with (after (history_of whole) board.new) lines.items) }
-    ensures refused { IfErr result (λ fault. fault ≢ NoMemory → (whole : BoardRows) → board.old ≡ without_history whole → effect whole command.now console.now ≡ Err fault) }
-{
-    histories_only_grow();
-    board.act(alloc, command, console)
-}
-
 // A command that only shows.
 fn show_on(
     alloc: Global,
@@ -70,10 +52,12 @@ fn show_on(
     requires console { IsSome (console_at board console.now) }
     requires command { is_session_command command.now ≡ false }
     requires display { is_display command.now ≡ true }
-    ensures done { IfOk result (λ a. (s : State) → board ≡ without_history s.board → IsActed s (effect s.board command.now console.now) a.edits.items a.lines.items) }
-    ensures refused { IfErr result (λ fault. fault ≢ NoMemory → (s : State) → board ≡ without_history s.board → effect s.board command.now console.now ≡ Err fault) }
+    ensures done { IfOk result (λ a. (s : State) → IsSight s command.now console.now board → IsActed s (effect s.board command.now console.now) a.edits.items a.lines.items) }
+    ensures refused { IfErr result (λ fault. fault ≢ NoMemory → (s : State) → IsSight s command.now console.now board → effect s.board command.now console.now ≡ Err fault) }
 {
-    let lines = act_to(&mut board, alloc, command, console)?;
+    histories_only_grow();
+    sights_suffice();
+    let lines = board.act(alloc, command, console)?;
     Ok(Acted {
         edits: Vec::new(alloc),
         lines,
@@ -89,16 +73,18 @@ fn change_on(
 ) -> Result<Acted, BoardFault>
     requires console { IsSome (console_at board console.now) }
     requires command { is_session_command command.now ≡ false }
-    ensures done { IfOk result (λ a. (s : State) → board ≡ without_history s.board → IsActed s (effect s.board command.now console.now) a.edits.items a.lines.items) }
-    ensures refused { IfErr result (λ fault. fault ≢ NoMemory → (s : State) → board ≡ without_history s.board → effect s.board command.now console.now ≡ Err fault) }
+    ensures done { IfOk result (λ a. (s : State) → IsSight s command.now console.now board → IsActed s (effect s.board command.now console.now) a.edits.items a.lines.items) }
+    ensures refused { IfErr result (λ fault. fault ≢ NoMemory → (s : State) → IsSight s command.now console.now board → effect s.board command.now console.now ≡ Err fault) }
 {
+    histories_only_grow();
+    sights_suffice();
     let old = copied(alloc, &board)?;
-    let lines = act_to(&mut board, alloc, command, console)?;
+    let lines = board.act(alloc, command, console)?;
     let edits = difference(alloc, &old, &board)?;
     Ok(Acted { edits, lines })
 }
 
-/// What a command makes of a state with this live board.
+/// What a command makes of a state, by what it sees of the board.
 pub(crate) fn act_on(
     alloc: Global,
     board: Board,
@@ -107,8 +93,8 @@ pub(crate) fn act_on(
 ) -> Result<Acted, BoardFault>
     requires console { IsSome (console_at board console.now) }
     requires command { is_session_command command.now ≡ false }
-    ensures done { IfOk result (λ a. (s : State) → board ≡ without_history s.board → IsActed s (effect s.board command.now console.now) a.edits.items a.lines.items) }
-    ensures refused { IfErr result (λ fault. fault ≢ NoMemory → (s : State) → board ≡ without_history s.board → effect s.board command.now console.now ≡ Err fault) }
+    ensures done { IfOk result (λ a. (s : State) → IsSight s command.now console.now board → IsActed s (effect s.board command.now console.now) a.edits.items a.lines.items) }
+    ensures refused { IfErr result (λ fault. fault ≢ NoMemory → (s : State) → IsSight s command.now console.now board → effect s.board command.now console.now ≡ Err fault) }
 {
     if is_display(command) {
         return show_on(alloc, board, command, console);
@@ -116,7 +102,7 @@ pub(crate) fn act_on(
     change_on(alloc, board, command, console)
 }
 
-/// What a logon at a console makes of a state with this live board.
+/// What a logon at a console makes of a state, by what it sees of the board.
 pub(crate) fn log_on(
     alloc: Global,
     mut board: Board,
@@ -125,16 +111,17 @@ pub(crate) fn log_on(
 ) -> Result<Vec<Edit>, AllocError>
     requires there { console_at board console.now.name ≡ Some console.now }
     requires nobody { console.now.user ≡ None }
-    ensures becomes { IfOk result (λ edits. (s : State) → board ≡ without_history s.board → all_edited edits.items s ≡ record s { board = logged_on console.now.name user s.board }) }
-    ensures idle { IfOk result (λ edits. (s : State) → board ≡ without_history s.board → all_edited edits.items s ≡ s → edits.items ≡ []) }
+    ensures becomes { IfOk result (λ edits. (s : State) → IsConsoleSight s console.now.name board → all_edited edits.items s ≡ record s { board = logged_on console.now.name user s.board }) }
+    ensures idle { IfOk result (λ edits. (s : State) → IsConsoleSight s console.now.name board → all_edited edits.items s ≡ s → edits.items ≡ []) }
 {
+    sights_suffice();
     let old = copied(alloc, &board)?;
     board.log_on(&console.name, user);
     let edits = difference(alloc, &old, &board)?;
     Ok(edits)
 }
 
-/// What a logoff at a console makes of a state with this live board.
+/// What a logoff at a console makes of a state, by what it sees of the board.
 pub(crate) fn log_off(
     alloc: Global,
     mut board: Board,
@@ -142,35 +129,29 @@ pub(crate) fn log_off(
 ) -> Result<Vec<Edit>, AllocError>
     requires there { console_at board console.now.name ≡ Some console.now }
     requires somebody { console.now.user ≢ None }
-    ensures becomes { IfOk result (λ edits. (s : State) → board ≡ without_history s.board → all_edited edits.items s ≡ record s { board = logged_off console.now.name s.board }) }
-    ensures idle { IfOk result (λ edits. (s : State) → board ≡ without_history s.board → all_edited edits.items s ≡ s → edits.items ≡ []) }
+    ensures becomes { IfOk result (λ edits. (s : State) → IsConsoleSight s console.now.name board → all_edited edits.items s ≡ record s { board = logged_off console.now.name s.board }) }
+    ensures idle { IfOk result (λ edits. (s : State) → IsConsoleSight s console.now.name board → all_edited edits.items s ≡ s → edits.items ≡ []) }
 {
+    sights_suffice();
     let old = copied(alloc, &board)?;
     board.log_off(&console.name);
     let edits = difference(alloc, &old, &board)?;
     Ok(edits)
 }
 
-// An event on a live board: the same comes of it as of any board with its histories.
-fn come_to(board: &mut Board, alloc: Global, event: &Event) -> Result<(), BoardFault>
-    ensures done { OnOk result ((whole : BoardRows) → board.old ≡ without_history whole → event_effect whole event.now ≡ done_with (after (history_of whole) board.new) []) }
-    ensures refused { IfErr result (λ fault. fault ≢ NoMemory → (whole : BoardRows) → board.old ≡ without_history whole → event_effect whole event.now ≡ Err fault) }
-{
-    histories_only_grow();
-    board.event(alloc, event)
-}
-
-/// What an event makes of a state with this live board.
+/// What an event makes of a state, by what it sees of the board.
 pub(crate) fn come_on(
     alloc: Global,
     mut board: Board,
     event: &Event,
 ) -> Result<Vec<Edit>, BoardFault>
-    ensures done { IfOk result (λ edits. (s : State) → board ≡ without_history s.board → IsActed s (event_effect s.board event.now) edits.items []) }
-    ensures refused { IfErr result (λ fault. fault ≢ NoMemory → (s : State) → board ≡ without_history s.board → event_effect s.board event.now ≡ Err fault) }
+    ensures done { IfOk result (λ edits. (s : State) → IsEventSight s event.now board → IsActed s (event_effect s.board event.now) edits.items []) }
+    ensures refused { IfErr result (λ fault. fault ≢ NoMemory → (s : State) → IsEventSight s event.now board → event_effect s.board event.now ≡ Err fault) }
 {
+    histories_only_grow();
+    sights_suffice();
     let old = copied(alloc, &board)?;
-    come_to(&mut board, alloc, event)?;
+    board.event(alloc, event)?;
     let edits = difference(alloc, &old, &board)?;
     Ok(edits)
 }

@@ -133,7 +133,7 @@ pub(crate) fn connect<T: Tables>(tables: &mut T, alloc: Global, connect: Connect
     if !tables.has_group(connect.group.text())? {
         return missing(&connect.group);
     }
-    if tables.is_connected(&connect)? {
+    if tables.is_connected(&connect.user, connect.group.text())? {
         return exists(&connect.group);
     }
     done_by(alloc, Edit::PutConnect(connect))
@@ -151,7 +151,7 @@ pub(crate) fn remove<T: Tables>(tables: &mut T, alloc: Global, connect: Connect)
     if !tables.has_group(connect.group.text())? {
         return missing(&connect.group);
     }
-    if !tables.is_connected(&connect)? {
+    if !tables.is_connected(&connect.user, connect.group.text())? {
         return missing(&connect.group);
     }
     done_by(alloc, Edit::RemoveConnect(connect))

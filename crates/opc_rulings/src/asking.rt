@@ -6,10 +6,10 @@ ghost use Rattle.opc_state.specs.Asked.{Answers};
 ghost use Rattle.opc_state.specs.Changes.{IsKept};
 ghost use Rattle.opc_state.specs.Facts.{IsKeyed};
 ghost use Rattle.opc_machine.specs.Rights.{is_owner, is_special, sees_all};
-ghost use Rattle.opc_machine.specs.Rulings.{acting, is_required, is_revoked};
+ghost use Rattle.opc_machine.specs.Rulings.{is_required, is_revoked};
 ghost use Rattle.opc_rulings.specs.Asking.{IsAsking, IsConsoleFor};
 
-use crate::ruling::acting_user_on;
+use crate::ruling::acting_on;
 use opc_board::rows::ConsoleRow;
 use opc_machine::outcome::Denial;
 use opc_names::name::ConsoleName;
@@ -73,20 +73,6 @@ fn is_revoked(user: &Option<User>) -> bool
     }
 }
 
-fn user_on<T: Tables>(
-    tables: &mut T,
-    alloc: Global,
-    console: &ConsoleRow,
-) -> Result<Option<User>, StoreFault>
-    ensures kept { IsKept T.is_sure T.represents T.may_leave tables.old tables.new }
-    ensures user { Answers (T.is_sure tables.new) (T.represents tables.old) result (λ s user. user ≡ acting s console.now) }
-{
-    match acting_user_on(tables, alloc, console)? {
-        Some(id) => tables.user(alloc, &id),
-        None => Ok(None),
-    }
-}
-
 /// The console that asks and who acts there. It has to be there and online; somebody has to be on where its mode is
 /// REQUIRED (E12), and whoever acts may not be revoked (E13).
 pub fn asking_on<T: Tables>(
@@ -108,7 +94,7 @@ pub fn asking_on<T: Tables>(
             rule: Some(Rule::LogonRequired),
         }));
     }
-    let user = user_on(tables, alloc, &console)?;
+    let user = acting_on(tables, alloc, &console)?;
     if is_revoked(&user) {
         return Ok(Err(Denial {
             fault: Fault::Revoked,

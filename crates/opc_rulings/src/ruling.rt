@@ -139,8 +139,8 @@ pub fn acting_user_on<T: Tables>(
     }
 }
 
-// The same as a user, if one is stored.
-fn acting_on<T: Tables>(
+/// The same as a user, if one is stored.
+pub(crate) fn acting_on<T: Tables>(
     tables: &mut T,
     alloc: Global,
     console: &ConsoleRow,

@@ -1,0 +1,3 @@
+//! Who is listed what.
+mod listings;
+mod small_room;

@@ -6,6 +6,8 @@ ghost use Rattle.opc_statements.specs.Steps.{Looks};
 ghost use Rattle.opc_board.specs.Facts.{console_at};
 ghost use Rattle.opc_policy.specs.Taken.{is_active};
 ghost use Rattle.opc_policy.specs.Profiles.{profile_of};
+ghost use Rattle.std.specs.Option.{option_map};
+ghost use Rattle.opc_state.specs.Loads.{bare};
 ghost use Rattle.opc_state.specs.State.{empty, deciding_in};
 ghost use Rattle.opc_history_tables.specs.Loads.{account_page, kept_text};
 ghost use Rattle.opc_state.specs.PolicyFile.{rows_of};
@@ -28,9 +30,9 @@ use opc_policy::row::Row;
 use opc_policy::search::Found;
 use opc_policy::source::{StoreFault, Taken};
 use opc_policy_tables::classes::active_on;
-use opc_policy_tables::profiles::profile_at;
+use opc_policy_tables::profiles::{profile_at, profiles_of_on};
 use opc_rows::Rows;
-use opc_search::search::{all_on, deciding_on, first_in_on, first_on};
+use opc_search::search::{deciding_on, first_in_on, first_on};
 use opc_state::account::AccountRow;
 use opc_stored::faults::fault;
 use opc_stored::making::make_tables;
@@ -160,7 +162,7 @@ impl<S: Alter> Store<S> {
         ensures found { Finds S.Store self.old self.new result (λ s v. v.items ≡ of_class class s.policy.profiles) }
         ensures keeps { Looks S.Store self.old self.new result }
     {
-        all_on(alloc, &mut self.conn, class)
+        profiles_of_on(alloc, &mut self.conn, class)
     }
 
     /// The first profile of a class that covers a resource, in the order of the patterns, and how many were read for it.
@@ -179,8 +181,8 @@ impl<S: Alter> Store<S> {
         first_on(alloc, &mut self.conn, class, resource)
     }
 
-    /// The profile of a class that decides a resource, how many heads the tables were asked for, and how many profiles were
-    /// read. The policy is not read as a whole.
+    /// The profile of a class that decides a resource, but for its access list, how many heads the tables were asked for, and
+    /// how many profiles were read. The policy is not read as a whole.
     pub fn deciding(
         &mut self,
         alloc: Global,
@@ -188,7 +190,7 @@ impl<S: Alter> Store<S> {
         resource: &Resource,
     ) -> Result<Found, StoreFault>
         ensures found { Finds S.Store self.old self.new result (λ s found.
-            found.profile ≡ deciding_in s.policy class resource.now) }
+            found.profile ≡ option_map bare (deciding_in s.policy class resource.now)) }
         ensures ranges { Finds S.Store self.old self.new result (λ s found.
             found.ranges + head_length found.profile ≡ length resource.now + 1) }
         ensures rows { Finds S.Store self.old self.new result (λ s found.

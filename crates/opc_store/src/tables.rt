@@ -3,18 +3,38 @@ ghost use Rattle.opc_statements.specs.Steps.{Looks};
 
 use crate::store::Store;
 use opc_board::board::Board;
+use opc_board::rows::{ConsoleRow, DeviceRow, ReplyRow, UnitRow};
 use opc_board_tables::board::live_board_on;
+use opc_board_tables::consoles::{console_on, consoles_of_on, consoles_on, masters_on};
+use opc_board_tables::day::halted_on;
+use opc_board_tables::devices::{device_on, devices_of_on, devices_on};
+use opc_board_tables::replies::{replies_on, reply_on};
+use opc_board_tables::units::{unit_on, units_on};
 use opc_commit::commit::commit_on;
+use opc_history_tables::account::account_page_on;
+use opc_history_tables::batches::batch_rows_on;
 use opc_names::class::Class;
-use opc_names::name::{GroupName, Resource, UserId};
+use opc_names::level::Level;
+use opc_names::name::{ConsoleName, Device, GroupName, Pattern, Resource, UnitName, UserId};
+use opc_names::reply_id::ReplyId;
+use opc_policy::entries::Entries;
+use opc_policy::entry::EntryId;
 use opc_policy::policy::Policy;
+use opc_policy::profile::Profile;
+use opc_policy::row::Row;
 use opc_policy::search::Found;
 use opc_policy::source::StoreFault;
 use opc_policy::user::User;
 use opc_policy_tables::classes::active_on;
-use opc_policy_tables::connects::user_groups_on;
-use opc_policy_tables::users::{has_users_on, user_on};
+use opc_policy_tables::connects::{is_connected_on, user_groups_on};
+use opc_policy_tables::entries::{entries_on, level_for_on};
+use opc_policy_tables::groups::has_group_on;
+use opc_policy_tables::named::is_named_on;
+use opc_policy_tables::profiles::{definition_on, definitions_on, profiles_of_on};
+use opc_policy_tables::users::{has_user_on, has_users_on, user_on};
+use opc_rows::Rows;
 use opc_search::search::deciding_on;
+use opc_state::account::AccountRow;
 use opc_state::change::Change;
 use opc_state::tables::Tables;
 use opc_stored::faults::fault;
@@ -48,18 +68,82 @@ impl<S: Alter> Tables for Store<S> {
         live_board_on(alloc, &mut self.conn)
     }
 
+    #[tactic(auto, using(crate::proofs::StoreTablesLemmas::keyed))]
+    fn console(&mut self, name: &ConsoleName) -> Result<Option<ConsoleRow>, StoreFault> {
+        console_on(&mut self.conn, name)
+    }
+
+    fn unit(&mut self, name: &UnitName) -> Result<Option<UnitRow>, StoreFault> {
+        unit_on(&mut self.conn, name)
+    }
+
+    fn device(&mut self, number: &Device) -> Result<Option<DeviceRow>, StoreFault> {
+        device_on(&mut self.conn, number)
+    }
+
+    fn reply(&mut self, id: ReplyId) -> Result<Option<ReplyRow>, StoreFault> {
+        reply_on(&mut self.conn, id)
+    }
+
+    #[tactic(auto, using(crate::proofs::StoreTablesLemmas::keyed))]
+    fn is_halted(&mut self) -> Result<bool, StoreFault> {
+        halted_on(&mut self.conn)
+    }
+
+    fn devices_of(
+        &mut self,
+        alloc: Global,
+        unit: &UnitName,
+    ) -> Result<Rows<DeviceRow>, StoreFault> {
+        devices_of_on(alloc, &mut self.conn, unit)
+    }
+
+    fn consoles_of(
+        &mut self,
+        alloc: Global,
+        user: &UserId,
+    ) -> Result<Rows<ConsoleRow>, StoreFault> {
+        consoles_of_on(alloc, &mut self.conn, user)
+    }
+
+    fn masters(&mut self, alloc: Global) -> Result<Rows<ConsoleRow>, StoreFault> {
+        masters_on(alloc, &mut self.conn)
+    }
+
+    fn units(&mut self, alloc: Global) -> Result<Rows<UnitRow>, StoreFault> {
+        units_on(alloc, &mut self.conn)
+    }
+
+    fn devices(&mut self, alloc: Global) -> Result<Rows<DeviceRow>, StoreFault> {
+        devices_on(alloc, &mut self.conn)
+    }
+
+    fn consoles(&mut self, alloc: Global) -> Result<Rows<ConsoleRow>, StoreFault> {
+        consoles_on(alloc, &mut self.conn)
+    }
+
+    fn replies(&mut self, alloc: Global) -> Result<Rows<ReplyRow>, StoreFault> {
+        replies_on(alloc, &mut self.conn)
+    }
+
     fn user(&mut self, _alloc: Global, id: &UserId) -> Result<Option<User>, StoreFault> {
         user_on(&mut self.conn, id)
     }
 
-    fn groups_of(&mut self, alloc: Global, user: &UserId) -> Result<Vec<GroupName>, StoreFault> {
-        user_groups_on(alloc, &mut self.conn, user)
+    fn groups_of(
+        &mut self,
+        alloc: Global,
+        user: &UserId,
+        most: u32,
+    ) -> Result<Vec<GroupName>, StoreFault> {
+        user_groups_on(alloc, &mut self.conn, user, most)
     }
 
     fn is_active(&mut self, class: Class) -> Result<bool, StoreFault> {
         active_on(&mut self.conn, class)
     }
 
+    #[tactic(auto, using(crate::proofs::StoreTablesLemmas::keyed))]
     fn deciding(
         &mut self,
         alloc: Global,
@@ -67,6 +151,72 @@ impl<S: Alter> Tables for Store<S> {
         resource: &Resource,
     ) -> Result<Found, StoreFault> {
         deciding_on(alloc, &mut self.conn, class, resource)
+    }
+
+    fn entries(
+        &mut self,
+        alloc: Global,
+        class: Class,
+        pattern: &Pattern,
+        most: u32,
+    ) -> Result<Entries, StoreFault> {
+        entries_on(alloc, &mut self.conn, class, pattern, most)
+    }
+
+    fn level_for(
+        &mut self,
+        class: Class,
+        pattern: &Pattern,
+        id: &EntryId,
+        when: Option<&ConsoleName>,
+    ) -> Result<Option<Level>, StoreFault> {
+        level_for_on(&mut self.conn, class, pattern, id, when.copied())
+    }
+
+    fn is_connected(&mut self, user: &UserId, group: &str) -> Result<bool, StoreFault> {
+        is_connected_on(&mut self.conn, user, group)
+    }
+
+    fn has_user(&mut self, name: &str) -> Result<bool, StoreFault> {
+        has_user_on(&mut self.conn, name)
+    }
+
+    fn has_group(&mut self, name: &str) -> Result<bool, StoreFault> {
+        has_group_on(&mut self.conn, name)
+    }
+
+    fn is_named(&mut self, user: &UserId) -> Result<bool, StoreFault> {
+        is_named_on(&mut self.conn, user)
+    }
+
+    fn definition(
+        &mut self,
+        alloc: Global,
+        class: Class,
+        pattern: &Pattern,
+    ) -> Result<Option<Profile>, StoreFault> {
+        definition_on(alloc, &mut self.conn, class, pattern)
+    }
+
+    fn definitions(&mut self, alloc: Global, class: Class) -> Result<Vec<Profile>, StoreFault> {
+        definitions_on(alloc, &mut self.conn, class)
+    }
+
+    fn profiles(&mut self, alloc: Global, class: Class) -> Result<Vec<Profile>, StoreFault> {
+        profiles_of_on(alloc, &mut self.conn, class)
+    }
+
+    fn account(
+        &mut self,
+        alloc: Global,
+        from: u64,
+        count: u32,
+    ) -> Result<Vec<(u64, AccountRow)>, StoreFault> {
+        account_page_on(alloc, &mut self.conn, from, count)
+    }
+
+    fn batch(&mut self, alloc: Global, number: u32) -> Result<Option<Rows<Row>>, StoreFault> {
+        batch_rows_on(alloc, &mut self.conn, number)
     }
 
     fn has_users(&mut self) -> Result<bool, StoreFault> {

@@ -60,13 +60,13 @@ fn level_within<T: Tables>(
     let are_all = groups.len() < most as usize;
     match (is_whole, are_all) {
         (true, true) => {
-            let listed = with_entries(profile, entries);
-            Ok(Some(listed.level_of(user, Some(console), groups.as_slice())))
+            let level = level_by_list(profile, entries, user, console, groups.as_slice());
+            Ok(Some(level))
         }
         (true, false) => {
             let groups = listed_groups_of(tables, alloc, user, entries.as_slice())?;
-            let listed = with_entries(profile, entries);
-            Ok(Some(listed.level_of(user, Some(console), groups.as_slice())))
+            let level = level_by_list(profile, entries, user, console, groups.as_slice());
+            Ok(Some(level))
         }
         (false, true) => {
             let level = level_by_groups(tables, profile, user, console, groups.as_slice())?;
@@ -76,17 +76,25 @@ fn level_within<T: Tables>(
     }
 }
 
-fn with_entries(profile: &Profile, entries: Entries) -> Profile
-    ensures { result ≡ record profile.now { entries = entries } }
+// The level by an access list that is loaded, for a user who is connected to these groups.
+fn level_by_list(
+    profile: &Profile,
+    entries: Entries,
+    user: &User,
+    console: &ConsoleName,
+    groups: &[GroupName],
+) -> Level
+    ensures { result ≡ held (record profile.now { entries = entries }) user.now (Some console.now) groups.now }
 {
-    Profile {
+    let listed = Profile {
         class: profile.class,
         pattern: profile.pattern,
         owner: profile.owner,
         uacc: profile.uacc,
         warning: profile.warning,
         entries,
-    }
+    };
+    listed.level_of(user, Some(console), groups)
 }
 
 // The groups that a user is connected to and entries are for, as often as there are entries.

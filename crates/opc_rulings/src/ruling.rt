@@ -1,15 +1,15 @@
 //! Rulings, from what is loaded for them.
-ghost use Rattle.std.specs.Prelude.{◌≡◌, ◌≤◌, Some, IsTrue, filter, length};
+ghost use Rattle.std.specs.Prelude.{◌≡◌, ◌≤◌, Some, IsTrue, true, filter, length};
 ghost use Rattle.std.specs.Option.{option_and_then};
 ghost use Rattle.opc_names.specs.Names.{is_plain, is_resource};
 ghost use Rattle.opc_names.specs.declared.class.Class.TheVariants.{Opercmds};
 ghost use Rattle.opc_policy.specs.Members.{groups_of, user_of};
 ghost use Rattle.opc_policy.specs.Rulings.{ruling as policy_ruling};
-ghost use Rattle.opc_policy.specs.Taken.{is_active};
 ghost use Rattle.opc_state.specs.Asked.{Answers};
 ghost use Rattle.opc_state.specs.State.{deciding_in};
 ghost use Rattle.opc_state.specs.Changes.{IsKept};
 ghost use Rattle.opc_rulings.specs.Held.{class_ruling};
+ghost use Rattle.opc_rulings.specs.Standing.{IsStanding};
 ghost use Rattle.opc_machine.specs.Rulings.{acting, acting_user, is_auto, is_required, is_allowed, logon_ruling, own_user, need_to_show, ruling, shown, to_show};
 
 use crate::held::level_on;
@@ -47,8 +47,8 @@ fn is_auto(mode: Mode) -> bool
     }
 }
 
-// What the profile that decides in a class rules on a user at a console, where the class is active and one does.
-fn class_ruling_on<T: Tables>(
+// What the profile that decides in a class that is active rules on a user at a console, where one does.
+fn profile_ruling_on<T: Tables>(
     tables: &mut T,
     alloc: Global,
     class: Class,
@@ -59,11 +59,8 @@ fn class_ruling_on<T: Tables>(
 ) -> Result<Option<Ruling>, StoreFault>
     ensures kept { IsKept T.is_sure T.represents T.may_leave tables.old tables.new }
     ensures ruling { Answers (T.is_sure tables.new) (T.represents tables.old) result (λ s r. r ≡
-        class_ruling (is_active s.policy.active class) (deciding_in s.policy class resource.now) user.now (Some console.now) (groups_of s.policy.connects user.now.id) needed) }
+        class_ruling true (deciding_in s.policy class resource.now) user.now (Some console.now) (groups_of s.policy.connects user.now.id) needed) }
 {
-    if !tables.is_active(class)? {
-        return Ok(None);
-    }
     let found = tables.deciding(alloc, class, resource)?;
     let Some(profile) = found.profile else {
         return Ok(None);
@@ -72,7 +69,7 @@ fn class_ruling_on<T: Tables>(
     Ok(Some(profile.ruling_at(held, needed)))
 }
 
-// By the profile that decides for a user, else by the authority of the console.
+// By the profile that decides for a user where the class is active, else by the authority of the console.
 fn by_profile<T: Tables>(
     tables: &mut T,
     alloc: Global,
@@ -82,9 +79,9 @@ fn by_profile<T: Tables>(
 ) -> Result<Ruling, StoreFault>
     ensures kept { IsKept T.is_sure T.represents T.may_leave tables.old tables.new }
     ensures ruling { Answers (T.is_sure tables.new) (T.represents tables.old) result (λ s r. r ≡
-        policy_ruling (is_active s.policy.active Opercmds) (deciding_in s.policy Opercmds need.now.resource) (Some user.now) (Some console.now.name) (groups_of s.policy.connects user.now.id) console.now.auth need.now) }
+        policy_ruling true (deciding_in s.policy Opercmds need.now.resource) (Some user.now) (Some console.now.name) (groups_of s.policy.connects user.now.id) console.now.auth need.now) }
 {
-    let ruling = class_ruling_on(
+    let ruling = profile_ruling_on(
         tables,
         alloc,
         Class::Opercmds,
@@ -154,6 +151,58 @@ pub(crate) fn acting_on<T: Tables>(
     }
 }
 
+// How needs are ruled on at a console, whatever is needed.
+#[derive(Clone, Copy)]
+pub(crate) enum Standing {
+    // The logon rule denies everything.
+    Denied(Rule),
+    // Profiles decide for this user.
+    User(User),
+    // Nobody acts, or the class is inactive: the console's authority decides.
+    Console,
+}
+
+fn standing_at<T: Tables>(
+    tables: &mut T,
+    alloc: Global,
+    console: &ConsoleRow,
+) -> Result<Standing, StoreFault>
+    ensures kept { IsKept T.is_sure T.represents T.may_leave tables.old tables.new }
+    ensures standing { Answers (T.is_sure tables.new) (T.represents tables.old) result (λ s standing. IsStanding s console.now standing) }
+{
+    if is_required(console.mode) && console.user.is_none() {
+        return Ok(Standing::Denied(Rule::LogonRequired));
+    }
+    let Some(user) = acting_on(tables, alloc, console)? else {
+        return Ok(Standing::Console);
+    };
+    if user.revoked {
+        return Ok(Standing::Denied(Rule::Revoked));
+    }
+    if !tables.is_active(Class::Opercmds)? {
+        return Ok(Standing::Console);
+    }
+    Ok(Standing::User(user))
+}
+
+// The ruling on a need where it is known how needs are ruled on.
+fn ruling_by<T: Tables>(
+    tables: &mut T,
+    alloc: Global,
+    standing: &Standing,
+    console: &ConsoleRow,
+    need: &Need,
+) -> Result<Ruling, StoreFault>
+    ensures kept { IsKept T.is_sure T.represents T.may_leave tables.old tables.new }
+    ensures ruling { Answers (T.is_sure tables.new) (T.represents tables.old) result (λ s r. IsStanding s console.now standing.now → r ≡ ruling s console.now need.now) }
+{
+    match standing {
+        Standing::Denied(rule) => Ok(Ruling::Denied(*rule)),
+        Standing::User(user) => by_profile(tables, alloc, user, console, need),
+        Standing::Console => Ok(console_ruling(console.auth, need)),
+    }
+}
+
 /// The ruling on a need at a console.
 pub fn ruling_on<T: Tables>(
     tables: &mut T,
@@ -164,16 +213,8 @@ pub fn ruling_on<T: Tables>(
     ensures kept { IsKept T.is_sure T.represents T.may_leave tables.old tables.new }
     ensures ruling { Answers (T.is_sure tables.new) (T.represents tables.old) result (λ s r. r ≡ ruling s console.now need.now) }
 {
-    if is_required(console.mode) && console.user.is_none() {
-        return Ok(Ruling::Denied(Rule::LogonRequired));
-    }
-    let Some(user) = acting_on(tables, alloc, console)? else {
-        return Ok(console_ruling(console.auth, need));
-    };
-    if user.revoked {
-        return Ok(Ruling::Denied(Rule::Revoked));
-    }
-    by_profile(tables, alloc, &user, console, need)
+    let standing = standing_at(tables, alloc, console)?;
+    ruling_by(tables, alloc, &standing, console, need)
 }
 
 fn resource_of(name: &ConsoleName) -> Resource
@@ -198,7 +239,10 @@ pub fn logon_ruling_on<T: Tables>(
     if user.revoked {
         return Ok(Ruling::Denied(Rule::Revoked));
     }
-    let ruling = class_ruling_on(
+    if !tables.is_active(Class::Console)? {
+        return Ok(Ruling::Allowed(Rule::NoProfile));
+    }
+    let ruling = profile_ruling_on(
         tables,
         alloc,
         Class::Console,
@@ -246,22 +290,23 @@ fn need_to_show(item: Item) -> Option<Need>
 fn is_shown<T: Tables>(
     tables: &mut T,
     alloc: Global,
+    standing: &Standing,
     console: &ConsoleRow,
     line: &Line,
 ) -> Result<bool, StoreFault>
     ensures kept { IsKept T.is_sure T.represents T.may_leave tables.old tables.new }
-    ensures shown { Answers (T.is_sure tables.new) (T.represents tables.old) result (λ s b. b ≡ shown s console.now line.now) }
+    ensures shown { Answers (T.is_sure tables.new) (T.represents tables.old) result (λ s b. IsStanding s console.now standing.now → b ≡ shown s console.now line.now) }
 {
     match need_to_show(line.item) {
         None => Ok(true),
         Some(need) => {
-            let ruling = ruling_on(tables, alloc, console, &need)?;
+            let ruling = ruling_by(tables, alloc, standing, console, &need)?;
             Ok(is_allowed(ruling))
         }
     }
 }
 
-/// Those lines that may be shown.
+/// Those lines that may be shown. Who acts is loaded once for all of them.
 pub fn shown_lines<T: Tables>(
     tables: &mut T,
     alloc: Global,
@@ -271,9 +316,10 @@ pub fn shown_lines<T: Tables>(
     ensures kept { IsKept T.is_sure T.represents T.may_leave tables.old tables.new }
     ensures lines { Answers (T.is_sure tables.new) (T.represents tables.old) result (λ s kept. kept ≡ filter (shown s console.now) lines.items) }
 {
+    let standing = standing_at(tables, alloc, console)?;
     let mut kept = Rows::new(alloc);
     for line in lines {
-        if is_shown(tables, alloc, console, &line)? {
+        if is_shown(tables, alloc, &standing, console, &line)? {
             kept.push(line)?;
         }
     }

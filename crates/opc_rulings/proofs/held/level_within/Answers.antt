@@ -13,6 +13,6 @@ returns-in-true-false-clause-level g c = λ sure s represents.
     let again = second.kept.same before_third s (first.kept.same before_second s represents) in
     let test = rw c.as_slice.ensures.value at c.in-true-false.is-0 in
     let few : length c.in_ok-entries.entries < c.args.most = grind (arith, nat_tests, test) in
-    c.level_of-in-true-false.ensures
-    ∙ rw (c.with_entries-listed-in-true-false.ensures, c.as_slice-in-true-false-2.ensures.value)
+    c.level_by_list-level-in-true-false.ensures
+    ∙ rw c.as_slice-in-true-false-2.ensures.value
     (by_list s.policy c.args.profile.now c.args.user.now c.args.console.now c.in_ok-entries.entries _ c.args.most (first.entries before_second s represents) few (rw c.as_slice-in-true-false.ensures.value at (third.groups sure s again)))

@@ -1,7 +1,6 @@
-use Rattle.std.proofs.Common.{Some, sym}
+use Rattle.std.proofs.Common.{Some, true, sym}
 use Rattle.opc_names.specs.declared.class.Class.TheVariants.{Opercmds}
 use Rattle.opc_policy.specs.Members.{groups_of}
-use Rattle.opc_policy.specs.Taken.{is_active}
 use Rattle.opc_policy.specs.Rulings.{console_ruling}
 use Rattle.opc_state.specs.State.{deciding_in}
 use Rattle.opc_rulings.proofs.Ruled.{ruled}
@@ -10,4 +9,4 @@ use Rattle.opc_rulings.proofs.ruling.by_profile.Goals as goal
 pub returns-clause-ruling : goal.returns-clause-ruling
 returns-clause-ruling g c = λ sure s represents.
     rw (c.unwrap_or.ensures, c.in_ok-ruling.ensures.ruling sure s represents, c.console_ruling.ensures)
-    (sym (ruled (is_active s.policy.active Opercmds) (deciding_in s.policy Opercmds c.args.need.now.resource) c.args.user.now (Some c.args.console.now.name) (groups_of s.policy.connects c.args.user.now.id) c.args.need.now.level (console_ruling c.args.console.now.auth c.args.need.now)))
+    (sym (ruled true (deciding_in s.policy Opercmds c.args.need.now.resource) c.args.user.now (Some c.args.console.now.name) (groups_of s.policy.connects c.args.user.now.id) c.args.need.now.level (console_ruling c.args.console.now.auth c.args.need.now)))

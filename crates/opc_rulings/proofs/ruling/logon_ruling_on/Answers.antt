@@ -1,4 +1,4 @@
-use Rattle.std.proofs.Common.{Some, sym}
+use Rattle.std.proofs.Common.{◌≡◌, Some, true, sym, ◌∙◌}
 use Rattle.opc_names.specs.declared.class.Class.TheVariants.{Console}
 use Rattle.opc_names.specs.declared.level.Level.TheVariants.{Read}
 use Rattle.opc_policy.specs.Members.{groups_of}
@@ -11,5 +11,10 @@ use Rattle.opc_rulings.proofs.ruling.logon_ruling_on.Goals as goal
 
 pub returns-clause-ruling : goal.returns-clause-ruling
 returns-clause-ruling g c = λ sure s represents.
-    unless c.args.user.now.revoked _ _ _ c.if-user.false (rw (c.unwrap_or.ensures, c.in_ok-ruling.ensures.ruling sure s represents, c.resource_of.ensures)
-    (sym (ruled (is_active s.policy.active Console) (deciding_in s.policy Console c.args.console.now.name) c.args.user.now (Some c.args.console.now.name) (groups_of s.policy.connects c.args.user.now.id) Read (Allowed rule.NoProfile))))
+    let first = c.in_ok-is_active.ensures in
+    let second = c.in_ok-ruling.ensures in
+    let before = second.kept.sure sure in
+    let active : is_active s.policy.active Console ≡ true = sym (first.active before s represents) ∙ c.if-not-branch.false in
+    let ruling = second.ruling sure s (first.kept.same before s represents) in
+    unless c.args.user.now.revoked _ _ _ c.if-user.false (rw (c.unwrap_or.ensures, ruling, c.resource_of.ensures, active)
+    (sym (ruled true (deciding_in s.policy Console c.args.console.now.name) c.args.user.now (Some c.args.console.now.name) (groups_of s.policy.connects c.args.user.now.id) Read (Allowed rule.NoProfile))))

@@ -1,12 +1,11 @@
 //! Rulings on commands.
 ghost use Rattle.std.specs.Prelude.{◌≡◌};
 ghost use Rattle.std.specs.Option.{option_copied};
-ghost use Rattle.opc_policy.specs.Rulings.{ruling, console_ruling};
+ghost use Rattle.opc_policy.specs.Rulings.{console_ruling};
 
 use crate::need::Need;
 use crate::profile::Profile;
 use crate::rule::Rule;
-use crate::search::Found;
 use crate::user::User;
 use crate::verdict::Verdict;
 use opc_names::auth::Auth;
@@ -81,26 +80,6 @@ impl Profile {
             Ruling::Denied(rule)
         }
     }
-}
-
-/// The ruling on a command at a console, where logon is no question: by the profile that was found, where its
-/// class is active and a user acts; where none does, or the verdict is undecided, by the authority of the
-/// console. The groups are the user's connect groups; without a user they are not looked at.
-pub fn rule_on(
-    found: &Found,
-    active: bool,
-    user: Option<&User>,
-    console: Option<&ConsoleName>,
-    groups: &[GroupName],
-    auth: Auth,
-    need: &Need,
-) -> Ruling
-    ensures { result ≡ ruling active found.now.profile (option_copied user.entry) (option_copied console.entry) groups.now auth need.now }
-{
-    let (Some(profile), Some(user), true) = (&found.profile, user, active) else {
-        return console_ruling(auth, need);
-    };
-    profile.ruling_for(user, console, groups, need.level)
 }
 
 /// The ruling by the authority of a console alone.

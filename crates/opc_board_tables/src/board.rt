@@ -9,10 +9,9 @@ use crate::day::halted_on;
 use crate::devices::devices_on;
 use crate::replies::replies_on;
 use crate::units::units_on;
-use opc_board::board::{Board, BoardRows};
+use opc_board::board::BoardRows;
 use opc_policy::source::StoreFault;
 use opc_rows::Rows;
-use opc_stored::faults::unreadable;
 use sqlite::{Alter, Connection};
 use std::alloc::Global;
 
@@ -41,18 +40,4 @@ pub fn live_rows_on<S: Alter>(
         messages: Rows::new(alloc),
         halted,
     })
-}
-
-/// The board without its histories.
-pub fn live_board_on<S: Alter>(alloc: Global, conn: &mut Connection<S>) -> Result<Board, StoreFault>
-    requires { conn.old.in_transaction ≡ false }
-    ensures mode { conn.new.in_transaction ≡ false }
-    ensures looks { Looks S.Store conn.old conn.new result }
-    ensures found { Finds S.Store conn.old conn.new result (λ s v. v ≡ without_history s.board) }
-{
-    let rows = live_rows_on(alloc, conn)?;
-    match Board::of(rows) {
-        Ok(board) => Ok(board),
-        Err(_) => Err(unreadable()),
-    }
 }

@@ -1,7 +1,8 @@
 //! The gate.
 ghost use Rattle.std.specs.Prelude.{◌≡◌, ◌≢◌, ◌⊎◌, IfErr, IfOk, OnErr, OnOk, Ok, Err, ℕ};
 ghost use Rattle.opc_policy.specs.declared.fault.Fault.TheVariants as why;
-ghost use Rattle.opc_board.specs.History.{without_history};
+ghost use Rattle.std.specs.Option.{option_and_then};
+ghost use Rattle.opc_board.specs.Facts.{console_at};
 ghost use Rattle.opc_board.specs.Texts.{text_or};
 ghost use Rattle.opc_state.specs.Asked.{Answers};
 ghost use Rattle.opc_state.specs.State.{State};
@@ -9,13 +10,14 @@ ghost use Rattle.opc_state.specs.Changes.{IsKept};
 ghost use Rattle.opc_bootstrap.specs.RowEdits.{HaveNothingNew, IsBootstrap};
 ghost use Rattle.opc_machine.specs.Bootstrap.{bootstrapped};
 ghost use Rattle.opc_machine.specs.Inputs.{Input, console_of, input_of};
+ghost use Rattle.opc_machine.specs.Rulings.{acting_user};
 ghost use Rattle.opc_machine.specs.Machine.{IsGivenUp, account_row, is_warned, outcome as outcome_of, user_acting};
 ghost use Rattle.opc_gate.specs.Handling.{IsDecision, IsHandled, IsNothingWhereSame};
 ghost use Rattle.opc_gate.specs.Listening.{IsEndedRun, IsHeardRun};
 ghost use Rattle.opc_machine.specs.Deeds.{IsOutcome};
 
 use crate::listener::Listener;
-use opc_board::board::Board;
+use opc_board::rows::ConsoleRow;
 use opc_board::text::KeptText;
 use opc_bootstrap::bootstrap::bootstrap;
 use opc_commands::command::{command_on, event_on};
@@ -26,7 +28,6 @@ use opc_policy::fault::Fault;
 use opc_policy::row::Row;
 use opc_policy::rule::Rule;
 use opc_policy::source::StoreFault;
-use opc_rulings::console::console_at;
 use opc_rulings::ruling::acting_user_on;
 use opc_state::account::AccountRow;
 use opc_state::change::Change;
@@ -59,21 +60,31 @@ fn console_of(request: &Request) -> Option<ConsoleName>
     }
 }
 
+// The row of the console that a request names.
+fn console_on<T: Tables>(
+    tables: &mut T,
+    request: &Request,
+) -> Result<Option<ConsoleRow>, StoreFault>
+    ensures kept { IsKept T.is_sure T.represents T.may_leave tables.old tables.new }
+    ensures console { Answers (T.is_sure tables.new) (T.represents tables.old) result (λ s console. console ≡ option_and_then (console_at s.board) (console_of (input_of request.now))) }
+{
+    match console_of(request) {
+        Some(name) => tables.console(&name),
+        None => Ok(None),
+    }
+}
+
 // For whom the console of a request acts.
 fn user_acting_on<T: Tables>(
     tables: &mut T,
     alloc: Global,
-    board: &Board,
-    request: &Request,
+    console: &Option<ConsoleRow>,
 ) -> Result<Option<UserId>, StoreFault>
     ensures kept { IsKept T.is_sure T.represents T.may_leave tables.old tables.new }
-    ensures user { Answers (T.is_sure tables.new) (T.represents tables.old) result (λ s u. board.now ≡ without_history s.board → u ≡ user_acting s (input_of request.now)) }
+    ensures user { Answers (T.is_sure tables.new) (T.represents tables.old) result (λ s u. u ≡ option_and_then (acting_user s) console.now) }
 {
-    let Some(name) = console_of(request) else {
-        return Ok(None);
-    };
-    match console_at(board, &name) {
-        Some(console) => acting_user_on(tables, alloc, &console),
+    match console {
+        Some(console) => acting_user_on(tables, alloc, console),
         None => Ok(None),
     }
 }
@@ -170,16 +181,19 @@ fn given_up(fault: StoreFault) -> Answer
     }
 }
 
-// What a request comes to, on the live board; writes nothing.
-fn outcome_on<T: Tables>(tables: &mut T, alloc: Global, board: Board, request: &Request) -> Decided
+// What a request comes to, given the row of its console; writes nothing.
+fn outcome_on<T: Tables>(
+    tables: &mut T,
+    alloc: Global,
+    console: Option<ConsoleRow>,
+    request: &Request,
+) -> Decided
     ensures kept { IsKept T.is_sure T.represents T.may_leave tables.old tables.new }
-    ensures outcome { Answers (T.is_sure tables.new) (T.represents tables.old) result (λ s o. board ≡ without_history s.board → IsOutcome s (outcome_of s (input_of request.now)) o) }
+    ensures outcome { Answers (T.is_sure tables.new) (T.represents tables.old) result (λ s o. console ≡ option_and_then (console_at s.board) (console_of (input_of request.now)) → IsOutcome s (outcome_of s (input_of request.now)) o) }
 {
     match request {
-        Request::Command { console, text } => {
-            command_on(tables, alloc, board, console, text.as_str())
-        }
-        Request::Event(event) => event_on(alloc, board, event),
+        Request::Command { text, .. } => command_on(tables, alloc, console, text.as_str()),
+        Request::Event(event) => event_on(tables, alloc, event),
     }
 }
 
@@ -194,9 +208,9 @@ fn decision_on<T: Tables>(
     ensures decides { Answers (T.is_sure tables.new) (T.represents tables.old) result (λ s d. IsDecision s moment (input_of request.now) d.answer d.change) }
     ensures idle { Answers (T.is_sure tables.new) (T.represents tables.old) result (λ s d. IsNothingWhereSame s d.change) }
 {
-    let board = tables.live_board(alloc)?;
-    let user = user_acting_on(tables, alloc, &board, request)?;
-    let outcome = outcome_on(tables, alloc, board, request)?;
+    let console = console_on(tables, request)?;
+    let user = user_acting_on(tables, alloc, &console)?;
+    let outcome = outcome_on(tables, alloc, console, request)?;
     Ok(decide(alloc, moment, request, user, outcome)?)
 }
 

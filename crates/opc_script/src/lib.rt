@@ -3,9 +3,9 @@
 
 mod event;
 pub mod laws;
-mod line;
+pub mod line;
 mod printer;
 pub mod run;
 pub mod script;
 pub mod status;
-mod transcript;
+pub mod transcript;

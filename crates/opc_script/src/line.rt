@@ -70,7 +70,7 @@ pub(crate) fn is_blank(line: &str) -> bool
 }
 
 /// The request of a line, with its moment.
-pub(crate) fn request_in(alloc: Global, line: &str) -> Result<Option<(u64, Request)>, AllocError>
+pub fn request_in(alloc: Global, line: &str) -> Result<Option<(u64, Request)>, AllocError>
     ensures { IfOk result (λ request. request ≡ request_in line.now) }
 {
     let Some((moment, who, text)) = parts_in(line) else {

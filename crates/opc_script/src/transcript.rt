@@ -44,7 +44,7 @@ fn refused_text(
 }
 
 /// The text of an answer, which ends in a line feed.
-pub(crate) fn answer_text(alloc: Global, moment: u64, answer: &Answer) -> Result<String, AllocError>
+pub fn answer_text(alloc: Global, moment: u64, answer: &Answer) -> Result<String, AllocError>
     ensures { IfOk result (λ text. string_bytes text ≡ answer_text moment answer.now) }
 {
     match answer {

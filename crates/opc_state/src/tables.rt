@@ -2,7 +2,6 @@
 ghost use Rattle.std.specs.Prelude.{◌≡◌, ◌⊎◌, map, take, OnOk, OnErr};
 ghost use Rattle.std.specs.Option.{option_copied, option_map};
 ghost use Rattle.opc_board.specs.Facts.{console_at, device_at, reply_at, unit_at};
-ghost use Rattle.opc_board.specs.History.{without_history};
 ghost use Rattle.opc_policy.specs.Deciding.{of_class};
 ghost use Rattle.opc_policy.specs.Members.{user_of, groups_of};
 ghost use Rattle.opc_policy.specs.Profiles.{profile_of};
@@ -10,12 +9,12 @@ ghost use Rattle.opc_policy.specs.Taken.{has_group, has_user, is_active};
 ghost use Rattle.opc_state.specs.Asked.{Answers};
 ghost use Rattle.opc_state.specs.Facts.{IsKeyed};
 ghost use Rattle.opc_state.specs.Loads.{access_list, asked_for, bare, batch_rows, consoles_of, devices_of, is_connected, is_named, level_for, masters};
+ghost use Rattle.opc_state.specs.PolicyFile.{rows_of};
 ghost use Rattle.opc_state.specs.State.{State, Fits, deciding_in, has_users};
 ghost use Rattle.opc_state.specs.Changes.{IsKept, changed_by};
 
 use crate::account::AccountRow;
 use crate::change::Change;
-use opc_board::board::Board;
 use opc_board::rows::{ConsoleRow, DeviceRow, ReplyRow, UnitRow};
 use opc_names::class::Class;
 use opc_names::level::Level;
@@ -42,11 +41,6 @@ pub trait Tables {
 
     /// A crash may leave tables that represent the state.
     ghost may_leave: { Self → State → Type 0 };
-
-    /// The board without its histories.
-    fn live_board(&mut self, alloc: Global) -> Result<Board, StoreFault>
-        ensures kept { IsKept is_sure represents may_leave self.old self.new }
-        ensures board { Answers (is_sure self.new) (represents self.old) result (λ s board. board ≡ without_history s.board) };
 
     fn console(&mut self, name: &ConsoleName) -> Result<Option<ConsoleRow>, StoreFault>
         ensures kept { IsKept is_sure represents may_leave self.old self.new }
@@ -218,6 +212,11 @@ pub trait Tables {
     fn policy(&mut self, alloc: Global) -> Result<Policy, StoreFault>
         ensures kept { IsKept is_sure represents may_leave self.old self.new }
         ensures policy { Answers (is_sure self.new) (represents self.old) result (λ s policy. policy ≡ s.policy) };
+
+    /// The policy and the consoles, as the rows of a policy file.
+    fn written(&mut self, alloc: Global) -> Result<Vec<Row>, StoreFault>
+        ensures kept { IsKept is_sure represents may_leave self.old self.new }
+        ensures rows { Answers (is_sure self.new) (represents self.old) result (λ s rows. rows.items ≡ rows_of s.policy s.board.consoles) };
 
     /// Writes all of a change, or nothing. A crash leaves the state before or after it; once it is acknowledged, the
     /// state after it alone.

@@ -2,9 +2,8 @@
 ghost use Rattle.opc_statements.specs.Steps.{Looks};
 
 use crate::store::Store;
-use opc_board::board::Board;
+use crate::whole::policy_file_on;
 use opc_board::rows::{ConsoleRow, DeviceRow, ReplyRow, UnitRow};
-use opc_board_tables::board::live_board_on;
 use opc_board_tables::consoles::{console_on, consoles_of_on, consoles_on, masters_on};
 use opc_board_tables::day::halted_on;
 use opc_board_tables::devices::{device_on, devices_of_on, devices_on};
@@ -64,11 +63,6 @@ impl<S: Alter> Tables for Store<S> {
 
     ghost may_leave = { MayLeave S.Store };
 
-    fn live_board(&mut self, alloc: Global) -> Result<Board, StoreFault> {
-        live_board_on(alloc, &mut self.conn)
-    }
-
-    #[tactic(auto, using(crate::proofs::StoreTablesLemmas::keyed))]
     fn console(&mut self, name: &ConsoleName) -> Result<Option<ConsoleRow>, StoreFault> {
         console_on(&mut self.conn, name)
     }
@@ -225,6 +219,10 @@ impl<S: Alter> Tables for Store<S> {
 
     fn policy(&mut self, alloc: Global) -> Result<Policy, StoreFault> {
         policy_on(alloc, &mut self.conn)
+    }
+
+    fn written(&mut self, alloc: Global) -> Result<Vec<Row>, StoreFault> {
+        policy_file_on(alloc, &mut self.conn)
     }
 
     fn commit(&mut self, alloc: Global, change: &Change) -> Result<(), StoreFault> {

@@ -1,7 +1,6 @@
 //! Tables of one console and the user who is on there, with three profiles and three rows of the account.
 ghost use Rattle.opc_state.specs.State.{State};
 
-use opc_board::board::Board;
 use opc_board::rows::{ConsoleRow, DeviceRow, ReplyRow, UnitRow};
 use opc_board::text::KeptText;
 use opc_names::auth::Auth;
@@ -74,10 +73,6 @@ impl Tables for SmallRoom {
     ghost is_sure = { λ _. ⊥ };
 
     ghost may_leave = { λ _ _. Unit {0} };
-
-    fn live_board(&mut self, _alloc: Global) -> Result<Board, StoreFault> {
-        Err(StoreFault::Store)
-    }
 
     fn console(&mut self, name: &ConsoleName) -> Result<Option<ConsoleRow>, StoreFault> {
         Ok(Some(ConsoleRow {
@@ -254,6 +249,10 @@ impl Tables for SmallRoom {
     }
 
     fn policy(&mut self, _alloc: Global) -> Result<Policy, StoreFault> {
+        Err(StoreFault::Store)
+    }
+
+    fn written(&mut self, _alloc: Global) -> Result<Vec<Row>, StoreFault> {
         Err(StoreFault::Store)
     }
 

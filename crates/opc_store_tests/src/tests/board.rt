@@ -86,20 +86,6 @@ fn the_board_is_read_back_with_its_histories(rt: HostRuntime) -> Result<(), Fail
     Ok(())
 }
 
-/// What is told of a live board, from the units on.
-fn live_told(alloc: Global) -> Result<String, Fail> {
-    let board = with_board(alloc)?.live_board(alloc)?;
-    told(alloc, board.rows())
-}
-
-#[test]
-fn a_live_board_has_no_histories(rt: HostRuntime) -> Result<(), Fail> {
-    let lines = live_told(rt.alloc())?;
-    assert!(rt; lines.as_str().starts_with("[]\n[]\n[]\n[UnitRow"));
-    assert!(rt; lines.as_str().ends_with("\"MOUNT PAY01\" } }]\ntrue\n"));
-    Ok(())
-}
-
 fn batch(alloc: Global, number: u32, group: &str) -> Result<Edit, Fail> {
     let name = GroupName::read(group)?;
     let mut rows = Rows::new(alloc);

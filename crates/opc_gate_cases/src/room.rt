@@ -1,0 +1,104 @@
+//! A gate, and what it begins with.
+use crate::records::row_in;
+use crate::requests::request_of;
+use anyhow::{Result, bail};
+use opc_gate::gate::Gate;
+use opc_import::write::write_policy;
+use opc_machine::request::{Answer, Request};
+use opc_policy::fault::Fault;
+use opc_policy::row::Row;
+use opc_script::transcript::answer_text;
+use opc_store::store::Store;
+use sqlite::MemStore;
+use std::alloc::Global;
+use std::mem;
+
+#[derive(Drop)]
+pub struct Room {
+    gate: Gate<Store<MemStore>>,
+    rows: Vec<Row>,
+    beginning: Vec<(u64, Request)>,
+}
+
+fn empty_gate(alloc: Global) -> Result<Gate<Store<MemStore>>> {
+    match Store::in_memory(alloc) {
+        Ok(store) => Ok(Gate::new(store)),
+        Err(_) => bail!("no tables"),
+    }
+}
+
+impl Room {
+    pub fn new(alloc: Global) -> Result<Self> {
+        Ok(Room {
+            gate: empty_gate(alloc)?,
+            rows: Vec::new(alloc),
+            beginning: Vec::new(alloc),
+        })
+    }
+
+    /// What is answered to a line.
+    pub fn answer(&mut self, alloc: Global, line: &str) -> Result<String> {
+        let (word, rest) = line.split_once(' ').unwrap_or((line, ""));
+        match word {
+            "" | "#" => Ok(String::new(alloc)),
+            "row" => {
+                self.rows.push(row_in(alloc, rest)?)?;
+                Ok(String::new(alloc))
+            }
+            "begin" => {
+                self.beginning.push(request_of(alloc, rest)?)?;
+                Ok(String::new(alloc))
+            }
+            "new" => self.begin(alloc),
+            "bootstrap" => self.bootstrap(alloc),
+            "policy" => self.policy(alloc),
+            _ => {
+                let (moment, request) = request_of(alloc, line)?;
+                self.handled(alloc, moment, &request)
+            }
+        }
+    }
+
+    fn begin(&mut self, alloc: Global) -> Result<String> {
+        self.gate = empty_gate(alloc)?;
+        let mut told = self.bootstrap(alloc)?;
+        for (moment, request) in self.beginning.as_slice() {
+            told.push_str(text_of(alloc, *moment, &self.gate.handle(alloc, *moment, request))?.as_str())?;
+        }
+        Ok(told)
+    }
+
+    fn bootstrap(&mut self, alloc: Global) -> Result<String> {
+        match self.gate.bootstrap(alloc, self.rows.as_slice()) {
+            Ok(()) => Ok(String::from_str(alloc, "taken\n")?),
+            Err(Fault::NoMemory | Fault::Store) => bail!("given up"),
+            Err(fault) => Ok(format!(in alloc; "{} {fault}\n", fault.code())?),
+        }
+    }
+
+    fn handled(&mut self, alloc: Global, moment: u64, request: &Request) -> Result<String> {
+        let answer = self.gate.handle(alloc, moment, request);
+        text_of(alloc, moment, &answer)
+    }
+
+    fn policy(&mut self, alloc: Global) -> Result<String> {
+        let gate = mem::replace(&mut self.gate, empty_gate(alloc)?);
+        let mut store = gate.into_store();
+        let Ok(rows) = store.policy_rows(alloc) else {
+            bail!("no policy");
+        };
+        self.gate = Gate::new(store);
+        Ok(write_policy(alloc, rows.as_slice())?)
+    }
+}
+
+/// The text of an answer; one that a fault of memory or of the tables takes the place of ends the program.
+fn text_of(alloc: Global, moment: u64, answer: &Answer) -> Result<String> {
+    match answer {
+        Answer::Refused {
+            fault: Fault::NoMemory | Fault::Store,
+            ..
+        } => bail!("given up"),
+        answer => Ok(answer_text(alloc, moment, answer)?),
+    }
+}

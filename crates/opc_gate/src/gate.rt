@@ -5,6 +5,7 @@ ghost use Rattle.std.specs.Option.{option_and_then};
 ghost use Rattle.opc_board.specs.Facts.{console_at};
 ghost use Rattle.opc_board.specs.Texts.{text_or};
 ghost use Rattle.opc_state.specs.Asked.{Answers};
+ghost use Rattle.opc_state.specs.PolicyFile.{rows_of};
 ghost use Rattle.opc_state.specs.State.{State};
 ghost use Rattle.opc_state.specs.Changes.{IsKept};
 ghost use Rattle.opc_bootstrap.specs.RowEdits.{HaveNothingNew, IsBootstrap};
@@ -17,10 +18,14 @@ ghost use Rattle.opc_gate.specs.Listening.{IsEndedRun, IsHeardRun};
 ghost use Rattle.opc_machine.specs.Deeds.{IsOutcome};
 
 use crate::listener::Listener;
+use opc_admin::administration::admin_on;
 use opc_board::rows::ConsoleRow;
 use opc_board::text::KeptText;
 use opc_bootstrap::bootstrap::bootstrap;
 use opc_commands::command::{command_on, event_on};
+use opc_imports::import::import_on;
+use opc_listings::account::account_on;
+use opc_listings::profiles::profiles_on;
 use opc_machine::outcome::{Decided, Deed, Denial};
 use opc_machine::request::{Answer, Request};
 use opc_names::name::{ConsoleName, Name, NameKind, UserId};
@@ -55,7 +60,11 @@ fn console_of(request: &Request) -> Option<ConsoleName>
     ensures { result ≡ console_of (input_of request.now) }
 {
     match request {
-        Request::Command { console, .. } => Some(*console),
+        Request::Command { console, .. }
+        | Request::Admin { console, .. }
+        | Request::ListProfiles { console, .. }
+        | Request::ListAccount { console, .. }
+        | Request::Import { console, .. } => Some(*console),
         Request::Event(_) => None,
     }
 }
@@ -193,6 +202,18 @@ fn outcome_on<T: Tables>(
 {
     match request {
         Request::Command { text, .. } => command_on(tables, alloc, console, text.as_str()),
+        Request::Admin { console, op } => admin_on(tables, alloc, console, op),
+        Request::ListProfiles { console, class } => profiles_on(tables, alloc, console, *class),
+        Request::ListAccount {
+            console,
+            from,
+            count,
+        } => account_on(tables, alloc, console, *from, *count),
+        Request::Import {
+            console,
+            batch,
+            rows,
+        } => import_on(tables, alloc, console, *batch, rows),
         Request::Event(event) => event_on(tables, alloc, event),
     }
 }
@@ -278,6 +299,16 @@ impl<T: Tables> Gate<T> {
         ensures idle { T.is_sure self.new → (s : State) → T.represents self.old s → HaveNothingNew rows.now s → (left : State) → T.may_leave self.new left → T.may_leave self.old left }
     {
         bootstrap(&mut self.tables, alloc, rows)
+    }
+
+    /// The policy and the consoles, as the rows of a policy file. They are those that a bootstrap of new tables makes the
+    /// same policy of, and the same authorities and modes.
+    pub fn export(&mut self, alloc: Global) -> Result<Vec<Row>, Fault>
+        ensures kept { IsKept T.is_sure T.represents T.may_leave self.old self.new }
+        ensures rows { Answers (T.is_sure self.new) (T.represents self.old) result (λ s rows. rows.items ≡ rows_of s.policy s.board.consoles) }
+        ensures fault { IfErr result (λ f. (f ≡ why.NoMemory) ⊎ (f ≡ why.Store)) }
+    {
+        Ok(self.tables.written(alloc)?)
     }
 
     /// Answers a request. The answer and the state that the tables represent afterwards are a step of the access

@@ -2,6 +2,7 @@
 use crate::database::reason_at;
 use opc_policy::fault::Fault;
 use opc_program::failure::{Failure, Paths, Place};
+use opc_program::import::{Import, export_on, import_on};
 use opc_program::machine::Machine;
 use opc_program::reason::Reason;
 use opc_program::run::{run_on, told};
@@ -11,6 +12,10 @@ use opc_store::store::Store;
 use sqlite::{Error, ErrorCode, FileFrom, FileStore, MemStore, Wary};
 use std::alloc::Global;
 use std::io::{Read, Write};
+use std::time::SystemTime;
+
+/// The last moment: 13 digits.
+const LAST_MOMENT: u64 = 9_999_999_999_999;
 
 /// What the system gives a process.
 #[derive(Drop)]
@@ -34,6 +39,25 @@ fn close(tables: InFile) -> Result<(), Failure> {
         Err(_) => Reason::Unreadable,
     };
     Err(of_database(Fault::Store, reason))
+}
+
+/// Tells what a work over a file came to, and closes the file, which may fail, too.
+fn closed<E: Write>(
+    end: Result<Status, Failure>,
+    tables: InFile,
+    paths: &Paths<'_>,
+    errors: &mut E,
+) -> Result<Status, Failure> {
+    let status = told(end, paths, errors);
+    close(tables)?;
+    Ok(status)
+}
+
+fn of_file(path: &str) -> Paths<'_> {
+    Paths {
+        database: Some(path),
+        policy: None,
+    }
 }
 
 impl Process {
@@ -62,7 +86,6 @@ impl Process {
         run_on(&self.rt, tables, paths.policy, input, output).0
     }
 
-    // What makes the run fail is told before the file is closed, which may fail, too.
     fn run_in_file<R: Read, W: Write, E: Write>(
         &self,
         path: &str,
@@ -73,9 +96,45 @@ impl Process {
     ) -> Result<Status, Failure> {
         let tables = self.open_tables(path)?;
         let (end, tables) = run_on(&self.rt, tables, paths.policy, input, output);
-        let status = told(end, paths, errors);
-        close(tables)?;
-        Ok(status)
+        closed(end, tables, paths, errors)
+    }
+
+    fn import_in_file<R: Read, W: Write, E: Write>(
+        &self,
+        import: &Import<'_>,
+        paths: &Paths<'_>,
+        input: &mut R,
+        output: &mut W,
+        errors: &mut E,
+    ) -> Result<Status, Failure> {
+        let tables = self.open_tables(import.path)?;
+        let moment = self.moment()?;
+        let (end, tables) = import_on(self.rt.alloc(), tables, moment, import, input, output);
+        closed(end, tables, paths, errors)
+    }
+
+    fn export_of_file<W: Write, E: Write>(
+        &self,
+        path: &str,
+        paths: &Paths<'_>,
+        output: &mut W,
+        errors: &mut E,
+    ) -> Result<Status, Failure> {
+        let tables = self.open_tables(path)?;
+        let (end, tables) = export_on(self.rt.alloc(), tables, output);
+        closed(end, tables, paths, errors)
+    }
+
+    /// The clock's whole seconds since 1970, within what a moment can be.
+    fn moment(&self) -> Result<u64, Failure> {
+        let now = match SystemTime::now(&self.rt) {
+            Ok(now) => now,
+            Err(error) => return Err(Failure::at(Place::Clock, error)),
+        };
+        match now.duration_since(SystemTime::UNIX_EPOCH) {
+            Ok(since) => Ok(since.as_secs().min(LAST_MOMENT)),
+            Err(_) => Ok(0),
+        }
     }
 }
 
@@ -100,5 +159,23 @@ impl Machine for Process {
             None => self.run_in_memory(paths, input, output),
         };
         told(end, paths, errors)
+    }
+
+    fn import<R: Read, W: Write, E: Write>(
+        &self,
+        import: &Import<'_>,
+        input: &mut R,
+        output: &mut W,
+        errors: &mut E,
+    ) -> Status {
+        let paths = of_file(import.path);
+        let end = self.import_in_file(import, &paths, input, output, errors);
+        told(end, &paths, errors)
+    }
+
+    fn export<W: Write, E: Write>(&self, path: &str, output: &mut W, errors: &mut E) -> Status {
+        let paths = of_file(path);
+        let end = self.export_of_file(path, &paths, output, errors);
+        told(end, &paths, errors)
     }
 }

@@ -1,6 +1,7 @@
 //! `opcmds explain`: which profile decides for a user, and why, by a policy file.
 use crate::failure::{Failure, NO_PATHS, Place};
 use crate::policy_file::read_rows;
+use crate::words::unread;
 use clap::ArgMatches;
 use opc_names::class::Class;
 use opc_names::level::Level;
@@ -55,13 +56,7 @@ pub fn run<R: Read, W: Write, E: Write>(
 ) -> Status {
     let question = match Question::read(chosen) {
         Ok(question) => question,
-        Err(word) => {
-            let _ = writeln!(
-                errors,
-                "error: the value of {word} does not read; see opcmds explain --help"
-            );
-            return Status::BadInput;
-        }
+        Err(word) => return unread(word, "explain", errors),
     };
     match answer(alloc, &question, input, output) {
         Ok(status) => status,

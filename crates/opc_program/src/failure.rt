@@ -34,6 +34,7 @@ pub enum Place {
     Output,
     PolicyFile,
     Database,
+    Clock,
 }
 
 impl Place {
@@ -43,12 +44,13 @@ impl Place {
             Place::Output => "standard output",
             Place::PolicyFile => "policy file ",
             Place::Database => "database ",
+            Place::Clock => "clock",
         }
     }
 
     fn path<'a>(self, paths: &Paths<'a>) -> &'a str {
         let path = match self {
-            Place::Input | Place::Output => None,
+            Place::Input | Place::Output | Place::Clock => None,
             Place::PolicyFile => paths.policy,
             Place::Database => paths.database,
         };

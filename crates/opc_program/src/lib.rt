@@ -4,6 +4,7 @@
 mod bad_row;
 mod explain;
 pub mod failure;
+pub mod import;
 pub mod machine;
 mod policy_file;
 pub mod reason;

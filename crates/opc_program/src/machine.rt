@@ -1,5 +1,6 @@
 //! The machine that the program runs on.
 use crate::failure::Paths;
+use crate::import::Import;
 use opc_script::status::Status;
 use std::io::{Read, Write};
 
@@ -14,4 +15,17 @@ pub trait Machine: AllocGlobal {
         output: &mut W,
         errors: &mut E,
     ) -> Status;
+
+    /// Opens the tables of the database file, and puts the policy file on the input into them, at the clock's moment.
+    /// Answers the status.
+    fn import<R: Read, W: Write, E: Write>(
+        &self,
+        import: &Import<'_>,
+        input: &mut R,
+        output: &mut W,
+        errors: &mut E,
+    ) -> Status;
+
+    /// Opens the tables of the database file, and writes their policy as a policy file. Answers the status.
+    fn export<W: Write, E: Write>(&self, path: &str, output: &mut W, errors: &mut E) -> Status;
 }

@@ -1,5 +1,6 @@
 //! The words of the command line.
 use crate::failure::{Failure, NO_PATHS, Paths, Place};
+use crate::import::Import;
 use crate::machine::Machine;
 use crate::{explain, run};
 use clap::error::ErrorKind;
@@ -76,13 +77,63 @@ fn run_command<'a>(alloc: Global) -> Result<Command<'a>, AllocError> {
         ))
 }
 
+fn import_command<'a>(alloc: Global) -> Result<Command<'a>, AllocError> {
+    Command::new(alloc, "import")
+        .about(
+            "Puts the policy file on standard input (16,777,216 bytes at most) into a database file, all its rows or none",
+        )
+        .after_help(
+            "A batch that is kept with equal rows changes nothing, however often it is sent.\n\
+             Example: opcmds import --db gate.db --batch 7 --console C2 < day.csv\n\
+             Status: 0 done, 1 refused, 2 bad words or policy file, 3 out of memory or a failed device",
+        )
+        .arg(value(
+            alloc,
+            "db",
+            "FILE",
+            "The database file, made if it is not there",
+        )
+        .required(true))?
+        .arg(value(
+            alloc,
+            "batch",
+            "NUMBER",
+            "The number of the batch, 1 to 999,999,999",
+        )
+        .required(true))?
+        .arg(value(
+            alloc,
+            "console",
+            "CONSOLE",
+            "The console that asks, for whoever is on there; without it this is the first policy, which is no batch",
+        ))
+}
+
+fn export_command<'a>(alloc: Global) -> Result<Command<'a>, AllocError> {
+    Command::new(alloc, "export")
+        .about("Writes the policy and the consoles of a database file as a policy file")
+        .after_help(
+            "Example: opcmds export --db gate.db > policy.csv\n\
+             Status: 0 done, 2 bad words, 3 out of memory or a failed device",
+        )
+        .arg(value(
+            alloc,
+            "db",
+            "FILE",
+            "The database file, made if it is not there",
+        )
+        .required(true))
+}
+
 fn whole_command<'a>(alloc: Global) -> Result<Command<'a>, AllocError> {
     Command::new(alloc, "opcmds")
         .about("The authority gate for operator commands, by RACF-like profiles")
         .after_help("Example: opcmds explain --help")
         .subcommand_required(true)
         .subcommand(explain_command(alloc)?)?
-        .subcommand(run_command(alloc)?)
+        .subcommand(run_command(alloc)?)?
+        .subcommand(import_command(alloc)?)?
+        .subcommand(export_command(alloc)?)
 }
 
 fn matches_of<'a>(alloc: Global, words: &'a [String]) -> Result<ArgMatches<'a>, Error> {
@@ -119,6 +170,24 @@ pub fn run_words<M: Machine, R: Read, W: Write, E: Write>(
         };
         return machine.run(&paths, input, output, errors);
     }
+    if let Some(chosen) = matches.subcommand_matches("import") {
+        return match Import::read(chosen) {
+            Ok(import) => machine.import(&import, input, output, errors),
+            Err(word) => unread(word, "import", errors),
+        };
+    }
+    if let Some(chosen) = matches.subcommand_matches("export") {
+        return machine.export(chosen.get_str("db").unwrap_or(""), output, errors);
+    }
+    Status::BadInput
+}
+
+/// Tells that a word does not read.
+pub(crate) fn unread<E: Write>(word: &str, command: &str, errors: &mut E) -> Status {
+    let _ = writeln!(
+        errors,
+        "error: the value of {word} does not read; see opcmds {command} --help"
+    );
     Status::BadInput
 }
 

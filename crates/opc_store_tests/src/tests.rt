@@ -1,9 +1,12 @@
 //! Changes are put into the tables and read back, databases that are not ours are refused, and disks stop.
 mod board;
+mod board_edits;
+mod board_loads;
 mod costs;
 mod disks;
 mod edits;
 mod policy;
+mod policy_loads;
 mod searches;
 mod strange;
 

@@ -1,5 +1,5 @@
 //! The board, the batches and the account: what was committed is read back by each load.
-use super::edits::{console, device, histories, reply, unit};
+use super::board_edits::{console, device, histories, reply, unit};
 use super::{refusal, same, tell, tell_after_each};
 use opc_board::board::BoardRows;
 use opc_board::rows::UnitKind;

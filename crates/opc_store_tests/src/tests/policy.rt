@@ -155,7 +155,7 @@ fn tell_members(
         let id = UserId::read(user)?;
         let name = ConsoleName::read(console)?;
         tell(lines, &store.user(alloc, &id)?)?;
-        tell(lines, &store.groups_of(alloc, &id)?)?;
+        tell(lines, &store.groups_of(alloc, &id, 2)?)?;
         tell(lines, &store.console(&name)?)?;
     }
     tell(lines, &store.has_users()?)

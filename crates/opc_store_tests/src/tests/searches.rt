@@ -24,9 +24,12 @@ const NAMES: [&str; 5] = [
     "Q",
 ];
 
-/// What was found, where it decides.
+/// What was found, where it decides, but for its access list: of the profile its pattern, owner, UACC and WARNING.
 fn tell_found(lines: &mut String, found: &Found) -> Result<(), Fail> {
-    tell(lines, &found.profile)?;
+    if let Some(profile) = &found.profile {
+        tell(lines, &(profile.class, profile.pattern, profile.owner))?;
+        tell(lines, &(profile.uacc, profile.warning))?;
+    }
     tell(lines, &(found.ranges, found.rows))
 }
 

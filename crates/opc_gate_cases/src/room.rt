@@ -63,7 +63,11 @@ impl Room {
         self.gate = empty_gate(alloc)?;
         let mut told = self.bootstrap(alloc)?;
         for (moment, request) in self.beginning.as_slice() {
-            told.push_str(text_of(alloc, *moment, &self.gate.handle(alloc, *moment, request))?.as_str())?;
+            told.push_str(text_of(
+                alloc,
+                *moment,
+                &self.gate.handle(alloc, *moment, request),
+            )?.as_str())?;
         }
         Ok(told)
     }

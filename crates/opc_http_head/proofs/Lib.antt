@@ -1,0 +1,4 @@
+pub mod FramingLemmas
+pub mod HeadLemmas
+pub mod Numbers
+pub mod RouteLemmas

@@ -1,0 +1,7 @@
+use Rattle.std.proofs.Common.{◌≡◌, ◌≤◌, length}
+use Rattle.std.specs.Io.KnownBytes.{Consumes}
+use Rattle.opc_http_head.proofs.head.read_head.Given as goal
+
+abbrev pub invariant-loop-turn : goal.invariant-loop-turn
+invariant-loop-turn g l = Consumes (g.R.Read.remaining l.fn.reader) (g.R.Read.remaining l.reader) l.buf.items
+    × (length l.buf.items ≤ 8192) × (l._turn ≤ length l.buf.items) × (length l.headers ≡ 32)

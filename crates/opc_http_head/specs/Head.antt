@@ -1,0 +1,46 @@
+-- What reading a head does, and what the head of some bytes is.
+use Rattle.std.specs.Prelude.{◌≡◌, ◌≤◌, ◌<◌, ◌++◌, ℕ, List, length, take, Option, ⊤}
+use Rattle.std.specs.Io.KnownBytes.{Consumes, IsAtEnd}
+use Rattle.httparse.specs.Grammar.{HasNoRequest, ReadsRequest, RequestHead}
+use Rattle.httparse.specs.Spans.{IsRequestAt, IsRequestOf, IsRequestWithin, RequestOverflows}
+use Rattle.httparse.specs.declared.spans.HeaderSpan.{HeaderSpan}
+use Rattle.httparse.specs.declared.spans.RequestSpans.{RequestSpans}
+use Rattle.opc_http_head.specs.declared.head.Start.{Start}
+use Rattle.opc_http_head.specs.declared.head.Start.TheVariants as start
+
+-- one read: bytes moved from the reader to the buffer, and none of them means the end or a full buffer
+pub record ReadsMore (before after : Option (List ℕ)) (old new : List ℕ) (most n : ℕ) : Type 0 where
+  pub moved : List ℕ
+  pub consumes : Consumes before after moved
+  pub buffer : new ≡ old ++ moved
+  pub count : length moved ≡ n
+  pub fits : length new ≤ most
+  pub ends : n ≡ 0 → length old < most → IsAtEnd after
+
+-- some prefix of the first 8,192 bytes is this head, of at most 32 fields
+pub record HasHead (all : List ℕ) (head : RequestHead) : Type 0 where
+  pub rest : List ℕ
+  pub reads : ReadsRequest (take 8192 all) head rest
+  pub few : length head.fields ≤ 32
+
+-- no prefix is
+abbrev pub NoHead : List ℕ → Type 0
+NoHead all = (head : RequestHead) → ¬ (HasHead all head)
+
+-- the bytes have a head, whose parts the spans tell in the bytes that were read
+pub record FoundHead (all buf : List ℕ) (headers : List HeaderSpan) (spans : RequestSpans) : Type 0 where
+  pub head : RequestHead
+  pub has : HasHead all head
+  pub parts : IsRequestAt buf headers spans head
+
+-- what the start of some bytes is: a head, no head yet, or none of at most 32 fields whatever follows
+abbrev pub Starts : List ℕ → List HeaderSpan → Start → Type 0
+Starts buf headers (start.Whole spans) = IsRequestOf buf headers spans
+Starts buf headers start.Part = HasNoRequest buf
+Starts buf headers start.Never = RequestOverflows 32 buf
+
+-- the spans of a head lie in the bytes
+abbrev pub StartsWithin : List ℕ → List HeaderSpan → Start → Type 0
+StartsWithin buf headers (start.Whole spans) = IsRequestWithin buf headers spans
+StartsWithin buf headers start.Part = ⊤
+StartsWithin buf headers start.Never = ⊤

@@ -1,0 +1,79 @@
+//! How long the body of a request is.
+ghost use Rattle.std.specs.Prelude.{◌≡◌, ◌≤◌, All, IfErr, IfOk, IfSome, Err, Ok, length, map};
+ghost use Rattle.std.specs.Char.{to_ascii_lowercase};
+ghost use Rattle.std.specs.Option.{option_map};
+ghost use Rattle.std.specs.Str.{bytes_eq};
+ghost use Rattle.httparse.specs.Spans.{IsHeaderWithin, IsWithin, header_bytes, span_bytes};
+ghost use Rattle.opc_http_head.specs.Framing.{body_length, length_by, number_in, only, values_of};
+
+use crate::number::number_in;
+use crate::refusal::Refusal;
+use httparse::spans::{HeaderSpan, Span};
+use std::str;
+
+/// The most bytes of a body.
+pub const BODY_LIMIT: u64 = 65536;
+
+/// The most digits of a length.
+const LENGTH_DIGITS: usize = 9;
+
+// Large and small letters are alike.
+fn is_named(found: &[u8], name: &[u8]) -> bool
+    ensures { result ≡ bytes_eq (map to_ascii_lowercase found.now) (map to_ascii_lowercase name.now) }
+{
+    found.eq_ignore_ascii_case(name)
+}
+
+// Where the only field of a name has its value, if there is one.
+fn only_value(buf: &[u8], headers: &[HeaderSpan], name: &[u8]) -> Result<Option<Span>, Refusal>
+    requires { All (IsHeaderWithin (length buf.now)) headers.now }
+    ensures ok { IfOk result (λ value. only (values_of name.now (map (header_bytes buf.now) headers.now)) ≡ Ok (option_map (span_bytes buf.now) value)) }
+    ensures err { IfErr result (λ e. only (values_of name.now (map (header_bytes buf.now) headers.now)) ≡ Err e) }
+    ensures within { IfOk result (λ value. IfSome value (IsWithin (length buf.now))) }
+{
+    let mut found = None;
+    for header in headers {
+        if is_named(header.name.of(buf), name) {
+            if found.is_some() {
+                return Err(Refusal::BadRequest);
+            }
+            found = Some(header.value);
+        }
+    }
+    Ok(found)
+}
+
+// The number that some bytes are.
+fn number_of(value: &[u8]) -> Option<u64>
+    ensures { result ≡ number_in 9 value.now }
+{
+    match str::from_utf8(value) {
+        Ok(text) => number_in(text, LENGTH_DIGITS),
+        Err(_) => None,
+    }
+}
+
+fn length_by(value: &[u8]) -> Result<u64, Refusal>
+    ensures { result ≡ length_by (number_in 9 value.now) }
+{
+    match number_of(value) {
+        None => Err(Refusal::BadRequest),
+        Some(n) if n <= BODY_LIMIT => Ok(n),
+        Some(_) => Err(Refusal::TooLarge),
+    }
+}
+
+/// How many bytes the body has.
+pub fn body_length(buf: &[u8], headers: &[HeaderSpan]) -> Result<u64, Refusal>
+    requires { All (IsHeaderWithin (length buf.now)) headers.now }
+    ensures { result ≡ body_length (map (header_bytes buf.now) headers.now) }
+{
+    match only_value(buf, headers, b"transfer-encoding") {
+        Ok(None) => {}
+        _ => return Err(Refusal::BadRequest),
+    }
+    match only_value(buf, headers, b"content-length")? {
+        None => Ok(0),
+        Some(value) => length_by(value.of(buf)),
+    }
+}

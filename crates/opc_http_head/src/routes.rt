@@ -1,0 +1,85 @@
+//! The routes.
+ghost use Rattle.std.specs.Prelude.{◌≡◌, IfOk, codes};
+ghost use Rattle.opc_http_head.specs.Routes.{route_of, the_routes};
+
+use matchit::{InsertError, Router};
+use std::alloc::Global;
+use std::marker::Model;
+
+/// What a request asks for, by its path.
+#[derive(Clone, Copy, Debug, PartialEq, Eq)]
+pub enum Route {
+    Command,
+    Admin,
+    Import,
+    ListProfiles,
+    ListAccount,
+}
+
+/// The five routes.
+#[derive(Drop)]
+pub struct Routes {
+    router: Router<Route>,
+}
+
+impl Model for Routes {
+    ghost use Rattle.std.specs.Prelude.{◌≡◌};
+    ghost use Rattle.matchit.specs.Rows.{RowsOf};
+    ghost use Rattle.matchit.specs.Router.{RouteOf};
+    ghost use Rattle.opc_http_head.specs.Routes.{the_routes};
+    ghost use Rattle.opc_http_head.specs.declared.routes.Route.{Route};
+
+    ghost Value = { RowsOf (RouteOf Route) };
+
+    ghost view = { λ routes. routes.router };
+
+    ghost invariant = { λ routes. routes.router ≡ the_routes };
+}
+
+fn router(alloc: Global) -> Result<Router<Route>, InsertError>
+    ensures { IfOk result (λ router. router ≡ the_routes) }
+{
+    let mut router = Router::new(alloc);
+    router.insert("/consoles/{console}/command", Route::Command)?;
+    router.insert("/consoles/{console}/admin", Route::Admin)?;
+    router.insert("/consoles/{console}/import/{batch}", Route::Import)?;
+    router.insert("/consoles/{console}/profiles/{class}", Route::ListProfiles)?;
+    router.insert(
+        "/consoles/{console}/account/{from}/{count}",
+        Route::ListAccount,
+    )?;
+    Ok(router)
+}
+
+impl Routes {
+    /// The routes, unless memory is wanting.
+    pub fn new(alloc: Global) -> Result<Self, NoMemory>
+        ensures { IfOk result (λ routes. routes ≡ the_routes) }
+    {
+        match router(alloc) {
+            Ok(router) => Ok(Routes { router }),
+            Err(_) => Err(NoMemory),
+        }
+    }
+
+    /// The route of a path, if it has one.
+    pub fn route_of(&self, path: &str) -> Option<Route>
+        ensures { result ≡ route_of path.now }
+    {
+        route_in(&self.router, path)
+    }
+}
+
+fn route_in(router: &Router<Route>, path: &str) -> Option<Route>
+    requires { router.now ≡ the_routes }
+    ensures { result ≡ route_of path.now }
+{
+    match router.at(path) {
+        Ok(found) => Some(*found.value),
+        Err(_) => None,
+    }
+}
+
+/// Memory was refused.
+#[derive(Clone, Copy, Debug, PartialEq, Eq)]
+pub struct NoMemory;

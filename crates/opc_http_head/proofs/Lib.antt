@@ -1,4 +1,5 @@
 pub mod FramingLemmas
 pub mod HeadLemmas
 pub mod Numbers
+pub mod RefusalLemmas
 pub mod RouteLemmas

@@ -1,5 +1,6 @@
 //! Refusals of what is no request.
 use opc_policy::fault::Why;
+use std::alloc::{AllocError, AllocFailed};
 
 /// A method that some path has.
 #[derive(Clone, Copy, Debug, PartialEq, Eq)]
@@ -21,4 +22,47 @@ pub enum Refusal {
     TooLarge,
     /// The first bad row of a policy file, counted from 1, with the header as row 0.
     BadRow { row: u32, why: Why },
+}
+
+/// Why no request was read: it is refused, or out of memory.
+#[derive(Clone, Copy, Debug, PartialEq, Eq)]
+pub enum AskFault {
+    Refused(Refusal),
+    NoMemory,
+}
+
+/// What cannot be read.
+pub const BAD_REQUEST: AskFault = AskFault::Refused(Refusal::BadRequest);
+
+impl From<Refusal> for AskFault {
+    ghost use Rattle.std.specs.Prelude.{◌≡◌};
+    ghost use Rattle.opc_http_head.specs.declared.refusal.AskFault.TheVariants.{Refused};
+
+    ghost from_gives = { λ refusal fault. fault ≡ Refused refusal };
+
+    fn from(refusal: Refusal) -> AskFault {
+        AskFault::Refused(refusal)
+    }
+}
+
+impl From<AllocError> for AskFault {
+    ghost use Rattle.std.specs.Prelude.{◌≡◌};
+    ghost use Rattle.opc_http_head.specs.declared.refusal.AskFault.TheVariants.{NoMemory};
+
+    ghost from_gives = { λ _ fault. fault ≡ NoMemory };
+
+    fn from(_error: AllocError) -> AskFault {
+        AskFault::NoMemory
+    }
+}
+
+impl<T: Drop> From<AllocFailed<T>> for AskFault {
+    ghost use Rattle.std.specs.Prelude.{◌≡◌};
+    ghost use Rattle.opc_http_head.specs.declared.refusal.AskFault.TheVariants.{NoMemory};
+
+    ghost from_gives = { λ _ fault. fault ≡ NoMemory };
+
+    fn from(_error: AllocFailed<T>) -> AskFault {
+        AskFault::NoMemory
+    }
 }

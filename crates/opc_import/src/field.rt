@@ -15,13 +15,13 @@ pub(crate) struct UserFlags {
     pub revoked: bool,
 }
 
-pub(crate) fn read_name<K: NameKind<N>, const N: usize>(text: &str) -> Option<Name<K, N>>
+pub fn read_name<K: NameKind<N>, const N: usize>(text: &str) -> Option<Name<K, N>>
     ensures { result ≡ name_of K.rule text.now }
 {
     Name::read(text).ok()
 }
 
-pub(crate) fn read_entry_id(text: &str) -> Option<EntryId>
+pub fn read_entry_id(text: &str) -> Option<EntryId>
     ensures { result ≡ entry_id_of text.now }
 {
     EntryId::read(text).ok()
@@ -110,7 +110,7 @@ fn are_lower_digits(text: &str) -> bool
 }
 
 // The digest of a user, who may have none.
-pub(crate) fn read_digest(text: &str) -> Option<Option<[u8; 32]>>
+pub fn read_digest(text: &str) -> Option<Option<[u8; 32]>>
     ensures { result ≡ digest_of text.now }
 {
     if text.is_empty() {

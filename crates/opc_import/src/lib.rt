@@ -3,7 +3,7 @@
 
 pub mod column;
 pub mod fault;
-mod field;
+pub mod field;
 pub mod kind;
 pub mod laws;
 mod line;

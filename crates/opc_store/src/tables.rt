@@ -63,6 +63,7 @@ impl<S: Alter> Tables for Store<S> {
 
     ghost may_leave = { MayLeave S.Store };
 
+    #[tactic(auto, using(crate::proofs::StoreTablesLemmas::keyed))]
     fn console(&mut self, name: &ConsoleName) -> Result<Option<ConsoleRow>, StoreFault> {
         console_on(&mut self.conn, name)
     }

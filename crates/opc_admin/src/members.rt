@@ -2,16 +2,15 @@
 ghost use Rattle.std.specs.Prelude.{◌≡◌, false};
 ghost use Rattle.opc_state.specs.Asked.{Answers};
 ghost use Rattle.opc_state.specs.Changes.{IsKept};
-ghost use Rattle.opc_state.specs.Difference.{same_flag, same_text};
 ghost use Rattle.opc_state.specs.Facts.{IsKeyed};
 ghost use Rattle.opc_machine.specs.declared.operation.Operation.TheVariants as operation;
 ghost use Rattle.opc_machine.specs.Administration.{has_name, is_in_use, policy_changed};
 ghost use Rattle.opc_machine.specs.Deeds.{IsOutcome};
-ghost use Rattle.opc_machine.specs.Imports.{same_user};
 ghost use Rattle.opc_admin.specs.Operations.{policy_outcome};
 
 use crate::deeds::{done_by, exists, missing};
 use opc_machine::outcome::{Decided, denied, done};
+use opc_machine::same::same_user;
 use opc_names::class::Class;
 use opc_names::name::{GroupName, UserId};
 use opc_policy::connect::Connect;
@@ -27,33 +26,6 @@ fn has_name<T: Tables>(tables: &mut T, name: &str) -> Result<bool, StoreFault>
     ensures there { Answers (T.is_sure tables.new) (T.represents tables.old) result (λ s there. there ≡ has_name s.policy name.now) }
 {
     Ok(tables.has_user(name)? || tables.has_group(name)?)
-}
-
-pub(crate) fn same_flag(flag: bool, other: bool) -> bool
-    ensures { result ≡ same_flag flag other }
-{
-    if flag { other } else { !other }
-}
-
-fn same_digest(digest: &Option<[u8; 32]>, other: &Option<[u8; 32]>) -> bool
-    ensures { result ≡ same_text digest.now other.now }
-{
-    match (digest, other) {
-        (None, None) => true,
-        (Some(digest), Some(other)) => digest.as_slice() == other.as_slice(),
-        _ => false,
-    }
-}
-
-fn same_user(user: &User, other: &User) -> bool
-    ensures { result ≡ same_user user.now other.now }
-{
-    user.id.text() == other.id.text()
-        && same_flag(user.special, other.special)
-        && same_flag(user.auditor, other.auditor)
-        && same_flag(user.revoked, other.revoked)
-        && same_digest(&user.digest, &other.digest)
-        && same_flag(user.restricted, other.restricted)
 }
 
 // Whether a user is in use: named by a connect, an owner or an access list, or on at a console.

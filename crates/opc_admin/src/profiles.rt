@@ -4,7 +4,6 @@ ghost use Rattle.opc_policy.specs.Profiles.{profile_of};
 ghost use Rattle.opc_policy.specs.Taken.{has_holder};
 ghost use Rattle.opc_state.specs.Asked.{Answers};
 ghost use Rattle.opc_state.specs.Changes.{IsKept};
-ghost use Rattle.opc_state.specs.Difference.{same_flag};
 ghost use Rattle.opc_state.specs.Facts.{IsKeyed};
 ghost use Rattle.opc_state.specs.Loads.{level_for};
 ghost use Rattle.opc_machine.specs.declared.operation.Operation.TheVariants as operation;
@@ -13,8 +12,8 @@ ghost use Rattle.opc_machine.specs.Deeds.{IsOutcome};
 ghost use Rattle.opc_admin.specs.Operations.{has_level, policy_outcome, same_definition};
 
 use crate::deeds::{done_by, exists, missing};
-use crate::members::same_flag;
 use opc_machine::outcome::{Decided, denied, done};
+use opc_machine::same::same_flag;
 use opc_names::class::Class;
 use opc_names::name::{ConsoleName, Pattern};
 use opc_policy::entry::{Entry, EntryId};

@@ -2,9 +2,10 @@
 ghost use Rattle.std.specs.Prelude.{◌≡◌};
 ghost use Rattle.opc_names.specs.Authority.{same_class};
 ghost use Rattle.opc_policy.specs.declared.row.Row.TheVariants as rows_are;
-ghost use Rattle.opc_state.specs.Difference.{same_flag, same_text};
-ghost use Rattle.opc_machine.specs.Imports.{same_row, same_rows, same_user};
+ghost use Rattle.opc_state.specs.Difference.{same_text};
+ghost use Rattle.opc_machine.specs.Imports.{same_row, same_rows};
 
+use opc_machine::same::{same_flag, same_user};
 use opc_names::auth::Auth;
 use opc_names::class::Class;
 use opc_names::level::Level;
@@ -23,22 +24,6 @@ fn same_class(class: Class, other: Class) -> bool
     }
 }
 
-fn same_flag(flag: bool, other: bool) -> bool
-    ensures { result ≡ same_flag flag other }
-{
-    if flag { other } else { !other }
-}
-
-fn same_digest(digest: &Option<[u8; 32]>, other: &Option<[u8; 32]>) -> bool
-    ensures { result ≡ same_text digest.now other.now }
-{
-    match (digest, other) {
-        (None, None) => true,
-        (Some(digest), Some(other)) => digest.as_slice() == other.as_slice(),
-        _ => false,
-    }
-}
-
 fn same_console(console: &Option<ConsoleName>, other: &Option<ConsoleName>) -> bool
     ensures { result ≡ same_text console.now other.now }
 {
@@ -47,17 +32,6 @@ fn same_console(console: &Option<ConsoleName>, other: &Option<ConsoleName>) -> b
         (Some(console), Some(other)) => console.text() == other.text(),
         _ => false,
     }
-}
-
-fn same_user(user: &User, other: &User) -> bool
-    ensures { result ≡ same_user user.now other.now }
-{
-    user.id.text() == other.id.text()
-        && same_flag(user.special, other.special)
-        && same_flag(user.auditor, other.auditor)
-        && same_flag(user.revoked, other.revoked)
-        && same_digest(&user.digest, &other.digest)
-        && same_flag(user.restricted, other.restricted)
 }
 
 fn is_class_row(row: &Row, class: Class, active: bool) -> bool

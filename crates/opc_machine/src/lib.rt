@@ -5,3 +5,4 @@ pub mod fault;
 pub mod operation;
 pub mod outcome;
 pub mod request;
+pub mod same;

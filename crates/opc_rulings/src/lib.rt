@@ -2,6 +2,5 @@
 #![tactic(auto)]
 
 pub mod asking;
-pub mod console;
 mod held;
 pub mod ruling;

@@ -1,5 +1,6 @@
 //! Rows of a policy, from records.
 use anyhow::{Context, Result, bail};
+use opc_import::fault::ImportFault;
 use opc_import::read::read_policy;
 use opc_policy::row::Row;
 use opc_rows::Rows;
@@ -10,10 +11,11 @@ const HEADER: &str = "kind,class,name,id,value,owner,flags,digest,when,restricte
 /// The row of a record, written as in a policy file.
 pub fn row_in(alloc: Global, record: &str) -> Result<Row> {
     let file = format!(in alloc; "{HEADER}\n{record}\n")?;
-    let Ok(rows) = read_policy(alloc, file.as_str()) else {
-        bail!("no row: {record}");
-    };
-    rows.as_slice().first().copied().context("no row")
+    match read_policy(alloc, file.as_str()) {
+        Ok(rows) => rows.as_slice().first().copied().context("no row"),
+        Err(ImportFault::NoMemory) => bail!("out of memory"),
+        Err(_) => bail!("no row: {record}"),
+    }
 }
 
 /// The rows of records with semicolons between them.

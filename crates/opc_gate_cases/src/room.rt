@@ -23,7 +23,7 @@ pub struct Room {
 fn empty_gate(alloc: Global) -> Result<Gate<Store<MemStore>>> {
     match Store::in_memory(alloc) {
         Ok(store) => Ok(Gate::new(store)),
-        Err(_) => bail!("no tables"),
+        Err(fault) => given_up(Fault::from(fault)),
     }
 }
 
@@ -75,7 +75,7 @@ impl Room {
     fn bootstrap(&mut self, alloc: Global) -> Result<String> {
         match self.gate.bootstrap(alloc, self.rows.as_slice()) {
             Ok(()) => Ok(String::from_str(alloc, "taken\n")?),
-            Err(Fault::NoMemory | Fault::Store) => bail!("given up"),
+            Err(fault @ (Fault::NoMemory | Fault::Store)) => given_up(fault),
             Err(fault) => Ok(format!(in alloc; "{} {fault}\n", fault.code())?),
         }
     }
@@ -88,11 +88,12 @@ impl Room {
     fn policy(&mut self, alloc: Global) -> Result<String> {
         let gate = mem::replace(&mut self.gate, empty_gate(alloc)?);
         let mut store = gate.into_store();
-        let Ok(rows) = store.policy_rows(alloc) else {
-            bail!("no policy");
-        };
+        let rows = store.policy_rows(alloc);
         self.gate = Gate::new(store);
-        Ok(write_policy(alloc, rows.as_slice())?)
+        match rows {
+            Ok(rows) => Ok(write_policy(alloc, rows.as_slice())?),
+            Err(fault) => given_up(Fault::from(fault)),
+        }
     }
 }
 
@@ -100,9 +101,17 @@ impl Room {
 fn text_of(alloc: Global, moment: u64, answer: &Answer) -> Result<String> {
     match answer {
         Answer::Refused {
-            fault: Fault::NoMemory | Fault::Store,
+            fault: fault @ (Fault::NoMemory | Fault::Store),
             ..
-        } => bail!("given up"),
+        } => given_up(*fault),
         answer => Ok(answer_text(alloc, moment, answer)?),
+    }
+}
+
+/// Out of memory, or a fault of the tables: no answer, and the end of the program.
+fn given_up<T: Drop>(fault: Fault) -> Result<T> {
+    match fault {
+        Fault::NoMemory => bail!("out of memory"),
+        _ => bail!("the tables failed"),
     }
 }

@@ -2,6 +2,7 @@
 use anyhow::{Context, Result, bail};
 use opc_import::fault::ImportFault;
 use opc_import::read::read_policy;
+use opc_names::name::ConsoleName;
 use opc_policy::row::Row;
 use opc_rows::Rows;
 use std::alloc::Global;
@@ -20,6 +21,8 @@ pub fn row_in(alloc: Global, record: &str) -> Result<Row> {
 
 /// The rows of records with semicolons between them.
 pub fn rows_in(alloc: Global, records: &str) -> Result<Rows<Row>> {
+    // The prover needs a name of the crate that has them.
+    let _nowhere: Option<ConsoleName> = None;
     let mut rows = Rows::new(alloc);
     for record in records.split(';') {
         rows.push(row_in(alloc, record)?)?;

@@ -29,7 +29,7 @@ use Rattle.opc_state.specs.Loads.{bare}
 use Rattle.opc_state.specs.PolicyFile.{permits_of, row_of_connect, row_of_console, row_of_entry, row_of_group, row_of_profile, row_of_user, rows_of, rows_of_classes}
 use Rattle.opc_state.specs.State.{empty}
 use Rattle.opc_machine.specs.Bootstrap.{policy_after}
-use Rattle.opc_exports.specs.ComeBack.{IsWritten}
+use Rattle.opc_facts.specs.KeptFacts.{IsOrdered}
 use Rattle.opc_exports.proofs.Appending.{all_before, all_of, find_past, insert_last, replace_last, replace_middle}
 use Rattle.opc_exports.proofs.Taken.{all_taken, then_rows}
 
@@ -119,7 +119,7 @@ no_group p id there (g ∷ groups) apart = go (bytes_eq id g) refl (no_group p i
     go true same more = sym there ∙ ap (has_user p) ((bytes_eq-Decides id g).0 same) ∙ apart.0
     go false same more = more
 
-module _ (p : Policy) (facts : IsPolicy p) (order : IsWritten p) where
+module _ (p : Policy) (facts : IsPolicy p) (order : IsOrdered p) where
   -- the policy, as far as it is made
   abbrev of_groups : List (List ℕ) → Policy
   of_groups groups = record { users = []; groups = groups; connects = []; profiles = []; active = p.active }

@@ -6,4 +6,5 @@ use Rattle.opc_exports.proofs.Policies.{policy_comes_back}
 use Rattle.opc_exports.proofs.laws.exports_come_back.Goals as goal
 
 pub returns : goal.returns
-returns c = λ p consoles facts written order. ap₂ (with_rows_of empty) (consoles_come_back p consoles order) (policy_comes_back p facts written consoles)
+returns c = λ s facts.
+    ap₂ (with_rows_of empty) (consoles_come_back s.policy s.board.consoles facts.state.board.consoles_rise) (policy_comes_back s.policy facts.state.policy facts.order s.board.consoles)

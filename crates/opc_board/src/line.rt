@@ -204,8 +204,8 @@ pub(crate) fn reply_line(alloc: Global, id: ReplyId, text: &str) -> Result<Line,
     })
 }
 
-// The line of a unit, if it is there.
-pub(crate) fn lines_of(alloc: Global, unit: Option<&UnitRow>) -> Result<Vec<Line>, AllocError>
+/// The line of a unit, if it is there.
+pub fn lines_of(alloc: Global, unit: Option<&UnitRow>) -> Result<Vec<Line>, AllocError>
     ensures { IfOk result (λ lines. lines.items ≡ lines_of (option_copied unit.entry)) }
 {
     let mut lines = Vec::new(alloc);
@@ -218,7 +218,8 @@ pub(crate) fn lines_of(alloc: Global, unit: Option<&UnitRow>) -> Result<Vec<Line
     }
 }
 
-pub(crate) fn unit_lines(alloc: Global, units: &[UnitRow]) -> Result<Vec<Line>, AllocError>
+/// The lines of units, as `D A` gives them.
+pub fn unit_lines(alloc: Global, units: &[UnitRow]) -> Result<Vec<Line>, AllocError>
     ensures { IfOk result (λ lines. lines.items ≡ map unit_line units.now) }
 {
     let mut lines = Vec::new(alloc);
@@ -228,7 +229,8 @@ pub(crate) fn unit_lines(alloc: Global, units: &[UnitRow]) -> Result<Vec<Line>, 
     Ok(lines)
 }
 
-pub(crate) fn device_lines(alloc: Global, devices: &[DeviceRow]) -> Result<Vec<Line>, AllocError>
+/// The lines of devices, as `D U` gives them.
+pub fn device_lines(alloc: Global, devices: &[DeviceRow]) -> Result<Vec<Line>, AllocError>
     ensures { IfOk result (λ lines. lines.items ≡ map device_line devices.now) }
 {
     let mut lines = Vec::new(alloc);
@@ -238,7 +240,8 @@ pub(crate) fn device_lines(alloc: Global, devices: &[DeviceRow]) -> Result<Vec<L
     Ok(lines)
 }
 
-pub(crate) fn console_lines(alloc: Global, consoles: &[ConsoleRow]) -> Result<Vec<Line>, AllocError>
+/// The lines of consoles, as `D C` gives them.
+pub fn console_lines(alloc: Global, consoles: &[ConsoleRow]) -> Result<Vec<Line>, AllocError>
     ensures { IfOk result (λ lines. lines.items ≡ map console_line consoles.now) }
 {
     let mut lines = Vec::new(alloc);
@@ -248,7 +251,8 @@ pub(crate) fn console_lines(alloc: Global, consoles: &[ConsoleRow]) -> Result<Ve
     Ok(lines)
 }
 
-pub(crate) fn reply_lines(alloc: Global, replies: &[ReplyRow]) -> Result<Vec<Line>, AllocError>
+/// The lines of open replies, as `D R` gives them.
+pub fn reply_lines(alloc: Global, replies: &[ReplyRow]) -> Result<Vec<Line>, AllocError>
     ensures { IfOk result (λ lines. lines.items ≡ map (λ reply. reply_line reply.id reply.text) replies.now) }
 {
     let mut lines = Vec::new(alloc);

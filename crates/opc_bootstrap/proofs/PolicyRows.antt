@@ -1,5 +1,5 @@
 -- Rows of a first policy, taken one after another.
-use Rattle.std.proofs.Common.{◌≡◌, ◌<◌, ◌+◌, ℕ, suc, Bool, true, false, List, [], ◌∷◌, ◌++◌, Option, Some, None, Result, Ok, Err, take, drop, drop-cons, get_or, length, is_some, not, ◌&&◌, append_assoc, filter, refl, sym, subst, ap, ap₂, ◌∙◌}
+use Rattle.std.proofs.Common.{◌≡◌, ◌<◌, ◌+◌, ℕ, suc, Bool, true, false, List, [], ◌∷◌, ◌++◌, Option, Some, None, Result, Ok, Err, IfErr, IfOk, OnOk, take, drop, drop-cons, get_or, length, is_some, not, ◌&&◌, append_assoc, filter, refl, sym, subst, ap, ap₂, ◌∙◌}
 use Rattle.std.proofs.Math.ListN.{take-append-drop}
 use Rattle.std.proofs.lemmas.List.{take_more, append-nil}
 use Rattle.std.proofs.lemmas.List.Elements.{filter_map-append}
@@ -24,6 +24,15 @@ use Rattle.opc_state.specs.State.{State}
 use Rattle.opc_state.specs.Changes.{edited, all_edited, with_board}
 use Rattle.opc_bootstrap.specs.RowEdits.{AreEditsOf, consoles_alone, HaveNothingNew, edit_of, edits_of}
 use Rattle.opc_machine.specs.Bootstrap.{then_policy, policy_after, console_after, consoles_after, with_rows_of, with_rows, loses_master, mastered}
+
+-- what follows of a success, or of a fault
+pub if_ok_both : {V E R : Type 0} {P Q : V → Type 0} (r : Result V E) → ((v : V) → P v → R → Q v) → IfOk r P → OnOk r R → IfOk r Q
+if_ok_both (Ok v) follows h k = follows v h k
+if_ok_both (Err e) follows h k = tt
+
+pub if_err : {V E : Type 0} {P Q : E → Type 0} (r : Result V E) → ((e : E) → P e → Q e) → IfErr r P → IfErr r Q
+if_err (Ok v) follows h = tt
+if_err (Err e) follows h = follows e h
 
 -- rows, and then more
 pub policy_steps : (one more : List Row) (p : Policy) → policy_after (one ++ more) p ≡ then_policy (policy_after one p) (λ q. policy_after more q)

@@ -140,23 +140,38 @@ fn edits_from(
     Ok(edits)
 }
 
-// The edits that rows make of what is stored, or why they are refused.
-fn edits_of_rows(alloc: Global, stored: Stored, rows: &[Row]) -> Result<Vec<Edit>, Fault>
-    ensures made { IfOk result (λ edits. (s : State) → stored.policy ≡ s.policy → stored.board ≡ consoles_alone s.board → IsInOrder s.board → with_rows rows.now s ≡ Ok (all_edited edits.items s)) }
-    ensures idle { IfOk result (λ edits. (s : State) → stored.board ≡ consoles_alone s.board → IsInOrder s.board → HaveNothingNew rows.now s → edits.items ≡ []) }
-    ensures refused { IfErr result (λ f. f ≢ why.NoMemory → (s : State) → stored.policy ≡ s.policy → stored.board ≡ consoles_alone s.board → IsInOrder s.board → with_rows rows.now s ≡ Err f) }
+// The edits of rows that define consoles of a board, of which there is a copy, and change a policy.
+fn edits_of_consoles(
+    alloc: Global,
+    old: &Board,
+    board: &mut Board,
+    rows: &[Row],
+) -> Result<Vec<Edit>, Fault>
+    ensures made { IfOk result (λ edits. AreEditsOf old.now (consoles_after rows.now board.old) rows.now edits.items) }
+    ensures kept { OnOk result (loses_master old.now (consoles_after rows.now board.old) ≡ false) }
+    ensures refused { IfErr result (λ f. f ≢ why.NoMemory → (f ≡ why.LastMaster) × (loses_master old.now (consoles_after rows.now board.old) ≡ true)) }
 {
-    let Stored {
-        mut policy,
-        mut board,
-    } = stored;
-    take_all(&mut policy, alloc, rows)?;
-    let old = copied(alloc, &board)?;
-    define_all(&mut board, rows)?;
-    if loses_master(&old, &board) {
+    define_all(board, rows)?;
+    if loses_master(old, board) {
         return Err(Fault::LastMaster);
     }
-    Ok(edits_from(alloc, &old, &board, rows)?)
+    Ok(edits_from(alloc, old, board, rows)?)
+}
+
+// The edits that rows make of what is stored, which they change, or why they are refused.
+fn edits_of_rows(
+    alloc: Global,
+    policy: &mut Policy,
+    board: &mut Board,
+    rows: &[Row],
+) -> Result<Vec<Edit>, Fault>
+    ensures made { IfOk result (λ edits. (s : State) → policy.old ≡ s.policy → board.old ≡ consoles_alone s.board → IsInOrder s.board → with_rows rows.now s ≡ Ok (all_edited edits.items s)) }
+    ensures idle { IfOk result (λ edits. (s : State) → board.old ≡ consoles_alone s.board → IsInOrder s.board → HaveNothingNew rows.now s → edits.items ≡ []) }
+    ensures refused { IfErr result (λ f. f ≢ why.NoMemory → (s : State) → policy.old ≡ s.policy → board.old ≡ consoles_alone s.board → IsInOrder s.board → with_rows rows.now s ≡ Err f) }
+{
+    take_all(policy, alloc, rows)?;
+    let old = copied(alloc, board)?;
+    edits_of_consoles(alloc, &old, board, rows)
 }
 
 // Loads what is stored. Of the board rows ask about consoles alone.
@@ -199,8 +214,11 @@ pub fn founding_on<T: Tables>(
     ensures idle { Answers (T.is_sure tables.new) (T.represents tables.old) result (λ s edits. HaveNothingNew rows.now s → edits.items ≡ []) }
     ensures refused { T.is_sure tables.new → (s : State) → T.represents tables.old s → IfErr result (λ f. f ≢ why.NoMemory → f ≢ why.Store → with_rows rows.now s ≡ Err f) }
 {
-    let stored = stored_on(tables, alloc)?;
-    edits_of_rows(alloc, stored, rows)
+    let Stored {
+        mut policy,
+        mut board,
+    } = stored_on(tables, alloc)?;
+    edits_of_rows(alloc, &mut policy, &mut board, rows)
 }
 
 // Loads what a first policy needs, and decides; writes nothing.

@@ -7,11 +7,13 @@ ghost use Rattle.opc_board.specs.Facts.{Name, console_at, kind_at};
 ghost use Rattle.opc_reader.specs.Reading.{reading};
 ghost use Rattle.opc_state.specs.Asked.{Answers};
 ghost use Rattle.opc_state.specs.Changes.{IsKept};
-ghost use Rattle.opc_machine.specs.Commands.{board_command as board_outcome, command_outcome, denial_fault, event_outcome, is_password, kind_named, known_by, logoff as logoff_outcome, logon_fault, logon as logon_outcome, without_need as needless_outcome, typed as typed_outcome, need_of};
+ghost use Rattle.opc_commands.specs.Acted.{allowed_command};
+ghost use Rattle.opc_machine.specs.Commands.{board_command as board_outcome, command_outcome, denial_fault, event_outcome, is_display, is_password, kind_named, known_by, logoff as logoff_outcome, logon_fault, logon as logon_outcome, without_need as needless_outcome, typed as typed_outcome, need_of};
 ghost use Rattle.opc_machine.specs.Deeds.{IsOutcome};
 ghost use Rattle.opc_machine.specs.Faults.{board_fault};
 ghost use Rattle.opc_machine.specs.Outcome.{does};
 
+use crate::displays::{display_on, is_display};
 use crate::effects::{act_on, come_on, log_off, log_on};
 use opc_board::event::Event;
 use opc_board::fault::BoardFault;
@@ -95,6 +97,32 @@ fn refusal(fault: BoardFault) -> Result<Fault, StoreFault>
     }
 }
 
+// What a command comes to that a rule allows, and that does more than show.
+fn deed_on<T: Tables>(
+    tables: &mut T,
+    alloc: Global,
+    console: &ConsoleRow,
+    command: &Command<'_>,
+    rule: Rule,
+) -> Decided
+    requires session { is_session_command command.now ≡ false }
+    requires display { is_display command.now ≡ false }
+    ensures kept { IsKept T.is_sure T.represents T.may_leave tables.old tables.new }
+    ensures outcome { Answers (T.is_sure tables.new) (T.represents tables.old) result (λ s o. console_at s.board console.now.name ≡ Some console.now → IsOutcome s (allowed_command s console.now command.now rule) o) }
+{
+    let board = sight_on(tables, alloc, command, console)?;
+    let acted = match act_on(alloc, board, command, &console.name) {
+        Ok(acted) => acted,
+        Err(fault) => return denied(refusal(fault)?, Some(rule)),
+    };
+    let lines = shown_lines(tables, alloc, console, acted.lines)?;
+    Ok(Ok(Deed {
+        edits: acted.edits,
+        lines,
+        rule: Some(rule),
+    }))
+}
+
 fn board_command<T: Tables>(
     tables: &mut T,
     alloc: Global,
@@ -110,17 +138,11 @@ fn board_command<T: Tables>(
         Ruling::Allowed(rule) => rule,
         Ruling::Denied(rule) => return denied(denial_fault(&rule), Some(rule)),
     };
-    let board = sight_on(tables, alloc, command, console)?;
-    let acted = match act_on(alloc, board, command, &console.name) {
-        Ok(acted) => acted,
-        Err(fault) => return denied(refusal(fault)?, Some(rule)),
-    };
-    let lines = shown_lines(tables, alloc, console, acted.lines)?;
-    Ok(Ok(Deed {
-        edits: acted.edits,
-        lines,
-        rule: Some(rule),
-    }))
+    if is_display(command) {
+        display_on(tables, alloc, console, command, rule)
+    } else {
+        deed_on(tables, alloc, console, command, rule)
+    }
 }
 
 fn is_password(password: &Password, digest: &Option<[u8; 32]>) -> bool

@@ -6,7 +6,6 @@ ghost use Rattle.opc_board.specs.Effect.{effect, event_effect, is_session_comman
 ghost use Rattle.opc_board.specs.Facts.{console_at};
 ghost use Rattle.opc_state.specs.State.{State};
 ghost use Rattle.opc_state.specs.Changes.{all_edited};
-ghost use Rattle.opc_machine.specs.Commands.{is_display};
 ghost use Rattle.opc_sights.specs.Sighted.{IsConsoleSight, IsEventSight, IsSight};
 ghost use Rattle.opc_commands.specs.Acted.{IsActed};
 
@@ -29,43 +28,8 @@ pub(crate) struct Acted {
     pub(crate) lines: Vec<Line>,
 }
 
-fn is_display(command: &Command<'_>) -> bool
-    ensures { result ≡ is_display command.now }
-{
-    match command {
-        Command::DisplayUnits
-        | Command::DisplayUnit(_)
-        | Command::DisplayDevices
-        | Command::DisplayConsoles
-        | Command::DisplayReplies => true,
-        _ => false,
-    }
-}
-
-// A command that only shows.
-fn show_on(
-    alloc: Global,
-    mut board: Board,
-    command: &Command<'_>,
-    console: &ConsoleName,
-) -> Result<Acted, BoardFault>
-    requires console { IsSome (console_at board console.now) }
-    requires command { is_session_command command.now ≡ false }
-    requires display { is_display command.now ≡ true }
-    ensures done { IfOk result (λ a. (s : State) → IsSight s command.now console.now board → IsActed s (effect s.board command.now console.now) a.edits.items a.lines.items) }
-    ensures refused { IfErr result (λ fault. fault ≢ NoMemory → (s : State) → IsSight s command.now console.now board → effect s.board command.now console.now ≡ Err fault) }
-{
-    histories_only_grow();
-    sights_suffice();
-    let lines = board.act(alloc, command, console)?;
-    Ok(Acted {
-        edits: Vec::new(alloc),
-        lines,
-    })
-}
-
-// A command that may change the board.
-fn change_on(
+/// What a command makes of a state, by what it sees of the board.
+pub(crate) fn act_on(
     alloc: Global,
     mut board: Board,
     command: &Command<'_>,
@@ -82,24 +46,6 @@ fn change_on(
     let lines = board.act(alloc, command, console)?;
     let edits = difference(alloc, &old, &board)?;
     Ok(Acted { edits, lines })
-}
-
-/// What a command makes of a state, by what it sees of the board.
-pub(crate) fn act_on(
-    alloc: Global,
-    board: Board,
-    command: &Command<'_>,
-    console: &ConsoleName,
-) -> Result<Acted, BoardFault>
-    requires console { IsSome (console_at board console.now) }
-    requires command { is_session_command command.now ≡ false }
-    ensures done { IfOk result (λ a. (s : State) → IsSight s command.now console.now board → IsActed s (effect s.board command.now console.now) a.edits.items a.lines.items) }
-    ensures refused { IfErr result (λ fault. fault ≢ NoMemory → (s : State) → IsSight s command.now console.now board → effect s.board command.now console.now ≡ Err fault) }
-{
-    if is_display(command) {
-        return show_on(alloc, board, command, console);
-    }
-    change_on(alloc, board, command, console)
 }
 
 /// What a logon at a console makes of a state, by what it sees of the board.

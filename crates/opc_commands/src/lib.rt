@@ -2,4 +2,5 @@
 #![tactic(auto)]
 
 pub mod command;
+mod displays;
 mod effects;

@@ -5,7 +5,7 @@ use Rattle.std.specs.Option.{is_some}
 use Rattle.std.specs.Ordering.{nat_cmp, is_lt}
 use Rattle.std.proofs.lemmas.Bool.{false≢true}
 use Rattle.std.proofs.lemmas.Bool.Decides.{nat_tests}
-use Rattle.opc_rows.proofs.Filtered.{all_seen, filter_keyed, found_each}
+use Rattle.opc_rows.proofs.Filtered.{filter_keyed, found_each}
 use Rattle.opc_rows.proofs.Orders.{all_weaker}
 use Rattle.opc_board.specs.declared.board.BoardRows.{BoardRows}
 use Rattle.opc_board.specs.declared.rows.ConsoleRow.{ConsoleRow}
@@ -154,40 +154,6 @@ module _ (s : State) where
     sees = or_second (seen.replies id) (id == id) (number_itself id);
   }
 
-  -- a whole table
-
-  pub all_units : (old : BoardRows) (rows : List UnitRow) → rows ≡ s.board.units → Grows s old (record old { units = rows }) (λ seen. (name : Name) → seen.units name ≡ true)
-  all_units old rows are keyed seen part = record {
-    more = record seen { units = λ n. true };
-    within = record { units = λ n h. refl; devices = λ n h. h; consoles = λ n h. h; replies = λ n h. h };
-    is = ap (λ us. record old { units = us }) (are ∙ sym (all_seen (λ u. true) (λ u. refl) s.board.units)) ∙ ap (λ (o : BoardRows). record o { units = filter (λ u. true) s.board.units }) part;
-    sees = λ n. refl;
-  }
-
-  pub all_devices : (old : BoardRows) (rows : List DeviceRow) → rows ≡ s.board.devices → Grows s old (record old { devices = rows }) (λ seen. (number : Name) → seen.devices number ≡ true)
-  all_devices old rows are keyed seen part = record {
-    more = record seen { devices = λ n. true };
-    within = record { units = λ n h. h; devices = λ n h. refl; consoles = λ n h. h; replies = λ n h. h };
-    is = ap (λ ds. record old { devices = ds }) (are ∙ sym (all_seen (λ d. true) (λ d. refl) s.board.devices)) ∙ ap (λ (o : BoardRows). record o { devices = filter (λ d. true) s.board.devices }) part;
-    sees = λ n. refl;
-  }
-
-  pub all_consoles : (old : BoardRows) (rows : List ConsoleRow) → rows ≡ s.board.consoles → Grows s old (record old { consoles = rows }) (λ seen. (name : Name) → seen.consoles name ≡ true)
-  all_consoles old rows are keyed seen part = record {
-    more = record seen { consoles = λ n. true };
-    within = record { units = λ n h. h; devices = λ n h. h; consoles = λ n h. refl; replies = λ n h. h };
-    is = ap (λ cs. record old { consoles = cs }) (are ∙ sym (all_seen (λ c. true) (λ c. refl) s.board.consoles)) ∙ ap (λ (o : BoardRows). record o { consoles = filter (λ c. true) s.board.consoles }) part;
-    sees = λ n. refl;
-  }
-
-  pub all_replies : (old : BoardRows) (rows : List ReplyRow) → rows ≡ s.board.replies → Grows s old (record old { replies = rows }) (λ seen. (id : ℕ) → seen.replies id ≡ true)
-  all_replies old rows are keyed seen part = record {
-    more = record seen { replies = λ n. true };
-    within = record { units = λ n h. h; devices = λ n h. h; consoles = λ n h. h; replies = λ n h. refl };
-    is = ap (λ rs. record old { replies = rs }) (are ∙ sym (all_seen (λ r. true) (λ r. refl) s.board.replies)) ∙ ap (λ (o : BoardRows). record o { replies = filter (λ r. true) s.board.replies }) part;
-    sees = λ n. refl;
-  }
-
   -- the devices of a unit, the consoles of a user, and the masters, by their keys
 
   never : {P : Type 0} → false ≡ true → P
@@ -276,9 +242,3 @@ module _ (s : State) where
       → Grows s old new (λ seen. (seen.devices number ≡ true) × (seen.units name ≡ true))
   device_and_unit old mid new number name first second =
       then_grows old mid new (λ seen. seen.devices number ≡ true) (λ seen. seen.units name ≡ true) (λ seen. (seen.devices number ≡ true) × (seen.units name ≡ true)) (λ x y within one there. (within.devices number one, there)) first second
-
-  -- all devices, after all units
-  pub units_and_devices : (old mid : BoardRows) (rows : List DeviceRow) → Grows s old mid (λ seen. (name : Name) → seen.units name ≡ true) → rows ≡ s.board.devices
-      → Grows s old (record mid { devices = rows }) (λ seen. (number : Name) → seen.devices number ≡ true)
-  units_and_devices old mid rows first are =
-      then_grows old mid (record mid { devices = rows }) (λ seen. (name : Name) → seen.units name ≡ true) (λ seen. (number : Name) → seen.devices number ≡ true) (λ seen. (number : Name) → seen.devices number ≡ true) (λ x y within one there. there) first (all_devices mid rows are)

@@ -28,10 +28,6 @@ live_order b order = record { units = order.units; devices = order.devices; cons
 -- whatever sees more sees what is named, too
 named_within : (x y : Seen) → IsWithin x y → (b : BoardRows) (what : Named) → SeesNamed x b what → SeesNamed y b what
 named_within x y within b named.Nothing sees = tt
-named_within x y within b named.Units sees = λ n. within.units n (sees n)
-named_within x y within b named.Devices sees = λ n. within.devices n (sees n)
-named_within x y within b named.Consoles sees = λ n. within.consoles n (sees n)
-named_within x y within b named.Replies sees = λ n. within.replies n (sees n)
 named_within x y within b (named.Unit name) sees = within.units name sees
 named_within x y within b (named.Leaving name) sees =
     (within.units name sees.0, all_weaker (λ d. is_holder name d.unit ≡ true → sees_device x d ≡ true) (λ d. is_holder name d.unit ≡ true → sees_device y d ≡ true) (λ d h held. within.devices d.number (h held)) b.devices sees.1)

@@ -1,5 +1,5 @@
 -- What is seen of a board where this is named. Whatever sees more sees this, too.
-use Rattle.std.specs.Prelude.{◌≡◌, ℕ, true, take}
+use Rattle.std.specs.Prelude.{◌≡◌, true, take}
 use Rattle.std.specs.List.{AllByRecursion}
 use Rattle.opc_board.specs.declared.board.BoardRows.{BoardRows}
 use Rattle.opc_board.specs.Facts.{Name}
@@ -19,10 +19,6 @@ SeesOn seen b user = AllByRecursion (λ c. is_holder user c.user ≡ true → se
 
 abbrev pub SeesNamed : Seen → BoardRows → Named → Type 0
 SeesNamed seen b named.Nothing = Unit {0}
-SeesNamed seen b named.Units = (name : Name) → seen.units name ≡ true
-SeesNamed seen b named.Devices = (number : Name) → seen.devices number ≡ true
-SeesNamed seen b named.Consoles = (name : Name) → seen.consoles name ≡ true
-SeesNamed seen b named.Replies = (id : ℕ) → seen.replies id ≡ true
 SeesNamed seen b (named.Unit name) = seen.units name ≡ true
 SeesNamed seen b (named.Leaving name) = SeesLeaving seen b name
 SeesNamed seen b (named.Device number) = seen.devices number ≡ true

@@ -1,8 +1,9 @@
 //! What a command or an event names.
-ghost use Rattle.std.specs.Prelude.{◌≡◌, true};
+ghost use Rattle.std.specs.Prelude.{◌≡◌, false, true};
 ghost use Rattle.opc_board.specs.declared.board.BoardRows.{BoardRows};
 ghost use Rattle.opc_board.specs.Facts.{Name};
 ghost use Rattle.opc_board.specs.Sight.{IsInOrder, Seen, Sees, SeesEvent};
+ghost use Rattle.opc_machine.specs.Commands.{is_display};
 ghost use Rattle.opc_sights.specs.Named.{SeesNamed};
 
 use opc_board::event::Event;
@@ -15,11 +16,6 @@ use opc_reader::command::Command;
 #[derive(Clone, Copy, Debug)]
 pub enum Named {
     Nothing,
-    Units,
-    /// All devices, with the units that have them.
-    Devices,
-    Consoles,
-    Replies,
     Unit(UnitName),
     /// A unit that may leave, with the devices that it has.
     Leaving(UnitName),
@@ -36,16 +32,12 @@ pub enum Named {
     Reply(ReplyId),
 }
 
-/// What a command names. MN and PM name nothing but the console where they are typed.
+/// What a command names that does more than show. MN and PM name nothing but the console where they are typed.
 pub(crate) fn named_in(command: &Command<'_>) -> Named
+    requires { is_display command.now ≡ false }
     ensures { (seen : Seen) → (b : BoardRows) → (console : Name) → IsInOrder b → SeesNamed seen b result → seen.consoles console ≡ true → Sees seen b command.now console }
 {
     match command {
-        Command::DisplayUnits => Named::Units,
-        Command::DisplayUnit(name) => Named::Unit(name.value),
-        Command::DisplayDevices => Named::Devices,
-        Command::DisplayConsoles => Named::Consoles,
-        Command::DisplayReplies => Named::Replies,
         Command::Cancel(name) => Named::Leaving(name.value),
         Command::CancelUser(user) => Named::Leaving(session_of(&user.value)),
         Command::Force(name) => Named::Leaving(name.value),
@@ -70,6 +62,11 @@ pub(crate) fn named_in(command: &Command<'_>) -> Named
         Command::Halt => Named::Nothing,
         Command::Logon(..) => Named::Nothing,
         Command::Logoff => Named::Nothing,
+        Command::DisplayUnits
+        | Command::DisplayUnit(_)
+        | Command::DisplayDevices
+        | Command::DisplayConsoles
+        | Command::DisplayReplies => unreachable!(),
     }
 }
 

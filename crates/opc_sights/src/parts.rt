@@ -1,6 +1,5 @@
-//! Parts of a board of which whole tables are seen, or the rows of one unit or one user.
-ghost use Rattle.std.specs.Prelude.{◌≡◌, ℕ, true};
-ghost use Rattle.opc_board.specs.Facts.{Name};
+//! Parts of a board that has the rows of one unit or one user, or several rows.
+ghost use Rattle.std.specs.Prelude.{◌≡◌, true};
 ghost use Rattle.opc_board.specs.History.{without_history};
 ghost use Rattle.opc_board.specs.Sight.{SeesLeaving};
 ghost use Rattle.opc_state.specs.Asked.{Answers};
@@ -15,56 +14,6 @@ use opc_names::name::{ConsoleName, Device, UnitName, UserId};
 use opc_policy::source::StoreFault;
 use opc_state::tables::Tables;
 use std::alloc::Global;
-
-pub(crate) fn see_units<T: Tables>(
-    tables: &mut T,
-    alloc: Global,
-    part: &mut BoardRows,
-) -> Result<(), StoreFault>
-    ensures kept { IsKept T.is_sure T.represents T.may_leave tables.old tables.new }
-    ensures seen { Answers (T.is_sure tables.new) (T.represents tables.old) result (λ s _. Grows s part.old part.new (λ seen. (name : Name) → seen.units name ≡ true)) }
-{
-    part.units = tables.units(alloc)?;
-    Ok(())
-}
-
-/// Sees the units, too: a board has the unit of each device in use.
-pub(crate) fn see_devices<T: Tables>(
-    tables: &mut T,
-    alloc: Global,
-    part: &mut BoardRows,
-) -> Result<(), StoreFault>
-    ensures kept { IsKept T.is_sure T.represents T.may_leave tables.old tables.new }
-    ensures seen { Answers (T.is_sure tables.new) (T.represents tables.old) result (λ s _. Grows s part.old part.new (λ seen. (number : Name) → seen.devices number ≡ true)) }
-{
-    see_units(tables, alloc, part)?;
-    part.devices = tables.devices(alloc)?;
-    Ok(())
-}
-
-pub(crate) fn see_consoles<T: Tables>(
-    tables: &mut T,
-    alloc: Global,
-    part: &mut BoardRows,
-) -> Result<(), StoreFault>
-    ensures kept { IsKept T.is_sure T.represents T.may_leave tables.old tables.new }
-    ensures seen { Answers (T.is_sure tables.new) (T.represents tables.old) result (λ s _. Grows s part.old part.new (λ seen. (name : Name) → seen.consoles name ≡ true)) }
-{
-    part.consoles = tables.consoles(alloc)?;
-    Ok(())
-}
-
-pub(crate) fn see_replies<T: Tables>(
-    tables: &mut T,
-    alloc: Global,
-    part: &mut BoardRows,
-) -> Result<(), StoreFault>
-    ensures kept { IsKept T.is_sure T.represents T.may_leave tables.old tables.new }
-    ensures seen { Answers (T.is_sure tables.new) (T.represents tables.old) result (λ s _. Grows s part.old part.new (λ seen. (id : ℕ) → seen.replies id ≡ true)) }
-{
-    part.replies = tables.replies(alloc)?;
-    Ok(())
-}
 
 /// Sees a unit and the devices that it has.
 pub(crate) fn see_leaving<T: Tables>(

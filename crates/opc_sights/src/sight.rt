@@ -1,5 +1,5 @@
 //! What a command, an event, a logon or a logoff sees of the board.
-ghost use Rattle.std.specs.Prelude.{◌≡◌, IfOk, IsSome, Some, []};
+ghost use Rattle.std.specs.Prelude.{◌≡◌, IfOk, IsSome, Some, [], false};
 ghost use Rattle.opc_board.specs.Enough.{no_rows};
 ghost use Rattle.opc_board.specs.Facts.{console_at};
 ghost use Rattle.opc_board.specs.History.{without_history};
@@ -7,15 +7,13 @@ ghost use Rattle.opc_state.specs.Asked.{Answers};
 ghost use Rattle.opc_state.specs.Changes.{IsKept};
 ghost use Rattle.opc_state.specs.Facts.{IsKeyed};
 ghost use Rattle.opc_state.specs.State.{State};
+ghost use Rattle.opc_machine.specs.Commands.{is_display};
 ghost use Rattle.opc_sights.specs.Named.{SeesNamed};
 ghost use Rattle.opc_sights.specs.Sighted.{Begins, Grown, IsConsoleSight, IsEventSight, IsPart, IsSight};
 
 use crate::named::{Named, named_by, named_in};
 use crate::part::{see_console, see_device, see_reply, see_row, see_unit};
-use crate::parts::{
-    see_addressed, see_consoles, see_devices, see_leaving, see_replies, see_swapped, see_taken,
-    see_units, see_varied,
-};
+use crate::parts::{see_addressed, see_leaving, see_swapped, see_taken, see_varied};
 use opc_board::board::{Board, BoardRows};
 use opc_board::event::Event;
 use opc_board::rows::ConsoleRow;
@@ -54,10 +52,6 @@ fn see<T: Tables>(
 {
     match named {
         Named::Nothing => Ok(()),
-        Named::Units => see_units(tables, alloc, part),
-        Named::Devices => see_devices(tables, alloc, part),
-        Named::Consoles => see_consoles(tables, alloc, part),
-        Named::Replies => see_replies(tables, alloc, part),
         Named::Unit(name) => see_unit(tables, part, &name),
         Named::Leaving(name) => see_leaving(tables, alloc, part, &name),
         Named::Device(number) => see_device(tables, part, &number),
@@ -91,13 +85,14 @@ fn board_of(part: BoardRows) -> Result<Board, StoreFault>
     }
 }
 
-/// What a command sees that is typed at a console, whose row is loaded. A board that breaks a fact there fails.
+/// What a command sees that does more than show, typed at a console whose row is loaded. A board that breaks a fact there fails.
 pub fn sight_on<T: Tables>(
     tables: &mut T,
     alloc: Global,
     command: &Command<'_>,
     console: &ConsoleRow,
 ) -> Result<Board, StoreFault>
+    requires { is_display command.now ≡ false }
     ensures kept { IsKept T.is_sure T.represents T.may_leave tables.old tables.new }
     ensures there { IfOk result (λ board. IsSome (console_at board console.now.name)) }
     ensures sight { Answers (T.is_sure tables.new) (T.represents tables.old) result (λ s board. console_at s.board console.now.name ≡ Some console.now → IsSight s command.now console.now.name board) }

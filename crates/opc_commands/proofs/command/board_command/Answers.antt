@@ -1,10 +1,15 @@
 use Rattle.std.proofs.Common.{sym, ◌∙◌}
-use Rattle.opc_commands.proofs.Deeds.{board_refused}
+use Rattle.opc_commands.proofs.Deeds.{by_the_rule, if_ok}
 use Rattle.opc_commands.proofs.command.board_command.Goals as goal
 
-pub returns-in-Err-clause-outcome : goal.returns-in-Err-clause-outcome
-returns-in-Err-clause-outcome g c = λ sure s represents.
-    let before = c.in_ok-board.ensures.kept.sure sure in
-    let seen = c.in_ok-board.ensures.sight sure s (c.in_ok-rule.ensures.kept.same before s represents) in
-    rw c.denied-in-Err.ensures (λ at. board_refused s c.args.console.now c.args.command.now c.args.need.now c.in-Allowed.rule c.in-Err.fault _
-    (sym (c.in_ok-rule.ensures.ruling before s represents) ∙ c.in-Allowed.is) (c.in-Err.ensures.refused c.in_ok-refusal-in-Err.ensures.0 s (seen at)) c.in_ok-refusal-in-Err.ensures.1)
+pub returns-then-is_display-clause-outcome : goal.returns-then-is_display-clause-outcome
+returns-then-is_display-clause-outcome g c = λ sure s represents.
+    let before = c.display_on.ensures.kept.sure sure in
+    rw (by_the_rule s c.args.console.now c.args.command.now c.args.need.now c.in-Allowed.rule (sym (c.in_ok-rule.ensures.ruling before s represents) ∙ c.in-Allowed.is))
+    (if_ok c.display_on.result (λ o is at. is) (c.display_on.ensures.outcome sure s (c.in_ok-rule.ensures.kept.same before s represents)))
+
+pub returns-else-is_display-clause-outcome : goal.returns-else-is_display-clause-outcome
+returns-else-is_display-clause-outcome g c = λ sure s represents.
+    let before = c.deed_on.ensures.kept.sure sure in
+    rw (by_the_rule s c.args.console.now c.args.command.now c.args.need.now c.in-Allowed.rule (sym (c.in_ok-rule.ensures.ruling before s represents) ∙ c.in-Allowed.is))
+    (c.deed_on.ensures.outcome sure s (c.in_ok-rule.ensures.kept.same before s represents))

@@ -1,6 +1,6 @@
 use Rattle.std.proofs.lemmas.Result.{err_from_is_err_and}
 use Rattle.opc_commands.proofs.Sighted.{acted_sight, refused_sight}
-use Rattle.opc_commands.proofs.effects.change_on.Goals as goal
+use Rattle.opc_commands.proofs.effects.act_on.Goals as goal
 
 pub returns-in_err-lines-clause-refused : goal.returns-in_err-lines-clause-refused
 returns-in_err-lines-clause-refused c =

@@ -1,5 +1,0 @@
-use Rattle.opc_sights.proofs.Growing.{all_consoles}
-use Rattle.opc_sights.proofs.parts.see_consoles.Goals as goal
-
-pub returns-clause-seen : goal.returns-clause-seen
-returns-clause-seen g c = λ sure s represents. all_consoles s c.args.part.now c.in_ok-part.field-0 (c.in_ok-part.ensures.consoles sure s represents)

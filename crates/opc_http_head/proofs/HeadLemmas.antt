@@ -8,19 +8,9 @@ use Rattle.httparse.specs.Grammar.{Field, HasNoRequest, ReadsRequest, RequestHea
 use Rattle.httparse.specs.Spans.{IsRequestOf, RequestOverflows, header_bytes, name_and_value}
 use Rattle.httparse.specs.declared.spans.HeaderSpan.{HeaderSpan}
 use Rattle.httparse.specs.declared.spans.RequestSpans.{RequestSpans}
-use Rattle.opc_http_head.specs.Head.{FoundHead, NoHead, ReadsMore}
-
--- two reads, one after the other
-pub consumes-more : (before mid after : Option (List ℕ)) (xs ys : List ℕ) → Consumes before mid xs → Consumes mid after ys → Consumes before after (xs ++ ys)
-consumes-more None mid after xs ys a b = tt
-consumes-more (Some all) None after xs ys a b = absurd a
-consumes-more (Some all) (Some m) None xs ys a b = absurd b
-consumes-more (Some all) (Some m) (Some left) xs ys a b = a ∙ ap (λ (t : List ℕ). xs ++ t) b ∙ sym (append_assoc xs ys left)
-
--- nothing was read yet
-pub consumes-none : (known : Option (List ℕ)) → Consumes known known []
-consumes-none None = tt
-consumes-none (Some all) = refl
+use Rattle.opc_http_link.specs.Reads.{ReadsMore}
+use Rattle.opc_http_link.proofs.Reading.{consumes-more}
+use Rattle.opc_http_head.specs.Head.{FoundHead, NoHead}
 
 -- what was read stands at the front of the first 8,192 bytes
 front : (all buf left : List ℕ) → all ≡ buf ++ left → length buf ≤ 8192 → take 8192 all ≡ buf ++ take (8192 - length buf) left

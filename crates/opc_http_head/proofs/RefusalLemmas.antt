@@ -1,5 +1,5 @@
 -- Step by step.
-use Rattle.std.proofs.Common.{◌≡◌, Ok, Err, refl}
+use Rattle.std.proofs.Common.{◌≡◌, Ok, refl}
 use Rattle.std.specs.Prelude.{Result}
 use Rattle.opc_http_head.specs.Refusals.{◌>>=◌, Refuses}
 use Rattle.opc_http_head.specs.declared.refusal.AskFault.{AskFault}

@@ -1,21 +1,11 @@
--- What reading a head does, and what the head of some bytes is.
-use Rattle.std.specs.Prelude.{◌≡◌, ◌≤◌, ◌<◌, ◌++◌, ℕ, List, length, take, Option, ⊤}
-use Rattle.std.specs.Io.KnownBytes.{Consumes, IsAtEnd}
+-- What the head of some bytes is.
+use Rattle.std.specs.Prelude.{◌≤◌, ℕ, List, length, take, ⊤}
 use Rattle.httparse.specs.Grammar.{HasNoRequest, ReadsRequest, RequestHead}
 use Rattle.httparse.specs.Spans.{IsRequestAt, IsRequestOf, IsRequestWithin, RequestOverflows}
 use Rattle.httparse.specs.declared.spans.HeaderSpan.{HeaderSpan}
 use Rattle.httparse.specs.declared.spans.RequestSpans.{RequestSpans}
 use Rattle.opc_http_head.specs.declared.head.Start.{Start}
 use Rattle.opc_http_head.specs.declared.head.Start.TheVariants as start
-
--- one read: bytes moved from the reader to the buffer, and none of them means the end or a full buffer
-pub record ReadsMore (before after : Option (List ℕ)) (old new : List ℕ) (most n : ℕ) : Type 0 where
-  pub moved : List ℕ
-  pub consumes : Consumes before after moved
-  pub buffer : new ≡ old ++ moved
-  pub count : length moved ≡ n
-  pub fits : length new ≤ most
-  pub ends : n ≡ 0 → length old < most → IsAtEnd after
 
 -- some prefix of the first 8,192 bytes is this head, of at most 32 fields
 pub record HasHead (all : List ℕ) (head : RequestHead) : Type 0 where

@@ -1,0 +1,6 @@
+//! Readers and writers that keep whether one of their calls failed.
+#![tactic(auto)]
+
+pub mod sink;
+pub mod source;
+pub mod watched;

@@ -1,0 +1,169 @@
+-- What the bytes of a connection ask for, step by step.
+use Rattle.std.proofs.Common.{◌≡◌, ◌∙◌, ◌≤◌, ◌+◌, ◌-◌, ◌++◌, ℕ, List, refl, sym, ap, subst, arith, length, length-append, take, drop, map, max, Some, None, Ok, Err, inl, inr}
+use Rattle.std.specs.Prelude.{IfErr, IfSome, MatchOption, Option, Result}
+use Rattle.std.specs.Io.KnownBytes.{Consumes}
+use Rattle.httparse.specs.Grammar.{RequestHead, print_request}
+use Rattle.httparse.specs.Spans.{header_bytes, name_and_value, span_bytes}
+use Rattle.httparse.specs.declared.spans.HeaderSpan.{HeaderSpan}
+use Rattle.httparse.specs.declared.spans.RequestSpans.{RequestSpans}
+use Rattle.httparse.proofs.GrammarLemmas.{request_unique}
+use Rattle.opc_machine.specs.declared.request.Request.{Request}
+use Rattle.opc_http_link.specs.Reads.{TakesAtMost}
+use Rattle.opc_http_link.proofs.Reading.{consumes-more}
+use Rattle.opc_http_head.specs.Head.{FoundHead, HasHead, NoHead}
+use Rattle.opc_http_head.specs.Refusals.{Refuses}
+use Rattle.opc_http_head.specs.declared.refusal.AskFault.{AskFault}
+use Rattle.opc_http_head.specs.declared.refusal.AskFault.TheVariants as asking
+use Rattle.opc_http_head.specs.declared.refusal.Refusal.{Refusal}
+use Rattle.opc_http_head.specs.declared.refusal.Refusal.TheVariants.{BadRequest}
+use Rattle.opc_http_requests.specs.Asked.{Asks, AsksOnly, StopsAtEnd, request_length}
+use Rattle.opc_http_requests.specs.Faults.{IfRefused, by_asking}
+use Rattle.opc_http_requests.specs.Paths.{path_in}
+use Rattle.opc_http_requests.specs.Plans.{plan_of}
+use Rattle.opc_http_requests.specs.Requests.{body_in, planned, request_at, request_of}
+use Rattle.opc_http_requests.specs.declared.fault.ReadingFault.{ReadingFault}
+use Rattle.opc_http_requests.specs.declared.fault.ReadingFault.TheVariants as reading
+use Rattle.opc_http_requests.specs.declared.plan.Plan.{Plan}
+
+-- the same bytes have one head
+one-head : (all : List ℕ) (a b : RequestHead) → HasHead all a → HasHead all b → a ≡ b
+one-head all a b h k = (request_unique (take 8192 all) a b h.rest k.rest h.reads k.reads).0
+
+-- and ask for one thing
+asks-one : (all : List ℕ) (r s : Result Request Refusal) → Asks all r → Asks all s → s ≡ r
+asks-one all r s (inl a) (inl b) = b.1 ∙ sym a.1
+asks-one all r s (inl a) (inr b) = absurd (a.0 b.head b.has)
+asks-one all r s (inr a) (inl b) = absurd (b.0 a.head a.has)
+asks-one all r s (inr a) (inr b) =
+    b.is ∙ ap (λ (head : RequestHead). request_of head (drop (length (print_request head)) all)) (one-head all b.head a.head b.has a.has) ∙ sym a.is
+
+asks-only : (all : List ℕ) (r : Result Request Refusal) → Asks all r → AsksOnly all r
+asks-only all r a = record { asks = a; only = λ s b. asks-one all r s a b }
+
+-- no head was found
+pub asks-headless : (known : Option (List ℕ)) → IfSome known NoHead → IfSome known (λ all. AsksOnly all (Err BadRequest))
+asks-headless None h = tt
+asks-headless (Some all) h = asks-only all (Err BadRequest) (inl (h, refl))
+
+-- the plan of the head that the spans tell
+abbrev pub spans_plan : List ℕ → List HeaderSpan → RequestSpans → Result Plan Refusal
+spans_plan buf headers spans = plan_of (span_bytes buf spans.method) (span_bytes buf spans.path) (map (header_bytes buf) (take spans.headers headers))
+
+head-plan : (all buf : List ℕ) (headers : List HeaderSpan) (spans : RequestSpans) (f : FoundHead all buf headers spans)
+    → spans_plan buf headers spans ≡ plan_of f.head.method f.head.target (map name_and_value f.head.fields)
+head-plan all buf headers spans f = rw (f.parts.method, f.parts.path, f.parts.fields) refl
+
+-- as it was made
+pub plan-is : (buf : List ℕ) (headers : List HeaderSpan) (spans : RequestSpans) (method target bytes : List ℕ) (firsts : List HeaderSpan) (r : Result Plan Refusal)
+    → method ≡ span_bytes buf spans.method → target ≡ span_bytes buf spans.path → bytes ≡ buf → firsts ≡ take spans.headers headers
+    → r ≡ plan_of method target (map (header_bytes bytes) firsts) → spans_plan buf headers spans ≡ r
+plan-is buf headers spans method target bytes firsts r m t b f e = sym (
+    e ∙ ap (λ (x : List ℕ). plan_of x target (map (header_bytes bytes) firsts)) m
+    ∙ ap (λ (x : List ℕ). plan_of (span_bytes buf spans.method) x (map (header_bytes bytes) firsts)) t
+    ∙ ap (λ (x : List ℕ). plan_of (span_bytes buf spans.method) (span_bytes buf spans.path) (map (header_bytes x) firsts)) b
+    ∙ ap (λ (x : List HeaderSpan). plan_of (span_bytes buf spans.method) (span_bytes buf spans.path) (map (header_bytes buf) x)) f)
+
+-- the plan is a refusal
+pub asks-refused : (known : Option (List ℕ)) (buf : List ℕ) (headers : List HeaderSpan) (spans : RequestSpans) (why : Refusal)
+    → IfSome known (λ all. FoundHead all buf headers spans) → spans_plan buf headers spans ≡ Err why → IfSome known (λ all. AsksOnly all (Err why))
+asks-refused None buf headers spans why f e = tt
+asks-refused (Some all) buf headers spans why f e =
+    let plan = sym (head-plan all buf headers spans f) ∙ e in
+    asks-only all (Err why) (inr (record { head = f.head; has = f.has; is = rw plan refl }))
+
+-- the plan comes to a request or a refusal
+pub asks-planned : (known mid : Option (List ℕ)) (buf : List ℕ) (headers : List HeaderSpan) (spans : RequestSpans) (plan : Plan) (r : Result Request Refusal)
+    → Consumes known mid buf → IfSome known (λ all. FoundHead all buf headers spans) → spans_plan buf headers spans ≡ Ok plan
+    → IfSome mid (λ left. planned (span_bytes buf spans.path) (drop spans.len (buf ++ left)) plan ≡ r) → IfSome known (λ all. AsksOnly all r)
+asks-planned None mid buf headers spans plan r c f e p = tt
+asks-planned (Some all) None buf headers spans plan r c f e p = absurd c
+asks-planned (Some all) (Some left) buf headers spans plan r c f e p =
+    let is = sym (head-plan all buf headers spans f) ∙ e in
+    let left_is : drop spans.len (buf ++ left) ≡ drop (length (print_request f.head)) all = rw (c, f.parts.len) refl in
+    asks-only all r (inr (record { head = f.head; has = f.has; is = rw is (sym (rw (f.parts.path, left_is) at p)) }))
+
+-- so many bytes are no more than more
+takes-fewer : (few most : ℕ) (before after : Option (List ℕ)) → few ≤ most → TakesAtMost few before after → TakesAtMost most before after
+takes-fewer few most before after low t = record { taken = t.taken; consumes = t.consumes; few = let h = t.few in omega (arith, h, low) }
+
+-- only the head was looked for
+pub stops-early : (known after : Option (List ℕ)) → TakesAtMost 8192 known after → IfSome known (λ all. StopsAtEnd all after)
+stops-early None after t = tt
+stops-early (Some all) after t = record { headless = λ _. t; headed = λ head _. takes-fewer 8192 (max 8192 (request_length head)) (Some all) after (omega arith) t }
+
+-- the bytes that were there, and then those of the body
+takes-both : (end filled : ℕ) (before mid after : Option (List ℕ)) (bytes : List ℕ) → Consumes before mid bytes → length bytes ≡ filled → filled ≤ 8192 → TakesAtMost (end - filled) mid after → TakesAtMost (max 8192 end) before after
+takes-both end filled before mid after bytes c is low t = record {
+  taken = bytes ++ t.taken;
+  consumes = consumes-more before mid after bytes t.taken c t.consumes;
+  few = let h = t.few in omega (arith, h, is, low, length-append bytes t.taken);
+}
+
+-- the body of the head was read
+pub stops-planned : (known mid after : Option (List ℕ)) (buf : List ℕ) (headers : List HeaderSpan) (spans : RequestSpans) (plan : Plan) (filled : ℕ)
+    → Consumes known mid buf → length buf ≡ filled → filled ≤ 8192 → IfSome known (λ all. FoundHead all buf headers spans) → spans_plan buf headers spans ≡ Ok plan
+    → TakesAtMost (spans.len + plan.length - filled) mid after → IfSome known (λ all. StopsAtEnd all after)
+stops-planned None mid after buf headers spans plan filled c is low f e t = tt
+stops-planned (Some all) mid after buf headers spans plan filled c is low f e t = record {
+  headless = λ none. absurd (none f.head f.has);
+  headed = λ head has.
+      let one : f.head ≡ head = one-head all f.head head f.has has in
+      let planned_is = sym (head-plan all buf headers spans f) ∙ e in
+      let long : spans.len + plan.length ≡ request_length f.head = rw (planned_is, f.parts.len) refl in
+      let both : TakesAtMost (max 8192 (spans.len + plan.length)) (Some all) after = takes-both (spans.len + plan.length) filled (Some all) mid after buf c is low t in
+      subst (λ (h : RequestHead). TakesAtMost (max 8192 (request_length h)) (Some all) after) one (rw long at both);
+}
+
+-- in all
+pub takes-whole : (len n filled : ℕ) (before mid after : Option (List ℕ)) (bytes : List ℕ) → Consumes before mid bytes → length bytes ≡ filled → filled ≤ 8192 → len ≤ 8192 → n ≤ 65536 → TakesAtMost (len + n - filled) mid after
+    → TakesAtMost 73728 before after
+takes-whole len n filled before mid after bytes c is low head body t =
+    takes-fewer (max 8192 (len + n)) 73728 before after (omega (arith, head, body)) (takes-both (len + n) filled before mid after bytes c is low t)
+
+-- a plan with its body and its path
+pub planned-request : (known : Option (List ℕ)) (old target path body used : List ℕ) (len : ℕ) (plan : Plan) (r : Result Request Refusal)
+    → IfSome known (λ left. body_in plan.length (drop len (old ++ left)) ≡ Ok body) → used ≡ body → path_in target ≡ Ok path → request_at plan.route path used ≡ r
+    → IfSome known (λ left. planned target (drop len (old ++ left)) plan ≡ r)
+planned-request None old target path body used len plan r b same p e = tt
+planned-request (Some left) old target path body used len plan r b same p e = rw (b, p) (ap (λ (t : List ℕ). request_at plan.route path t) (sym same) ∙ e)
+
+pub planned-without-path : (known : Option (List ℕ)) (old target body : List ℕ) (len : ℕ) (plan : Plan) (why : Refusal)
+    → IfSome known (λ left. body_in plan.length (drop len (old ++ left)) ≡ Ok body) → path_in target ≡ Err why
+    → IfSome known (λ left. planned target (drop len (old ++ left)) plan ≡ Err why)
+planned-without-path None old target body len plan why b p = tt
+planned-without-path (Some left) old target body len plan why b p = rw (b, p) refl
+
+pub planned-without-body : (known : Option (List ℕ)) (old target : List ℕ) (len : ℕ) (plan : Plan) (why : Refusal)
+    → IfSome known (λ left. body_in plan.length (drop len (old ++ left)) ≡ Err why)
+    → IfSome known (λ left. planned target (drop len (old ++ left)) plan ≡ Err why)
+planned-without-body None old target len plan why b = tt
+planned-without-body (Some left) old target len plan why b = rw b refl
+
+-- a fault of the request is a fault of its plan
+pub refuses-planned : (fault : AskFault) (known : Option (List ℕ)) (asked : List ℕ → Result Request Refusal) (r : Result Request Refusal) → Refuses fault r
+    → IfSome known (λ left. asked left ≡ r) → IfRefused (by_asking fault) (λ why. IfSome known (λ left. asked left ≡ Err why))
+refuses-planned (asking.Refused why) None asked r h e = tt
+refuses-planned (asking.Refused why) (Some left) asked r h e = e ∙ h
+refuses-planned asking.NoMemory known asked r h e = tt
+
+refused-weaker : (fault : ReadingFault) (P Q : Refusal → Type 0) → ((why : Refusal) → P why → Q why) → IfRefused fault P → IfRefused fault Q
+refused-weaker (reading.Refused why) P Q f h = f why h
+refused-weaker reading.Read P Q f h = tt
+refused-weaker reading.NoMemory P Q f h = tt
+
+pub fault-weaker : {A : Type 0} (r : Result A ReadingFault) (P Q : Refusal → Type 0) → ((why : Refusal) → P why → Q why) → IfErr r (λ fault. IfRefused fault P) → IfErr r (λ fault. IfRefused fault Q)
+fault-weaker (Ok a) P Q f h = tt
+fault-weaker (Err fault) P Q f h = refused-weaker fault P Q f h
+
+-- where nothing was found
+pub none-found : {A : Type 0} (known : Option (List ℕ)) (found : Option A) (P : List ℕ → Type 0) (Q : List ℕ → A → Type 0) → ((a : A) → found ≡ Some a → ⊥)
+    → IfSome known (λ all. MatchOption found (P all) (Q all)) → IfSome known P
+none-found None found P Q none h = tt
+none-found (Some all) None P Q none h = h
+none-found (Some all) (Some a) P Q none h = absurd (none a refl)
+
+-- where something was
+pub some-found : {A : Type 0} (known : Option (List ℕ)) (found : Option A) (a : A) (P : List ℕ → Type 0) (Q : List ℕ → A → Type 0) → found ≡ Some a
+    → IfSome known (λ all. MatchOption found (P all) (Q all)) → IfSome known (λ all. Q all a)
+some-found None found a P Q is h = tt
+some-found (Some all) found a P Q is h = rw is at h

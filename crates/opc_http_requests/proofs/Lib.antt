@@ -1,0 +1,5 @@
+pub mod Asking
+pub mod BodyReads
+pub mod Lengths
+pub mod Parts
+pub mod Texts

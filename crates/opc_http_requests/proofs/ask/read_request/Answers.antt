@@ -1,0 +1,90 @@
+use Rattle.std.proofs.Common.{◌≡◌, ◌∙◌, ◌≤◌, ◌++◌, ℕ, List, Ok, Err, ap, arith, drop, length, refl, take, vec_len}
+use Rattle.std.specs.Prelude.{IfSome, slice_range}
+use Rattle.std.proofs.lemmas.Result.{IfOk-weaker, err_from_is_err_and}
+use Rattle.httparse.specs.Spans.{span_bytes}
+use Rattle.opc_http_head.specs.Head.{FoundHead, NoHead}
+use Rattle.opc_http_requests.specs.Asked.{AsksOnly}
+use Rattle.opc_http_requests.specs.Requests.{planned}
+use Rattle.opc_http_requests.proofs.Asking.{asks-headless, asks-planned, asks-refused, fault-weaker, none-found, plan-is, some-found, stops-planned, takes-whole}
+use Rattle.opc_http_requests.proofs.ask.read_request.Goals as goal
+
+pub returns-in_default-clause-refused : goal.returns-in_default-clause-refused
+returns-in_default-clause-refused g c =
+    let known = g.S.Source.left c.args.source.now in
+    asks-headless known (none-found known c.in_ok-spans.field-0 NoHead (λ all. FoundHead all c.read_head.new.buf.items c.read_head.new.headers) c.in_default.not-Some c.in_ok-spans.ensures.head)
+
+pub returns-in_err-plan-clause-refused : goal.returns-in_err-plan-clause-refused
+returns-in_err-plan-clause-refused g c =
+    let known = g.S.Source.left c.args.source.now in
+    let buf = c.read_head.new.buf.items in
+    let headers = c.read_head.new.headers in
+    let spans = c.in-Some.spans in
+    let head = some-found known c.in_ok-spans.field-0 spans NoHead (λ all. FoundHead all buf headers) c.in-Some.is c.in_ok-spans.ensures.head in
+    let method : c.of.result.now ≡ span_bytes buf spans.method = c.of.ensures ∙ ap (λ (t : List ℕ). slice_range t spans.method.start spans.method.end) c.as_slice.ensures.value in
+    let target : c.of-2.result.now ≡ span_bytes buf spans.path = c.of-2.ensures ∙ ap (λ (t : List ℕ). slice_range t spans.path.start spans.path.end) c.as_slice-2.ensures.value in
+    let firsts = take spans.headers headers in
+    let plan = plan-is buf headers spans c.of.result.now c.of-2.result.now c.as_slice-3.result.now firsts (Err c.in_err-plan.field-0.0) method target c.as_slice-3.ensures.value refl c.in_err-plan.ensures.plan in
+    let err = err_from_is_err_and c.from_residual-in_err-plan.result c.from_residual-in_err-plan.ensures.1 in
+    rw (err.1, err.2) (asks-refused known buf headers spans c.in_err-plan.field-0.0 head plan)
+
+pub returns-clause-asked : goal.returns-clause-asked
+returns-clause-asked g c =
+    let known = g.S.Source.left c.args.source.now in
+    let mid = g.S.Source.left c.read_head.new.source in
+    let buf = c.read_head.new.buf.items in
+    let headers = c.read_head.new.headers in
+    let spans = c.in-Some.spans in
+    let head = some-found known c.in_ok-spans.field-0 spans NoHead (λ all. FoundHead all buf headers) c.in-Some.is c.in_ok-spans.ensures.head in
+    let method : c.of.result.now ≡ span_bytes buf spans.method = c.of.ensures ∙ ap (λ (t : List ℕ). slice_range t spans.method.start spans.method.end) c.as_slice.ensures.value in
+    let target : c.of-2.result.now ≡ span_bytes buf spans.path = c.of-2.ensures ∙ ap (λ (t : List ℕ). slice_range t spans.path.start spans.path.end) c.as_slice-2.ensures.value in
+    let firsts = take spans.headers headers in
+    let plan = plan-is buf headers spans c.of.result.now c.of-2.result.now c.as_slice-3.result.now firsts (Ok c.in_ok-plan.plan) method target c.as_slice-3.ensures.value refl c.in_ok-plan.ensures.plan in
+    IfOk-weaker c.read_planned.result
+    (λ request. IfSome mid (λ left. planned (span_bytes buf spans.path) (drop spans.len (buf ++ left)) c.in_ok-plan.plan ≡ Ok request))
+    (λ request. IfSome known (λ all. AsksOnly all (Ok request)))
+    (λ request done. asks-planned known mid buf headers spans c.in_ok-plan.plan (Ok request) c.in_ok-spans.ensures.taken head plan done) c.read_planned.ensures.asked
+
+pub returns-clause-refused : goal.returns-clause-refused
+returns-clause-refused g c =
+    let known = g.S.Source.left c.args.source.now in
+    let mid = g.S.Source.left c.read_head.new.source in
+    let buf = c.read_head.new.buf.items in
+    let headers = c.read_head.new.headers in
+    let spans = c.in-Some.spans in
+    let head = some-found known c.in_ok-spans.field-0 spans NoHead (λ all. FoundHead all buf headers) c.in-Some.is c.in_ok-spans.ensures.head in
+    let method : c.of.result.now ≡ span_bytes buf spans.method = c.of.ensures ∙ ap (λ (t : List ℕ). slice_range t spans.method.start spans.method.end) c.as_slice.ensures.value in
+    let target : c.of-2.result.now ≡ span_bytes buf spans.path = c.of-2.ensures ∙ ap (λ (t : List ℕ). slice_range t spans.path.start spans.path.end) c.as_slice-2.ensures.value in
+    let firsts = take spans.headers headers in
+    let plan = plan-is buf headers spans c.of.result.now c.of-2.result.now c.as_slice-3.result.now firsts (Ok c.in_ok-plan.plan) method target c.as_slice-3.ensures.value refl c.in_ok-plan.ensures.plan in
+    fault-weaker c.read_planned.result
+    (λ why. IfSome mid (λ left. planned (span_bytes buf spans.path) (drop spans.len (buf ++ left)) c.in_ok-plan.plan ≡ Err why))
+    (λ why. IfSome known (λ all. AsksOnly all (Err why)))
+    (λ why failed. asks-planned known mid buf headers spans c.in_ok-plan.plan (Err why) c.in_ok-spans.ensures.taken head plan failed) c.read_planned.ensures.refused
+
+pub returns-clause-stops : goal.returns-clause-stops
+returns-clause-stops g c =
+    let known = g.S.Source.left c.args.source.now in
+    let mid = g.S.Source.left c.read_head.new.source in
+    let buf = c.read_head.new.buf.items in
+    let headers = c.read_head.new.headers in
+    let spans = c.in-Some.spans in
+    let head = some-found known c.in_ok-spans.field-0 spans NoHead (λ all. FoundHead all buf headers) c.in-Some.is c.in_ok-spans.ensures.head in
+    let method : c.of.result.now ≡ span_bytes buf spans.method = c.of.ensures ∙ ap (λ (t : List ℕ). slice_range t spans.method.start spans.method.end) c.as_slice.ensures.value in
+    let target : c.of-2.result.now ≡ span_bytes buf spans.path = c.of-2.ensures ∙ ap (λ (t : List ℕ). slice_range t spans.path.start spans.path.end) c.as_slice-2.ensures.value in
+    let firsts = take spans.headers headers in
+    let plan = plan-is buf headers spans c.of.result.now c.of-2.result.now c.as_slice-3.result.now firsts (Ok c.in_ok-plan.plan) method target c.as_slice-3.ensures.value refl c.in_ok-plan.ensures.plan in
+    let after = g.S.Source.left c.read_planned.new.source in
+    let is : length buf ≡ vec_len c.read_head.new.buf = omega (arith, c.read_head.new.buf.ok.0) in
+    stops-planned known mid after buf headers spans c.in_ok-plan.plan (vec_len c.read_head.new.buf) c.in_ok-spans.ensures.taken is c.in_ok-spans.ensures.few head plan c.read_planned.ensures.most
+
+pub returns-clause-most : goal.returns-clause-most
+returns-clause-most g c =
+    let known = g.S.Source.left c.args.source.now in
+    let mid = g.S.Source.left c.read_head.new.source in
+    let after = g.S.Source.left c.read_planned.new.source in
+    let buf = c.read_head.new.buf.items in
+    let spans = c.in-Some.spans in
+    let within = rw c.in-Some.is at c.in_ok-spans.ensures.within in
+    let is : length buf ≡ vec_len c.read_head.new.buf = omega (arith, c.read_head.new.buf.ok.0) in
+    let short : spans.len ≤ 8192 = omega (arith, within.section.len_fits, is, c.in_ok-spans.ensures.few) in
+    takes-whole spans.len c.in_ok-plan.plan.length (vec_len c.read_head.new.buf) known mid after buf c.in_ok-spans.ensures.taken is c.in_ok-spans.ensures.few short c.in_ok-plan.ensures.few c.read_planned.ensures.most

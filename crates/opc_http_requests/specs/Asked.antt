@@ -1,0 +1,41 @@
+-- What the bytes of a connection ask for, and how many of them are read.
+use Rattle.std.specs.Prelude.{◌≡◌, ◌+◌, ◌⊎◌, ℕ, List, drop, length, map, max, Option, Some, Result, Ok, Err}
+use Rattle.httparse.specs.Grammar.{RequestHead, print_request}
+use Rattle.httparse.specs.Spans.{name_and_value}
+use Rattle.opc_machine.specs.declared.request.Request.{Request}
+use Rattle.opc_http_link.specs.Reads.{TakesAtMost}
+use Rattle.opc_http_head.specs.Head.{HasHead, NoHead}
+use Rattle.opc_http_head.specs.declared.refusal.Refusal.{Refusal}
+use Rattle.opc_http_head.specs.declared.refusal.Refusal.TheVariants.{BadRequest}
+use Rattle.opc_http_requests.specs.Plans.{plan_of}
+use Rattle.opc_http_requests.specs.Requests.{request_of}
+use Rattle.opc_http_requests.specs.declared.plan.Plan.{Plan}
+
+-- the bytes have a head, and that is what it comes to
+pub record AsksByHead (all : List ℕ) (asked : Result Request Refusal) : Type 0 where
+  pub head : RequestHead
+  pub has : HasHead all head
+  pub is : asked ≡ request_of head (drop (length (print_request head)) all)
+
+-- what the bytes of a connection ask for: a request, or the first refusal
+abbrev pub Asks : List ℕ → Result Request Refusal → Type 0
+Asks all asked = (NoHead all × (asked ≡ Err BadRequest)) ⊎ AsksByHead all asked
+
+-- and nothing else
+pub record AsksOnly (all : List ℕ) (asked : Result Request Refusal) : Type 0 where
+  pub asks : Asks all asked
+  pub only : (other : Result Request Refusal) → Asks all other → other ≡ asked
+
+-- the length of the body that is read, if one is
+abbrev pub body_part : Result Plan Refusal → ℕ
+body_part (Ok plan) = plan.length
+body_part (Err why) = 0
+
+-- how many bytes head and body have; of a head that is refused no body is read
+abbrev pub request_length : RequestHead → ℕ
+request_length head = length (print_request head) + body_part (plan_of head.method head.target (map name_and_value head.fields))
+
+-- No read goes past the end of the body, but for the reads that look for the head.
+pub record StopsAtEnd (all : List ℕ) (after : Option (List ℕ)) : Type 0 where
+  pub headless : NoHead all → TakesAtMost 8192 (Some all) after
+  pub headed : (head : RequestHead) → HasHead all head → TakesAtMost (max 8192 (request_length head)) (Some all) after

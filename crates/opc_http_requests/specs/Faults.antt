@@ -1,0 +1,23 @@
+-- Why no request was read, step by step and as a whole.
+use Rattle.std.specs.Prelude.{⊤}
+use Rattle.opc_http_head.specs.declared.refusal.AskFault.{AskFault}
+use Rattle.opc_http_head.specs.declared.refusal.AskFault.TheVariants as asking
+use Rattle.opc_http_head.specs.declared.refusal.Refusal.{Refusal}
+use Rattle.opc_http_link.specs.declared.source.ReadFault.{ReadFault}
+use Rattle.opc_http_link.specs.declared.source.ReadFault.TheVariants as reading
+use Rattle.opc_http_requests.specs.declared.fault.ReadingFault.{ReadingFault}
+use Rattle.opc_http_requests.specs.declared.fault.ReadingFault.TheVariants.{NoMemory, Read, Refused}
+
+abbrev pub by_asking : AskFault → ReadingFault
+by_asking (asking.Refused refusal) = Refused refusal
+by_asking asking.NoMemory = NoMemory
+
+abbrev pub by_reading : ReadFault → ReadingFault
+by_reading reading.Read = Read
+by_reading reading.NoMemory = NoMemory
+
+-- what holds of the refusal, where the fault is one
+abbrev pub IfRefused : ReadingFault → (Refusal → Type 0) → Type 0
+IfRefused (Refused refusal) holds = holds refusal
+IfRefused Read holds = ⊤
+IfRefused NoMemory holds = ⊤

@@ -1,0 +1,38 @@
+-- What the head of a request says of its route and its body.
+use Rattle.std.specs.Prelude.{ℕ, List, codes, Result, Ok, Err, if◌then◌else◌}
+use Rattle.std.specs.Str.{bytes_eq}
+use Rattle.opc_http_head.specs.Framing.{FieldLine, body_length}
+use Rattle.opc_http_head.specs.Refusals.{◌>>=◌}
+use Rattle.opc_http_head.specs.declared.refusal.Method.{Method}
+use Rattle.opc_http_head.specs.declared.refusal.Method.TheVariants.{Get, Post}
+use Rattle.opc_http_head.specs.declared.refusal.Refusal.{Refusal}
+use Rattle.opc_http_head.specs.declared.refusal.Refusal.TheVariants.{MethodNotAllowed}
+use Rattle.opc_http_head.specs.declared.routes.Route.{Route}
+use Rattle.opc_http_head.specs.declared.routes.Route.TheVariants.{Command, Admin, Import, ListProfiles, ListAccount}
+use Rattle.opc_http_requests.specs.Paths.{path_in, route_in}
+use Rattle.opc_http_requests.specs.declared.plan.Plan.{Plan}
+
+-- the one method of a route
+abbrev pub method_of : Route → Method
+method_of Command = Post
+method_of Admin = Post
+method_of Import = Post
+method_of ListProfiles = Get
+method_of ListAccount = Get
+
+abbrev pub method_text : Method → List ℕ
+method_text Get = codes "GET"
+method_text Post = codes "POST"
+
+-- that a route is asked by its method
+abbrev pub has_method : List ℕ → Route → Result Unit Refusal
+has_method method route = if bytes_eq method (method_text (method_of route)) then Ok tt else Err (MethodNotAllowed (method_of route))
+
+-- the route and the length of the body, or the first refusal
+abbrev pub plan_of : (method target : List ℕ) → (fields : List FieldLine) → Result Plan Refusal
+plan_of method target fields = do
+  path ← path_in target
+  route ← route_in path
+  _ ← has_method method route
+  length ← body_length fields
+  Ok (record { route = route; length = length })

@@ -1,0 +1,147 @@
+//! A whole request, read from a source.
+ghost use Rattle.std.specs.Prelude.{◌≡◌, ◌≤◌, ◌+◌, ◌-◌, ◌++◌, Err, IfErr, IfOk, IfSome, MatchResult, Ok, drop, true, vec_len};
+ghost use Rattle.httparse.specs.Spans.{IsWithin, span_bytes};
+ghost use Rattle.opc_http_link.specs.Reads.{TakesAtMost};
+ghost use Rattle.opc_http_head.specs.Refusals.{Refuses};
+ghost use Rattle.opc_http_requests.specs.Asked.{AsksOnly, StopsAtEnd};
+ghost use Rattle.opc_http_requests.specs.Faults.{IfRefused};
+ghost use Rattle.opc_http_requests.specs.Requests.{planned, request_at, request_by};
+
+use crate::body::read_to;
+use crate::fault::ReadingFault;
+use crate::path::{batch_in, class_in, console_in, count_in, from_in, path_in};
+use crate::plan::{Plan, plan_of};
+use httparse::spans::{EMPTY_HEADER_SPAN, RequestSpans};
+use opc_http_bodies::body::{command_in, operation_in, rows_in};
+use opc_http_head::head::read_head;
+use opc_http_head::refusal::{AskFault, Refusal};
+use opc_http_head::routes::{Route, Routes};
+use opc_http_link::source::Source;
+use opc_machine::request::Request;
+use opc_names::name::ConsoleName;
+use opc_policy::row::Row;
+use opc_rows::Rows;
+use std::alloc::{AllocError, Global};
+
+/// The most fields of a head.
+const MOST_FIELDS: usize = 32;
+
+fn listed(alloc: Global, rows: &[Row]) -> Result<Rows<Row>, AllocError>
+    ensures { IfOk result (λ copy. copy ≡ rows.now) }
+{
+    let mut copy = Rows::new(alloc);
+    for row in rows {
+        copy.push(*row)?;
+    }
+    Ok(copy)
+}
+
+// What a route asks for at a console.
+fn request_by(
+    alloc: Global,
+    route: Route,
+    console: ConsoleName,
+    path: &str,
+    body: &[u8],
+) -> Result<Request, AskFault>
+    ensures { MatchResult result (λ request. request_by route console path.now body.now ≡ Ok request) (λ fault. Refuses fault (request_by route console path.now body.now)) }
+{
+    match route {
+        Route::Command => {
+            let text = command_in(alloc, body)?;
+            Ok(Request::Command { console, text })
+        }
+        Route::Admin => {
+            let op = operation_in(alloc, body)?;
+            Ok(Request::Admin { console, op })
+        }
+        Route::Import => {
+            let batch = batch_in(path)?;
+            let rows = rows_in(alloc, body)?;
+            let rows = listed(alloc, rows.as_slice())?;
+            Ok(Request::Import {
+                console,
+                batch,
+                rows,
+            })
+        }
+        Route::ListProfiles => {
+            let class = class_in(path)?;
+            Ok(Request::ListProfiles { console, class })
+        }
+        Route::ListAccount => {
+            let from = from_in(path)?;
+            let count = count_in(path)?;
+            Ok(Request::ListAccount {
+                console,
+                from,
+                count,
+            })
+        }
+    }
+}
+
+// The request of a route, by its path and its body.
+fn request_at(alloc: Global, route: Route, path: &str, body: &[u8]) -> Result<Request, AskFault>
+    ensures { MatchResult result (λ request. request_at route path.now body.now ≡ Ok request) (λ fault. Refuses fault (request_at route path.now body.now)) }
+{
+    let console = console_in(alloc, path)?;
+    request_by(alloc, route, console, path, body)
+}
+
+// Reads the body that is planned, behind the head that `buf` begins with, and makes the request.
+fn read_planned<S: Source>(
+    alloc: Global,
+    source: &mut S,
+    buf: &mut Vec<u8>,
+    spans: &RequestSpans,
+    plan: Plan,
+) -> Result<Request, ReadingFault>
+    requires head { spans.now.len ≤ vec_len buf.old }
+    requires short { spans.now.len ≤ 8192 }
+    requires few { plan.length ≤ 65536 }
+    requires path { IsWithin spans.now.len spans.now.path }
+    ensures asked { IfOk result (λ request. IfSome (S.left source.old) (λ left.
+        planned (span_bytes buf.old.items spans.now.path) (drop spans.now.len (buf.old.items ++ left)) plan ≡ Ok request)) }
+    ensures refused { IfErr result (λ fault. IfRefused fault (λ why. IfSome (S.left source.old) (λ left.
+        planned (span_bytes buf.old.items spans.now.path) (drop spans.now.len (buf.old.items ++ left)) plan ≡ Err why))) }
+    ensures most { TakesAtMost (spans.now.len + plan.length - vec_len buf.old) (S.left source.old) (S.left source.new) }
+    ensures fault { IfErr result (λ fault. fault ≡ ReadingFault.Read → S.has_failed source.new ≡ true) }
+{
+    let end = spans.len + plan.length as usize;
+    if !read_to(source, buf, end)? {
+        return Err(ReadingFault::Refused(Refusal::BadRequest));
+    }
+    let path = path_in(spans.path.of(buf.as_slice()))?;
+    let request = request_at(alloc, plan.route, path, &buf[spans.len..end])?;
+    Ok(request)
+}
+
+/// Reads a request, or finds the first refusal. A request is answered by nothing but the bytes of its head and its body;
+/// no read goes past the end of the body, but for those that look for the head. After a refusal by the head no more is
+/// read. Where memory is refused or a read fails, the source has given some of its bytes and no request is known.
+pub fn read_request<S: Source>(
+    alloc: Global,
+    routes: &Routes,
+    source: &mut S,
+) -> Result<Request, ReadingFault>
+    ensures asked { IfOk result (λ request. IfSome (S.left source.old) (λ all. AsksOnly all (Ok request))) }
+    ensures refused { IfErr result (λ fault. IfRefused fault (λ why. IfSome (S.left source.old) (λ all. AsksOnly all (Err why)))) }
+    ensures stops { IfSome (S.left source.old) (λ all. StopsAtEnd all (S.left source.new)) }
+    ensures most { TakesAtMost 73728 (S.left source.old) (S.left source.new) }
+    ensures fault { IfErr result (λ fault. fault ≡ ReadingFault.Read → S.has_failed source.new ≡ true) }
+{
+    let mut buf = Vec::new(alloc);
+    let mut headers = [EMPTY_HEADER_SPAN; MOST_FIELDS];
+    let Some(spans) = read_head(source, &mut buf, &mut headers)? else {
+        return Err(ReadingFault::Refused(Refusal::BadRequest));
+    };
+    let plan = plan_of(
+        routes,
+        spans.method.of(buf.as_slice()),
+        spans.path.of(buf.as_slice()),
+        buf.as_slice(),
+        &headers[..spans.headers],
+    )?;
+    read_planned(alloc, source, &mut buf, &spans, plan)
+}

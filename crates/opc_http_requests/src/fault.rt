@@ -1,0 +1,50 @@
+//! Why no request was read.
+use opc_http_head::refusal::{AskFault, Refusal};
+use opc_http_link::source::ReadFault;
+
+/// Why no request was read: what was read is refused, a read failed, or out of memory.
+#[derive(Clone, Copy, Debug, PartialEq, Eq)]
+pub enum ReadingFault {
+    Refused(Refusal),
+    Read,
+    NoMemory,
+}
+
+impl From<Refusal> for ReadingFault {
+    ghost use Rattle.std.specs.Prelude.{◌≡◌};
+    ghost use Rattle.opc_http_requests.specs.declared.fault.ReadingFault.TheVariants.{Refused};
+
+    ghost from_gives = { λ refusal fault. fault ≡ Refused refusal };
+
+    fn from(refusal: Refusal) -> ReadingFault {
+        ReadingFault::Refused(refusal)
+    }
+}
+
+impl From<AskFault> for ReadingFault {
+    ghost use Rattle.std.specs.Prelude.{◌≡◌};
+    ghost use Rattle.opc_http_requests.specs.Faults.{by_asking};
+
+    ghost from_gives = { λ given fault. fault ≡ by_asking given };
+
+    fn from(fault: AskFault) -> ReadingFault {
+        match fault {
+            AskFault::Refused(refusal) => ReadingFault::Refused(refusal),
+            AskFault::NoMemory => ReadingFault::NoMemory,
+        }
+    }
+}
+
+impl From<ReadFault> for ReadingFault {
+    ghost use Rattle.std.specs.Prelude.{◌≡◌};
+    ghost use Rattle.opc_http_requests.specs.Faults.{by_reading};
+
+    ghost from_gives = { λ given fault. fault ≡ by_reading given };
+
+    fn from(fault: ReadFault) -> ReadingFault {
+        match fault {
+            ReadFault::Read => ReadingFault::Read,
+            ReadFault::NoMemory => ReadingFault::NoMemory,
+        }
+    }
+}

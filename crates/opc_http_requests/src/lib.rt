@@ -1,0 +1,8 @@
+//! Whole requests over HTTP, read from a source.
+#![tactic(auto)]
+
+pub mod ask;
+mod body;
+pub mod fault;
+mod path;
+mod plan;

@@ -1,0 +1,66 @@
+//! What the head of a request says of its route and its body.
+ghost use Rattle.std.specs.Prelude.{◌≡◌, ◌≤◌, All, IfOk, length, map};
+ghost use Rattle.httparse.specs.Spans.{IsHeaderWithin, header_bytes};
+ghost use Rattle.opc_http_requests.specs.Plans.{has_method, method_of, method_text, plan_of};
+
+use crate::path::{path_in, route_in};
+use httparse::spans::HeaderSpan;
+use opc_http_head::framing::body_length;
+use opc_http_head::refusal::{Method, Refusal};
+use opc_http_head::routes::{Route, Routes};
+
+/// The route of a request, and how many bytes its body has.
+#[derive(Clone, Copy)]
+pub(crate) struct Plan {
+    pub route: Route,
+    pub length: u64,
+}
+
+fn method_of(route: Route) -> Method
+    ensures { result ≡ method_of route }
+{
+    match route {
+        Route::Command | Route::Admin | Route::Import => Method::Post,
+        Route::ListProfiles | Route::ListAccount => Method::Get,
+    }
+}
+
+fn method_text(method: Method) -> &'static str
+    ensures { result.now ≡ method_text method }
+{
+    match method {
+        Method::Get => "GET",
+        Method::Post => "POST",
+    }
+}
+
+// That a route is asked by its method.
+fn has_method(name: &[u8], route: Route) -> Result<(), Refusal>
+    ensures { result ≡ has_method name.now route }
+{
+    let method = method_of(route);
+    if name == method_text(method).as_bytes() {
+        Ok(())
+    } else {
+        Err(Refusal::MethodNotAllowed(method))
+    }
+}
+
+/// The plan of a head, given its method, its target and where its fields are in `buf`.
+pub(crate) fn plan_of(
+    routes: &Routes,
+    method: &[u8],
+    target: &[u8],
+    buf: &[u8],
+    headers: &[HeaderSpan],
+) -> Result<Plan, Refusal>
+    requires { All (IsHeaderWithin (length buf.now)) headers.now }
+    ensures plan { result ≡ plan_of method.now target.now (map (header_bytes buf.now) headers.now) }
+    ensures few { IfOk result (λ plan. plan.length ≤ 65536) }
+{
+    let path = path_in(target)?;
+    let route = route_in(routes, path)?;
+    has_method(method, route)?;
+    let length = body_length(buf, headers)?;
+    Ok(Plan { route, length })
+}

@@ -1,0 +1,52 @@
+-- Responses, byte for byte.
+use Rattle.std.specs.Prelude.{ℕ, List, [], ◌++◌, codes, decimal, length, Option, Some, None}
+use Rattle.opc_machine.specs.declared.request.Answer.{Answer}
+use Rattle.opc_http_head.specs.declared.refusal.Method.{Method}
+use Rattle.opc_http_head.specs.declared.refusal.Method.TheVariants.{Get, Post}
+use Rattle.opc_http_head.specs.declared.refusal.Refusal.{Refusal}
+use Rattle.opc_http_head.specs.declared.refusal.Refusal.TheVariants.{BadRequest, NotFound, MethodNotAllowed, TooLarge, BadRow}
+use Rattle.opc_http_responses.specs.Bodies.{answer_body, refusal_body}
+use Rattle.opc_http_responses.specs.Statuses.{phrase, refusal_status, status_of}
+
+abbrev pub line : List ℕ → List ℕ
+line text = text ++ codes "\r\n"
+
+abbrev pub method_text : Method → List ℕ
+method_text Get = codes "GET"
+method_text Post = codes "POST"
+
+-- the method that the path has, where another was asked
+abbrev pub allow_field : Option Method → List ℕ
+allow_field None = []
+allow_field (Some method) = line (codes "Allow: " ++ method_text method)
+
+abbrev pub status_line : ℕ → List ℕ
+status_line status = line (codes "HTTP/1.1 " ++ decimal status ++ codes " " ++ phrase status)
+
+-- the head: the line of the status, the fields, and an empty line
+abbrev pub head_of : ℕ → Option Method → List ℕ → List ℕ
+head_of status allow body =
+    status_line status
+    ++ line (codes "Content-Type: application/json")
+    ++ line (codes "Content-Length: " ++ decimal (length body))
+    ++ allow_field allow
+    ++ line (codes "Connection: close")
+    ++ line []
+
+abbrev pub response_text : ℕ → Option Method → List ℕ → List ℕ
+response_text status allow body = head_of status allow body ++ body
+
+-- the response to a request that was handled
+abbrev pub response_of : Answer → List ℕ
+response_of answer = response_text (status_of answer) None (answer_body answer)
+
+abbrev pub allowed : Refusal → Option Method
+allowed (MethodNotAllowed method) = Some method
+allowed BadRequest = None
+allowed NotFound = None
+allowed TooLarge = None
+allowed (BadRow row why) = None
+
+-- the response to what is no request
+abbrev pub refusal_response : Refusal → List ℕ
+refusal_response refusal = response_text (refusal_status refusal) (allowed refusal) (refusal_body refusal)

@@ -1,0 +1,6 @@
+//! The exact bytes of each response over HTTP.
+#![tactic(auto)]
+
+mod body;
+pub mod response;
+mod status;

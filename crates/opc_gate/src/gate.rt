@@ -1,5 +1,5 @@
 //! The gate.
-ghost use Rattle.std.specs.Prelude.{◌≡◌, ◌≢◌, ◌⊎◌, IfErr, IfOk, OnErr, OnOk, Ok, Err, ℕ};
+ghost use Rattle.std.specs.Prelude.{◌≡◌, ◌≢◌, ◌≤◌, ◌⊎◌, [], IfErr, IfOk, OnErr, OnOk, Ok, Err, length, ℕ};
 ghost use Rattle.opc_policy.specs.declared.fault.Fault.TheVariants as why;
 ghost use Rattle.std.specs.Option.{option_and_then};
 ghost use Rattle.opc_board.specs.Facts.{console_at};
@@ -22,6 +22,7 @@ use opc_admin::administration::admin_on;
 use opc_board::rows::ConsoleRow;
 use opc_board::text::KeptText;
 use opc_bootstrap::bootstrap::bootstrap;
+use opc_cache::cached::Cached;
 use opc_commands::command::{command_on, event_on};
 use opc_imports::import::import_on;
 use opc_listings::account::account_on;
@@ -273,15 +274,46 @@ impl<T: Tables> Model for Gate<T> {
     ghost view = { λ gate. gate.tables };
 }
 
-impl<T: Tables> Gate<T> {
-    pub fn new(store: T) -> Self
-        ensures { result ≡ store }
+impl<T: Tables> Gate<Cached<T>> {
+    /// A gate over these tables, with a cache of which profile decides. Where memory is refused for it (E90) the tables are
+    /// handed back. With its cache, which is empty, the gate represents each state that the tables represent.
+    pub fn new(alloc: Global, store: T) -> Result<Self, (Fault, T)>
+        ensures made { IfOk result (λ gate. (gate.tables ≡ store) × (gate.recent ≡ [])) }
+        ensures represents { IfOk result (λ gate. (s : State) → T.represents store s → ⟦<Cached<T> as Tables>⟧.represents gate s) }
+        ensures refused { IfErr result (λ back. (back.0 ≡ why.NoMemory) × (back.1 ≡ store)) }
     {
-        Gate { tables: store }
+        match Cached::new(alloc, store) {
+            Ok(tables) => Ok(Gate { tables }),
+            Err(back) => Err(back),
+        }
+    }
+
+    /// How many names are cached, 256 at most.
+    pub fn cached(&self) -> u32
+        ensures count { result ≡ length self.now.recent }
+        ensures most { result ≤ 256 }
+    {
+        self.tables.cached()
+    }
+
+    /// The tables without the cache, as they are.
+    pub fn into_store(self) -> T
+        ensures { result ≡ self.tables }
+    {
+        self.tables.into_tables()
+    }
+}
+
+impl<T: Tables> Gate<T> {
+    /// A gate over these tables alone.
+    pub fn over(tables: T) -> Self
+        ensures { result ≡ tables }
+    {
+        Gate { tables }
     }
 
     /// The tables, as they are.
-    pub fn into_store(self) -> T
+    pub fn into_tables(self) -> T
         ensures { result ≡ self }
     {
         self.tables

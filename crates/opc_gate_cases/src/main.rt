@@ -8,6 +8,7 @@
 //! - `new`: a new gate takes the first policy, and is asked the requests of the beginning.
 //! - `policy`: the written policy, as the tables have it.
 //! - `bootstrap`: the gate is given the first policy once more.
+//! - `cached`: for how many names the gate keeps which profile decides. `policy` opens it anew, with none.
 //! - MOMENT CONSOLE TEXT and MOMENT * EVENT, as in a script.
 //! - MOMENT CONSOLE ADMIN OPERATION WORDS: an operation of administration; its words are the record of the policy's row
 //!   that it makes, and where it makes none the name of the user, or the class and the pattern.

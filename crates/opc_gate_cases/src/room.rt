@@ -2,6 +2,7 @@
 use crate::records::row_in;
 use crate::requests::request_of;
 use anyhow::{Result, bail};
+use opc_cache::cached::Cached;
 use opc_gate::gate::Gate;
 use opc_import::write::write_policy;
 use opc_machine::request::{Answer, Request};
@@ -13,17 +14,26 @@ use sqlite::MemStore;
 use std::alloc::Global;
 use std::mem;
 
+type InMemory = Store<MemStore>;
+
 #[derive(Drop)]
 pub struct Room {
-    gate: Gate<Store<MemStore>>,
+    gate: Gate<Cached<InMemory>>,
     rows: Vec<Row>,
     beginning: Vec<(u64, Request)>,
 }
 
-fn empty_gate(alloc: Global) -> Result<Gate<Store<MemStore>>> {
+fn empty_gate(alloc: Global) -> Result<Gate<Cached<InMemory>>> {
     match Store::in_memory(alloc) {
-        Ok(store) => Ok(Gate::new(store)),
+        Ok(store) => gate_of(alloc, store),
         Err(fault) => given_up(Fault::from(fault)),
+    }
+}
+
+fn gate_of(alloc: Global, store: InMemory) -> Result<Gate<Cached<InMemory>>> {
+    match Gate::new(alloc, store) {
+        Ok(gate) => Ok(gate),
+        Err((fault, _store)) => given_up(fault),
     }
 }
 
@@ -52,6 +62,7 @@ impl Room {
             "new" => self.begin(alloc),
             "bootstrap" => self.bootstrap(alloc),
             "policy" => self.policy(alloc),
+            "cached" => Ok(format!(in alloc; "cached {}\n", self.gate.cached())?),
             _ => {
                 let (moment, request) = request_of(alloc, line)?;
                 self.handled(alloc, moment, &request)
@@ -89,7 +100,7 @@ impl Room {
         let gate = mem::replace(&mut self.gate, empty_gate(alloc)?);
         let mut store = gate.into_store();
         let rows = store.policy_rows(alloc);
-        self.gate = Gate::new(store);
+        self.gate = gate_of(alloc, store)?;
         match rows {
             Ok(rows) => Ok(write_policy(alloc, rows.as_slice())?),
             Err(fault) => given_up(Fault::from(fault)),

@@ -63,9 +63,9 @@ pub fn import_on<T: Tables, R: Read, W: Write>(
 ) -> (Result<Status, Failure>, T)
     ensures sure { T.is_sure result.1 → T.is_sure tables }
 {
-    let mut gate = Gate::new(tables);
+    let mut gate = Gate::over(tables);
     let end = import_over(alloc, &mut gate, moment, import, input, output);
-    (end, gate.into_store())
+    (end, gate.into_tables())
 }
 
 fn import_over<T: Tables, R: Read, W: Write>(
@@ -129,9 +129,9 @@ pub fn export_on<T: Tables, W: Write>(
 ) -> (Result<Status, Failure>, T)
     ensures sure { T.is_sure result.1 → T.is_sure tables }
 {
-    let mut gate = Gate::new(tables);
+    let mut gate = Gate::over(tables);
     let end = export_over(alloc, &mut gate, output);
-    (end, gate.into_store())
+    (end, gate.into_tables())
 }
 
 fn export_over<T: Tables, W: Write>(

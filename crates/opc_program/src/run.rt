@@ -37,7 +37,10 @@ pub fn run_on<H: AllocGlobal + Files, T: Tables, R: Read, W: Write>(
     ensures sure { T.is_sure result.1 → T.is_sure tables }
     ensures runs { policy.entry ≡ None → IsAnsweredInput T.is_sure T.represents T.may_leave tables result.1 (R.remaining input.old) (W.contents output.old) (W.contents output.new) result.0 }
 {
-    let mut gate = Gate::new(tables);
+    let mut gate = match Gate::new(rt.alloc(), tables) {
+        Ok(gate) => gate,
+        Err((fault, tables)) => return (Err(Failure::from(fault)), tables),
+    };
     let end = run_over(rt, &mut gate, policy, input, output);
     (end, gate.into_store())
 }

@@ -45,7 +45,7 @@ fn each_request_is_answered(rt: HostRuntime) -> Result<(), Fail> {
         ("   \n \r\n\n", "", Status::Done),
     ] {
         let mut output = Vec::with_capacity(rt.alloc(), 100)?;
-        let mut gate = Gate::new(FailingTables);
+        let mut gate = Gate::over(FailingTables);
         match run_script(&mut gate, rt.alloc(), script, &mut output) {
             Ok(status) => assert_eq!(rt; status, wanted),
             Err(fault) => return Err(end_of(&rt, fault)),
@@ -72,7 +72,7 @@ fn a_bad_line_is_told_and_nothing_is_run(rt: HostRuntime) -> Result<(), Fail> {
         (long.as_str(), "BAD LINE 0\n", 0),
     ] {
         let mut output = Vec::with_capacity(rt.alloc(), 100)?;
-        let mut gate = Gate::new(FailingTables);
+        let mut gate = Gate::over(FailingTables);
         match run_script(&mut gate, rt.alloc(), script, &mut output) {
             Err(ScriptFault::BadLine(number)) => assert_eq!(rt; number, line),
             Err(fault) => return Err(end_of(&rt, fault)),
@@ -87,7 +87,7 @@ fn a_bad_line_is_told_and_nothing_is_run(rt: HostRuntime) -> Result<(), Fail> {
 fn stops_at(rt: &(impl AllocGlobal + Abort), room: usize, fails: bool) -> Result<(), Fail> {
     let bytes = Vec::with_capacity(rt.alloc(), PRINTED.len())?;
     let mut output = Narrow { bytes, room, fails };
-    let mut gate = Gate::new(FailingTables);
+    let mut gate = Gate::over(FailingTables);
     match run_script(&mut gate, rt.alloc(), SCRIPT, &mut output) {
         Err(ScriptFault::Output(error)) if fails => {
             assert_eq!(rt; error.kind(), ErrorKind::BrokenPipe);

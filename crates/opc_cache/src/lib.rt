@@ -1,0 +1,6 @@
+//! A bounded cache of which profile decides, before the tables of the machine.
+#![tactic(auto)]
+
+pub mod cached;
+mod recent;
+mod tables;

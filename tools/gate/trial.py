@@ -65,7 +65,7 @@ class Trial:
         self.texts = texts_of(self.crate.folder)
         self.edits, self.stray = edits_in(self.crate.folder, name, self.texts)
         self.room, self.is_left_by_ci = f"{room}/{name}", is_left_by_ci
-        self.given, self.proved, self.seconds, self.checks = {}, {}, 0.0, 0
+        self.given, self.proved, self.seconds, self.checks, self.left = {}, {}, 0.0, 0, False
         lines = sum(text.count("\n") for path, text in self.texts.items() if path.endswith(".rt"))
         # (as rt ci reckons memory, and from what crates took)
         self.memory = 1_200_000_000 + 1_000_000 * lines

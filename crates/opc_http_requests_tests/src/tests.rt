@@ -1,0 +1,7 @@
+//! Requests that are read, and what is refused.
+mod asked;
+mod cut;
+mod heads;
+mod narrow;
+mod reading;
+mod refusals;

@@ -1,0 +1,73 @@
+//! Requests that are cut off, readers that fail, and lengths at their limits.
+use super::narrow::Narrow;
+use super::reading::asked;
+use opc_http_head::refusal::Refusal;
+use opc_http_head::routes::Routes;
+use opc_http_link::watched::Watched;
+use opc_http_requests::ask::read_request;
+use opc_http_requests::fault::ReadingFault;
+use std::alloc::{AllocError, Global};
+use std::process::Abort;
+use std::test::Fail;
+
+const COMMAND: &[u8] =
+    b"POST /consoles/C1/command HTTP/1.1\r\nContent-Length: 14\r\n\r\n{\"text\":\"D U\"}";
+
+#[test]
+fn a_cut_request_is_refused_wherever_it_is_cut(rt: HostRuntime) -> Result<(), Fail> {
+    for count in 0..COMMAND.len() {
+        match asked(rt.alloc(), &COMMAND[..count])? {
+            Ok(_) => assert!(rt; false),
+            Err(fault) => {
+                assert_eq!(rt; fault, ReadingFault::Refused(Refusal::BadRequest));
+            }
+        }
+    }
+    Ok(())
+}
+
+#[test]
+fn a_read_that_fails_ends_it(rt: HostRuntime) -> Result<(), Fail> {
+    for at in 0..COMMAND.len() {
+        match asked(rt.alloc(), Narrow::new(COMMAND, Some(at)))? {
+            Ok(_) => assert!(rt; false),
+            Err(fault) => assert_eq!(rt; fault, ReadingFault::Read),
+        }
+    }
+    // Nothing is read behind the end of the body.
+    match asked(rt.alloc(), Narrow::new(COMMAND, Some(COMMAND.len())))? {
+        Ok(line) => assert_eq!(rt; line.as_str(), "command C1 D U"),
+        Err(_) => assert!(rt; false),
+    }
+    Ok(())
+}
+
+// How many bytes are read of a request with a body of so many spaces, and more behind it, and the fault.
+fn taken(alloc: Global, length: usize) -> Result<(usize, Option<ReadingFault>), AllocError> {
+    let mut text = format!(in alloc;
+        "POST /consoles/C1/command HTTP/1.1\r\nContent-Length: {length}\r\n\r\n"
+    )?;
+    for _ in 0..length {
+        text.push(' ')?;
+    }
+    text.push_str("          ")?;
+    let Ok(routes) = Routes::new(alloc) else {
+        return Err(AllocError);
+    };
+    let mut source = Watched::new(Narrow::new(text.as_bytes(), None));
+    match read_request(alloc, &routes, &mut source) {
+        Ok(_) => Ok((source.inner.taken, None)),
+        Err(fault) => Ok((source.inner.taken, Some(fault))),
+    }
+}
+
+#[test]
+fn a_body_is_read_to_its_length_if_at_all(rt: HostRuntime) -> Result<(), Fail> {
+    let (count, fault) = taken(rt.alloc(), 65536)?;
+    assert_eq!(rt; count, 61 + 65536);
+    assert_eq!(rt; fault, Some(ReadingFault::Refused(Refusal::BadRequest)));
+    let (count, fault) = taken(rt.alloc(), 65537)?;
+    assert_eq!(rt; count, 61);
+    assert_eq!(rt; fault, Some(ReadingFault::Refused(Refusal::TooLarge)));
+    Ok(())
+}

@@ -1,0 +1,73 @@
+//! What some bytes ask for, as a line.
+use opc_http_head::routes::Routes;
+use opc_http_link::watched::Watched;
+use opc_http_requests::ask::read_request;
+use opc_http_requests::fault::ReadingFault;
+use opc_machine::request::Request;
+use std::alloc::{AllocError, Global};
+use std::io::Read;
+
+/// A request by POST, with the length of its body.
+pub(super) fn post(alloc: Global, path: &str, body: &str) -> Result<String, AllocError> {
+    let length = body.len();
+    format!(in alloc; "POST {path} HTTP/1.1\r\nContent-Length: {length}\r\n\r\n{body}")
+}
+
+/// A request by GET, without a body.
+pub(super) fn get(alloc: Global, path: &str) -> Result<String, AllocError> {
+    format!(in alloc; "GET {path} HTTP/1.1\r\n\r\n")
+}
+
+// What a request says, as a line.
+fn told(alloc: Global, request: &Request) -> Result<String, AllocError> {
+    match request {
+        Request::Command { console, text } => {
+            let name = console.text();
+            let text = text.as_str();
+            format!(in alloc; "command {name} {text}")
+        }
+        Request::Admin { console, .. } => {
+            let name = console.text();
+            format!(in alloc; "admin {name}")
+        }
+        Request::Import {
+            console,
+            batch,
+            rows,
+        } => {
+            let name = console.text();
+            let count = rows.as_slice().len();
+            format!(in alloc; "import {name} {batch} {count}")
+        }
+        Request::ListProfiles { console, class } => {
+            let name = console.text();
+            let class = class.text();
+            format!(in alloc; "profiles {name} {class}")
+        }
+        Request::ListAccount {
+            console,
+            from,
+            count,
+        } => {
+            let name = console.text();
+            format!(in alloc; "account {name} {from} {count}")
+        }
+        Request::Event(_) => String::from_str(alloc, "event"),
+    }
+}
+
+/// What is asked, as a line, or why nothing is.
+pub(super) fn asked<R: Read + Drop>(
+    alloc: Global,
+    reader: R,
+) -> Result<Result<String, ReadingFault>, AllocError> {
+    let Ok(routes) = Routes::new(alloc) else {
+        return Err(AllocError);
+    };
+    let mut source = Watched::new(reader);
+    match read_request(alloc, &routes, &mut source) {
+        Ok(request) => Ok(Ok(told(alloc, &request)?)),
+        Err(ReadingFault::NoMemory) => Err(AllocError),
+        Err(fault) => Ok(Err(fault)),
+    }
+}

@@ -1,0 +1,135 @@
+//! What is refused, and by which refusal first.
+use super::narrow::Narrow;
+use super::reading::{asked, get, post};
+use opc_http_head::refusal::{Method, Refusal};
+use opc_http_requests::fault::ReadingFault;
+use opc_policy::fault::Why;
+use std::process::Abort;
+use std::test::Fail;
+
+const COMMAND: &str = "{\"text\":\"D U\"}";
+
+// That a text is refused so, at once and byte by byte.
+fn expect(rt: &(impl AllocGlobal + Abort), text: &[u8], wanted: Refusal) -> Result<(), Fail> {
+    match asked(rt.alloc(), text)? {
+        Ok(_) => assert!(rt; false),
+        Err(fault) => assert_eq!(rt; fault, ReadingFault::Refused(wanted)),
+    }
+    match asked(rt.alloc(), Narrow::new(text, None))? {
+        Ok(_) => assert!(rt; false),
+        Err(fault) => assert_eq!(rt; fault, ReadingFault::Refused(wanted)),
+    }
+    Ok(())
+}
+
+#[test]
+fn the_head_comes_first(rt: HostRuntime) -> Result<(), Fail> {
+    for text in [
+        b"".as_slice(),
+        b"hello\r\n\r\n".as_slice(),
+        b"GET /consoles/C1/profiles/\x7f HTTP/1.1\r\n\r\n".as_slice(),
+        b"GET /consoles/C1/profiles/\xff HTTP/1.1\r\n\r\n".as_slice(),
+    ] {
+        expect(&rt, text, Refusal::BadRequest)?;
+    }
+    Ok(())
+}
+
+#[test]
+fn the_route_comes_before_method_and_length(rt: HostRuntime) -> Result<(), Fail> {
+    for text in [
+        "PUT /consoles/C1 HTTP/1.1\r\nContent-Length: x\r\n\r\n",
+        "POST /consoles/C1/command?x HTTP/1.1\r\nContent-Length: 14\r\n\r\n{\"text\":\"D U\"}",
+        "POST /consoles//command HTTP/1.1\r\n\r\n",
+        "POST /consoles/C1/command/ HTTP/1.1\r\n\r\n",
+        "POST /consoles/C1/import HTTP/1.1\r\n\r\n",
+        "GET /consoles/C1/account/0 HTTP/1.1\r\n\r\n",
+        "POST http://here/consoles/C1/command HTTP/1.1\r\n\r\n",
+        "POST /consoles/\u{e9}/command HTTP/1.1\r\n\r\n",
+    ] {
+        expect(&rt, text.as_bytes(), Refusal::NotFound)?;
+    }
+    Ok(())
+}
+
+#[test]
+fn the_method_comes_before_the_length(rt: HostRuntime) -> Result<(), Fail> {
+    for (text, method) in [
+        (
+            "GET /consoles/C1/command HTTP/1.1\r\nContent-Length: x\r\n\r\n",
+            Method::Post,
+        ),
+        ("post /consoles/C1/admin HTTP/1.1\r\n\r\n", Method::Post),
+        ("PUT /consoles/C1/import/0 HTTP/1.1\r\n\r\n", Method::Post),
+        (
+            "POST /consoles/9/profiles/NONE HTTP/1.1\r\nContent-Length: 65537\r\n\r\n",
+            Method::Get,
+        ),
+        (
+            "HEAD /consoles/C1/account/0/1 HTTP/1.1\r\n\r\n",
+            Method::Get,
+        ),
+    ] {
+        expect(&rt, text.as_bytes(), Refusal::MethodNotAllowed(method))?;
+    }
+    Ok(())
+}
+
+#[test]
+fn the_length_comes_before_the_body(rt: HostRuntime) -> Result<(), Fail> {
+    for text in [
+        "POST /consoles/C1/command HTTP/1.1\r\nTransfer-Encoding: chunked\r\n\r\n",
+        "POST /consoles/C1/command HTTP/1.1\r\nContent-Length: 14\r\nContent-Length: 14\r\n\r\n{\"text\":\"D U\"}",
+        "POST /consoles/C1/command HTTP/1.1\r\nContent-Length: +14\r\n\r\n{\"text\":\"D U\"}",
+        "POST /consoles/C1/command HTTP/1.1\r\nContent-Length: 0000000014\r\n\r\n{\"text\":\"D U\"}",
+        "GET /consoles/C1/profiles/CONSOLE HTTP/1.1\r\nContent-Length: 5,5\r\n\r\nhello",
+    ] {
+        expect(&rt, text.as_bytes(), Refusal::BadRequest)?;
+    }
+    let text = "POST /consoles/C1/command HTTP/1.1\r\nContent-Length: 65537\r\n\r\n";
+    expect(&rt, text.as_bytes(), Refusal::TooLarge)
+}
+
+#[test]
+fn values_of_the_path_are_read(rt: HostRuntime) -> Result<(), Fail> {
+    for path in [
+        "/consoles/C/command",
+        "/consoles/9A/command",
+        "/consoles/%411/command",
+        "/consoles/A%2523/command",
+        "/consoles/a1/command",
+        "/consoles/C1/import/0",
+        "/consoles/C1/import/1000000000",
+        "/consoles/C1/import/+7",
+        "/consoles/C1/import/%237",
+    ] {
+        let text = post(rt.alloc(), path, COMMAND)?;
+        expect(&rt, text.as_bytes(), Refusal::BadRequest)?;
+    }
+    for path in [
+        "/consoles/C1/profiles/opercmds",
+        "/consoles/C1/account/1000000000000000000/1",
+        "/consoles/C1/account/0/0",
+        "/consoles/C1/account/0/1001",
+        "/consoles/C1/account/0/00001",
+        "/consoles/C1/account/-1/1",
+    ] {
+        let text = get(rt.alloc(), path)?;
+        expect(&rt, text.as_bytes(), Refusal::BadRequest)?;
+    }
+    Ok(())
+}
+
+#[test]
+fn the_body_comes_last(rt: HostRuntime) -> Result<(), Fail> {
+    let no_text = post(rt.alloc(), "/consoles/C1/command", "{\"line\":\"D U\"}")?;
+    expect(&rt, no_text.as_bytes(), Refusal::BadRequest)?;
+    let no_header = post(rt.alloc(), "/consoles/C1/import/7", "group,,DAY,,,,,,,\n")?;
+    let header = Refusal::BadRow {
+        row: 0,
+        why: Why::Header,
+    };
+    expect(&rt, no_header.as_bytes(), header)?;
+    let no_batch = post(rt.alloc(), "/consoles/C1/import/0", "group,,DAY,,,,,,,\n")?;
+    expect(&rt, no_batch.as_bytes(), Refusal::BadRequest)
+}

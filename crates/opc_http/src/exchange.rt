@@ -1,0 +1,111 @@
+//! One exchange.
+ghost use Rattle.std.specs.Prelude.{◌≡◌, IfErr, IfOk, IfSome, OnErr, OnOk, Ok, Err, is_err, if◌then◌else◌, true};
+ghost use Rattle.std.specs.Io.KnownBytes.{Appends};
+ghost use Rattle.opc_http_link.specs.Reads.{TakesAtMost};
+ghost use Rattle.opc_http_link.specs.Writes.{AppendsPrefix};
+ghost use Rattle.opc_http_requests.specs.Asked.{StopsAtEnd};
+ghost use Rattle.opc_http.specs.Exchange.{IsCutOff, IsFaulty, IsServed, IsTold, is_write};
+
+use opc_gate::gate::Gate;
+use opc_http_head::refusal::Refusal;
+use opc_http_head::routes::Routes;
+use opc_http_link::sink::{Sink, write_whole};
+use opc_http_link::source::Source;
+use opc_http_requests::ask::read_request;
+use opc_http_requests::fault::ReadingFault;
+use opc_http_responses::response::{Response, answered, refused};
+use opc_machine::request::Answer;
+use opc_state::tables::Tables;
+use std::alloc::Global;
+use thiserror::Error;
+
+/// A response was written, whole: its status, and whether a request was handled.
+#[derive(Clone, Copy, Debug, PartialEq, Eq)]
+pub struct Served {
+    pub status: u16,
+    pub handled: bool,
+}
+
+/// Why no whole response was written. Where a request was `handled`, it stays done.
+#[derive(Clone, Copy, Debug, PartialEq, Eq, Error)]
+pub enum LinkFault {
+    /// The reader failed.
+    #[error("the request could not be read")]
+    Read,
+    /// The writer failed.
+    #[error("the response could not be written")]
+    Write { handled: bool },
+    #[error("no memory")]
+    NoMemory { handled: bool },
+}
+
+// Writes a response.
+fn respond<K: Sink>(sink: &mut K, response: &Response, handled: bool) -> Result<Served, LinkFault>
+    ensures served { IfOk result (λ served. (served.status ≡ response.now.status) × (served.handled ≡ handled)) }
+    ensures whole { OnOk result (Appends (K.held sink.old) (K.held sink.new) response.now.bytes.items) }
+    ensures fault { IfErr result (λ fault. fault ≡ LinkFault.Write handled) }
+    ensures part { OnErr result (AppendsPrefix (K.held sink.old) (K.held sink.new) response.now.bytes.items) }
+    ensures failed { K.has_failed sink.new ≡ (if is_err result then true else K.has_failed sink.old) }
+{
+    match write_whole(sink, response.bytes.as_slice()) {
+        Ok(()) => Ok(Served {
+            status: response.status,
+            handled,
+        }),
+        Err(_) => Err(LinkFault::Write { handled }),
+    }
+}
+
+// Writes the response to an answer.
+fn tell_answer<K: Sink>(alloc: Global, sink: &mut K, answer: &Answer) -> Result<Served, LinkFault>
+    ensures told { IfOk result (IsTold K.held (Ok answer.now) sink.old sink.new) }
+    ensures cut_off { IfErr result (IsCutOff K.held (Ok answer.now) sink.old sink.new) }
+    ensures write { K.has_failed sink.new ≡ (if is_write result then true else K.has_failed sink.old) }
+{
+    match answered(alloc, answer) {
+        Ok(response) => respond(sink, &response, true),
+        Err(_) => Err(LinkFault::NoMemory { handled: true }),
+    }
+}
+
+// Writes the response to what is no request.
+fn tell_refusal<K: Sink>(
+    alloc: Global,
+    sink: &mut K,
+    refusal: &Refusal,
+) -> Result<Served, LinkFault>
+    ensures told { IfOk result (IsTold K.held (Err refusal.now) sink.old sink.new) }
+    ensures cut_off { IfErr result (IsCutOff K.held (Err refusal.now) sink.old sink.new) }
+    ensures write { K.has_failed sink.new ≡ (if is_write result then true else K.has_failed sink.old) }
+{
+    match refused(alloc, refusal) {
+        Ok(response) => respond(sink, &response, false),
+        Err(_) => Err(LinkFault::NoMemory { handled: false }),
+    }
+}
+
+/// Reads one request, of 73,728 bytes at most, lets the gate handle it, and writes its response, which is built whole
+/// before its first byte is written. What is no request is refused, and the gate is not asked.
+pub fn exchange<T: Tables, S: Source, K: Sink>(
+    alloc: Global,
+    routes: &Routes,
+    source: &mut S,
+    sink: &mut K,
+    gate: &mut Gate<T>,
+    moment: u64,
+) -> Result<Served, LinkFault>
+    ensures served { IfOk result (IsServed T.is_sure T.represents T.may_leave K.held (S.left source.old) sink.old sink.new gate.old gate.new moment) }
+    ensures fault { IfErr result (IsFaulty T.is_sure T.represents T.may_leave K.held (S.left source.old) sink.old sink.new gate.old gate.new moment) }
+    ensures sure { T.is_sure gate.new → T.is_sure gate.old }
+    ensures stops { IfSome (S.left source.old) (λ all. StopsAtEnd all (S.left source.new)) }
+    ensures most { TakesAtMost 73728 (S.left source.old) (S.left source.new) }
+    ensures read { IfErr result (λ fault. fault ≡ LinkFault.Read → S.has_failed source.new ≡ true) }
+    ensures write { K.has_failed sink.new ≡ (if is_write result then true else K.has_failed sink.old) }
+{
+    match read_request(alloc, routes, source) {
+        Ok(request) => tell_answer(alloc, sink, &gate.handle(alloc, moment, &request)),
+        Err(ReadingFault::Refused(refusal)) => tell_refusal(alloc, sink, &refusal),
+        Err(ReadingFault::Read) => Err(LinkFault::Read),
+        Err(ReadingFault::NoMemory) => Err(LinkFault::NoMemory { handled: false }),
+    }
+}

@@ -1,0 +1,184 @@
+//! Exchanges that succeed, that are cut off, and whose reader or writer fails.
+use crate::link::{FailingReader, FailingWriter};
+use crate::message::bytes_of;
+use crate::room::{GIVEN_UP, Outcome, Room};
+use anyhow::{Result, bail};
+use std::alloc::Global;
+use std::str;
+
+/// What comes of a request, in one of the ways of asking it.
+pub fn tell(alloc: Global, room: &mut Room, moment: u64, text: &str) -> Result<String> {
+    let (way, request) = match text.split_once(' ') {
+        Some((way, request)) if is_way(way) => (way, request),
+        _ => ("", text),
+    };
+    let bytes = bytes_of(alloc, request)?;
+    let bytes = bytes.as_slice();
+    match way {
+        "CUT" => cut(alloc, room, moment, bytes),
+        "DRIP" => drip(alloc, room, moment, bytes),
+        "READS" => failing_reads(alloc, room, moment, bytes),
+        "WRITES" => failing_writes(alloc, room, moment, bytes),
+        _ => served(alloc, &asked(alloc, room, moment, bytes)?),
+    }
+}
+
+fn is_way(word: &str) -> bool {
+    matches!(word, "CUT" | "DRIP" | "READS" | "WRITES")
+}
+
+fn one_byte_a_read(bytes: &[u8], reads: usize) -> FailingReader<'_> {
+    FailingReader {
+        left: bytes,
+        piece: 1,
+        reads,
+    }
+}
+
+fn never_failing(bytes: &[u8]) -> FailingReader<'_> {
+    FailingReader {
+        left: bytes,
+        piece: usize::MAX,
+        reads: usize::MAX,
+    }
+}
+
+fn one_byte_a_write(alloc: Global, writes: usize) -> FailingWriter {
+    FailingWriter::new(alloc, 1, writes)
+}
+
+/// An exchange in which nothing fails.
+fn asked(alloc: Global, room: &mut Room, moment: u64, bytes: &[u8]) -> Result<Outcome> {
+    let writer = FailingWriter::new(alloc, usize::MAX, usize::MAX);
+    room.exchange(alloc, moment, never_failing(bytes), writer)
+}
+
+/// What came of an exchange, and the whole response.
+fn served(alloc: Global, outcome: &Outcome) -> Result<String> {
+    let response = str::from_utf8(outcome.written.as_slice())?.replace(alloc, "\r", "\\r")?;
+    Ok(format!(in alloc; "{}\n{response}\n", outcome.told)?)
+}
+
+fn drip(alloc: Global, room: &mut Room, moment: u64, bytes: &[u8]) -> Result<String> {
+    let reader = one_byte_a_read(bytes, usize::MAX);
+    let writer = one_byte_a_write(alloc, usize::MAX);
+    served(alloc, &room.exchange(alloc, moment, reader, writer)?)
+}
+
+fn cut(alloc: Global, room: &mut Room, moment: u64, bytes: &[u8]) -> Result<String> {
+    let first = asked(alloc, room, moment, &[])?;
+    let mut spans = Spans::after(served(alloc, &first)?);
+    for length in 1..bytes.len() {
+        let outcome = asked(alloc, room, moment, &bytes[..length])?;
+        let response = if outcome.written.as_slice() == first.written.as_slice() {
+            "the same response"
+        } else {
+            "another response"
+        };
+        spans.add(
+            alloc,
+            length,
+            format!(in alloc; "{}, {response}", outcome.told)?,
+        )?;
+    }
+    spans.ended(alloc)
+}
+
+fn failing_reads(alloc: Global, room: &mut Room, moment: u64, bytes: &[u8]) -> Result<String> {
+    let mut spans = Spans::after(String::new(alloc));
+    for reads in 0..bytes.len() + 1 {
+        let reader = one_byte_a_read(bytes, reads);
+        let writer = one_byte_a_write(alloc, usize::MAX);
+        let outcome = room.exchange(alloc, moment, reader, writer)?;
+        let response = if outcome.written.is_empty() {
+            "nothing written"
+        } else {
+            "a response"
+        };
+        spans.add(
+            alloc,
+            reads,
+            format!(in alloc; "{}, {response}", outcome.told)?,
+        )?;
+    }
+    spans.ended(alloc)
+}
+
+fn failing_writes(alloc: Global, room: &mut Room, moment: u64, bytes: &[u8]) -> Result<String> {
+    let before = room.account_length(alloc)?;
+    let whole = asked(alloc, room, moment, bytes)?;
+    let rows = room.account_length(alloc)?.saturating_sub(before);
+    let mut spans = Spans::after(served(alloc, &whole)?);
+    for writes in 0..whole.written.len() + 1 {
+        let writer = one_byte_a_write(alloc, writes);
+        let outcome = room.exchange(alloc, moment, never_failing(bytes), writer)?;
+        let response = if outcome.written.as_slice() == &whole.written.as_slice()[..writes] {
+            "a byte of the response for each write"
+        } else {
+            "other bytes"
+        };
+        let told = format!(in alloc; "{}, {response}", outcome.told)?;
+        spans.add(alloc, writes, told)?;
+    }
+    let full = FailingWriter::new(alloc, 0, usize::MAX);
+    let outcome = room.exchange(alloc, moment, never_failing(bytes), full)?;
+    // Each exchange brings the same number of rows, unless it is given up.
+    let exchanges = whole.written.len().saturating_add(3);
+    if room.account_length(alloc)?.checked_sub(before) != rows.checked_mul(exchanges) {
+        bail!(GIVEN_UP);
+    }
+    let told = spans.ended(alloc)?;
+    Ok(format!(in alloc;
+        "{told}taking nothing: {}\nrows for each: {rows}\n",
+        outcome.told
+    )?)
+}
+
+/// What is told of trials one after another; those that came out alike are told together.
+#[derive(Drop)]
+struct Spans {
+    told: String,
+    now: Option<Span>,
+}
+
+#[derive(Drop)]
+struct Span {
+    first: usize,
+    last: usize,
+    outcome: String,
+}
+
+impl Spans {
+    fn after(told: String) -> Self {
+        Spans { told, now: None }
+    }
+
+    fn add(&mut self, alloc: Global, at: usize, outcome: String) -> Result<()> {
+        if let Some(span) = &mut self.now {
+            if span.outcome.as_str() == outcome.as_str() {
+                span.last = at;
+                return Ok(());
+            }
+        }
+        self.end_span(alloc)?;
+        self.now = Some(Span {
+            first: at,
+            last: at,
+            outcome,
+        });
+        Ok(())
+    }
+
+    fn end_span(&mut self, alloc: Global) -> Result<()> {
+        if let Some(span) = self.now.take() {
+            let line = format!(in alloc; "{} to {}: {}\n", span.first, span.last, span.outcome)?;
+            self.told.push_str(line.as_str())?;
+        }
+        Ok(())
+    }
+
+    fn ended(mut self, alloc: Global) -> Result<String> {
+        self.end_span(alloc)?;
+        Ok(self.told)
+    }
+}

@@ -6,16 +6,14 @@ use opc_program::import::{Import, export_on, import_on};
 use opc_program::machine::Machine;
 use opc_program::reason::Reason;
 use opc_program::run::{run_on, told};
+use opc_program::serve::{Serve, serve_tables};
 use opc_script::status::Status;
+use opc_serve::clock::moment;
 use opc_store::opening::OpenFault;
 use opc_store::store::Store;
 use sqlite::{Error, ErrorCode, FileFrom, FileStore, MemStore, Wary};
 use std::alloc::Global;
 use std::io::{Read, Write};
-use std::time::SystemTime;
-
-/// The last moment: 13 digits.
-const LAST_MOMENT: u64 = 9_999_999_999_999;
 
 /// What the system gives a process.
 #[derive(Drop)]
@@ -125,15 +123,22 @@ impl Process {
         closed(end, tables, paths, errors)
     }
 
-    /// The clock's whole seconds since 1970, within what a moment can be.
+    fn serve_file<W: Write, E: Write>(
+        &self,
+        serve: &Serve<'_>,
+        paths: &Paths<'_>,
+        output: &mut W,
+        errors: &mut E,
+    ) -> Result<Status, Failure> {
+        let tables = self.open_tables(serve.path)?;
+        let (end, tables) = serve_tables(&self.rt, tables, serve, output);
+        closed(end, tables, paths, errors)
+    }
+
     fn moment(&self) -> Result<u64, Failure> {
-        let now = match SystemTime::now(&self.rt) {
-            Ok(now) => now,
-            Err(error) => return Err(Failure::at(Place::Clock, error)),
-        };
-        match now.duration_since(SystemTime::UNIX_EPOCH) {
-            Ok(since) => Ok(since.as_secs().min(LAST_MOMENT)),
-            Err(_) => Ok(0),
+        match moment(&self.rt) {
+            Ok(moment) => Ok(moment),
+            Err(error) => Err(Failure::at(Place::Clock, error)),
         }
     }
 }
@@ -176,6 +181,17 @@ impl Machine for Process {
     fn export<W: Write, E: Write>(&self, path: &str, output: &mut W, errors: &mut E) -> Status {
         let paths = of_file(path);
         let end = self.export_of_file(path, &paths, output, errors);
+        told(end, &paths, errors)
+    }
+
+    fn serve<W: Write, E: Write>(
+        &self,
+        serve: &Serve<'_>,
+        output: &mut W,
+        errors: &mut E,
+    ) -> Status {
+        let paths = of_file(serve.path);
+        let end = self.serve_file(serve, &paths, output, errors);
         told(end, &paths, errors)
     }
 }

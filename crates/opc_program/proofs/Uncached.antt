@@ -21,7 +21,7 @@ module _ {T C : Type 0} (tables : C → T) (is_sure : T → Type 0) (represents 
   abbrev pub leaves : C → State → Type 0
   leaves c s = may_leave (tables c) s
 
-  run : (s : State) (rs : List (ℕ × Request)) (answers : List Answer) → IsRun kept leaves old new s rs answers → IsRun represents may_leave (tables old) (tables new) s rs answers
+  pub run : (s : State) (rs : List (ℕ × Request)) (answers : List Answer) → IsRun kept leaves old new s rs answers → IsRun represents may_leave (tables old) (tables new) s rs answers
   run s rs answers r = record { last = r.last; runs = r.runs; represented = below new r.last r.represented; crash = r.crash; acknowledged = r.acknowledged }
 
   whole : (rs : List (ℕ × Request)) (before written : Option (List ℕ)) (status : Status) → IsWhole sure kept leaves old new rs before written status

@@ -7,9 +7,9 @@ use crate::reason::Reason;
 use arrayvec::ArrayString;
 use opc_policy::fault::Fault;
 use opc_script::status::Status;
-use std::fmt::Write as _;
-use std::io;
+use std::fmt::{Display, Formatter, Write as _};
 use std::io::{ErrorKind, Write};
+use std::{fmt, io};
 
 /// More bytes than the line of any fault has: the longest name in one is a pattern of 39 characters.
 const FAULT_LINE: usize = 160;
@@ -35,26 +35,30 @@ pub enum Place {
     PolicyFile,
     Database,
     Clock,
+    /// A port of 127.0.0.1.
+    Port(u16),
+    /// A connection that was to be accepted.
+    Connection,
 }
 
-impl Place {
-    fn text(self) -> &'static str {
-        match self {
-            Place::Input => "standard input",
-            Place::Output => "standard output",
-            Place::PolicyFile => "policy file ",
-            Place::Database => "database ",
-            Place::Clock => "clock",
-        }
-    }
+/// A place, with the paths of the files that the words name.
+#[derive(Clone, Copy)]
+struct NamedPlace<'a> {
+    place: Place,
+    paths: &'a Paths<'a>,
+}
 
-    fn path<'a>(self, paths: &Paths<'a>) -> &'a str {
-        let path = match self {
-            Place::Input | Place::Output | Place::Clock => None,
-            Place::PolicyFile => paths.policy,
-            Place::Database => paths.database,
-        };
-        path.unwrap_or("")
+impl Display for NamedPlace<'_> {
+    fn fmt<W: fmt::Write>(&self, f: &mut Formatter<W>) -> fmt::Result {
+        match self.place {
+            Place::Input => f.write_str("standard input"),
+            Place::Output => f.write_str("standard output"),
+            Place::PolicyFile => write!(f, "policy file {}", self.paths.policy.unwrap_or("")),
+            Place::Database => write!(f, "database {}", self.paths.database.unwrap_or("")),
+            Place::Clock => f.write_str("clock"),
+            Place::Port(port) => write!(f, "port {port}"),
+            Place::Connection => f.write_str("connection"),
+        }
     }
 }
 
@@ -112,12 +116,11 @@ impl Failure {
                     Reason::Row(_) => ", ",
                     _ => ": ",
                 };
-                let _ = writeln!(
-                    errors,
-                    "opcmds: {}{}{separator}{reason}",
-                    place.text(),
-                    place.path(paths)
-                );
+                let place = NamedPlace {
+                    place: *place,
+                    paths,
+                };
+                let _ = writeln!(errors, "opcmds: {place}{separator}{reason}");
             }
         }
         status_of(&self.fault)

@@ -9,5 +9,6 @@ pub mod machine;
 mod policy_file;
 pub mod reason;
 pub mod run;
+pub mod serve;
 mod streams;
 pub mod words;

@@ -1,6 +1,7 @@
 //! The machine that the program runs on.
 use crate::failure::Paths;
 use crate::import::Import;
+use crate::serve::Serve;
 use opc_script::status::Status;
 use std::io::{Read, Write};
 
@@ -28,4 +29,12 @@ pub trait Machine: AllocGlobal {
 
     /// Opens the tables of the database file, and writes their policy as a policy file. Answers the status.
     fn export<W: Write, E: Write>(&self, path: &str, output: &mut W, errors: &mut E) -> Status;
+
+    /// Opens the tables of the database file, listens at the port, and serves the clients that come. Answers the status.
+    fn serve<W: Write, E: Write>(
+        &self,
+        serve: &Serve<'_>,
+        output: &mut W,
+        errors: &mut E,
+    ) -> Status;
 }

@@ -2,6 +2,7 @@
 use crate::failure::{Failure, NO_PATHS, Paths, Place};
 use crate::import::Import;
 use crate::machine::Machine;
+use crate::serve::Serve;
 use crate::{explain, run};
 use clap::error::ErrorKind;
 use clap::{Arg, ArgAction, ArgMatches, Command, Error};
@@ -125,6 +126,46 @@ fn export_command<'a>(alloc: Global) -> Result<Command<'a>, AllocError> {
         .required(true))
 }
 
+fn serve_command<'a>(alloc: Global) -> Result<Command<'a>, AllocError> {
+    Command::new(alloc, "serve")
+        .about(
+            "Answers requests over HTTP on 127.0.0.1, one connection after another, over a database file",
+        )
+        .after_help(
+            "Prints LISTENING 127.0.0.1:PORT once it answers.\n\
+             Example: opcmds serve --db gate.db --port 8011 --count 1 &\n\
+             \x20        curl -s --retry 5 --retry-connrefused -d '{\"text\":\"D U\"}' http://127.0.0.1:8011/consoles/C1/command\n\
+             Status: 0 all connections were served, 2 bad words, 3 out of memory or a failed device",
+        )
+        .arg(value(
+            alloc,
+            "db",
+            "FILE",
+            "The database file, made if it is not there",
+        )
+        .required(true))?
+        .arg(value(
+            alloc,
+            "port",
+            "NUMBER",
+            "The port, 0 to 65,535; with 0 the system chooses one",
+        )
+        .required(true))?
+        .arg(value(
+            alloc,
+            "count",
+            "NUMBER",
+            "How many connections are served, 1 to 1,000,000",
+        )
+        .default_value("1000000"))?
+        .arg(value(
+            alloc,
+            "timeout",
+            "SECONDS",
+            "How long a silent peer is waited for, 1 to 3,600; as long as it takes without this",
+        ))
+}
+
 fn whole_command<'a>(alloc: Global) -> Result<Command<'a>, AllocError> {
     Command::new(alloc, "opcmds")
         .about("The authority gate for operator commands, by RACF-like profiles")
@@ -133,7 +174,8 @@ fn whole_command<'a>(alloc: Global) -> Result<Command<'a>, AllocError> {
         .subcommand(explain_command(alloc)?)?
         .subcommand(run_command(alloc)?)?
         .subcommand(import_command(alloc)?)?
-        .subcommand(export_command(alloc)?)
+        .subcommand(export_command(alloc)?)?
+        .subcommand(serve_command(alloc)?)
 }
 
 fn matches_of<'a>(alloc: Global, words: &'a [String]) -> Result<ArgMatches<'a>, Error> {
@@ -178,6 +220,12 @@ pub fn run_words<M: Machine, R: Read, W: Write, E: Write>(
     }
     if let Some(chosen) = matches.subcommand_matches("export") {
         return machine.export(chosen.get_str("db").unwrap_or(""), output, errors);
+    }
+    if let Some(chosen) = matches.subcommand_matches("serve") {
+        return match Serve::read(chosen) {
+            Ok(serve) => machine.serve(&serve, output, errors),
+            Err(word) => unread(word, "serve", errors),
+        };
     }
     Status::BadInput
 }

@@ -1,0 +1,51 @@
+//! The end of a response.
+ghost use Rattle.std.specs.Prelude.{◌*◌, ◌≤◌, length};
+ghost use Rattle.opc_http_link.specs.Reads.{TakesAtMost};
+
+use crate::connection::{Connection, Side};
+use opc_http_link::source::Source;
+use opc_http_link::watched::Watched;
+use std::net::Shutdown;
+use std::time::Duration;
+
+/// The most reads of what a peer sent beyond what was asked for, and the most bytes of each.
+const MOST_READS: u32 = 32;
+
+const CHUNK: usize = 32_768;
+
+/// The most seconds that one of them waits.
+const WAIT: u64 = 1;
+
+/// Reads once and forgets it; whether more may follow.
+fn forget_some<S: Source>(source: &mut S, chunk: &mut [u8]) -> bool
+    requires { length chunk.old ≤ CHUNK }
+    ensures { TakesAtMost CHUNK (S.left source.old) (S.left source.new) }
+{
+    match source.read(chunk) {
+        Ok(n) => n > 0,
+        Err(_) => false,
+    }
+}
+
+/// Reads on and forgets it, to the end or to the limit.
+fn forget_rest<S: Source>(source: &mut S)
+    ensures { TakesAtMost (MOST_READS * CHUNK) (S.left source.old) (S.left source.new) }
+{
+    let mut chunk = [0u8; CHUNK];
+    for _read in 0..MOST_READS {
+        if !forget_some(source, &mut chunk) {
+            return;
+        }
+    }
+}
+
+/// Ends a response: tells the peer that no more comes, and reads away what it still sends, in few reads that wait for a
+/// short time each. Otherwise the system would reset a connection that has bytes to read, and the peer might lose the
+/// response.
+pub fn read_away<C: Connection>(connection: &C) {
+    let told = connection.shutdown(Shutdown::Write);
+    let limited = connection.set_read_timeout(Some(Duration::from_secs(WAIT)));
+    if told.is_ok() && limited.is_ok() {
+        forget_rest(&mut Watched::new(Side::of(connection)));
+    }
+}

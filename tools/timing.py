@@ -1,49 +1,94 @@
 """Runs of the program over copies of database files, timed by the clock and by the processor."""
-import os, re, resource, shutil, statistics, subprocess, sys, time
+import os, re, resource, shutil, statistics, subprocess, sys, tempfile, time
 from typing import NamedTuple
 
 from places import built
 
 
 class Took(NamedTuple):
-    """Seconds by the clock, and seconds of a processor, which other work on the machine lengthens less."""
+    """Seconds by the clock, and seconds of a processor, which other work on the machine lengthens less; or, where those are
+    counted, instructions, which do not depend on it."""
     clock: float
     processor: float
+    instructions: int = 0
 
     def __sub__(self, other):
-        return Took(self.clock - other.clock, self.processor - other.processor)
+        return Took(*(mine - theirs for mine, theirs in zip(self, other)))
 
     def __truediv__(self, other):
         """By how much this is dearer, in each."""
         return Took(*(mine / theirs if theirs > 0 else float("nan") for mine, theirs in zip(self, other)))
 
     def each(self, count):
-        """Microseconds of one of so many."""
-        return Took(*(it / count * 1e6 for it in self))
+        """Microseconds, and thousands of instructions, of one of so many."""
+        return Took(self.clock / count * 1e6, self.processor / count * 1e6, self.instructions / count / 1e3)
+
+    def told(self):
+        """What one takes, by `each`."""
+        if counting:
+            return f"{self.instructions:9.1f} thousand instructions"
+        return f"{self.clock:9.1f} microseconds, {self.processor:9.1f} of the processor"
+
+    def told_ratio(self):
+        return f"{self.instructions:5.2f}" if counting else f"{self.clock:5.2f}, of the processor {self.processor:5.2f}"
+
+
+# Whether instructions are counted, by valgrind, in place of times.
+counting = False
+
+
+def options(arguments):
+    """The words that each bench takes."""
+    arguments.add_argument("--runs", type=int, default=11)
+    arguments.add_argument("--instructions", action="store_true")
+    arguments.add_argument("--folder", default="/dev/shm")
+
+
+def chosen(arguments):
+    """The words that were given; one run suffices to count instructions."""
+    global counting
+    given = arguments.parse_args()
+    counting = given.instructions
+    given.runs = 1 if counting else given.runs
+    return given
 
 
 def median(times):
     return Took(*map(statistics.median, zip(*times)))
 
 
-def timed(words, data=None, **environment):
-    """What a finished process took, with its status and output."""
-    before, started = resource.getrusage(resource.RUSAGE_CHILDREN), time.perf_counter()
-    ran = subprocess.run(words, input=data, stdout=subprocess.PIPE, env={**os.environ, **environment})
-    clock, after = time.perf_counter() - started, resource.getrusage(resource.RUSAGE_CHILDREN)
+def timed(words, data=None, path=os.devnull, **environment):
+    """What a finished process took, with its status and output; its input is these bytes, or a file."""
+    log = tempfile.mktemp() if counting else None
+    if log:
+        words = ["valgrind", "--tool=cachegrind", "--cache-sim=no", "--cachegrind-out-file=/dev/null", f"--log-file={log}", *words]
+    with open(path, "rb") as file:
+        given = {"stdin": file} if data is None else {"input": data}
+        before, started = resource.getrusage(resource.RUSAGE_CHILDREN), time.perf_counter()
+        ran = subprocess.run(words, stdout=subprocess.PIPE, env={**os.environ, **environment}, **given)
+        clock, after = time.perf_counter() - started, resource.getrusage(resource.RUSAGE_CHILDREN)
     processor = after.ru_utime - before.ru_utime + after.ru_stime - before.ru_stime
-    return Took(clock, processor), ran.returncode, ran.stdout
+    return Took(clock, processor, counted_in(log) if log else 0), ran.returncode, ran.stdout
+
+
+def counted_in(log):
+    """The instructions that valgrind tells, whose log goes."""
+    with open(log) as it:
+        found = re.search(r"I\s+refs:\s+([\d,]+)", it.read())
+    os.remove(log)
+    return int(found[1].replace(",", "")) if found else 0
 
 
 TOLD = re.compile(r"^(.+): (\d+) in (\d+) microseconds, (\d+) of the processor$", re.M)
 
 
 def library(words, **environment):
-    """What the works of a C program took, by their names, as it measures them itself."""
-    _, status, output = timed(words, **environment)
+    """What the works of a C program took, by their names, as it measures them itself; its instructions are those of all of
+    them, with its start."""
+    took, status, output = timed(words, **environment)
     if status:
         sys.exit(f"status {status} of {words}")
-    return {name: Took(int(clock) / 1e6, int(processor) / 1e6) for name, _, clock, processor in TOLD.findall(output.decode())}
+    return {name: Took(int(clock) / 1e6, int(processor) / 1e6, took.instructions) for name, _, clock, processor in TOLD.findall(output.decode())}
 
 
 class Program:

@@ -1,0 +1,58 @@
+"""Random lists of requests: a service whose cache goes on answers as services do that begin each request with an empty one."""
+import random, shutil
+
+from . import clients, requests, stored
+from .rows import timeless
+from .service import Service
+
+LISTS, LENGTH = 8, 40
+TEXTS = ("C PAYROLL", "C BACKUP", "C X1", "D A,L", "D C", "V 0A80,OFFLINE", "V 0A80,ONLINE", "LOGON ANNA,ABC", "LOGON BERT,ABC", "LOGOFF")
+PATTERNS = ("MVS.CANCEL.JOB.*", "MVS.CANCEL.JOB.PAY*", "MVS.CANCEL.JOB.PAYROLL", "MVS.CANCEL.**", "MVS.VARY.DEV", "MVS.**", "**")
+LEVELS = ("NONE", "READ", "UPDATE", "ALTER")
+
+
+def any_request(chance, batch):
+    """A command, an operation that may change what decides, an import, or a listing; no answer is wanted of it."""
+    pattern, level, user = chance.choice(PATTERNS), chance.choice(LEVELS), chance.choice(("ANNA", "BERT", "OPS"))
+    kinds = [
+        lambda: requests.command(chance.choice(("C1", "C3")), chance.choice(TEXTS), None),
+        lambda: requests.define("C2", pattern, None, uacc=level, warning=chance.random() < 0.2),
+        lambda: requests.define("C2", pattern, None, op="RAlter", uacc=level),
+        lambda: requests.delete("C2", pattern, None),
+        lambda: requests.permit("C2", pattern, user, level, None),
+        lambda: requests.class_active("C2", "OPERCMDS", chance.random() < 0.8, None),
+        lambda: requests.imported("C2", batch, [f"profile,OPERCMDS,{pattern},,{level},SECADM,,"], None),
+        lambda: requests.profiles("C1", "OPERCMDS", None),
+        lambda: requests.account("C2", 1, 50, None),
+    ]
+    return chance.choices(kinds, weights=[12, 3, 1, 3, 2, 1, 1, 1, 1])[0]()
+
+
+def any_list(chance):
+    return [requests.logon("C2", "SECADM"), requests.logon("C1", "BERT"), *(any_request(chance, at + 1) for at in range(LENGTH))]
+
+
+def together(file, steps):
+    """The responses of one service."""
+    with Service(file, "--count", str(len(steps))) as service:
+        return [timeless(it, clients.by_socket(service.port, it.method, it.path, it.body)) for it in steps]
+
+
+def apart(file, steps):
+    """The responses of one service for each request."""
+    return [response for it in steps for response in together(file, [it])]
+
+
+def lists(tally, room, base):
+    for seed in range(LISTS):
+        steps, found = any_list(random.Random(seed)), []
+        for way in (together, apart):
+            file = f"{room}/{way.__name__}{seed}"
+            shutil.copy(base, file)
+            found.append((way(file, steps), stored.whole(file)))
+        (cached, left), (uncached, left_apart) = found
+        for at, (one, other) in enumerate(zip(cached, uncached), 1):
+            tally.equal(f"random list {seed}, request {at}: {steps[at - 1].path} {steps[at - 1].body}", one, other)
+        tally.equal(f"random list {seed}: what it leaves", left, left_apart)
+        done = sum(b'"status":"done"' in it for it in cached)
+        tally.wants(f"random list {seed}: some are done and some refused", LENGTH // 5 < done < LENGTH - LENGTH // 10, done)

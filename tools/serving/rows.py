@@ -1,0 +1,51 @@
+"""The worked rows, asked by each kind of client."""
+import re, shutil, subprocess, time
+
+from places import POLICY, built
+from . import requests, stored, worked
+from .clients import CLIENTS
+from .service import Service
+
+# what stands before a listed row of the account
+MOMENT = re.compile(rb'(?<=")(\d+) \d{%d} ' % len(requests.MOMENT))
+
+
+def timeless(step, found):
+    """The response, without the moments where it lists the account."""
+    return MOMENT.sub(rb"\1 %s " % requests.MOMENT.encode(), found) if "/account/" in step.path else found
+
+
+def asked(tally, title, service, ask, steps):
+    """Asks the steps in turn, and judges each response by its bytes."""
+    for at, step in enumerate(steps, 1):
+        found = ask(service.port, step.method, step.path, step.body)
+        tally.equal(f"{title}, step {at}", timeless(step, found), step.wanted)
+
+
+def exported(file):
+    """The lines of the policy file that comes out of this one."""
+    ran = subprocess.run([built(), "export", "--db", file], stdin=subprocess.DEVNULL, capture_output=True, text=True)
+    return ran.stdout.splitlines()
+
+
+def is_policy_of_operations(file):
+    """Whether the policy is the base policy with what the row of each operation changes."""
+    with open(POLICY) as base:
+        wide = {f"{line},," for line in base.read().splitlines()[1:]}
+    taken, given = ({line.replace("{digest}", requests.DIGEST) for line in lines} for lines in (worked.TAKEN, worked.GIVEN))
+    return taken <= wide and set(exported(file)[1:]) == (wide - taken) | given
+
+
+def rows(tally, room, base):
+    for by, ask in CLIENTS.items():
+        for title, (steps, account) in worked.ROWS.items():
+            file, began = f"{room}/rows", int(time.time())
+            shutil.copy(base, file)
+            title = f"{title}, by {by}"
+            with Service(file, "--count", str(len(steps))) as service:
+                asked(tally, title, service, ask, steps)
+                tally.equal(f"{title}: how it ends", service.ended(), (0, "", ""))
+            tally.equal(f"{title}: the account", stored.account(file), account)
+            tally.wants(f"{title}: the moments", all(began <= moment <= time.time() for moment in stored.moments(file)))
+            if title.startswith(worked.OPERATIONS):
+                tally.wants(f"{title}: the policy", is_policy_of_operations(file), exported(file))

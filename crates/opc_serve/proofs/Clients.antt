@@ -55,12 +55,12 @@ module _ {T : Type 0} (is_sure : T → Type 0) (represents may_leave : T → Sta
       let is : r ≡ get_or all (length rs) r = sym (get_or-append_seam rs r [] r) in
       let low : length rs < length all = omega (arith, long) in
       let step : (first : IsRun represents may_leave old mid s (take (length rs) all) answers) → IsHandled represents may_leave mid new first.last r.0 (input_of r.1) answer
-              → IsRun represents may_leave old new s (take (length rs + 1) all) (answers ++ answer ∷ []) =
-          λ first then. run_more represents may_leave all (length rs) r old mid new s answers answer low is first then in
+      → IsRun represents may_leave old new s (take (length rs + 1) all) (answers ++ answer ∷ []) =
+      λ first then. run_more represents may_leave all (length rs) r old mid new s answers answer low is first then in
       let same : (first : IsRun represents may_leave old mid s rs answers) → IsHandled represents may_leave mid new first.last r.0 (input_of r.1) answer
-              → IsRun represents may_leave old new s (take (length rs + 1) all) (answers ++ answer ∷ []) =
-          subst (λ qs. (first : IsRun represents may_leave old mid s qs answers) → IsHandled represents may_leave mid new first.last r.0 (input_of r.1) answer
-              → IsRun represents may_leave old new s (take (length rs + 1) all) (answers ++ answer ∷ [])) seam step in
+      → IsRun represents may_leave old new s (take (length rs + 1) all) (answers ++ answer ∷ []) =
+      subst (λ qs. (first : IsRun represents may_leave old mid s qs answers) → IsHandled represents may_leave mid new first.last r.0 (input_of r.1) answer
+      → IsRun represents may_leave old new s (take (length rs + 1) all) (answers ++ answer ∷ [])) seam step in
       subst (λ qs. IsRun represents may_leave old new s qs (answers ++ answer ∷ [])) whole (same run handled)
 
   pub goes_on : (old mid new : T) (count moment : ℕ) → moment ≤ LAST_MOMENT → (is_sure new → is_sure mid)

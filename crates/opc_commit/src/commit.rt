@@ -64,7 +64,8 @@ fn apply<S: Alter>(alloc: Global, tx: &mut Transaction<'_, S>, edit: &Edit) -> R
     }
 }
 
-fn apply_all<S: Alter>(
+/// All edits, one after another.
+pub fn apply_all<S: Alter>(
     alloc: Global,
     tx: &mut Transaction<'_, S>,
     edits: &[Edit],

@@ -85,7 +85,7 @@ fn kept<R: Drop>(alloc: Global, list: Vec<R>) -> Result<Rows<R>, AllocError>
 }
 
 /// The rows that a text tells.
-fn rows_in(alloc: Global, text: &KeptText) -> Result<Rows<Row>, StoreFault>
+pub fn rows_in(alloc: Global, text: &KeptText) -> Result<Rows<Row>, StoreFault>
     ensures { (rows : List TheRow) → policy_of text.now ≡ Ok rows → IfOk result (λ v. v ≡ rows) }
 {
     match read_policy(alloc, text.as_str()) {

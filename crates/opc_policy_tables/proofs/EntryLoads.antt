@@ -56,7 +56,7 @@ unfolding understood everything
 entries_asked = record { selects = refl; unlisted = refl; plain = (refl, refl); shows = λ schema base. refl }
 
 -- entries by the texts of their columns
-abbrev column_cmp : Entry → Entry → Ordering
+abbrev pub column_cmp : Entry → Entry → Ordering
 column_cmp e f = ordering_then (name_cmp e.id f.id) (name_cmp (or_empty e.when) (or_empty f.when))
 
 console_less : (a b : Option (List ℕ)) → b ≢ Some [] → option_cmp name_cmp a b ≡ Less → name_cmp (or_empty a) (or_empty b) ≡ Less
@@ -75,7 +75,7 @@ column_less e f h named = go (name_cmp e.id f.id) h
     go Equal h = console_less e.when f.when named h
     go Greater h = absurd cc
 
-columns_rise : (es : List Entry) → IsAccessList es → Rises column_cmp es
+pub columns_rise : (es : List Entry) → IsAccessList es → Rises column_cmp es
 columns_rise [] list = tt
 columns_rise (e ∷ es) list = (all_both (λ f. entry_cmp e f ≡ Less) IsNamed (λ f. column_cmp e f ≡ Less) (column_less e) es list.0.0 list.1.1, columns_rise es (list.0.1, list.1.1))
 
@@ -114,7 +114,7 @@ module _ (s : State) (ordered : IsOrdered s) (class : Class) (pattern : List ℕ
       go (Some p) here = found_one (λ (q : Profile). IsAccessList q.entries) (is_of class pattern) s.policy.profiles p ordered.entries here
 
   -- its rows are those of the class and the pattern
-  list_rows : filter (has_profile class pattern) (flat_map entry_rows s.policy.profiles) ≡ map (entry_row class pattern) list
+  pub list_rows : filter (has_profile class pattern) (flat_map entry_rows s.policy.profiles) ≡ map (entry_row class pattern) list
   list_rows = go (profile_of s.policy.profiles class pattern) refl
     where
       go : (o : Option Profile) → profile_of s.policy.profiles class pattern ≡ o → filter (has_profile class pattern) (flat_map entry_rows s.policy.profiles) ≡ map (entry_row class pattern) (option_map_or (λ (q : Profile). q.entries) o [])

@@ -1,3 +1,4 @@
+pub mod ByPattern
 pub mod ClassLoads
 pub mod ClassRows
 pub mod ConnectLoads
@@ -6,6 +7,7 @@ pub mod EntryLoads
 pub mod EntryRows
 pub mod GroupLoads
 pub mod GroupRows
+pub mod ListLoads
 pub mod ProfileLoads
 pub mod ProfileRows
 pub mod UserLoads

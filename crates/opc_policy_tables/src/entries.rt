@@ -170,7 +170,8 @@ fn entry_in(row: &Row) -> Result<Entry, StoreFault>
     })
 }
 
-fn entries_in(alloc: Global, rows: &[Row]) -> Result<Entries, StoreFault>
+/// The entries of some rows, in their order.
+pub fn entries_in(alloc: Global, rows: &[Row]) -> Result<Entries, StoreFault>
     ensures { (class : TheClass) → (pattern : List ℕ) → (entries : List TheEntry) → IsAccessList entries → rows.now ≡ map (entry_row class pattern) entries → IfOk result (λ v. v ≡ entries) }
 {
     // Named for the prover, which else does not find the type of an entry's console.

@@ -6,6 +6,7 @@ pub mod connects;
 pub mod entries;
 pub mod groups;
 pub mod levels;
+mod lists;
 pub mod named;
 pub mod profiles;
 mod there;

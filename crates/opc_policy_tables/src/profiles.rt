@@ -1,5 +1,5 @@
 //! The table of profiles.
-ghost use Rattle.std.specs.Prelude.{◌≡◌, ◌≢◌, ◌∷◌, List, IfOk, OnOk, None, map, false, Some, IsTrue};
+ghost use Rattle.std.specs.Prelude.{◌≡◌, ◌≢◌, ◌∷◌, ◌++◌, List, IfOk, OnOk, None, map, false, Some, IsTrue};
 ghost use Rattle.std.specs.List.{list_any};
 ghost use Rattle.std.specs.Option.{option_map};
 ghost use Rattle.std.specs.Str.{bytes_eq};
@@ -14,17 +14,18 @@ ghost use Rattle.opc_state.specs.Loads.{bare};
 ghost use Rattle.opc_state.specs.Members.{without_profile};
 ghost use Rattle.opc_stored.specs.Asked.{Finds, Makes};
 ghost use Rattle.opc_stored.specs.Made.{IsMade};
-ghost use Rattle.opc_stored.specs.Represented.{Represents, contents_of, profile_row};
+ghost use Rattle.opc_stored.specs.Represented.{Represents, contents_of, definition_row, profile_row};
 ghost use Rattle.opc_stored.specs.Changes.{Becomes};
 ghost use Rattle.sqlite.specs.Order.{column};
+ghost use Rattle.sqlite.specs.declared.types.Value.{Value as TheValue};
 ghost use Rattle.sqlite.specs.declared.types.Value.TheVariants.{Text};
 ghost use Rattle.opc_names.specs.Spellings.{class_text};
 ghost use Rattle.opc_names.specs.declared.class.Class.{Class as TheClass};
 ghost use Rattle.opc_policy.specs.declared.profile.Profile.{Profile as TheProfile};
-ghost use Rattle.opc_policy_tables.specs.Among.{AreAmong};
 
 use crate::entries::{access_list_on, insert_entries};
 use crate::levels::{level_in, rank_of};
+use crate::lists::{entry_rows_on, whole_in};
 use crate::there::is_there_on;
 use opc_names::class::Class;
 use opc_names::laws::keys_order_patterns;
@@ -135,9 +136,9 @@ fn class_in(row: &Row) -> Result<Class, StoreFault>
     }
 }
 
-/// A profile, but for its access list.
-pub fn profile_in(alloc: Global, row: &Row) -> Result<Profile, StoreFault>
-    ensures { (p : TheProfile) → row.now ≡ profile_row p → IfOk result (λ v. v ≡ bare p) }
+/// A profile, but for its access list, from the first columns of a row.
+pub fn definition_in(alloc: Global, row: &Row) -> Result<Profile, StoreFault>
+    ensures { (p : TheProfile) (rest : List TheValue) → row.now ≡ definition_row p ++ rest → IfOk result (λ v. v ≡ bare p) }
 {
     Ok(Profile {
         class: class_in(row)?,
@@ -147,6 +148,13 @@ pub fn profile_in(alloc: Global, row: &Row) -> Result<Profile, StoreFault>
         warning: value_in(row, 4)?,
         entries: Entries::new(alloc),
     })
+}
+
+/// A profile, but for its access list.
+pub fn profile_in(alloc: Global, row: &Row) -> Result<Profile, StoreFault>
+    ensures { (p : TheProfile) → row.now ≡ profile_row p → IfOk result (λ v. v ≡ bare p) }
+{
+    definition_in(alloc, row)
 }
 
 fn definitions_in(alloc: Global, rows: &[Row]) -> Result<Vec<Profile>, StoreFault>
@@ -257,42 +265,6 @@ pub fn profile_at<S: Alter>(
     }
 }
 
-/// The profiles of some rows, each with its access list.
-pub fn whole_in<S: Alter>(
-    alloc: Global,
-    conn: &mut Connection<S>,
-    rows: &[Row],
-) -> Result<Vec<Profile>, StoreFault>
-    requires { conn.old.in_transaction ≡ false }
-    ensures mode { conn.new.in_transaction ≡ false }
-    ensures looks { (HasCleanDisk (state S.Store conn.old) → IsTrue (state S.Store conn.old).is_open) → Looks S.Store conn.old conn.new result }
-    ensures found { HasCleanDisk (state S.Store conn.new) → (s : _) → Represents (state S.Store conn.old).now s → (profiles : List TheProfile) → AreAmong s.policy.profiles profiles → rows.now ≡ map profile_row profiles → IfOk result (λ v. v.items ≡ profiles) }
-{
-    let mut profiles = Vec::new(alloc);
-    for row in rows {
-        profiles.push(profile_on(alloc, conn, row)?)?;
-    }
-    Ok(profiles)
-}
-
-/// The profiles with their access lists, in order.
-pub fn profiles_on<S: Alter>(
-    alloc: Global,
-    conn: &mut Connection<S>,
-) -> Result<Vec<Profile>, StoreFault>
-    requires { conn.old.in_transaction ≡ false }
-    ensures mode { conn.new.in_transaction ≡ false }
-    ensures looks { Looks S.Store conn.old conn.new result }
-    ensures found { Finds S.Store conn.old conn.new result (λ s v. v.items ≡ s.policy.profiles) }
-{
-    let rows = read(
-        conn,
-        "SELECT class, pattern, owner, uacc, warning, skey, head FROM profiles ORDER BY class, skey",
-        &[],
-    )?;
-    whole_in(alloc, conn, rows.as_slice())
-}
-
 /// The profiles of a class with their access lists, in the order of their patterns.
 pub fn profiles_of_on<S: Alter>(
     alloc: Global,
@@ -305,5 +277,22 @@ pub fn profiles_of_on<S: Alter>(
     ensures found { Finds S.Store conn.old conn.new result (λ s v. v.items ≡ of_class class s.policy.profiles) }
 {
     let rows = read(conn, BY_CLASS, params![class.text()])?;
-    whole_in(alloc, conn, rows.as_slice())
+    let entries = entry_rows_on(conn, class)?;
+    whole_in(alloc, rows.as_slice(), entries.as_slice())
+}
+
+/// All profiles with their access lists, class by class, in order.
+pub fn profiles_on<S: Alter>(
+    alloc: Global,
+    conn: &mut Connection<S>,
+) -> Result<Vec<Profile>, StoreFault>
+    requires { conn.old.in_transaction ≡ false }
+    ensures mode { conn.new.in_transaction ≡ false }
+    ensures looks { Looks S.Store conn.old conn.new result }
+    ensures found { Finds S.Store conn.old conn.new result (λ s v. v.items ≡ s.policy.profiles) }
+{
+    let mut profiles = profiles_of_on(alloc, conn, Class::Console)?;
+    let mut others = profiles_of_on(alloc, conn, Class::Opercmds)?;
+    profiles.append(&mut others)?;
+    Ok(profiles)
 }

@@ -31,7 +31,7 @@ use Rattle.opc_policy.specs.Deciding.{of_class}
 use Rattle.opc_policy.specs.Examined.{head_of, with_head, is_chosen}
 use Rattle.opc_policy.specs.Profiles.{profile_cmp}
 use Rattle.opc_policy.proofs.FirstCovering.{filter_both}
-use Rattle.opc_policy_tables.proofs.ProfileLoads.{by_class, by_class_asked, class_is, class_params, class_told, in_class, profiles, profiles_rise}
+use Rattle.opc_policy_tables.proofs.ProfileLoads.{by_class, by_class_asked, class_is, class_params, class_told, in_class, profiles_rise}
 use Rattle.opc_state.specs.State.{State}
 use Rattle.opc_search.specs.declared.search.TheConstants.{BY_HEAD}
 use Rattle.opc_search.specs.Search.{chosen, Selects}
@@ -40,7 +40,7 @@ use Rattle.opc_stored.specs.Represented.{Represents, profile_row}
 -- ---- with a head
 
 abbrev pub by_head : Asked
-by_head = record profiles { text = BY_HEAD.now; tests = op2 (Compare Eq Binary) (col 1 1) (col 0 0) ∷ op2 (Compare Eq Binary) (col 1 7) (col 0 1) ∷ [] }
+by_head = record by_class { text = BY_HEAD.now; tests = op2 (Compare Eq Binary) (col 1 1) (col 0 0) ∷ op2 (Compare Eq Binary) (col 1 7) (col 0 1) ∷ [] }
 
 pub by_head_asked : IsAsked by_head
 unfolding understood everything

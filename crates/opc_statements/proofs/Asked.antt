@@ -198,13 +198,35 @@ module _ (a : Asked) (params : Row) where
         let both = and_parts (list_all of_values (map (λ (k : Term × Key). k.0) a.order)) (list_all of_values a.project) (and_parts (list_all of_values a.tests) _ values).1 in
         ap₂ (λ (x y : Row). let o : Output = (x, y) in o) (all_evals_same params r (map (λ (k : Term × Key). k.0) a.order) both.0) (all_evals_same params r a.project both.1)
 
+    -- for each member what is shown of its row
+    module _ {X : Type 0} (row shape : X → Row) (cmp : X → X → Ordering) (shows : (x : X) → (tells (Null ∷ row x)).1 ≡ shape x)
+        (less : (x y : X) → cmp x y ≡ Less → output_cmp (query a) (tells (Null ∷ row x)) (tells (Null ∷ row y)) ≡ Less) where
+      module _ (p : X → Bool) (passing : (x : X) → picks (Null ∷ row x) ≡ p x) where
+        answer_shows : (db : Database) (xs : List X) → Rises cmp xs → HasRows (map row xs) (db.trees a.tree) → (rows : List Row) → Answers db (alone (query a)) params rows → rows ≡ map shape (filter p xs)
+        answer_shows db xs up had rows h =
+            let lists = answered a.tree a.tests a.project a.order db.trees params db.schema rows h in
+            listed row shape cmp a.tree a.tests a.project a.order params (λ v. picks (Null ∷ v)) (λ v. tells (Null ∷ v)) p db.trees (passes_values db.trees) (shows_values db.trees) passing shows less xs rows up had lists
+
+      -- where each row passes
+      pub told_all_shown : ((x : X) → picks (Null ∷ row x) ≡ true) → IsAsked a → (old new : State) → old.now.schema ≡ a.schema → (xs : List X) → Rises cmp xs → HasRows (map row xs) (old.now.trees a.tree)
+          → (rows : List Row) → Shown a.text params old new rows → rows ≡ map shape xs
+      told_all_shown each is old new has xs up had rows h =
+          answer_shows (λ _. true) each old.now xs up had rows (answers a.schema a.text (query a) is params old new has rows h)
+          ∙ ap (map shape) (filter_all (λ (x : X). true) xs (all_of (λ (x : X). true ≡ true) (λ _. refl) xs))
+
+      -- a part of the table
+      pub told_part_shown : IsAsked a → (old new : State) → old.now.schema ≡ a.schema → (have : List Row) (xs : List X) → Rises cmp xs → filter (λ v. picks (Null ∷ v)) have ≡ map row xs → HasRows have (old.now.trees a.tree)
+          → (rows : List Row) → Shown a.text params old new rows → rows ≡ map shape xs
+      told_part_shown is old new has have xs up mine had rows h =
+          let lists = answered a.tree a.tests a.project a.order old.now.trees params old.now.schema rows (answers a.schema a.text (query a) is params old new has rows h) in
+          listed_part row shape cmp a.tree a.tests a.project a.order params (λ v. picks (Null ∷ v)) (λ v. tells (Null ∷ v)) old.now.trees (passes_values old.now.trees) (shows_values old.now.trees) shows less have xs rows up mine had lists
+
+    -- and where that is the whole row
     module _ {X : Type 0} (row : X → Row) (cmp : X → X → Ordering) (whole : (x : X) → (tells (Null ∷ row x)).1 ≡ row x)
         (less : (x y : X) → cmp x y ≡ Less → output_cmp (query a) (tells (Null ∷ row x)) (tells (Null ∷ row y)) ≡ Less) where
       module _ (p : X → Bool) (passing : (x : X) → picks (Null ∷ row x) ≡ p x) where
         pub answer_is : (db : Database) (xs : List X) → Rises cmp xs → HasRows (map row xs) (db.trees a.tree) → (rows : List Row) → Answers db (alone (query a)) params rows → rows ≡ map row (filter p xs)
-        answer_is db xs up had rows h =
-            let lists = answered a.tree a.tests a.project a.order db.trees params db.schema rows h in
-            listed row cmp a.tree a.tests a.project a.order params (λ v. picks (Null ∷ v)) (λ v. tells (Null ∷ v)) p db.trees (passes_values db.trees) (shows_values db.trees) passing whole less xs rows up had lists
+        answer_is = answer_shows row row cmp whole less p passing
 
         pub told : IsAsked a → (old new : State) → old.now.schema ≡ a.schema → (xs : List X) → Rises cmp xs → HasRows (map row xs) (old.now.trees a.tree) → (rows : List Row) → Shown a.text params old new rows
             → rows ≡ map row (filter p xs)
@@ -220,11 +242,9 @@ module _ (a : Asked) (params : Row) where
       -- where each row passes
       pub told_all : ((x : X) → picks (Null ∷ row x) ≡ true) → IsAsked a → (old new : State) → old.now.schema ≡ a.schema → (xs : List X) → Rises cmp xs → HasRows (map row xs) (old.now.trees a.tree)
           → (rows : List Row) → Shown a.text params old new rows → rows ≡ map row xs
-      told_all each is old new has xs up had rows h = told (λ _. true) each is old new has xs up had rows h ∙ ap (map row) (filter_all (λ (x : X). true) xs (all_of (λ (x : X). true ≡ true) (λ _. refl) xs))
+      told_all = told_all_shown row row cmp whole less
 
       -- a part of the table
       pub told_part : IsAsked a → (old new : State) → old.now.schema ≡ a.schema → (have : List Row) (xs : List X) → Rises cmp xs → filter (λ v. picks (Null ∷ v)) have ≡ map row xs → HasRows have (old.now.trees a.tree)
           → (rows : List Row) → Shown a.text params old new rows → rows ≡ map row xs
-      told_part is old new has have xs up mine had rows h =
-          let lists = answered a.tree a.tests a.project a.order old.now.trees params old.now.schema rows (answers a.schema a.text (query a) is params old new has rows h) in
-          listed_part row cmp a.tree a.tests a.project a.order params (λ v. picks (Null ∷ v)) (λ v. tells (Null ∷ v)) old.now.trees (passes_values old.now.trees) (shows_values old.now.trees) whole less have xs rows up mine had lists
+      told_part = told_part_shown row row cmp whole less

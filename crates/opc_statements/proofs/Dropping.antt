@@ -1,6 +1,7 @@
 -- What DROP TABLE does, where no foreign key acts on the table's rows.
-use Rattle.std.proofs.Common.{◌≡◌, ℕ, List, [], slice_get, Bool, true, false, cond, Some, None, Ok, sym, ap, subst, ◌∙◌}
+use Rattle.std.proofs.Common.{◌≡◌, ℕ, List, [], ◌∷◌, ◌++◌, length, arith, slice_get, Bool, true, false, cond, Some, None, Ok, sym, ap, subst, ◌∙◌}
 use Rattle.std.specs.Bool.{MatchBool}
+use Rattle.sqlite.specs.Order.{Row}
 use Rattle.sqlite.specs.Table.{Table}
 use Rattle.sqlite.specs.Schema.{Schema}
 use Rattle.sqlite.specs.Tree.{Trees}
@@ -14,11 +15,20 @@ use Rattle.sqlite_schema.specs.declared.schema.Keys.TheVariants.{Enforced}
 use Rattle.sqlite.specs.Listing.{understood}
 use Rattle.sqlite.specs.State.{State, Executes, mode_of}
 use Rattle.sqlite.proofs.Callers.{IsPlain, command_of, statement_of, runs_as}
+use Rattle.opc_statements.specs.Rows.{AreFilled, HasTables}
+use Rattle.opc_statements.proofs.OtherTables.{filled_kept}
 use Rattle.opc_statements.proofs.Steps.{went, same_value}
 
 second : (P Q : Type 0) (b : Bool) → b ≡ false → MatchBool b P Q → Q
 second P Q true none h = absurd cc
 second P Q false none h = h
+
+-- the first tables have their rows
+front_filled : (front back : List Table) (all more : List (List Row)) (trees : Trees) → length all ≡ length front → AreFilled (front ++ back) (all ++ more) trees → AreFilled front all trees
+front_filled [] back [] more trees long h = tt
+front_filled [] back (rows ∷ all) more trees long h = absurd (omega arith)
+front_filled (t ∷ front) back [] more trees long h = absurd (omega arith)
+front_filled (t ∷ front) back (rows ∷ all) more trees long h = (h.0, front_filled front back all more trees (omega (arith, long)) h.1)
 
 pub record Dropped (schema : Schema) (tree : ℕ) (old : Trees) (new : Database) : Type 0 where
   pub schema_is : new.schema ≡ without_table schema tree
@@ -46,3 +56,12 @@ module _ (schema : Schema) (text : List ℕ) (at : ℕ) (table : Table) (is : co
       let w = runs_as text [] old new schema has (DropTable at) is plain count h in
       let does = rw found at (subst (λ s. Does old.step_limit (mode_of old) [] (record { schema = s; trees = old.now.trees }) (statement_of text (understood schema text)) None (DropTable at) (Ok (w.tally, new.now))) has w.changed) in
       (dropped (record { limit = old.step_limit; keys = Enforced; schema = schema; table = table; params = [] }) quiet uncounted (mode_of old) old.now.trees w.tally new.now does, w.sound)
+
+  -- it was the last table: those before it have their rows
+  pub drops_last : schema.tables ≡ (without_table schema table.tree).tables ++ table ∷ [] → (old new : State) (count : ℕ) (all : List (List Row)) (rows : List Row) → length all ≡ length (without_table schema table.tree).tables
+      → HasTables schema (all ++ rows ∷ []) old.now → Executes text [] old new (Ok count) → HasTables (without_table schema table.tree) all new.now
+  drops_last last old new count all rows long has h =
+      let front = (without_table schema table.tree).tables in
+      let it = drops old new count has.schema_is h in
+      let filled = subst (λ (l : List Table). AreFilled l (all ++ rows ∷ []) old.now.trees) last has.filled in
+      record { schema_is = it.0.schema_is; sound = it.1; filled = filled_kept front all old.now.trees new.now.trees it.0.others (front_filled front (table ∷ []) all (rows ∷ []) old.now.trees long filled) }

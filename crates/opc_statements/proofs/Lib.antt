@@ -20,6 +20,7 @@ pub mod Parts
 pub mod Numbered
 pub mod Looking
 pub mod Putting
+pub mod PutAll
 pub mod Sorting
 pub mod LastNumber
 pub mod Places

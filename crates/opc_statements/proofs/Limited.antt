@@ -73,7 +73,7 @@ module _ (a : Asked) (params : Row) (values : is_of_values a ≡ true) where
       let it = pages a params limit is old new has rows h in
       it.are
       ∙ ap (limited (as_count (eval limit (params ∷ []))))
-      (listed_part row cmp a.tree a.tests a.project a.order params picked (λ v. tells a params (Null ∷ v)) old.now.trees (passes_values a params values old.now.trees) (shows_values a params values old.now.trees) whole less have xs it.all up mine had it.lists)
+      (listed_part row row cmp a.tree a.tests a.project a.order params picked (λ v. tells a params (Null ∷ v)) old.now.trees (passes_values a params values old.now.trees) (shows_values a params values old.now.trees) whole less have xs it.all up mine had it.lists)
 
   -- with LIMIT 1 there is a row where one passes the test
   pub told_any : IsPaged a one_row → (old new : State) → old.now.schema ≡ a.schema → (have : List Row) → HasRows have (old.now.trees a.tree) → (rows : List Row) → Shown a.text params old new rows

@@ -1,4 +1,5 @@
--- The answer of a query on one table that goes by the key, where the table has one row for each member of a list in that order.
+-- The answer of a query on one table that goes by the key, where the table has one row for each member of a list in that order:
+-- for each member that passes what is shown of its row.
 use Rattle.std.proofs.Common.{◌≡◌, ℕ, List, map, drop, filter, Bool, Ordering, Less, sym, ap, subst, ◌∙◌, IsPermutation}
 use Rattle.std.proofs.lemmas.List.Sorted.{IsPermutation-map, IsPermutation-trans}
 use Rattle.sqlite.specs.Order.{Row}
@@ -13,14 +14,14 @@ use Rattle.opc_statements.specs.Rows.{HasRows}
 use Rattle.opc_statements.specs.Order.{Rises}
 use Rattle.opc_statements.proofs.Queries.{Lists, passes, shown, selecting}
 
-module _ {X : Type 0} (row : X → Row) (cmp : X → X → Ordering) (tree : ℕ) (tests project : List Term) (order : List (Term × Key)) (params : Row)
+module _ {X : Type 0} (row shape : X → Row) (cmp : X → X → Ordering) (tree : ℕ) (tests project : List Term) (order : List (Term × Key)) (params : Row)
     (q : Row → Bool) (out : Row → Output) (p : X → Bool) (db : Trees)
     (meets : (r : Row) → passes tree tests project order db params r ≡ q (drop 1 r))
     (shows : (r : Row) → shown tree tests project order db params r ≡ out (drop 1 r))
     (picks : (x : X) → q (row x) ≡ p x)
-    (itself : (x : X) → (out (row x)).1 ≡ row x)
+    (itself : (x : X) → (out (row x)).1 ≡ shape x)
     (less : (x y : X) → cmp x y ≡ Less → output_cmp (selecting tree tests project order) (out (row x)) (out (row y)) ≡ Less) where
-  pub listed : (xs : List X) (rows : List Row) → Rises cmp xs → HasRows (map row xs) (db tree) → Lists tree tests project order db params rows → rows ≡ map row (filter p xs)
+  pub listed : (xs : List X) (rows : List Row) → Rises cmp xs → HasRows (map row xs) (db tree) → Lists tree tests project order db params rows → rows ≡ map shape (filter p xs)
   listed xs rows up has lists =
       let query = selecting tree tests project order in
       let values = λ (r : Row). drop 1 r in
@@ -58,13 +59,13 @@ module _ {X : Type 0} (row : X → Row) (cmp : X → X → Ordering) (tree : ℕ
       lists.are ∙ (ap (map (λ (o : Output). o.1)) is ∙ map-map (λ (o : Output). o.1) out picked)
 
 -- The same of a part of a table: the rows that a test picks are those of the members of a list in the order of the query.
-module _ {X : Type 0} (row : X → Row) (cmp : X → X → Ordering) (tree : ℕ) (tests project : List Term) (order : List (Term × Key)) (params : Row)
+module _ {X : Type 0} (row shape : X → Row) (cmp : X → X → Ordering) (tree : ℕ) (tests project : List Term) (order : List (Term × Key)) (params : Row)
     (q : Row → Bool) (out : Row → Output) (db : Trees)
     (meets : (r : Row) → passes tree tests project order db params r ≡ q (drop 1 r))
     (shows : (r : Row) → shown tree tests project order db params r ≡ out (drop 1 r))
-    (itself : (x : X) → (out (row x)).1 ≡ row x)
+    (itself : (x : X) → (out (row x)).1 ≡ shape x)
     (less : (x y : X) → cmp x y ≡ Less → output_cmp (selecting tree tests project order) (out (row x)) (out (row y)) ≡ Less) where
-  pub listed_part : (have : List Row) (picked : List X) (rows : List Row) → Rises cmp picked → filter q have ≡ map row picked → HasRows have (db tree) → Lists tree tests project order db params rows → rows ≡ map row picked
+  pub listed_part : (have : List Row) (picked : List X) (rows : List Row) → Rises cmp picked → filter q have ≡ map row picked → HasRows have (db tree) → Lists tree tests project order db params rows → rows ≡ map shape picked
   listed_part have picked rows up mine has lists =
       let query = selecting tree tests project order in
       let values = λ (r : Row). drop 1 r in

@@ -21,7 +21,7 @@ module _ {X : Type 0} (cmp : X → X → Ordering) (total : IsTotalOrder cmp) wh
       go more zero d p q = ap is_lt (total.antisymm y x ∙ ap ordering_reverse up.0.0)
       go more (suc k) d p q = rw add-one (rw add-one at (more k d (omega arith) (omega arith)))
 
-  no_ties : (xs : List X) → Rises cmp xs → HasNoTies cmp total xs
+  pub no_ties : (xs : List X) → Rises cmp xs → HasNoTies cmp total xs
   no_ties [] up = tt
   no_ties (x ∷ xs) up = (all_weaker _ _ (λ y less. ap is_eq less) xs up.0, no_ties xs up.1)
 
@@ -33,7 +33,7 @@ module _ {X : Type 0} (cmp : X → X → Ordering) (total : IsTotalOrder cmp) wh
   apart_back : (x y : X) → is_eq (cmp x y) ≡ false → is_eq (cmp y x) ≡ false
   apart_back x y h = ap is_eq (total.antisymm y x) ∙ (turned (cmp x y) ∙ h)
 
-  abbrev KeepsApart : List X → List X → Type 0
+  abbrev pub KeepsApart : List X → List X → Type 0
   KeepsApart xs ys = IsPermutation xs ys × (HasNoTies cmp total xs → HasNoTies cmp total ys)
 
   turn : (x y : X) (xs : List X) → KeepsApart (x ∷ y ∷ xs) (y ∷ x ∷ xs)
@@ -42,7 +42,7 @@ module _ {X : Type 0} (cmp : X → X → Ordering) (total : IsTotalOrder cmp) wh
       swapped : IsPermutation (x ∷ y ∷ xs) (y ∷ x ∷ xs)
       swapped = IsPermutation-middle (x ∷ []) y xs
 
-  apart_along : (xs ys : List X) → IsPermutation xs ys → KeepsApart xs ys
+  pub apart_along : (xs ys : List X) → IsPermutation xs ys → KeepsApart xs ys
   apart_along = along_permutation KeepsApart
       (λ xs. (IsPermutation-refl xs, λ h. h))
       (λ x xs ys more. (IsPermutation-cons x xs ys more.0, λ h. (all_along _ xs ys more.0 h.0, more.1 h.1)))

@@ -1,7 +1,10 @@
 -- When a table has one row for each of some values, and no other.
 use Rattle.std.specs.Prelude.{◌≡◌, Option, Some, None, ℕ, ◌+◌, pos, List, [], ◌∷◌, map, drop, IsTrue, IsPermutation}
 use Rattle.sqlite_value.specs.declared.value.Value.TheVariants.{Int}
+use Rattle.std.specs.Bool.{⊤}
 use Rattle.std.specs.List.{AllByRecursion}
+use Rattle.sqlite.specs.Effect.{Database, IsDatabase}
+use Rattle.sqlite.specs.Schema.{Schema}
 use Rattle.sqlite_value.specs.Order.{Row}
 use Rattle.sqlite_schema.specs.declared.schema.Table.{Table}
 use Rattle.sqlite_trees.specs.Tree.{IsTable, Trees, rowid}
@@ -33,3 +36,17 @@ FilledBy None values rows = HasRows values rows
 -- The table has these rows and no other: in this order, as they are, where its key is a number, and else one row for each.
 abbrev pub IsFilled : Table → List Row → Trees → Type 0
 IsFilled table values trees = FilledBy table.key values (trees table.tree)
+
+-- each table has the rows of its place in the list
+abbrev pub AreFilled : List Table → List (List Row) → Trees → Type 0
+AreFilled [] [] trees = ⊤
+AreFilled [] (rows ∷ all) trees = ⊥
+AreFilled (t ∷ tables) [] trees = ⊥
+AreFilled (t ∷ tables) (rows ∷ all) trees = IsFilled t rows trees × AreFilled tables all trees
+
+-- The database has the tables and the indexes of the schema, and the tables have these rows.
+pub record HasTables (schema : Schema) (all : List (List Row)) (db : Database) : Type 0 where
+  pub schema_is : db.schema ≡ schema
+  -- it lists the schema, and obeys it
+  pub sound : IsDatabase db
+  pub filled : AreFilled schema.tables all db.trees

@@ -1,16 +1,18 @@
--- Tables, as CREATE TABLE defines them.
-use Rattle.std.specs.Prelude.{Bool, true, false, [], ◌∷◌, Option, List, ℕ}
+-- Tables and indexes, as CREATE TABLE and CREATE INDEX define them.
+use Rattle.std.specs.Prelude.{Bool, true, false, [], ◌∷◌, Option, option_map, unwrap_or, List, slice_get, ℕ}
 use Rattle.sqlite.specs.Collation.TheVariants.{Binary}
 use Rattle.sqlite_value.specs.Keys.{plain}
 use Rattle.sqlite_value.specs.declared.keys.Order.{Order}
 use Rattle.sqlite_value.specs.declared.value.Value.TheVariants as value
 use Rattle.sqlite_schema.specs.declared.schema.Column.{Column}
+use Rattle.sqlite_schema.specs.declared.schema.Index.{Index}
 use Rattle.sqlite_schema.specs.declared.schema.Reference.{Reference}
 use Rattle.sqlite_schema.specs.declared.schema.Action.{Action}
 use Rattle.sqlite_schema.specs.declared.schema.Action.TheVariants.{NoAction}
 use Rattle.sqlite.specs.Table.{Table}
 use Rattle.sqlite.specs.Schema.{Schema}
 use Rattle.sqlite.specs.Kind.{Kind}
+use Rattle.sqlite_catalog.specs.Change.{indexed}
 
 -- a column of a STRICT table, compared byte by byte
 abbrev pub column_of : Kind → Bool → List ℕ → Column
@@ -43,3 +45,11 @@ table_of name columns key primary uniques references = record {
 
 abbrev pub no_schema : Schema
 no_schema = record { tables = []; indexes = []; views = [] }
+
+-- an index by these columns, in which keys may come twice
+abbrev pub index_of : List ℕ → List ℕ → Index
+index_of name columns = record { name = name; tree = 0; table = 0; columns = columns; order = plain; is_unique = false }
+
+-- with an index on the table at this place
+abbrev pub indexed_at : Schema → ℕ × Index → Schema
+indexed_at schema i = unwrap_or (option_map (λ (t : Table). indexed schema t i.1) (slice_get schema.tables i.0)) schema

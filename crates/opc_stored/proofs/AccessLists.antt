@@ -36,7 +36,7 @@ class_means Console Opercmds h = absurd cc
 class_means Opercmds Console h = absurd cc
 class_means Opercmds Opercmds h = refl
 
-tied : (p q : Profile) → p.class ≡ q.class → p.pattern ≡ q.pattern → profile_cmp p q ≡ Equal
+pub tied : (p q : Profile) → p.class ≡ q.class → p.pattern ≡ q.pattern → profile_cmp p q ≡ Equal
 tied p q class pattern =
     ap₂ ordering_then (ap (class_cmp p.class) (sym class) ∙ tied_itself class_total p.class) (ap (pattern_cmp p.pattern) (sym pattern) ∙ tied_itself nat_list_cmp_total (sort_key p.pattern))
 

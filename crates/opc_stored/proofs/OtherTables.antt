@@ -5,19 +5,13 @@ use Rattle.sqlite.specs.Table.{Table}
 use Rattle.sqlite.specs.Tree.{Trees}
 use Rattle.sqlite.specs.Effect.{Database}
 use Rattle.sqlite_keyed.proofs.ListLemmas.{all_of}
-use Rattle.opc_statements.specs.Rows.{IsFilled}
-use Rattle.opc_statements.proofs.OtherTables.{AreFilled, is_alone, one_changes}
+use Rattle.opc_statements.specs.Rows.{IsFilled, AreFilled}
+use Rattle.opc_statements.proofs.OtherTables.{is_alone, one_changes}
 use Rattle.opc_statements.proofs.Written.{Spares}
-use Rattle.opc_stored.specs.Contents.{Contents, Holds}
+use Rattle.opc_stored.specs.Contents.{Contents, Holds, as_list}
 use Rattle.opc_stored.specs.Made.{IsMade}
 use Rattle.opc_stored.specs.Placed.{meta_at, classes_at, consoles_at, units_at, devices_at, replies_at, answered_at, log_at, messages_at, board_at, account_at, batches_at, grp_at, usr_at, connects_at, profiles_at, entries_at}
 use Rattle.opc_stored.specs.Tables.{the_schema}
-
--- the rows of the tables, in the order of the schema
-abbrev pub as_list : Contents → List (List Row)
-as_list c =
-    c.meta ∷ c.classes ∷ c.consoles ∷ c.units ∷ c.devices ∷ c.replies ∷ c.answered ∷ c.log ∷ c.messages
-    ∷ c.board ∷ c.account ∷ c.batches ∷ c.grp ∷ c.usr ∷ c.connects ∷ c.profiles ∷ c.entries ∷ []
 
 listed : (trees : Trees) (c : Contents) → Holds trees c → AreFilled the_schema.tables (as_list c) trees
 listed trees c h =

@@ -65,4 +65,4 @@ module _ (old new : SqlState) (s : State) (was : Tabulates old.now s) (rows : Li
   shows_version h =
       let read = reads_as select_version [] old new the_schema was.schema (Select (alone (selecting meta_at.tree [] version_columns by_first)) (codes "version" ∷ [])) version_is.0 version_plain version_is.1 rows h in
       let lists = answered 0 [] version_columns by_first old.now.trees [] old.now.schema rows read in
-      listed version_row number_cmp meta_at.tree [] version_columns by_first [] (λ _. true) version_out (λ _. true) old.now.trees (λ _. refl) (version_below old.now.trees) (λ _. refl) (λ _. refl) version_less (3 ∷ []) rows (tt, tt) was.holds.meta lists
+      listed version_row version_row number_cmp meta_at.tree [] version_columns by_first [] (λ _. true) version_out (λ _. true) old.now.trees (λ _. refl) (version_below old.now.trees) (λ _. refl) (λ _. refl) version_less (3 ∷ []) rows (tt, tt) was.holds.meta lists

@@ -1,5 +1,5 @@
 -- The rows of all tables, in values.
-use Rattle.std.specs.Prelude.{List}
+use Rattle.std.specs.Prelude.{List, [], ◌∷◌}
 use Rattle.sqlite_value.specs.Order.{Row}
 use Rattle.sqlite_trees.specs.Tree.{Trees}
 use Rattle.opc_statements.specs.Rows.{IsFilled}
@@ -24,6 +24,12 @@ pub record Contents : Type 0 where
   pub connects : List Row
   pub profiles : List Row
   pub entries : List Row
+
+-- the rows of the tables, in the order of the schema
+abbrev pub as_list : Contents → List (List Row)
+as_list c =
+    c.meta ∷ c.classes ∷ c.consoles ∷ c.units ∷ c.devices ∷ c.replies ∷ c.answered ∷ c.log ∷ c.messages
+    ∷ c.board ∷ c.account ∷ c.batches ∷ c.grp ∷ c.usr ∷ c.connects ∷ c.profiles ∷ c.entries ∷ []
 
 -- Each table has these rows, and no other.
 pub record Holds (trees : Trees) (c : Contents) : Type 0 where

@@ -1,8 +1,10 @@
 -- When a database has the tables, with these rows.
-use Rattle.std.specs.Prelude.{◌≡◌, []}
+use Rattle.std.specs.Prelude.{◌≡◌, List, [], ◌∷◌, map}
+use Rattle.sqlite.specs.Order.{Row}
+use Rattle.sqlite.specs.Table.{Table}
 use Rattle.sqlite.specs.Effect.{Database, IsDatabase}
 use Rattle.opc_stored.specs.Contents.{Contents, Holds}
-use Rattle.opc_stored.specs.Tables.{the_schema}
+use Rattle.opc_stored.specs.Tables.{the_schema, last_tables}
 
 pub record IsMade (c : Contents) (db : Database) : Type 0 where
   pub schema : db.schema ≡ the_schema
@@ -31,3 +33,7 @@ nothing = record {
   profiles = [];
   entries = [];
 }
+
+-- no rows of the last tables
+abbrev pub no_last_rows : List (List Row)
+no_last_rows = map (λ (t : Table). []) last_tables

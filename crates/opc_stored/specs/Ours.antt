@@ -1,5 +1,5 @@
--- Which names are those of our tables, and which version such tables are of.
-use Rattle.std.specs.Prelude.{◌≡◌, ℕ, pos, Bool, ◌||◌, ◌&&◌, is_some, List, [], ◌∷◌, map, codes}
+-- Which names are those of our tables and indexes, and which version such tables are of.
+use Rattle.std.specs.Prelude.{◌≡◌, ℕ, pos, Bool, ◌||◌, ◌&&◌, is_some, List, [], ◌∷◌, ◌++◌, map, codes}
 use Rattle.std.specs.List.{list_any}
 use Rattle.sqlite_schema.specs.Names.{same_name}
 use Rattle.sqlite_schema.specs.declared.schema.Table.{Table}
@@ -10,10 +10,10 @@ use Rattle.sqlite.specs.Order.{Row, column}
 use Rattle.sqlite.specs.State.{State, Shown}
 use Rattle.sqlite.specs.declared.types.Value.{Value}
 use Rattle.sqlite.specs.declared.types.Value.TheVariants.{Int}
-use Rattle.opc_stored.specs.Tables.{the_tables}
+use Rattle.opc_stored.specs.Tables.{the_tables, the_indexes}
 
 abbrev pub our_names : List (List ℕ)
-our_names = map (λ (t : Table). t.name) the_tables
+our_names = map (λ (t : Table). t.name) the_tables ++ map (λ (i : ℕ × Index). i.1.name) the_indexes
 
 -- in any case of its letters
 abbrev pub is_ours : List ℕ → Bool

@@ -1,5 +1,5 @@
 -- When the tables represent a state.
-use Rattle.std.specs.Prelude.{ℕ, pos, Bool, if◌then◌else◌, List, [], ◌∷◌, map, flat_map, Option, Some, None, codes}
+use Rattle.std.specs.Prelude.{ℕ, pos, Bool, if◌then◌else◌, List, [], ◌∷◌, ◌++◌, map, flat_map, Option, Some, None, codes}
 use Rattle.sqlite_value.specs.declared.value.Value.{Value}
 use Rattle.sqlite_value.specs.declared.value.Value.TheVariants.{Null, Int, Text, Blob}
 use Rattle.sqlite_value.specs.Order.{Row}
@@ -64,11 +64,13 @@ user_row u = Text u.id ∷ flag u.special ∷ flag u.auditor ∷ flag u.revoked 
 abbrev pub connect_row : Connect → Row
 connect_row c = Text c.user ∷ Text c.group ∷ []
 
+-- a profile but for its access list, and for what is computed of its pattern
+abbrev pub definition_row : Profile → Row
+definition_row p = Text (class_text p.class) ∷ Text p.pattern ∷ Text p.owner ∷ Int (pos (level_rank p.uacc)) ∷ flag p.warning ∷ []
+
 -- with the key and the head of its pattern
 abbrev pub profile_row : Profile → Row
-profile_row p =
-    Text (class_text p.class) ∷ Text p.pattern ∷ Text p.owner ∷ Int (pos (level_rank p.uacc)) ∷ flag p.warning
-    ∷ Blob (sort_key p.pattern) ∷ Text (head (tokens p.pattern)) ∷ []
+profile_row p = definition_row p ++ Blob (sort_key p.pattern) ∷ Text (head (tokens p.pattern)) ∷ []
 
 -- no text where no name is given
 abbrev pub or_empty : Option (List ℕ) → List ℕ

@@ -1,4 +1,4 @@
-//! The names of the tables.
+//! The names of the tables and of the indexes.
 ghost use Rattle.std.specs.Prelude.{◌≡◌, ◌&&◌, is_some};
 ghost use Rattle.std.specs.List.{list_any};
 ghost use Rattle.sqlite_schema.specs.Names.{same_name};
@@ -7,9 +7,27 @@ ghost use Rattle.opc_stored.specs.Ours.{is_ours, has_our_name};
 use sqlite_schema::names::same_name;
 use sqlite_schema::schema::Schema;
 
-const NAMES: [&str; 17] = [
-    "meta", "classes", "consoles", "units", "devices", "replies", "answered", "log", "messages",
-    "board", "account", "batches", "grp", "usr", "connects", "profiles", "entries",
+const NAMES: [&str; 20] = [
+    "meta",
+    "classes",
+    "consoles",
+    "units",
+    "devices",
+    "replies",
+    "answered",
+    "log",
+    "messages",
+    "board",
+    "account",
+    "batches",
+    "grp",
+    "usr",
+    "connects",
+    "profiles",
+    "entries",
+    "consoles_by_user",
+    "consoles_by_authority",
+    "devices_by_unit",
 ];
 
 fn is_among(name: &[u8], names: &[&str]) -> bool
@@ -52,7 +70,7 @@ fn has_ours_unread(schema: &Schema) -> bool
         && is_ours(view.name.as_slice()))
 }
 
-/// Whether a table or an index has the name of one of the tables, in any case of its letters.
+/// Whether a table or an index has the name of one of ours, in any case of its letters.
 pub fn has_our_name(schema: &Schema) -> bool
     ensures { result ≡ has_our_name schema.now }
 {

@@ -1,26 +1,17 @@
-use Rattle.std.proofs.Common.{◌∙◌, arith}
+use Rattle.std.proofs.Common.{◌∙◌, ◌++◌, ap₂, List, arith}
+use Rattle.sqlite.specs.Effect.{Database}
 use Rattle.sqlite.specs.Held.{state}
 use Rattle.sqlite.specs.State.{HasCleanDisk}
-use Rattle.sqlite.specs.Effect.{Database}
-use Rattle.opc_statements.proofs.Asked.{never_writes}
-use Rattle.opc_statements.proofs.Looking.{looks_then, looked}
+use Rattle.opc_statements.proofs.Looking.{looked}
+use Rattle.opc_policy.specs.declared.profile.Profile.{Profile}
 use Rattle.opc_stored.specs.Represented.{Represents}
-use Rattle.opc_stored.proofs.Decoded.{each_found}
-use Rattle.opc_policy_tables.proofs.ProfileLoads.{profiles_asked, profiles_told}
+use Rattle.opc_policy_tables.proofs.ProfileLoads.{by_classes}
 use Rattle.opc_policy_tables.proofs.profiles.profiles_on.Goals as goal
-
-pub read-requires-clause-quiet : goal.read-requires-clause-quiet
-read-requires-clause-quiet g c = never_writes profiles_asked
-
-pub returns-clause-looks : goal.returns-clause-looks
-returns-clause-looks g c =
-    let first = c.in_ok-rows.ensures.looks in
-    looks_then g.S.Store _ _ _ _ _ c.whole_in.result _ _ _ first (c.whole_in.ensures.looks first.opened)
 
 pub returns-clause-found : goal.returns-clause-found
 returns-clause-found g c clean s was =
-    let first = c.in_ok-rows.ensures.looks in
-    let second = c.whole_in.ensures.looks first.opened in
-    let early : HasCleanDisk (state g.S.Store c.read.new.conn) = omega (arith, second.survives.clean) in
-    let mid = looked g.S.Store _ _ _ _ _ first early (λ (d : Database). Represents d s) was in
-    c.whole_in.ensures.found clean s mid s.policy.profiles (each_found s.policy.profiles was.ordered.profiles) (c.as_slice.ensures.value ∙ profiles_told _ _ s was _ (c.in_ok-rows.ensures.shown early))
+    let first = c.in_ok-profiles.ensures in
+    let second = c.in_ok-others.ensures in
+    let early : HasCleanDisk (state g.S.Store c.profiles_of_on.new.conn) = omega (arith, second.looks.survives.clean) in
+    let mid = looked g.S.Store _ _ _ _ _ first.looks early (λ (d : Database). Represents d s) was in
+    c.in_ok-append.ensures.items ∙ (ap₂ (λ (a b : List Profile). a ++ b) (first.found early s was) (second.found clean s mid) ∙ by_classes s.policy.profiles was.ordered.profiles)

@@ -1,0 +1,109 @@
+//! The access lists of many profiles, out of the rows of one query.
+ghost use Rattle.std.specs.Prelude.{◌≡◌, ◌≤◌, List, IfOk, filter, length, map, take_while, false, true};
+ghost use Rattle.std.specs.List.Sorted.{IsPartitionPoint, IsPartitionedBy};
+ghost use Rattle.opc_statements.specs.Steps.{Looks};
+ghost use Rattle.opc_policy.specs.Deciding.{of_class};
+ghost use Rattle.opc_policy.specs.declared.profile.Profile.{Profile as TheProfile};
+ghost use Rattle.opc_policy_tables.specs.Lists.{AreByPattern, HasList, HaveLists, is_before, is_of, pattern_in};
+ghost use Rattle.opc_stored.specs.Asked.{Finds};
+ghost use Rattle.opc_stored.specs.Represented.{profile_row};
+
+use crate::entries::entries_in;
+use crate::profiles::profile_in;
+use opc_names::class::Class;
+use opc_policy::profile::Profile;
+use opc_policy::source::StoreFault;
+use opc_stored::queries::read;
+use sqlite::types::ValueRef;
+use sqlite::{Alter, Connection, Row, params};
+use std::alloc::Global;
+
+// The pattern of the profile that an entry is of.
+fn pattern_in(row: &Row) -> &[u8]
+    ensures { result.now ≡ pattern_in row.now }
+{
+    match row.get_ref(1) {
+        Ok(ValueRef::Text(text)) => text,
+        _ => &[],
+    }
+}
+
+fn is_before(row: &Row, pattern: &str) -> bool
+    ensures { result ≡ is_before pattern.now row.now }
+{
+    pattern_in(row) < pattern.as_bytes()
+}
+
+fn is_of(row: &Row, pattern: &str) -> bool
+    ensures { result ≡ is_of pattern.now row.now }
+{
+    pattern_in(row) == pattern.as_bytes()
+}
+
+// Where the rows of a pattern begin, or would, among rows in the order of their patterns.
+fn first_of(rows: &[Row], pattern: &str) -> usize
+    ensures bound { result ≤ length rows.now }
+    ensures parted { IsPartitionedBy (is_before pattern.now) rows.now → IsPartitionPoint (λ row. is_before pattern.now row ≡ true) (λ row. is_before pattern.now row ≡ false) rows.now result }
+{
+    rows.partition_point(|row| is_before(row, pattern))
+}
+
+// How many rows of a pattern stand in front.
+fn count_of(rows: &[Row], pattern: &str) -> usize
+    ensures bound { result ≤ length rows.now }
+    ensures count { result ≡ length (take_while (is_of pattern.now) rows.now) }
+{
+    rows.iter().take_while(|row| is_of(row, pattern)).count()
+}
+
+// The rows of a pattern, of rows in the order of their patterns.
+fn rows_of<'a>(rows: &'a [Row], pattern: &str) -> &'a [Row]
+    ensures { AreByPattern rows.now → result.now ≡ filter (is_of pattern.now) rows.now }
+{
+    let later = &rows[first_of(rows, pattern)..];
+    &later[..count_of(later, pattern)]
+}
+
+// The profile of a row, with its access list.
+fn whole_of(alloc: Global, row: &Row, entries: &[Row]) -> Result<Profile, StoreFault>
+    ensures { (p : TheProfile) → row.now ≡ profile_row p → AreByPattern entries.now → HasList entries.now p → IfOk result (λ v. v ≡ p) }
+{
+    let profile = profile_in(alloc, row)?;
+    let list = rows_of(entries, profile.pattern.text());
+    Ok(Profile {
+        entries: entries_in(alloc, list)?,
+        ..profile
+    })
+}
+
+/// The profiles of some rows, each with its access list.
+pub(crate) fn whole_in(
+    alloc: Global,
+    rows: &[Row],
+    entries: &[Row],
+) -> Result<Vec<Profile>, StoreFault>
+    ensures { (profiles : List TheProfile) → HaveLists entries.now profiles → rows.now ≡ map profile_row profiles → IfOk result (λ v. v.items ≡ profiles) }
+{
+    let mut profiles = Vec::new(alloc);
+    for row in rows {
+        profiles.push(whole_of(alloc, row, entries)?)?;
+    }
+    Ok(profiles)
+}
+
+/// The rows of the access lists of a class, in the order of their patterns.
+pub(crate) fn entry_rows_on<S: Alter>(
+    conn: &mut Connection<S>,
+    class: Class,
+) -> Result<Vec<Row>, StoreFault>
+    requires { conn.old.in_transaction ≡ false }
+    ensures mode { conn.new.in_transaction ≡ false }
+    ensures looks { Looks S.Store conn.old conn.new result }
+    ensures found { Finds S.Store conn.old conn.new result (λ s v. HaveLists v.items (of_class class s.policy.profiles)) }
+{
+    read(
+        conn,
+        "SELECT class, pattern, id, console, level FROM entries WHERE class = ?1 ORDER BY pattern, id, console",
+        params![class.text()],
+    )
+}

@@ -1,0 +1,10 @@
+use Rattle.std.proofs.Common.{arith}
+use Rattle.sqlite.specs.Held.{state}
+use Rattle.sqlite.specs.State.{HasCleanDisk}
+use Rattle.opc_stored.proofs.Made.{makes_last}
+use Rattle.opc_stored.proofs.making.create_last_tables.Goals as goal
+
+pub returns-clause-made : goal.returns-clause-made
+returns-clause-made g c clean =
+    let early : HasCleanDisk (state g.S.Store c.run_all.new.tx.conn.now) = omega (arith, c.run_all-2.ensures.stays.survives.clean) in
+    makes_last g.S.Store c.args.tx.now.conn.now c.run_all.new.tx.conn.now c.run_all-2.new.tx.conn.now c.run_all-2.result (c.in_ok-run_all.ensures.ran early) (c.run_all-2.ensures.ran clean)

@@ -1,0 +1,4 @@
+pub mod Dropped
+pub mod Remade
+pub mod Renewed
+pub mod Refilled

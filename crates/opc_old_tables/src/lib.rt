@@ -1,0 +1,9 @@
+//! The policy and the kept batches of tables of version 1 or 2, as puts into those of version 3.
+#![tactic(auto)]
+
+pub mod batches;
+pub mod connects;
+pub mod entries;
+pub mod profiles;
+pub mod puts;
+pub mod users;

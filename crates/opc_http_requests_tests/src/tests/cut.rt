@@ -57,6 +57,7 @@ fn taken(alloc: Global, length: usize) -> Result<(usize, Option<ReadingFault>), 
     let mut source = Watched::new(Narrow::new(text.as_bytes(), None));
     match read_request(alloc, &routes, &mut source) {
         Ok(_) => Ok((source.inner.taken, None)),
+        Err(ReadingFault::NoMemory) => Err(AllocError),
         Err(fault) => Ok((source.inner.taken, Some(fault))),
     }
 }

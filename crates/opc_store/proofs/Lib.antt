@@ -1,1 +1,2 @@
 pub mod StoreTablesLemmas
+mod Older

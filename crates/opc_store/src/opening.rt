@@ -12,11 +12,14 @@ ghost use Rattle.sqlite.specs.State.{HasCleanDisk, Survives};
 ghost use Rattle.opc_statements.specs.Shapes.{no_schema};
 ghost use Rattle.opc_state.specs.State.{empty};
 ghost use Rattle.opc_stored.specs.Represented.{Represents, AreTablesOf};
-ghost use Rattle.opc_stored.specs.Ours.{has_our_name, NamesVersion};
-ghost use Rattle.opc_store.specs.Opening.{new_files, open_fault, unasked, IsRefused, FailsToOpenIn};
+ghost use Rattle.opc_stored.specs.Ours.{has_our_name};
+ghost use Rattle.opc_old_tables.specs.Old.{AreOldTablesOf, RepresentsOld};
+ghost use Rattle.opc_store.specs.Opening.{new_files, open_fault, unasked, IsKnown, IsNoVersion, IsRefused, MayLeave, FailsToOpenIn};
 ghost use Rattle.opc_store.specs.declared.opening.OpenFault.TheVariants as TheFault;
 
 use crate::store::Store;
+use opc_copying::copy::copy_on;
+use opc_policy::source::StoreFault;
 use opc_stored::making::make_tables;
 use opc_stored::names::has_our_name;
 use opc_stored::version::version_on;
@@ -52,6 +55,16 @@ fn open_fault(error: Error) -> OpenFault
     }
 }
 
+// Why older tables are not copied.
+fn copy_fault(fault: StoreFault) -> OpenFault
+    ensures { IsNoVersion result }
+{
+    match fault {
+        StoreFault::NoMemory => OpenFault::NoMemory,
+        StoreFault::Store => OpenFault::Store,
+    }
+}
+
 // A meta that cannot be asked for its version is somebody else's.
 fn version_fault(error: Error) -> OpenFault
     ensures { result ≡ unasked error }
@@ -64,19 +77,37 @@ fn version_fault(error: Error) -> OpenFault
 }
 
 impl<S: Alter> Store<S> {
+    // Tables of version 1 or 2 become those of this version, of the same state.
+    fn copied(mut conn: Connection<S>) -> Result<Self, (OpenFault, Connection<S>)>
+        requires { conn.in_transaction ≡ false }
+        ensures copied { IfOk result (λ store. HasCleanDisk (state S.Store store) → (version : _) → (s : _) → RepresentsOld version (state S.Store conn).now s → Represents (state S.Store store).now s) }
+        ensures unharmed { IfErr result (λ e. HasCleanDisk (state S.Store e.1) → IsTrue (state S.Store e.1).is_open → (state S.Store e.1).now ≡ (state S.Store conn).now) }
+        ensures told { IfErr result (λ e. IsNoVersion e.0) }
+        ensures crash { IfOk result (λ store. Survives (state S.Store conn) (state S.Store store) (λ db. (version : _) → (s : _) → RepresentsOld version (state S.Store conn).now s → AreTablesOf db s)) }
+        ensures crash_at_fault { IfErr result (λ e. Survives (state S.Store conn) (state S.Store e.1) (λ db. (version : _) → (s : _) → RepresentsOld version (state S.Store conn).now s → AreTablesOf db s)) }
+        ensures outside { IfErr result (λ e. e.1.in_transaction ≡ false) }
+        ensures settled { IfOk result (λ store. HasCleanDisk (state S.Store store) → (db : Trees) → (state S.Store store).may_leave db → db ≡ (state S.Store store).now.trees) }
+    {
+        match copy_on(&mut conn) {
+            Ok(()) => Ok(Store { conn }),
+            Err(fault) => Err((copy_fault(fault), conn)),
+        }
+    }
+
     /// Adopts a connection. A database without a table or an index of our names gets the tables, in one transaction.
-    /// One with such a name is `NotOurs` but for tables of this version: with the version that it names, or with 0. A
-    /// fault hands the connection back.
+    /// One with such a name has tables of this version; or they are of version 1 or 2, and are copied to this version, in
+    /// one transaction; or it is `NotOurs`, with the version that it names, or with 0. A fault hands the connection back.
     pub fn open_files(mut conn: Connection<S>) -> Result<Self, (OpenFault, Connection<S>)>
         requires { conn.in_transaction ≡ false }
         ensures found { IfOk result (λ store. HasCleanDisk (state S.Store store) → IsTrue (state S.Store conn).is_open → (s : _) → AreTablesOf (state S.Store conn).now.trees s → Represents (state S.Store store).now s) }
-        ensures ours { IfOk result (λ store. HasCleanDisk (state S.Store store) → IsTrue (has_our_name conn.schema) → NamesVersion 3 (state S.Store conn) (state S.Store store)) }
-        ensures refused { IfErr result (λ e. HasCleanDisk (state S.Store e.1) → IsTrue (has_our_name conn.schema) → IsRefused e.0 (state S.Store conn) (state S.Store e.1)) }
+        ensures copied { IfOk result (λ store. HasCleanDisk (state S.Store store) → IsTrue (state S.Store conn).is_open → (version : _) → (s : _) → AreOldTablesOf version (state S.Store conn).now.trees s → Represents (state S.Store store).now s) }
+        ensures ours { IfOk result (λ store. HasCleanDisk (state S.Store store) → IsTrue (has_our_name conn.schema) → IsKnown S.Store (state S.Store conn) (state S.Store store)) }
+        ensures refused { IfErr result (λ e. HasCleanDisk (state S.Store e.1) → IsTrue (has_our_name conn.schema) → IsRefused S.Store e.0 (state S.Store conn) (state S.Store e.1)) }
         ensures unmade { IfErr result (λ e. IsFalse (has_our_name conn.schema) → (e.0 ≡ TheFault.NoMemory) ⊎ (e.0 ≡ TheFault.Store)) }
         ensures made { IfOk result (λ store. HasCleanDisk (state S.Store store) → (state S.Store conn).now.schema ≡ no_schema → Represents (state S.Store store).now empty) }
         ensures unharmed { IfErr result (λ e. HasCleanDisk (state S.Store e.1) → IsTrue (state S.Store conn).is_open → IsTrue (state S.Store e.1).is_open → (state S.Store e.1).now ≡ (state S.Store conn).now) }
-        ensures crash { IfOk result (λ store. Survives (state S.Store conn) (state S.Store store) (λ db. IsFalse (has_our_name conn.schema) × ((state S.Store conn).now.schema ≡ no_schema → AreTablesOf db empty))) }
-        ensures crash_at_fault { IfErr result (λ e. Survives (state S.Store conn) (state S.Store e.1) (λ db. IsFalse (has_our_name conn.schema) × ((state S.Store conn).now.schema ≡ no_schema → AreTablesOf db empty))) }
+        ensures crash { IfOk result (λ store. Survives (state S.Store conn) (state S.Store store) (MayLeave S.Store (state S.Store conn))) }
+        ensures crash_at_fault { IfErr result (λ e. Survives (state S.Store conn) (state S.Store e.1) (λ db. IsNoVersion e.0 × MayLeave S.Store (state S.Store conn) db)) }
         ensures outside { IfErr result (λ e. e.1.in_transaction ≡ false) }
         ensures settled { IfOk result (λ store. HasCleanDisk (state S.Store store) → (db : Trees) → (state S.Store store).may_leave db → db ≡ (state S.Store store).now.trees) }
     {
@@ -92,6 +123,7 @@ impl<S: Alter> Store<S> {
                 let _settled = conn.is_autocommit();
                 Ok(Store { conn })
             }
+            Ok(1 | 2) => Store::copied(conn),
             Ok(version) => Err((OpenFault::NotOurs(version), conn)),
             Err(error) => Err((version_fault(error), conn)),
         }
@@ -112,6 +144,7 @@ impl<S: Start> Store<FileStore<FileFrom<S>>> {
     /// held: it was opened, has a name of ours and was asked for its version.
     pub fn open_at(rt: &HostRuntime, path: &str, start: S) -> Result<Self, OpenFault>
         ensures found { IfOk result (λ store. HasCleanDisk (file_state store) → (db : Trees) → HoldsDatabase (image_at S.Start) db → (s : _) → AreTablesOf db s → Represents (file_state store).now s) }
+        ensures copied { IfOk result (λ store. HasCleanDisk (file_state store) → (db : Trees) → HoldsDatabase (image_at S.Start) db → (version : _) → (s : _) → AreOldTablesOf version db s → Represents (file_state store).now s) }
         ensures made { IfOk result (λ store. HasCleanDisk (file_state store) → (trees : Trees) × AreFoundIn (image_at S.Start) trees × (Lists (trees catalog_tree) no_schema → Represents (file_state store).now empty)) }
         ensures settled { IfOk result (λ store. HasCleanDisk (file_state store) → (db : Trees) → (file_state store).may_leave db → db ≡ (file_state store).now.trees) }
         ensures refused { FailsToOpenIn over_files (image_at S.Start) result }
@@ -133,6 +166,7 @@ impl Store<FileStore<FileFrom<Wary>>> {
     /// says, for any contents.
     pub fn open_from(rt: &HostRuntime, path: &str) -> Result<Self, OpenFault>
         ensures found { IfOk result (λ store. HasCleanDisk (file_state store) → (db : Trees) → HoldsDatabase new_files db → (s : _) → AreTablesOf db s → Represents (file_state store).now s) }
+        ensures copied { IfOk result (λ store. HasCleanDisk (file_state store) → (db : Trees) → HoldsDatabase new_files db → (version : _) → (s : _) → AreOldTablesOf version db s → Represents (file_state store).now s) }
         ensures made { IfOk result (λ store. HasCleanDisk (file_state store) → (trees : Trees) × AreFoundIn new_files trees × (Lists (trees catalog_tree) no_schema → Represents (file_state store).now empty)) }
         ensures settled { IfOk result (λ store. HasCleanDisk (file_state store) → (db : Trees) → (file_state store).may_leave db → db ≡ (file_state store).now.trees) }
         ensures refused { FailsToOpenIn over_files new_files result }

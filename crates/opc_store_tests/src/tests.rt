@@ -5,6 +5,7 @@ mod board_loads;
 mod costs;
 mod disks;
 mod edits;
+mod older;
 mod policy;
 mod policy_loads;
 mod searches;

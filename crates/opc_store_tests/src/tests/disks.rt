@@ -11,7 +11,7 @@ use std::fs;
 use std::rt::HostRuntime;
 use std::test::Fail;
 
-type Fused = Fuse<Memory>;
+pub(super) type Fused = Fuse<Memory>;
 
 /// A group, and a row of the account.
 fn change(alloc: Global, group: &str) -> Result<Change, Fail> {
@@ -23,16 +23,19 @@ fn change(alloc: Global, group: &str) -> Result<Change, Fail> {
     })
 }
 
-/// Makes a store over new files that pass so many calls on, and hands the files back where that failed.
-fn made(
+/// Files that pass so many calls on.
+pub(super) fn fused(files: Files<Memory>, log_calls: u64, db_calls: u64) -> Files<Fused> {
+    Files {
+        log: Fuse::new(files.log, log_calls),
+        db: Fuse::new(files.db, db_calls),
+    }
+}
+
+/// Opens a store over files, and hands the files back where that failed.
+pub(super) fn opened(
     alloc: Global,
-    log_calls: u64,
-    db_calls: u64,
+    files: Files<Fused>,
 ) -> Result<Store<FileStore<Fused>>, Files<Fused>> {
-    let files = Files {
-        log: Fuse::new(Memory::new(alloc), log_calls),
-        db: Fuse::new(Memory::new(alloc), db_calls),
-    };
     match Connection::open_files(alloc, files, Options::new(7)) {
         Ok(conn) => match Store::open_files(conn) {
             Ok(store) => Ok(store),
@@ -45,7 +48,20 @@ fn made(
     }
 }
 
-fn closed<D: Disk + Drop>(store: Store<FileStore<D>>) -> Files<D> {
+/// The same over new files.
+fn made(
+    alloc: Global,
+    log_calls: u64,
+    db_calls: u64,
+) -> Result<Store<FileStore<Fused>>, Files<Fused>> {
+    let files = Files {
+        log: Memory::new(alloc),
+        db: Memory::new(alloc),
+    };
+    opened(alloc, fused(files, log_calls, db_calls))
+}
+
+pub(super) fn closed<D: Disk + Drop>(store: Store<FileStore<D>>) -> Files<D> {
     match store.close() {
         Ok(files) => files,
         Err((_, left)) => left.close(),

@@ -50,12 +50,8 @@ fn strange_databases_are_refused(rt: HostRuntime) -> Result<(), Fail> {
             0,
         ),
         (
-            "CREATE TABLE meta (version INTEGER); INSERT INTO meta VALUES (1)",
-            1,
-        ),
-        (
-            "CREATE TABLE meta (version INTEGER); INSERT INTO meta VALUES (2)",
-            2,
+            "CREATE TABLE meta (version INTEGER); INSERT INTO meta VALUES (4)",
+            4,
         ),
         (
             "CREATE TABLE meta (version INTEGER); INSERT INTO meta VALUES (9)",
@@ -67,6 +63,17 @@ fn strange_databases_are_refused(rt: HostRuntime) -> Result<(), Fail> {
             Err(OpenFault::NotOurs(version)),
             "{made}"
         );
+    }
+    Ok(())
+}
+
+#[test]
+fn a_number_of_an_older_version_without_its_tables_is_a_fault(rt: HostRuntime) -> Result<(), Fail> {
+    for made in [
+        "CREATE TABLE meta (version INTEGER); INSERT INTO meta VALUES (1)",
+        "CREATE TABLE meta (version INTEGER); INSERT INTO meta VALUES (2)",
+    ] {
+        assert_eq!(rt; opened(rt.alloc(), made)?, Err(OpenFault::Store), "{made}");
     }
     Ok(())
 }

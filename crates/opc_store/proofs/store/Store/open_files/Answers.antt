@@ -1,16 +1,27 @@
-use Rattle.std.proofs.Common.{◌≡◌, ◌∙◌, sym, ap, subst, true, false, rules}
+use Rattle.std.proofs.Common.{◌≡◌, ◌∙◌, sym, ap, subst, true, false, rules, inl}
 use Rattle.sqlite.proofs.StateLemmas.{survives_weaker}
 use Rattle.sqlite.specs.Effect.{Database}
 use Rattle.sqlite.specs.Held.{state}
 use Rattle.opc_stored.specs.Ours.{has_our_name}
 use Rattle.opc_stored.specs.Represented.{Represents}
 use Rattle.opc_stored.proofs.Opened.{found_again, named}
+use Rattle.opc_old_tables.proofs.Found.{found_old, old_named}
+use Rattle.opc_old_tables.proofs.VersionLoads.{names_own}
+use Rattle.opc_store.proofs.Older.{never_older, older_between, copied, unharmed, found, known, refused, crash, crash_at_fault}
 use Rattle.opc_store.proofs.store.Store.open_files.Goals as goal
 
 pub returns-in-Ok-clause-found : goal.returns-in-Ok-clause-found
 returns-in-Ok-clause-found g c clean is_open s alone =
     let again = found_again (state g.S.Store c.args.conn).now s (c.schema.ensures.live is_open).0 alone in
     let yes : has_our_name c.schema.result.now ≡ true = named _ (c.schema.ensures.value ∙ again.rows.schema) in
+    let was = c.has_our_name.ensures in
+    let no = c.if-not-has_our_name.true in
+    absurd cc
+
+pub returns-in-Ok-clause-copied : goal.returns-in-Ok-clause-copied
+returns-in-Ok-clause-copied g c clean is_open version s alone =
+    let was_old = found_old version (state g.S.Store c.args.conn).now s (c.schema.ensures.live is_open).0 alone in
+    let yes : has_our_name c.schema.result.now ≡ true = old_named version _ (c.schema.ensures.value ∙ was_old.tables.schema_is) in
     let was = c.has_our_name.ensures in
     let no = c.if-not-has_our_name.true in
     absurd cc
@@ -24,7 +35,7 @@ returns-in-Ok-eq3-clause-found g c clean is_open s alone =
 pub returns-in-Ok-clause-crash : goal.returns-in-Ok-clause-crash
 returns-in-Ok-clause-crash g c =
     let no : has_our_name c.args.conn.schema ≡ false = search rules in
-    survives_weaker (state g.S.Store c.args.conn) (state g.S.Store c.make_tables.new.conn) _ _ (λ _ db h. (no, h)) c.make_tables.ensures.survives
+    survives_weaker (state g.S.Store c.args.conn) (state g.S.Store c.make_tables.new.conn) _ _ (λ _ db h. inl (no, h)) c.make_tables.ensures.survives
 
 pub returns-in-Ok-clause-settled : goal.returns-in-Ok-clause-settled
 returns-in-Ok-clause-settled g c clean db leaves =
@@ -40,4 +51,30 @@ returns-in-Ok-eq3-clause-settled g c clean db leaves =
 pub returns-in-Err-clause-crash_at_fault : goal.returns-in-Err-clause-crash_at_fault
 returns-in-Err-clause-crash_at_fault g c =
     let no : has_our_name c.args.conn.schema ≡ false = search rules in
-    survives_weaker (state g.S.Store c.args.conn) (state g.S.Store c.make_tables.new.conn) _ _ (λ _ db h. (no, h)) c.make_tables.ensures.survives
+    survives_weaker (state g.S.Store c.args.conn) (state g.S.Store c.make_tables.new.conn) _ _ (λ _ db h. (c.open_fault.ensures.either, inl (no, h))) c.make_tables.ensures.survives
+
+pub returns-in-Ok-eq3-clause-copied : goal.returns-in-Ok-eq3-clause-copied
+returns-in-Ok-eq3-clause-copied g c clean is_open version s alone =
+    let was_old = found_old version (state g.S.Store c.args.conn).now s (c.schema.ensures.live is_open).0 alone in
+    never_older version c.in-Ok-eq3.field-0 (search rules) (names_own version _ _ s was_old _ (c.in-Ok-eq3.ensures.names clean))
+
+pub returns-in-Ok-eq1-clause-found : goal.returns-in-Ok-eq1-clause-found
+returns-in-Ok-eq1-clause-found g c = found g.S.Store c.in-Ok-eq1.field-0 c.args.conn c.version_on.new.conn c.schema.ensures.live c.in-Ok-eq1.ensures.looks c.copied.result (λ e. e.0) (λ e. e.1) (older_between c.in-Ok-eq1.field-0 (search rules) (search rules)) c.in-Ok-eq1.ensures.names c.copied.ensures.crash c.in-Ok-eq1.ensures.ours
+
+pub returns-in-Ok-eq1-clause-copied : goal.returns-in-Ok-eq1-clause-copied
+returns-in-Ok-eq1-clause-copied g c = copied g.S.Store c.in-Ok-eq1.field-0 c.args.conn c.version_on.new.conn c.schema.ensures.live c.in-Ok-eq1.ensures.looks c.copied.result (λ e. e.0) (λ e. e.1) c.copied.ensures.crash c.copied.ensures.copied
+
+pub returns-in-Ok-eq1-clause-ours : goal.returns-in-Ok-eq1-clause-ours
+returns-in-Ok-eq1-clause-ours g c = known g.S.Store c.in-Ok-eq1.field-0 c.args.conn c.version_on.new.conn c.schema.ensures.live c.in-Ok-eq1.ensures.looks c.copied.result (λ e. e.0) (λ e. e.1) (older_between c.in-Ok-eq1.field-0 (search rules) (search rules)) c.in-Ok-eq1.ensures.names c.copied.ensures.crash
+
+pub returns-in-Ok-eq1-clause-refused : goal.returns-in-Ok-eq1-clause-refused
+returns-in-Ok-eq1-clause-refused g c = refused g.S.Store c.in-Ok-eq1.field-0 c.args.conn c.version_on.new.conn c.schema.ensures.live c.in-Ok-eq1.ensures.looks c.copied.result (λ e. e.0) (λ e. e.1) (older_between c.in-Ok-eq1.field-0 (search rules) (search rules)) c.in-Ok-eq1.ensures.names c.copied.ensures.crash_at_fault c.copied.ensures.told
+
+pub returns-in-Ok-eq1-clause-unharmed : goal.returns-in-Ok-eq1-clause-unharmed
+returns-in-Ok-eq1-clause-unharmed g c = unharmed g.S.Store c.in-Ok-eq1.field-0 c.args.conn c.version_on.new.conn c.schema.ensures.live c.in-Ok-eq1.ensures.looks c.copied.result (λ e. e.0) (λ e. e.1) c.copied.ensures.crash_at_fault c.copied.ensures.unharmed
+
+pub returns-in-Ok-eq1-clause-crash : goal.returns-in-Ok-eq1-clause-crash
+returns-in-Ok-eq1-clause-crash g c = crash g.S.Store c.in-Ok-eq1.field-0 c.args.conn c.version_on.new.conn c.schema.ensures.live c.in-Ok-eq1.ensures.looks c.copied.result (λ e. e.0) (λ e. e.1) (older_between c.in-Ok-eq1.field-0 (search rules) (search rules)) c.in-Ok-eq1.ensures.names (search rules) c.copied.ensures.crash
+
+pub returns-in-Ok-eq1-clause-crash_at_fault : goal.returns-in-Ok-eq1-clause-crash_at_fault
+returns-in-Ok-eq1-clause-crash_at_fault g c = crash_at_fault g.S.Store c.in-Ok-eq1.field-0 c.args.conn c.version_on.new.conn c.schema.ensures.live c.in-Ok-eq1.ensures.looks c.copied.result (λ e. e.0) (λ e. e.1) (older_between c.in-Ok-eq1.field-0 (search rules) (search rules)) c.in-Ok-eq1.ensures.names (search rules) c.copied.ensures.crash_at_fault c.copied.ensures.told

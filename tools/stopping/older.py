@@ -1,0 +1,38 @@
+"""A file of an older version, opened."""
+import shutil, tempfile
+
+import older
+from . import files
+from .imports import ROWS, WANT, policy_file
+
+LINES = ["1 * JOBIN BACKUP JOB\n", "2 * ATTACH 0A80\n", "3 C2 LOGON SECADM,ABC\n", "4 C1 FORCE BACKUP\n"]
+
+
+class Older:
+    """Where it was not copied the file is opened once more, and copied then: it ends as the file of version 3 whose rows it has."""
+
+    most = 100
+
+    def __init__(self, room, version):
+        self.title = f"opcmds export: a file of version {version}"
+        folder = tempfile.mkdtemp(dir=room)
+        self.stored, newer = f"{folder}/older", f"{folder}/newer"
+        files.script(LINES, newer)
+        files.run(["import", "--db", newer, "--batch", "7", "--console", "C2"], policy_file(ROWS))
+        older.make(version, newer, self.stored)
+        self.answer, self.after = self.run(newer, None), files.tables(newer)
+
+    def begin(self, file):
+        shutil.copy(self.stored, file)
+
+    def run(self, file, faults):
+        return files.run(["export", "--db", file], "", faults)
+
+    def is_right(self, kind, ran, file):
+        status, output, errors = self.answer
+        told = ran == self.answer or ran[0] == (77 if kind == "stop" else 3) and output.startswith(ran[1]) and (ran[2] == "" or ran[2].startswith(WANT))
+        return told and files.tables(file) == self.after and self.run(file, None) == self.answer
+
+
+def works(room):
+    return [Older(room, version) for version in (1, 2)]

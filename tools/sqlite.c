@@ -47,8 +47,8 @@ static void standing(void) {
 
 static void held(const char *resource, const char *pattern) {
     deciding(resource, pattern);
-    ROWS(ENTRIES, "tti", "OPERCMDS", pattern, 16);
-    ROWS(GROUPS_OF, "ti", "ANNA", 16);
+    ROWS(ENTRIES, "tti", "OPERCMDS", pattern, 8);
+    ROWS(GROUPS_OF, "ti", "ANNA", 8);
 }
 
 static void ruling(const char *resource, const char *pattern) { standing(), held(resource, pattern); }
@@ -83,7 +83,7 @@ static void refusal(void) {
 /* C1 D U */
 static void one_ruling(void) {
     ROWS(CONSOLE, "t", "C1"), ruling("MVS.DISPLAY.U", "MVS.DISPLAY.**");
-    ROWS(DEVICES, ""), standing();
+    ROWS(DEVICES, "");
 }
 
 /* C2 D U */
@@ -92,7 +92,7 @@ static void board(void) { ROWS(CONSOLE, "t", "C2"), ROWS(DEVICES, ""); }
 static void ten_commands(void) {
     one_ruling();
     /* C1 V 0A80,OFFLINE */
-    ROWS(CONSOLE, "t", "C1"), ruling("MVS.VARY.DEV", "MVS.VARY.DEV"), device("0A80"), standing();
+    ROWS(CONSOLE, "t", "C1"), ruling("MVS.VARY.DEV", "MVS.VARY.DEV"), device("0A80");
     begin(), put_device("0A80", 0, 0), account("C1", "ANNA", "WARN", "PROFILE OPERCMDS MVS.VARY.DEV HELD NONE NEEDED UPDATE WARNED"), commit();
     /* C2 V 0A80,ONLINE */
     one_device("0A80", 1, 0);

@@ -1,5 +1,6 @@
 pub mod Connected
 pub mod Found
+pub mod Free
 pub mod HeldIn
 pub mod Named
 pub mod OwnUsers

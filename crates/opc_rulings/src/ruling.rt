@@ -1,5 +1,6 @@
 //! Rulings, from what is loaded for them.
-ghost use Rattle.std.specs.Prelude.{◌≡◌, ◌≤◌, Some, IsTrue, true, filter, length};
+ghost use Rattle.std.specs.Prelude.{◌≡◌, ◌≤◌, Some, IfOk, IsTrue, true, filter, length};
+ghost use Rattle.std.specs.List.{list_all};
 ghost use Rattle.std.specs.Option.{option_and_then};
 ghost use Rattle.opc_names.specs.Names.{is_plain, is_resource};
 ghost use Rattle.opc_names.specs.declared.class.Class.TheVariants.{Opercmds};
@@ -9,7 +10,7 @@ ghost use Rattle.opc_state.specs.Asked.{Answers};
 ghost use Rattle.opc_state.specs.State.{deciding_in};
 ghost use Rattle.opc_state.specs.Changes.{IsKept};
 ghost use Rattle.opc_rulings.specs.Held.{class_ruling};
-ghost use Rattle.opc_rulings.specs.Standing.{IsStanding};
+ghost use Rattle.opc_rulings.specs.Standing.{IsStanding, is_free};
 ghost use Rattle.opc_machine.specs.Rulings.{acting, acting_user, is_auto, is_required, is_allowed, logon_ruling, own_user, need_to_show, ruling, shown, to_show};
 
 use crate::held::level_on;
@@ -27,7 +28,7 @@ use opc_policy::source::StoreFault;
 use opc_policy::user::User;
 use opc_rows::Rows;
 use opc_state::tables::Tables;
-use std::alloc::Global;
+use std::alloc::{AllocError, Global};
 
 fn is_required(mode: Mode) -> bool
     ensures { result ≡ is_required mode }
@@ -306,8 +307,51 @@ fn is_shown<T: Tables>(
     }
 }
 
-/// Those lines that may be shown. Who acts is loaded once for all of them.
+// Whether a line is about no unit and no console, and so may be shown to everybody.
+fn is_free(line: &Line) -> bool
+    ensures { result ≡ is_free line.now }
+{
+    match line.item {
+        Item::Plain => true,
+        Item::Unit(_) | Item::Console(_) => false,
+    }
+}
+
+fn are_free(lines: &[Line]) -> bool
+    ensures { result ≡ list_all is_free lines.now }
+{
+    lines.iter().all(|line| is_free(line))
+}
+
+fn all_of(alloc: Global, lines: Vec<Line>) -> Result<Rows<Line>, AllocError>
+    ensures { IfOk result (λ all. all ≡ lines.items) }
+{
+    let mut all = Rows::new(alloc);
+    for line in lines {
+        all.push(line)?;
+    }
+    Ok(all)
+}
+
+/// Those lines that may be shown. Who acts is loaded once for all of them, and not where none needs a ruling.
+#[tactic(auto, using(crate::proofs::Free::free_lines_are_shown))]
 pub fn shown_lines<T: Tables>(
+    tables: &mut T,
+    alloc: Global,
+    console: &ConsoleRow,
+    lines: Vec<Line>,
+) -> Result<Rows<Line>, StoreFault>
+    ensures kept { IsKept T.is_sure T.represents T.may_leave tables.old tables.new }
+    ensures lines { Answers (T.is_sure tables.new) (T.represents tables.old) result (λ s kept. kept ≡ filter (shown s console.now) lines.items) }
+{
+    if are_free(lines.as_slice()) {
+        return Ok(all_of(alloc, lines)?);
+    }
+    ruled_lines(tables, alloc, console, lines)
+}
+
+// The same where some line may need a ruling.
+fn ruled_lines<T: Tables>(
     tables: &mut T,
     alloc: Global,
     console: &ConsoleRow,

@@ -112,7 +112,7 @@ class Program:
         return self.copy
 
     def by_file(self, files, text):
-        """What a script takes over each file, less an empty one: medians, all taken by turns."""
+        """What a script takes over each file, less an empty one: medians, all taken alternately."""
         took = {file: ([], []) for file in files}
         for _ in range(self.runs):
             for file in files:

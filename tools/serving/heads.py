@@ -87,7 +87,7 @@ def bodies(tally, port):
     escaped = b'{"text":"\\u0044 U"}'
     tally.equal("an escape", clients.sent(port, request("", body=escaped)), DEVICES)
     more = request("") + b"x" * 100_000
-    tally.equal("bytes behind the body", clients.sent(port, more), DEVICES)
+    tally.equal("bytes after the body", clients.sent(port, more), DEVICES)
 
 
 def batches(tally, port, file):

@@ -1,10 +1,14 @@
 -- What a failed stream ends the program with.
-use Rattle.std.proofs.Common.{◌≡◌, refl}
+use Rattle.std.proofs.Common.{◌≡◌, inl, inr, refl}
 use Rattle.std.specs.declared.io.ErrorKind.{ErrorKind}
 use Rattle.std.specs.declared.io.ErrorKind.TheVariants.{OutOfMemory}
 use Rattle.opc_script.specs.declared.status.Status.TheVariants.{Failed}
-use Rattle.opc_program.specs.Statuses.{fault_of_kind, status_of}
+use Rattle.opc_program.specs.Statuses.{IsFailure, fault_of_kind, status_of}
 
 pub streams_fail : (kind : ErrorKind) → status_of (fault_of_kind kind) ≡ Failed
 streams_fail OutOfMemory = refl
 streams_fail kind = refl
+
+pub streams_are_failures : (kind : ErrorKind) → IsFailure (fault_of_kind kind)
+streams_are_failures OutOfMemory = inl refl
+streams_are_failures kind = inr refl

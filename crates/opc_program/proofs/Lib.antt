@@ -1,3 +1,4 @@
 pub mod Faults
 pub mod Uncached
 pub mod Services
+pub mod Files

@@ -2,3 +2,4 @@ pub mod Statuses
 pub mod Runs
 pub mod Services
 pub mod Words
+pub mod PolicyFiles

@@ -1,4 +1,5 @@
 -- The statuses of faults, and the faults of streams.
+use Rattle.std.specs.Prelude.{◌≡◌, ◌⊎◌}
 use Rattle.std.specs.declared.io.ErrorKind.{ErrorKind}
 use Rattle.std.specs.declared.io.ErrorKind.TheVariants.{OutOfMemory}
 use Rattle.opc_policy.specs.declared.fault.Fault.{Fault}
@@ -19,3 +20,7 @@ status_of fault = Refused
 abbrev pub fault_of_kind : ErrorKind → Fault
 fault_of_kind OutOfMemory = NoMemory
 fault_of_kind kind = Store
+
+-- There was no memory, or the store or a device failed.
+abbrev pub IsFailure : Fault → Type 0
+IsFailure fault = (fault ≡ NoMemory) ⊎ (fault ≡ Store)

@@ -1,7 +1,7 @@
 //! What made the program fail, and how that is told.
 ghost use Rattle.std.specs.Prelude.{◌≡◌};
 ghost use Rattle.std.specs.IoError.{error_kind};
-ghost use Rattle.opc_program.specs.Statuses.{fault_of_kind, status_of};
+ghost use Rattle.opc_program.specs.Statuses.{IsFailure, fault_of_kind, status_of};
 
 use crate::reason::Reason;
 use arrayvec::ArrayString;
@@ -82,7 +82,8 @@ impl From<Fault> for Failure {
 impl Failure {
     /// A read, a write or an opening that failed there.
     pub fn at(place: Place, error: io::Error) -> Self
-        ensures { result.fault ≡ fault_of_kind (error_kind error) }
+        ensures fault { result.fault ≡ fault_of_kind (error_kind error) }
+        ensures failure { IsFailure result.fault }
     {
         Failure {
             fault: fault_of(&error),

@@ -1,4 +1,6 @@
 pub mod Faults
 pub mod Uncached
 pub mod Services
+pub mod Prefixes
 pub mod Files
+pub mod Endings

@@ -3,3 +3,4 @@ pub mod Runs
 pub mod Services
 pub mod Words
 pub mod PolicyFiles
+pub mod Imports

@@ -1,5 +1,5 @@
 -- What the program makes of a service of many clients.
-use Rattle.std.specs.Prelude.{◌≡◌, ◌≤◌, ℕ, Result, Ok, Err}
+use Rattle.std.specs.Prelude.{◌≤◌, ℕ, Result, Ok, Err}
 use Rattle.opc_state.specs.State.{State}
 use Rattle.opc_script.specs.declared.status.Status.{Status}
 use Rattle.opc_script.specs.declared.status.Status.TheVariants.{BadInput, Done, Failed, Refused}

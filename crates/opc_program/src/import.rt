@@ -1,9 +1,17 @@
 //! `opcmds import` and `opcmds export`: a written policy into the tables of a file, and out of them.
+ghost use Rattle.std.specs.Prelude.{◌≡◌, IfErr, IfOk};
+ghost use Rattle.opc_state.specs.Changes.{IsKept};
+ghost use Rattle.opc_machine.specs.Inputs.{input_of};
+ghost use Rattle.opc_program.specs.Imports.{IsExport, IsFirstPolicy, IsImport, IsOneStep};
+ghost use Rattle.opc_program.specs.Words.{number_between};
+
 use crate::failure::{Failure, Place};
 use crate::policy_file::read_rows;
+use crate::printing::{print_text, tell_answer};
 use clap::ArgMatches;
 use opc_gate::gate::Gate;
-use opc_gate::request::{Answer, Request};
+use opc_gate::request::Request;
+use opc_http_head::number::number_in;
 use opc_import::write::write_policy;
 use opc_names::name::ConsoleName;
 use opc_policy::fault::Fault;
@@ -14,9 +22,6 @@ use opc_state::tables::Tables;
 use std::alloc::{AllocError, Global};
 use std::io::{Read, Write};
 
-/// The most digits of a batch's number.
-const BATCH_DIGITS: usize = 9;
-
 /// What is imported: a batch with a number at a console or, where none is named, a first policy.
 #[derive(Clone, Copy)]
 pub struct Import<'a> {
@@ -26,12 +31,11 @@ pub struct Import<'a> {
 }
 
 /// A batch's number, 1 to 999,999,999.
-fn batch_in(text: &str) -> Option<u32> {
-    if text.len() > BATCH_DIGITS || !text.as_bytes().iter().all(|c| c.is_ascii_digit()) {
-        return None;
-    }
-    match text.parse::<u32>() {
-        Ok(number) if number > 0 => Some(number),
+fn batch_in(text: &str) -> Option<u32>
+    ensures { result ≡ number_between 9 1 999_999_999 text.now }
+{
+    match number_in(text, 9) {
+        Some(number) if 1 <= number && number <= 999_999_999 => Some(number as u32),
         _ => None,
     }
 }
@@ -62,6 +66,7 @@ pub fn import_on<T: Tables, R: Read, W: Write>(
     output: &mut W,
 ) -> (Result<Status, Failure>, T)
     ensures sure { T.is_sure result.1 → T.is_sure tables }
+    ensures imports { IsImport T.is_sure T.represents T.may_leave tables result.1 result.0 (W.contents output.old) (W.contents output.new) (R.remaining input.old) moment import.now }
 {
     let mut gate = Gate::over(tables);
     let end = import_over(alloc, &mut gate, moment, import, input, output);
@@ -77,48 +82,62 @@ fn import_over<T: Tables, R: Read, W: Write>(
     output: &mut W,
 ) -> Result<Status, Failure>
     ensures sure { T.is_sure gate.new → T.is_sure gate.old }
+    ensures imports { IsImport T.is_sure T.represents T.may_leave gate.old gate.new result (W.contents output.old) (W.contents output.new) (R.remaining input.old) moment import.now }
 {
     let rows = read_rows(alloc, Place::Input, input)?;
     let Some(console) = import.console else {
-        gate.bootstrap(alloc, &rows)?;
-        return Ok(Status::Done);
+        return take_first(alloc, gate, &rows);
     };
     let request = Request::Import {
         console,
         batch: import.batch,
         rows: listed(alloc, &rows)?,
     };
-    print(gate.handle(alloc, moment, &request), output)
+    handle_alone(alloc, gate, moment, &request, output)
 }
 
-fn listed(alloc: Global, rows: &[Row]) -> Result<Rows<Row>, Failure> {
+/// Takes the rows of a first policy.
+fn take_first<T: Tables>(alloc: Global, gate: &mut Gate<T>, rows: &[Row]) -> Result<Status, Failure>
+    ensures sure { T.is_sure gate.new → T.is_sure gate.old }
+    ensures takes { IsFirstPolicy T.is_sure T.represents T.may_leave gate.old gate.new result rows.now }
+{
+    gate.bootstrap(alloc, rows)?;
+    Ok(Status::Done)
+}
+
+/// Has one request handled, and tells its answer.
+fn handle_alone<T: Tables, W: Write>(
+    alloc: Global,
+    gate: &mut Gate<T>,
+    moment: u64,
+    request: &Request,
+    output: &mut W,
+) -> Result<Status, Failure>
+    ensures sure { T.is_sure gate.new → T.is_sure gate.old }
+    ensures handles { IsOneStep T.is_sure T.represents T.may_leave gate.old gate.new result (W.contents output.old) (W.contents output.new) moment (input_of request.now) }
+{
+    let answer = gate.handle(alloc, moment, request);
+    tell_answer(&answer, output)
+}
+
+fn listed(alloc: Global, rows: &[Row]) -> Result<Rows<Row>, Failure>
+    ensures rows { IfOk result (λ copy. copy ≡ rows.now) }
+    ensures fault { IfErr result (λ failure. failure.fault ≡ Fault.NoMemory) }
+{
     match copied(alloc, rows) {
         Ok(rows) => Ok(rows),
         Err(_) => Err(Failure::from(Fault::NoMemory)),
     }
 }
 
-fn copied(alloc: Global, rows: &[Row]) -> Result<Rows<Row>, AllocError> {
+fn copied(alloc: Global, rows: &[Row]) -> Result<Rows<Row>, AllocError>
+    ensures { IfOk result (λ copy. copy ≡ rows.now) }
+{
     let mut copy = Rows::new(alloc);
     for row in rows {
         copy.push(*row)?;
     }
     Ok(copy)
-}
-
-/// The lines of an answer, or its fault.
-fn print<W: Write>(answer: Answer, output: &mut W) -> Result<Status, Failure> {
-    match answer {
-        Answer::Done { lines, .. } => {
-            for line in lines.as_slice() {
-                if let Err(error) = writeln!(output, "{}", line.text.as_str()) {
-                    return Err(Failure::at(Place::Output, error));
-                }
-            }
-            Ok(Status::Done)
-        }
-        Answer::Refused { fault, .. } => Err(Failure::from(fault)),
-    }
 }
 
 /// Writes the policy of these tables as a policy file, and hands them back.
@@ -128,6 +147,8 @@ pub fn export_on<T: Tables, W: Write>(
     output: &mut W,
 ) -> (Result<Status, Failure>, T)
     ensures sure { T.is_sure result.1 → T.is_sure tables }
+    ensures kept { IsKept T.is_sure T.represents T.may_leave tables result.1 }
+    ensures exports { IsExport T.is_sure T.represents T.may_leave tables result.1 result.0 (W.contents output.old) (W.contents output.new) }
 {
     let mut gate = Gate::over(tables);
     let end = export_over(alloc, &mut gate, output);
@@ -140,13 +161,12 @@ fn export_over<T: Tables, W: Write>(
     output: &mut W,
 ) -> Result<Status, Failure>
     ensures sure { T.is_sure gate.new → T.is_sure gate.old }
+    ensures kept { IsKept T.is_sure T.represents T.may_leave gate.old gate.new }
+    ensures exports { IsExport T.is_sure T.represents T.may_leave gate.old gate.new result (W.contents output.old) (W.contents output.new) }
 {
     let rows = gate.export(alloc)?;
     let Ok(text) = write_policy(alloc, rows.as_slice()) else {
         return Err(Failure::from(Fault::NoMemory));
     };
-    match output.write_all(text.as_bytes()) {
-        Ok(()) => Ok(Status::Done),
-        Err(error) => Err(Failure::at(Place::Output, error)),
-    }
+    print_text(output, text.as_str())
 }

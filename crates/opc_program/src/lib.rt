@@ -7,6 +7,7 @@ pub mod failure;
 pub mod import;
 pub mod machine;
 mod policy_file;
+mod printing;
 pub mod reason;
 pub mod run;
 pub mod serve;

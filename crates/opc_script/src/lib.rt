@@ -4,7 +4,7 @@
 mod event;
 pub mod laws;
 pub mod line;
-mod printer;
+pub mod printer;
 pub mod run;
 pub mod script;
 pub mod status;

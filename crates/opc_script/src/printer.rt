@@ -18,7 +18,7 @@ use std::io;
 use std::io::{ErrorKind, Write};
 
 /// Writes a text, or, where the writer fails, some prefix of it.
-pub(crate) fn write_text<W: Write>(output: &mut W, text: &str) -> io::Result<()>
+pub fn write_text<W: Write>(output: &mut W, text: &str) -> io::Result<()>
     ensures { MatchResult result (λ _. Appends (W.contents output.old) (W.contents output.new) text.now) (λ _. AppendsPrefix (W.contents output.old) (W.contents output.new) text.now) }
 {
     let bytes = text.as_bytes();

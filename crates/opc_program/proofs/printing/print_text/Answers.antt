@@ -1,0 +1,5 @@
+use Rattle.opc_program.proofs.Endings.{as_written}
+use Rattle.opc_program.proofs.printing.print_text.Goals as goal
+
+pub returns-clause-text : goal.returns-clause-text
+returns-clause-text g c = as_written _ _ c.write_text.result c.printed.result c.printed.ensures.same c.write_text.ensures

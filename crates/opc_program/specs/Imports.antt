@@ -1,0 +1,88 @@
+-- What `import` does with a policy file on its input, and what `export` writes.
+use Rattle.std.specs.Prelude.{◌≡◌, ◌≢◌, ◌⊎◌, ℕ, List, Option, Some, None, Result, Ok, Err, IfErr, IfOk, IsErrAnd, MatchResult, OnErr, OnOk}
+use Rattle.std.specs.Io.KnownBytes.{Appends}
+use Rattle.std.specs.List.{flat_map}
+use Rattle.opc_policy.specs.declared.fault.Fault.TheVariants.{NoMemory, Store}
+use Rattle.opc_policy.specs.declared.row.Row.{Row}
+use Rattle.opc_board.specs.declared.line.Line.{Line}
+use Rattle.opc_import.specs.Lines.{policy_text}
+use Rattle.opc_state.specs.PolicyFile.{rows_of}
+use Rattle.opc_state.specs.State.{State}
+use Rattle.opc_machine.specs.declared.request.Answer.{Answer}
+use Rattle.opc_machine.specs.declared.request.Answer.TheVariants as answer
+use Rattle.opc_machine.specs.Bootstrap.{bootstrapped}
+use Rattle.opc_machine.specs.Inputs.{Input, Import as ImportOf}
+use Rattle.opc_gate.specs.Handling.{IsHandled, LeavesAsBefore}
+use Rattle.opc_gate.specs.RowEdits.{HaveNothingNew, IsBootstrap}
+use Rattle.opc_script.specs.declared.status.Status.{Status}
+use Rattle.opc_script.specs.declared.status.Status.TheVariants.{Done}
+use Rattle.opc_script.specs.Running.{AppendsPrefix}
+use Rattle.opc_script.specs.Transcripts.{ended}
+use Rattle.opc_program.specs.declared.failure.Failure.{Failure}
+use Rattle.opc_program.specs.declared.import.Import.{Import}
+use Rattle.opc_program.specs.PolicyFiles.{AreRead, IsUnread}
+use Rattle.opc_program.specs.Statuses.{IsFailure}
+
+-- the lines of an answer, each ended by a line feed
+abbrev pub lines_text : List Line → List ℕ
+lines_text lines = flat_map (λ line. ended line.text) lines
+
+-- It ended well, or there was no memory or a device failed.
+abbrev pub IsEnded : Result Status Failure → Type 0
+IsEnded end = MatchResult end (λ status. status ≡ Done) (λ failure. IsFailure failure.fault)
+
+-- A text was written, and where that failed a prefix of it.
+abbrev pub IsWritten : List ℕ → (before written : Option (List ℕ)) → Result Status Failure → Type 0
+IsWritten text before written end = MatchResult end (λ _. Appends before written text) (λ _. AppendsPrefix before written text)
+
+-- An answer is told: what is done by its lines, and what is refused by its fault, of which nothing is printed.
+abbrev pub IsTold : Answer → (before written : Option (List ℕ)) → Result Status Failure → Type 0
+IsTold (answer.Done lines rule) before written end = IsEnded end × IsWritten (lines_text lines) before written end
+IsTold (answer.Refused fault rule) before written end = IsErrAnd end (λ failure. failure.fault ≡ fault) × (written ≡ before)
+
+-- the text of the policy file of a state
+abbrev pub exported : State → List ℕ
+exported s = policy_text (rows_of s.policy s.board.consoles)
+
+module _ {T : Type 0} (is_sure : T → Type 0) (represents may_leave : T → State → Type 0) (old new : T) (end : Result Status Failure) where
+  -- What becomes of a first policy over a state, and what a crash may leave: the state with it, in whole, or what it might
+  -- have left before.
+  pub record IsTakenOver (s : State) (rows : List Row) : Type 0 where
+    pub done : OnOk end (IsBootstrap represents may_leave new s rows)
+    pub refused : IfErr end (λ failure. failure.fault ≢ NoMemory → failure.fault ≢ Store → bootstrapped rows s ≡ Err failure.fault)
+    pub unchanged : OnErr end (represents new s)
+    pub crash : (left : State) → may_leave new left → may_leave old left ⊎ (bootstrapped rows s ≡ Ok left)
+    pub idle : HaveNothingNew rows s → LeavesAsBefore may_leave old new
+
+  -- The rows were taken as a first policy, or not.
+  pub record IsFirstPolicy (rows : List Row) : Type 0 where
+    pub taken : is_sure new → (s : State) → represents old s → IsTakenOver s rows
+    pub ends : IfOk end (λ status. status ≡ Done)
+
+  module _ (before written : Option (List ℕ)) where
+    -- Nothing was handled: there was no memory, the input failed, or it is no policy file.
+    pub record IsNotBegun (left : Option (List ℕ)) : Type 0 where
+      pub unread : IsErrAnd end (λ failure. IsUnread left failure.fault)
+      pub same : new ≡ old
+      pub silent : written ≡ before
+
+    -- One request was handled, in one step of the access machine, and its answer told.
+    pub record IsOneStep (moment : ℕ) (r : Input) : Type 0 where
+      pub answer : Answer
+      pub handled : is_sure new → (s : State) → represents old s → IsHandled represents may_leave old new s moment r answer
+      pub told : IsTold answer before written end
+
+    -- The rows are a batch with this number at the console that is named; where none is, they are a first policy, and
+    -- nothing is printed.
+    abbrev pub AreTaken : (moment batch : ℕ) → Option (List ℕ) → List Row → Type 0
+    AreTaken moment batch (Some console) rows = IsOneStep moment (ImportOf console batch rows)
+    AreTaken moment batch None rows = IsFirstPolicy rows × (written ≡ before)
+
+    -- Nothing was handled, or the rows of the policy file that the input had left were taken.
+    abbrev pub IsImport : Option (List ℕ) → ℕ → Import → Type 0
+    IsImport left moment import = IsNotBegun left ⊎ ((rows : List Row) × AreRead left rows × AreTaken moment import.batch import.console rows)
+
+    -- Where the tables are sure, the policy file of their state was written.
+    pub record IsExport : Type 0 where
+      pub ends : IsEnded end
+      pub text : is_sure new → (s : State) → represents old s → IsWritten (exported s) before written end

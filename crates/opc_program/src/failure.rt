@@ -101,6 +101,16 @@ impl Failure {
         }
     }
 
+    /// A fault that the gate gives: where its store fails, that is the database.
+    pub fn of_gate(fault: Fault) -> Self
+        ensures { result.fault ≡ fault }
+    {
+        match fault {
+            Fault::Store => Failure::of(fault, Place::Database, Reason::Unreadable),
+            _ => Failure::from(fault),
+        }
+    }
+
     /// Tells the fault, as its code and its text, and then, in a line of its own, what failed and why. Answers the status.
     /// Takes no memory, so that its want can be told; where there is none, the first line alone is told.
     pub fn tell<E: Write>(&self, paths: &Paths<'_>, errors: &mut E) -> Status

@@ -101,8 +101,10 @@ fn take_first<T: Tables>(alloc: Global, gate: &mut Gate<T>, rows: &[Row]) -> Res
     ensures sure { T.is_sure gate.new → T.is_sure gate.old }
     ensures takes { IsFirstPolicy T.is_sure T.represents T.may_leave gate.old gate.new result rows.now }
 {
-    gate.bootstrap(alloc, rows)?;
-    Ok(Status::Done)
+    match gate.bootstrap(alloc, rows) {
+        Ok(()) => Ok(Status::Done),
+        Err(fault) => Err(Failure::of_gate(fault)),
+    }
 }
 
 /// Has one request handled, and tells its answer.
@@ -164,7 +166,10 @@ fn export_over<T: Tables, W: Write>(
     ensures kept { IsKept T.is_sure T.represents T.may_leave gate.old gate.new }
     ensures exports { IsExport T.is_sure T.represents T.may_leave gate.old gate.new result (W.contents output.old) (W.contents output.new) }
 {
-    let rows = gate.export(alloc)?;
+    let rows = match gate.export(alloc) {
+        Ok(rows) => rows,
+        Err(fault) => return Err(Failure::of_gate(fault)),
+    };
     let Ok(text) = write_policy(alloc, rows.as_slice()) else {
         return Err(Failure::from(Fault::NoMemory));
     };

@@ -56,6 +56,6 @@ pub fn tell_answer<W: Write>(answer: &Answer, output: &mut W) -> Result<Status, 
 {
     match answer {
         Answer::Done { lines, .. } => printed(write_lines(output, lines.as_slice())),
-        Answer::Refused { fault, .. } => Err(Failure::from(*fault)),
+        Answer::Refused { fault, .. } => Err(Failure::of_gate(*fault)),
     }
 }

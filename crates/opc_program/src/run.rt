@@ -76,8 +76,10 @@ fn take_policy<H: AllocGlobal + Files, T: Tables>(
         Err(error) => return Err(Failure::at(Place::PolicyFile, error)),
     };
     let rows = read_rows(rt.alloc(), Place::PolicyFile, &mut file)?;
-    gate.bootstrap(rt.alloc(), &rows)?;
-    Ok(())
+    match gate.bootstrap(rt.alloc(), &rows) {
+        Ok(()) => Ok(()),
+        Err(fault) => Err(Failure::of_gate(fault)),
+    }
 }
 
 /// Runs the script on the input. One that is not UTF-8 is a bad line, as one that is too long.

@@ -31,11 +31,13 @@ pub(super) fn fused(files: Files<Memory>, log_calls: u64, db_calls: u64) -> File
     }
 }
 
-/// Opens a store over files, and hands the files back where that failed.
+/// Opens a store over files as a machine that starts finds them, and hands the files back where that failed.
 pub(super) fn opened(
     alloc: Global,
-    files: Files<Fused>,
+    mut files: Files<Fused>,
 ) -> Result<Store<FileStore<Fused>>, Files<Fused>> {
+    files.log.crash();
+    files.db.crash();
     match Connection::open_files(alloc, files, Options::new(7)) {
         Ok(conn) => match Store::open_files(conn) {
             Ok(store) => Ok(store),

@@ -81,12 +81,18 @@ fn tell_all<S: Alter>(lines: &mut String, conn: &mut Connection<S>) -> Result<()
     Ok(())
 }
 
+/// Makes older tables, with these profiles.
+fn fill<S: Alter>(conn: &mut Connection<S>, profiles: &str) -> Result<(), Fail> {
+    conn.execute_batch(ALIKE)?;
+    conn.execute_batch(profiles)?;
+    conn.execute_batch(ENTRIES)?;
+    Ok(())
+}
+
 /// What the tables hold after an opening, and after another.
 fn told(alloc: Global, profiles: &str) -> Result<(String, String), Fail> {
     let mut conn: Connection<MemStore> = Connection::open_in_memory(alloc)?;
-    for made in [ALIKE, profiles, ENTRIES] {
-        conn.execute_batch(made)?;
-    }
+    fill(&mut conn, profiles)?;
     if !conn.is_autocommit() {
         return Err("a transaction is open")?;
     }
@@ -121,12 +127,10 @@ fn second(alloc: Global) -> Result<Files<Memory>, Fail> {
     let Ok(mut conn) = Connection::open_files(alloc, files, Options::new(7)) else {
         return Err("not opened")?;
     };
-    for made in [ALIKE, SECOND, ENTRIES] {
-        conn.execute_batch(made)?;
-    }
+    fill(&mut conn, SECOND)?;
     match conn.close_files() {
         Ok(files) => Ok(files),
-        Err(_) => Err("not closed")?,
+        Err((_, left)) => Ok(left.close()),
     }
 }
 

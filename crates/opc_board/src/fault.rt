@@ -1,7 +1,7 @@
 //! Faults of the board.
 use std::alloc::{AllocError, AllocFailed};
 
-/// Why the board refuses, or that memory is wanting.
+/// Why the board refuses, or that memory is out.
 #[derive(Clone, Copy, Debug)]
 pub enum BoardFault {
     NoUnit,

@@ -67,7 +67,7 @@ fn edit_of(alloc: Global, row: &Row) -> Option<Edit>
     }
 }
 
-// An edit behind others, if there is one.
+// An edit after others, if there is one.
 fn add_any(edits: &mut Vec<Edit>, edit: Option<Edit>) -> Result<(), AllocError>
     ensures { OnOk result (edits.new.items ≡ edits.old.items ++ cons_option edit []) }
 {
@@ -80,7 +80,7 @@ fn add_any(edits: &mut Vec<Edit>, edit: Option<Edit>) -> Result<(), AllocError>
     }
 }
 
-// The edits that rows make of a policy, behind others.
+// The edits that rows make of a policy, after others.
 fn add_edits(alloc: Global, edits: &mut Vec<Edit>, rows: &[Row]) -> Result<(), AllocError>
     ensures { OnOk result (edits.new.items ≡ edits.old.items ++ edits_of rows.now) }
 {

@@ -87,7 +87,7 @@ fn kind_named<T: Tables>(tables: &mut T, command: &Command<'_>) -> Result<UnitKi
     }
 }
 
-// Why the board refuses, unless the request is given up for want of memory.
+// Why the board refuses, unless the request is given up where memory is out.
 fn refusal(fault: BoardFault) -> Result<Fault, StoreFault>
     ensures { IfOk result (λ why. (fault ≢ NoMemory) × (why ≡ board_fault fault)) }
 {

@@ -53,7 +53,7 @@ rows-none bytes h = elim (cases_Bool (is_utf8 bytes)) [
 pub rows-read : (bytes : List ℕ) (rows : List Row) → IsUtf8 bytes → policy_of bytes ≡ Ok rows → rows_in bytes ≡ Ok rows
 rows-read bytes rows text e = rw (is_utf8-from_IsUtf8 bytes text, e) refl
 
--- a bad row is no want of memory
+-- a bad row does not say that memory is out
 row-or-memory : (row : ℕ) (why : Why) → import.Row row why ≡ import.NoMemory → ⊥
 row-or-memory row why e = cc
 

@@ -28,7 +28,7 @@ pub enum Request {
         console: ConsoleName,
         class: Class,
     },
-    /// Rows of the account from a number on, which is 1 or more, as many as asked for at most.
+    /// Rows of the account from a number on, 0 as from 1, as many as asked for at most.
     ListAccount {
         console: ConsoleName,
         from: u64,

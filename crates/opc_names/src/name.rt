@@ -318,7 +318,7 @@ pub type Volume = Name<VolumeKind, 8>;
 /// A device: four hexadecimal digits in upper case.
 pub type Device = Name<DeviceKind, 8>;
 
-/// A resource: 1 to 39 characters, qualifiers of name characters parted by single periods.
+/// A resource: 1 to 39 characters, qualifiers of name characters separated by single periods.
 pub type Resource = Name<ResourceKind, 39>;
 
 /// A pattern of resources: as a resource, with the generic characters (RACF guide: generic profile names).

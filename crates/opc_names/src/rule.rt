@@ -31,7 +31,7 @@ pub enum Alphabet {
     NoDigitFirst,
     /// `0` to `9`, `A` to `F`.
     Hexadecimal,
-    /// Qualifiers of name characters, parted by single periods.
+    /// Qualifiers of name characters, separated by single periods.
     Qualified,
     /// The same with the generic characters `%` and `*`.
     Generic,

@@ -1,4 +1,4 @@
--- A list in the order of its keys, parted at the first member that passes a test.
+-- A list in the order of its keys, divided at the first member that passes a test.
 use Rattle.std.proofs.Common.{◌≡◌, List, [], ◌∷◌, ◌++◌, filter, find, not, length, Bool, true, false, cond, Some, None, refl, sym, ap, ap₂, subst, ◌∙◌, Ordering, Less, Equal, Greater, IsPermutation, ◌≤◌, arith}
 use Rattle.std.specs.List.{AllByRecursion}
 use Rattle.std.specs.Cmp.{IsTotalOrder}

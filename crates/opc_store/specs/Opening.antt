@@ -28,7 +28,7 @@ unasked (SqlInputError error) = fault.NotOurs 0
 unasked (SqliteFailure OutOfMemory) = fault.NoMemory
 unasked _ = fault.Store
 
--- want of memory is told apart from every other cause
+-- out of memory is told apart from every other cause
 abbrev pub open_fault : Error → OpenFault
 open_fault (SqliteFailure OutOfMemory) = fault.NoMemory
 open_fault _ = fault.Store

@@ -47,8 +47,8 @@ static void standing(void) {
 
 static void held(const char *resource, const char *pattern) {
     deciding(resource, pattern);
-    ROWS(ENTRIES, "tti", "OPERCMDS", pattern, 8);
-    ROWS(GROUPS_OF, "ti", "ANNA", 8);
+    ROWS(ENTRIES, "tti", "OPERCMDS", pattern, 16);
+    ROWS(GROUPS_OF, "ti", "ANNA", 16);
 }
 
 static void ruling(const char *resource, const char *pattern) { standing(), held(resource, pattern); }

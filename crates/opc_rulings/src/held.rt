@@ -32,8 +32,8 @@ pub(crate) fn level_on<T: Tables>(
     ensures kept { IsKept T.is_sure T.represents T.may_leave tables.old tables.new }
     ensures level { Answers (T.is_sure tables.new) (T.represents tables.old) result (λ s level. level ≡ held_in s.policy profile.now user.now console.now) }
 {
-    let mut most: u32 = 8;
-    for _ in 0..16 {
+    let mut most: u32 = 16;
+    for _ in 0..15 {
         if let Some(level) = level_within(tables, alloc, profile, user, console, most)? {
             return Ok(level);
         }

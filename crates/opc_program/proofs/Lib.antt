@@ -3,4 +3,5 @@ pub mod Uncached
 pub mod Services
 pub mod Prefixes
 pub mod Files
+pub mod Numbers
 pub mod Endings

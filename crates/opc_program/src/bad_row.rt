@@ -170,6 +170,7 @@ impl Display for BadRow {
         let number = self.number;
         write!(f, "row {number}: ")?;
         match &self.problem {
+            Problem::Columns(1, wanted) => write!(f, "it has 1 column and not {wanted}"),
             Problem::Columns(count, wanted) => {
                 write!(f, "it has {count} columns and not {wanted}")
             }

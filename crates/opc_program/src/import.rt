@@ -6,12 +6,12 @@ ghost use Rattle.opc_program.specs.Imports.{IsExport, IsFirstPolicy, IsImport, I
 ghost use Rattle.opc_program.specs.Words.{number_between};
 
 use crate::failure::{Failure, Place};
+use crate::number::number_between;
 use crate::policy_file::read_rows;
 use crate::printing::{print_text, tell_answer};
 use clap::ArgMatches;
 use opc_gate::gate::Gate;
 use opc_gate::request::Request;
-use opc_http_head::number::number_in;
 use opc_import::write::write_policy;
 use opc_names::name::ConsoleName;
 use opc_policy::fault::Fault;
@@ -32,11 +32,11 @@ pub struct Import<'a> {
 
 /// A batch's number, 1 to 999,999,999.
 fn batch_in(text: &str) -> Option<u32>
-    ensures { result ≡ number_between 9 1 999_999_999 text.now }
+    ensures { result ≡ number_between 1 999_999_999 text.now }
 {
-    match number_in(text, 9) {
-        Some(number) if 1 <= number && number <= 999_999_999 => Some(number as u32),
-        _ => None,
+    match number_between(text, 1, 999_999_999) {
+        Some(number) => Some(number as u32),
+        None => None,
     }
 }
 

@@ -6,6 +6,7 @@ mod explain;
 pub mod failure;
 pub mod import;
 pub mod machine;
+mod number;
 mod policy_file;
 mod printing;
 pub mod reason;

@@ -40,7 +40,7 @@ impl Display for Reason {
             Reason::System(error) => {
                 let mut words = ArrayString::<SYSTEM_WORDS>::new();
                 write!(words, "{error}")?;
-                // The error's number stands behind the system's words.
+                // The error's number stands after the system's words.
                 match words.as_str().split_once(" (os error ") {
                     Some((text, _)) => f.write_str(text),
                     None => f.write_str(words.as_str()),

@@ -6,10 +6,10 @@ ghost use Rattle.opc_program.specs.Statuses.{status_of};
 ghost use Rattle.opc_program.specs.Words.{number_between};
 
 use crate::failure::{Failure, Place};
+use crate::number::number_between;
 use arrayvec::ArrayString;
 use clap::ArgMatches;
 use opc_gate::gate::Gate;
-use opc_http_head::number::number_in;
 use opc_http_head::routes::Routes;
 use opc_policy::fault::Fault;
 use opc_script::status::Status;
@@ -38,32 +38,29 @@ pub struct Serve<'a> {
 
 /// A port, 0 to 65,535.
 fn port_in(text: &str) -> Option<u16>
-    ensures { result ≡ number_between 5 0 65_535 text.now }
+    ensures { result ≡ number_between 0 65_535 text.now }
 {
-    match number_in(text, 5) {
-        Some(port) if port <= 65_535 => Some(port as u16),
-        _ => None,
+    match number_between(text, 0, 65_535) {
+        Some(port) => Some(port as u16),
+        None => None,
     }
 }
 
 /// How many clients are served, 1 to 1,000,000.
 fn count_in(text: &str) -> Option<u32>
-    ensures { result ≡ number_between 7 1 1_000_000 text.now }
+    ensures { result ≡ number_between 1 1_000_000 text.now }
 {
-    match number_in(text, 7) {
-        Some(count) if 1 <= count && count <= 1_000_000 => Some(count as u32),
-        _ => None,
+    match number_between(text, 1, 1_000_000) {
+        Some(count) => Some(count as u32),
+        None => None,
     }
 }
 
 /// For how many seconds a peer may be silent, 1 to 3,600.
 fn seconds_in(text: &str) -> Option<u64>
-    ensures { result ≡ number_between 4 1 3_600 text.now }
+    ensures { result ≡ number_between 1 3_600 text.now }
 {
-    match number_in(text, 4) {
-        Some(seconds) if 1 <= seconds && seconds <= 3_600 => Some(seconds),
-        _ => None,
-    }
+    number_between(text, 1, 3_600)
 }
 
 impl<'a> Serve<'a> {

@@ -1,14 +1,19 @@
 -- Why a database is not opened, and what a new file holds.
-use Rattle.std.specs.Prelude.{◌≡◌, ◌≢◌, ◌⊎◌, ℕ, [], Result, IfErr, IsTrue, IsFalse}
+use Rattle.std.specs.Prelude.{◌≡◌, ◌≢◌, ◌⊎◌, ℕ, Bool, true, false, [], Option, None, Result, IfErr, IfSome, IsTrue, IsFalse}
+use Rattle.sqlite_disk.specs.declared.Disk as disk
+use Rattle.sqlite_disk.specs.declared.Files.{Files}
+use Rattle.sqlite_store.specs.declared.store.FileStore.{FileStore}
 use Rattle.sqlite_trees.specs.Tree.{Trees}
 use Rattle.sqlite_trees.specs.declared.store.Store.{Ghosts}
 use Rattle.sqlite.specs.Held.{Held, state}
 use Rattle.sqlite.specs.Recovery.{Image}
 use Rattle.sqlite.specs.Start.{FindsIn}
 use Rattle.sqlite.specs.State.{State, FailsToQuery, HasCleanDisk, IsLive, Opens, Survives}
+use Rattle.sqlite.specs.Files.{over_files, FailsToOpenFiles, IsCleanLeft, LeavesFiles}
+use Rattle.sqlite.specs.declared.file.Leftover.{Leftover}
 use Rattle.sqlite.specs.declared.error.Error.{Error}
 use Rattle.sqlite.specs.declared.error.Error.TheVariants.{SqlInputError, SqliteFailure}
-use Rattle.sqlite.specs.declared.error.ErrorCode.TheVariants.{OutOfMemory}
+use Rattle.sqlite.specs.declared.error.ErrorCode.TheVariants.{CannotOpen, DatabaseBusy, OutOfMemory}
 use Rattle.opc_store.specs.declared.opening.OpenFault.{OpenFault}
 use Rattle.opc_store.specs.declared.opening.OpenFault.TheVariants as fault
 use Rattle.opc_state.specs.State.{State as TheState, empty}
@@ -45,8 +50,8 @@ WasOlder {S} g old = (asked : Held S) × (version : ℕ) × NamesVersion version
 abbrev pub IsKnown : {S : Type 0} → Ghosts S → State → State → Type 0
 IsKnown g old new = NamesVersion 3 old new ⊎ WasOlder g old
 
--- Why a database with names of ours is not opened: its version is none that is known, or it cannot be asked for it, or memory
--- is out, or its tables are older and the copy fails.
+-- Why a database with names of ours is not opened: its version is none that is known, or it cannot be asked for it, or it is out
+-- of memory, or its tables are older and the copy fails.
 abbrev pub IsRefused : {S : Type 0} → Ghosts S → OpenFault → State → State → Type 0
 IsRefused g told old new =
     ((version : ℕ) × NamesVersion version old new × (¬ IsOlder version) × (version ≢ 3) × (told ≡ fault.NotOurs version))
@@ -63,17 +68,26 @@ MayLeave g old db =
     (IsFalse (has_our_name old.now.schema) × (old.now.schema ≡ no_schema → AreTablesOf db empty))
     ⊎ (IsTrue (has_our_name old.now.schema) × WasOlder g old × ((version : Older) (s : TheState) → AreOldTablesOf version old.now.trees s → AreTablesOf db s))
 
--- What the files held was opened and asked for its version, and is refused for what it told.
-pub record IsRefusedIn {S : Type 0} (g : Ghosts S) (image : Image) (told : OpenFault) (opened asked : Held S) : Type 0 where
-  -- without such a name it would get the tables
-  pub named : IsTrue (has_our_name (state g opened).now.schema)
-  pub opens : HasCleanDisk (state g asked) → Opens (state g opened) × IsLive (state g opened)
-  pub found : HasCleanDisk (state g asked) → FindsIn image (state g opened)
-  pub refused : HasCleanDisk (state g asked) → IsRefused g told (state g opened) (state g asked)
-  -- a crash leaves what it would have left before the question
-  pub unharmed : Survives (state g opened) (state g asked) (λ _. ⊥)
+-- The files were not opened: the system refused them or is out of memory, and nothing is left; or `left` is what an opening that
+-- meets this error leaves of `files`.
+abbrev pub FailsToOpen : {D : Type 0} (g : disk.Ghosts D) → (Bool → D → Type 0) → OpenFault → Type 0
+FailsToOpen {D} g is_fresh told =
+    (error : Error) × (rest : Option (Leftover D g)) × (told ≡ open_fault error)
+    × (rest ≡ None → (error ≡ SqliteFailure CannotOpen) ⊎ ((error ≡ SqliteFailure OutOfMemory) ⊎ (error ≡ SqliteFailure DatabaseBusy)))
+    × IfSome rest (λ left. (files : Files D) × is_fresh true files.log × is_fresh false files.db × (IsCleanLeft left → FailsToOpenFiles files left error × LeavesFiles files left))
 
--- An opening fails because memory is out, the store failed, or what the files held is refused.
-abbrev pub FailsToOpenIn : {S : Type 0} → Ghosts S → Image → Result (Held S) OpenFault → Type 0
-FailsToOpenIn {S} g image result =
-    IfErr result (λ told. (told ≡ fault.NoMemory) ⊎ ((told ≡ fault.Store) ⊎ ((opened : Held S) × (asked : Held S) × IsRefusedIn g image told opened asked)))
+-- What the files held was opened, and no store adopted it; `left` is the connection that was let go.
+pub record FailsToAdopt {S : Type 0} (g : Ghosts S) (image : Image) (told : OpenFault) (opened left : Held S) : Type 0 where
+  pub opens : HasCleanDisk (state g left) → Opens (state g opened) × IsLive (state g opened)
+  pub found : HasCleanDisk (state g left) → FindsIn image (state g opened)
+  -- without a name of ours it would get the tables
+  pub unmade : IsFalse (has_our_name (state g opened).now.schema) → IsNoVersion told
+  pub refused : HasCleanDisk (state g left) → IsTrue (has_our_name (state g opened).now.schema) → IsRefused g told (state g opened) (state g left)
+  pub unharmed : HasCleanDisk (state g left) → IsTrue (state g left).is_open → (state g left).now ≡ (state g opened).now
+  -- where a version is told, a crash leaves what it would have left before the question
+  pub survives : Survives (state g opened) (state g left) (λ db. IsNoVersion told × MayLeave g (state g opened) db)
+
+-- An opening at a path fails since the files are not opened, or since what they held is not adopted.
+abbrev pub FailsAtPath : {D : Type 0} {g : disk.Ghosts D} → (Bool → D → Type 0) → Image → Result (Held (FileStore D g)) OpenFault → Type 0
+FailsAtPath {D = D} {g = g} is_fresh image result =
+    IfErr result (λ told. FailsToOpen g is_fresh told ⊎ ((opened : Held (FileStore D g)) × (left : Held (FileStore D g)) × FailsToAdopt over_files image told opened left))

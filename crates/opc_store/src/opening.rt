@@ -2,7 +2,8 @@
 ghost use Rattle.std.specs.Prelude.{◌≡◌, ◌⊎◌, false, IfOk, IfErr, IfSome, IsTrue, IsFalse};
 ghost use Rattle.sqlite.specs.Held.{state};
 ghost use Rattle.sqlite.specs.Closing.{IsCopied};
-ghost use Rattle.sqlite.specs.Files.{file_state, over_files, AreFoundIn, HoldsDatabase};
+ghost use Rattle.sqlite_std_file.specs.File.{IsFresh};
+ghost use Rattle.sqlite.specs.Files.{file_state, AreFoundIn, HoldsDatabase};
 ghost use Rattle.sqlite_catalog.specs.Listing.{Lists};
 ghost use Rattle.sqlite_trees.specs.Objects.{catalog_tree};
 ghost use Rattle.sqlite.specs.Tree.{Trees};
@@ -14,7 +15,7 @@ ghost use Rattle.opc_state.specs.State.{empty};
 ghost use Rattle.opc_stored.specs.Represented.{Represents, AreTablesOf};
 ghost use Rattle.opc_stored.specs.Ours.{has_our_name};
 ghost use Rattle.opc_old_tables.specs.Old.{AreOldTablesOf, RepresentsOld};
-ghost use Rattle.opc_store.specs.Opening.{new_files, open_fault, unasked, IsKnown, IsNoVersion, IsRefused, MayLeave, FailsToOpenIn};
+ghost use Rattle.opc_store.specs.Opening.{new_files, open_fault, unasked, IsKnown, IsNoVersion, IsRefused, MayLeave, FailsAtPath};
 ghost use Rattle.opc_store.specs.declared.opening.OpenFault.TheVariants as TheFault;
 
 use crate::store::Store;
@@ -128,26 +129,18 @@ impl<S: Alter> Store<S> {
             Err(error) => Err((version_fault(error), conn)),
         }
     }
-
-    /// The connection to the tables, outside any transaction. `open_files` adopts it again.
-    pub fn into_connection(self) -> Connection<S>
-        ensures same { result ≡ self }
-        ensures outside { result.in_transaction ≡ false }
-    {
-        self.conn
-    }
 }
 
 impl<S: Start> Store<FileStore<FileFrom<S>>> {
     /// Opens the database file at a path, or makes it, and adopts it as `open_files` does. `start` stands for what the
-    /// files hold, and says what a torn write may leave. `NotOurs` is told only of what the files
-    /// held: it was opened, has a name of ours and was asked for its version.
+    /// files hold, and says what a torn write may leave. After a fault the files were not opened, or what they held was
+    /// not adopted and a crash may leave what `open_files` says. `NotOurs` is told only of what was opened.
     pub fn open_at(rt: &HostRuntime, path: &str, start: S) -> Result<Self, OpenFault>
         ensures found { IfOk result (λ store. HasCleanDisk (file_state store) → (db : Trees) → HoldsDatabase (image_at S.Start) db → (s : _) → AreTablesOf db s → Represents (file_state store).now s) }
         ensures copied { IfOk result (λ store. HasCleanDisk (file_state store) → (db : Trees) → HoldsDatabase (image_at S.Start) db → (version : _) → (s : _) → AreOldTablesOf version db s → Represents (file_state store).now s) }
         ensures made { IfOk result (λ store. HasCleanDisk (file_state store) → (trees : Trees) × AreFoundIn (image_at S.Start) trees × (Lists (trees catalog_tree) no_schema → Represents (file_state store).now empty)) }
         ensures settled { IfOk result (λ store. HasCleanDisk (file_state store) → (db : Trees) → (file_state store).may_leave db → db ≡ (file_state store).now.trees) }
-        ensures refused { FailsToOpenIn over_files (image_at S.Start) result }
+        ensures failed { FailsAtPath IsFresh (image_at S.Start) result }
     {
         let conn = match Connection::open_from(rt, path, false, start) {
             Ok(conn) => conn,
@@ -169,7 +162,7 @@ impl Store<FileStore<FileFrom<Wary>>> {
         ensures copied { IfOk result (λ store. HasCleanDisk (file_state store) → (db : Trees) → HoldsDatabase new_files db → (version : _) → (s : _) → AreOldTablesOf version db s → Represents (file_state store).now s) }
         ensures made { IfOk result (λ store. HasCleanDisk (file_state store) → (trees : Trees) × AreFoundIn new_files trees × (Lists (trees catalog_tree) no_schema → Represents (file_state store).now empty)) }
         ensures settled { IfOk result (λ store. HasCleanDisk (file_state store) → (db : Trees) → (file_state store).may_leave db → db ≡ (file_state store).now.trees) }
-        ensures refused { FailsToOpenIn over_files new_files result }
+        ensures failed { FailsAtPath IsFresh new_files result }
     {
         Store::open_at(rt, path, Wary)
     }
@@ -181,8 +174,7 @@ impl<D: Disk + Drop> Store<FileStore<D>> {
         ensures copied { IfOk result (λ files. AreClean D.Disk files.log files.db → IsCopied self files) }
         ensures usable { IfOk result (λ files. IsTrue (D.Disk.is_usable files.log) × IsTrue (D.Disk.is_usable files.db)) }
     {
-        let Store { conn } = self;
-        match conn.close_files() {
+        match self.into_connection().close_files() {
             Ok(files) => Ok(files),
             Err(error) => Err(error),
         }

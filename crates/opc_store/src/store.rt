@@ -1,5 +1,5 @@
 //! The store.
-ghost use Rattle.std.specs.Prelude.{◌≡◌, length, IfOk, ◌+◌};
+ghost use Rattle.std.specs.Prelude.{◌≡◌, length, false, IfOk, ◌+◌};
 ghost use Rattle.sqlite.specs.Held.{state};
 ghost use Rattle.sqlite.specs.Steps.{over_memory};
 ghost use Rattle.opc_statements.specs.Steps.{Looks};
@@ -41,9 +41,15 @@ use std::alloc::Global;
 use std::marker::Model;
 
 /// The tables, outside any transaction.
-#[derive(Drop)]
 pub struct Store<S: Alter> {
     pub(crate) conn: Connection<S>,
+}
+
+// In a function of its own, so that no caller drops the connection part by part: that makes its proof short.
+impl<S: Alter + Drop> Drop for Store<S> {
+    fn drop(self) {
+        let Store { conn: _ } = self;
+    }
 }
 
 impl<S: Alter> Model for Store<S> {
@@ -73,6 +79,15 @@ impl Store<MemStore> {
 }
 
 impl<S: Alter> Store<S> {
+    /// The connection to the tables, outside any transaction. `open_files` adopts it again.
+    pub fn into_connection(self) -> Connection<S>
+        ensures same { result ≡ self }
+        ensures outside { result.in_transaction ≡ false }
+    {
+        let Store { conn } = self;
+        conn
+    }
+
     /// The console of this name.
     pub fn console(&mut self, name: &ConsoleName) -> Result<Option<ConsoleRow>, StoreFault>
         ensures found { Finds S.Store self.old self.new result (λ s v. v ≡ console_at s.board name.now) }
@@ -81,6 +96,7 @@ impl<S: Alter> Store<S> {
         console_on(&mut self.conn, name)
     }
 
+    /// Whether a class is active.
     pub fn active(&mut self, class: Class) -> Result<bool, StoreFault>
         ensures found { Finds S.Store self.old self.new result (λ s v. v ≡ is_active s.policy.active class) }
         ensures keeps { Looks S.Store self.old self.new result }

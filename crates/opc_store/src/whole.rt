@@ -26,16 +26,11 @@ pub(crate) fn board_rows_on<S: Alter>(
     ensures looks { Looks S.Store conn.old conn.new result }
     ensures found { Finds S.Store conn.old conn.new result (λ s v. v ≡ s.board) }
 {
-    let live = live_rows_on(alloc, conn)?;
-    let answered = answered_on(alloc, conn)?;
-    let log = log_on(alloc, conn)?;
-    let messages = messages_on(alloc, conn)?;
-    Ok(BoardRows {
-        answered,
-        log,
-        messages,
-        ..live
-    })
+    let mut board = live_rows_on(alloc, conn)?;
+    board.answered = answered_on(alloc, conn)?;
+    board.log = log_on(alloc, conn)?;
+    board.messages = messages_on(alloc, conn)?;
+    Ok(board)
 }
 
 /// The policy and the consoles, as rows of a policy file.

@@ -1,4 +1,4 @@
-use Rattle.std.proofs.Common.{◌≡◌, ◌∙◌, refl, sym, ap, subst, arith, ◌⊎◌, inl, inr, true, false, Bool, IsTrue, IsFalse}
+use Rattle.std.proofs.Common.{◌≡◌, ◌∙◌, sym, ap, subst, arith, inl, inr}
 use Rattle.sqlite.specs.Effect.{Database}
 use Rattle.sqlite.specs.Tree.{Trees}
 use Rattle.sqlite.specs.State.{HasCleanDisk}
@@ -8,11 +8,6 @@ use Rattle.sqlite_trees.specs.Objects.{catalog_tree}
 use Rattle.opc_statements.specs.Shapes.{no_schema}
 use Rattle.opc_stored.specs.Represented.{AreTablesOf}
 use Rattle.opc_old_tables.specs.Old.{AreOldTablesOf}
-use Rattle.sqlite.proofs.StateLemmas.{survives_weaker}
-use Rattle.opc_stored.specs.Ours.{has_our_name}
-use Rattle.opc_store.specs.Opening.{IsNoVersion}
-use Rattle.opc_store.specs.declared.opening.OpenFault.{OpenFault}
-use Rattle.opc_store.specs.declared.opening.OpenFault.TheVariants.{NoMemory, Store, NotOurs}
 use Rattle.opc_store.proofs.opening.Store+FileStore+FileFrom+S.open_at.Goals as goal
 
 pub returns-in-Ok-open_files : goal.returns-in-Ok-open_files
@@ -39,34 +34,26 @@ returns-in-Ok-open_files g c = record {
         λ bare. c.in-Ok-open_files.ensures.made clean (ap (λ (d : Database). d.schema) opened.0.clean ∙ lists_once (found.trees catalog_tree) found.schema no_schema (opened.1 opened.0.is_open).1.lists bare),
       );
   settled = c.in-Ok-open_files.ensures.settled;
-  refused = tt;
+  failed = tt;
 }
 
--- a fault that tells a version, or another
-by_fault : {C : Type 0} (told : OpenFault) → ((¬ IsNoVersion told) → C) → (told ≡ NoMemory) ⊎ ((told ≡ Store) ⊎ C)
-by_fault NoMemory f = inl refl
-by_fault Store f = inr (inl refl)
-by_fault (NotOurs version) f = inr (inr (f (λ no. elim no [ inl is ↦ absurd cc | inr is ↦ absurd cc ])))
+pub returns-in-Err-clause-failed : goal.returns-in-Err-clause-failed
+returns-in-Err-clause-failed g c =
+    inl (c.in-Err.error, c.in-Err.field-0-1, c.open_fault.ensures.exact, c.in-Err.ensures.unopened, c.in-Err.ensures.cause)
 
--- only where a name is ours is a version told
-is_named : {A : Type 0} (named : Bool) → (IsFalse named → A) → (¬ A) → IsTrue named
-is_named true unmade other = refl
-is_named false unmade other = absurd (other (unmade refl))
-
-pub returns-clause-refused : goal.returns-clause-refused
-returns-clause-refused g c =
-    let opened = c.in-Ok.conn in
-    let asked = c.in-Err-open_files.field-0-1 in
+pub returns-clause-failed : goal.returns-clause-failed
+returns-clause-failed g c =
     let failed = c.in-Err-open_files.ensures in
-    by_fault c.in-Err-open_files.fault (λ tells.
-    let named = is_named (has_our_name opened.schema) failed.unmade tells in (
-      opened,
-      asked,
+    let early : HasCleanDisk (file_state c.in-Err-open_files.field-0-1) → HasCleanDisk (file_state c.in-Ok.conn) = λ clean. omega (arith, failed.crash_at_fault.clean) in
+    inr (
+      c.in-Ok.conn,
+      c.in-Err-open_files.field-0-1,
       record {
-        named = named;
-        opens = λ clean. c.in-Ok.ensures.opened (omega (arith, failed.crash_at_fault.clean));
-        found = λ clean. c.in-Ok.ensures.found (omega (arith, failed.crash_at_fault.clean));
-        refused = λ clean. failed.refused clean named;
-        unharmed = survives_weaker (file_state opened) (file_state asked) _ _ (λ _ db left. tells left.0) failed.crash_at_fault;
+        opens = λ clean. c.in-Ok.ensures.opened (early clean);
+        found = λ clean. c.in-Ok.ensures.found (early clean);
+        unmade = failed.unmade;
+        refused = failed.refused;
+        unharmed = λ clean. failed.unharmed clean (c.in-Ok.ensures.opened (early clean)).0.is_open;
+        survives = failed.crash_at_fault;
       },
-    ))
+    )

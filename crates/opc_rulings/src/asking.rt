@@ -104,6 +104,7 @@ pub fn asking_on<T: Tables>(
     Ok(Ok(Asking { console, user }))
 }
 
+/// Whether there is a user, with SPECIAL.
 pub fn is_special(user: &Option<User>) -> bool
     ensures { result ≡ is_special user.now }
 {

@@ -19,6 +19,9 @@ use opc_policy::user::User;
 use opc_state::tables::Tables;
 use std::alloc::Global;
 
+/// How many entries, and how many groups, are loaded at first: more than most access lists have.
+const FIRST: u32 = 12;
+
 /// The level that a user holds at a console in a profile, whose access list is still in the tables. More and more of the
 /// access list and of the user's groups are loaded, until one of them is whole: it asks for what counts of the other.
 /// So this takes in proportion to the shorter of both.
@@ -32,8 +35,8 @@ pub(crate) fn level_on<T: Tables>(
     ensures kept { IsKept T.is_sure T.represents T.may_leave tables.old tables.new }
     ensures level { Answers (T.is_sure tables.new) (T.represents tables.old) result (λ s level. level ≡ held_in s.policy profile.now user.now console.now) }
 {
-    let mut most: u32 = 16;
-    for _ in 0..15 {
+    let mut most = FIRST;
+    for _ in 0..16 {
         if let Some(level) = level_within(tables, alloc, profile, user, console, most)? {
             return Ok(level);
         }

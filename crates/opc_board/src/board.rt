@@ -13,7 +13,6 @@ use std::marker::Model;
 
 /// The parts of a board: units, devices, consoles and open replies in order of name or number, and answered replies,
 /// log lines and messages in order of arrival.
-#[derive(Drop)]
 pub struct BoardRows {
     pub units: Rows<UnitRow>,
     pub devices: Rows<DeviceRow>,
@@ -24,6 +23,22 @@ pub struct BoardRows {
     pub messages: Rows<MessageRow>,
     /// Whether the day is halted.
     pub halted: bool,
+}
+
+// In a function of its own, so that no caller drops part after part: that makes its proof short.
+impl Drop for BoardRows {
+    fn drop(self) {
+        let BoardRows {
+            units: _,
+            devices: _,
+            consoles: _,
+            replies: _,
+            answered: _,
+            log: _,
+            messages: _,
+            halted: _,
+        } = self;
+    }
 }
 
 /// A board: its rows are in order, no name or number comes twice, and a device in use is online with its unit on the
@@ -123,6 +138,7 @@ impl Board {
         Ok(Board { rows })
     }
 
+    /// The rows of the board.
     pub fn rows(&self) -> &BoardRows
         ensures rows { result.now ≡ self.now }
         ensures facts { IsBoard self.now }

@@ -26,6 +26,7 @@ pub struct ActiveClasses {
 impl ActiveClasses {
     ghost use Rattle.opc_policy.specs.Taken.{is_active, with_active};
 
+    /// Whether a class is active.
     pub fn contains(&self, class: Class) -> bool
         ensures { result ≡ is_active self.now class }
     {
@@ -35,6 +36,7 @@ impl ActiveClasses {
         }
     }
 
+    /// Sets whether a class is active.
     pub fn set(&mut self, class: Class, active: bool)
         ensures { self.new ≡ with_active class active self.old }
     {
@@ -46,13 +48,25 @@ impl ActiveClasses {
 }
 
 /// A policy: users, groups, the connects between them, profiles, and the active classes.
-#[derive(Drop)]
 pub struct Policy {
     pub users: Users,
     pub groups: Groups,
     pub connects: Connects,
     pub profiles: Profiles,
     pub active: ActiveClasses,
+}
+
+// In a function of its own, so that no caller drops part after part: that makes its proof short.
+impl Drop for Policy {
+    fn drop(self) {
+        let Policy {
+            users: _,
+            groups: _,
+            connects: _,
+            profiles: _,
+            active: _,
+        } = self;
+    }
 }
 
 impl Policy {

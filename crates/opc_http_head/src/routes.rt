@@ -52,7 +52,7 @@ fn router(alloc: Global) -> Result<Router<Route>, InsertError>
 }
 
 impl Routes {
-    /// The routes, unless memory is out.
+    /// The routes, unless out of memory.
     pub fn new(alloc: Global) -> Result<Self, NoMemory>
         ensures { IfOk result (λ routes. routes ≡ the_routes) }
     {

@@ -64,7 +64,7 @@ module _ (seen : Seen) where
       found_then seen b NoUnit (unit_at (only seen b) name) (unit_at b name) (unit_seen seen b name sees.0) (λ unit. done (without_unit name (only seen b))) (λ unit. done (without_unit name b))
       (λ unit at. leaves name b order sees)
 
-  -- a unit that comes is before or behind each that there is
+  -- a unit that comes is before or after each that there is
   comes : (unit : UnitRow) (b : BoardRows) → IsInOrder b → is_some (unit_at b unit.name) ≡ false → seen.units unit.name ≡ true
       → Agrees seen b (done (record (only seen b) { units = put unit_before unit (only seen b).units })) (done (record b { units = put unit_before unit b.units }))
   comes unit b order absent sees =

@@ -30,7 +30,7 @@ abbrev pub outcome_after : History → Outcome → Outcome
 outcome_after past (Ok d) = Ok (record { board = after past d.board; lines = d.lines })
 outcome_after past (Err fault) = Err fault
 
--- The effect of a command on a board is its effect on the same board with empty histories, with what is new behind
+-- The effect of a command on a board is its effect on the same board with empty histories, with what is new after
 -- the old; and so is that of an event.
 abbrev pub CommandsOnlyAddToHistory : Type 0
 CommandsOnlyAddToHistory = (b : BoardRows) (command : Command) (console : Name) → effect b command console ≡ outcome_after (history_of b) (effect (without_history b) command console)

@@ -12,7 +12,7 @@ use Rattle.opc_board.specs.Units.{is_tsu, is_holder}
 use Rattle.opc_board.specs.Outcome.{Outcome, done, done_with, faults_or, found, ◌>>=◌}
 use Rattle.opc_board.specs.Texts.{reply_line}
 
--- R id,text: the reply is open no more, and its answer is kept behind all others
+-- R id,text: the reply is open no more, and its answer is kept after all others
 abbrev pub without_reply : ℕ → BoardRows → BoardRows
 without_reply id b = record b { replies = filter (λ r. not (r.id == id)) b.replies }
 
@@ -43,14 +43,14 @@ is_session None = false
 abbrev pub has_session : Name → BoardRows → Bool
 has_session user b = is_session (unit_at b user)
 
--- SE 'text',USER=(user): the message is kept behind all others
+-- SE 'text',USER=(user): the message is kept after all others
 abbrev pub send_faults : Name → BoardRows → List (Bool × BoardFault)
 send_faults user b = (not (is_on user b || has_session user b), NoTarget) ∷ []
 
 abbrev pub send : Name → List ℕ → BoardRows → Outcome
 send user text b = faults_or (send_faults user b) (done (record b { messages = b.messages ++ record { user = user; text = text } ∷ [] }))
 
--- L 'text': the line is kept behind all others
+-- L 'text': the line is kept after all others
 abbrev pub log_line : List ℕ → BoardRows → Outcome
 log_line text b = done (record b { log = b.log ++ text ∷ [] })
 

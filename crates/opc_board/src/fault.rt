@@ -1,7 +1,7 @@
 //! Faults of the board.
 use std::alloc::{AllocError, AllocFailed};
 
-/// Why the board refuses, or that memory is out.
+/// Why the board refuses, `NoMemory` among them.
 #[derive(Clone, Copy, Debug)]
 pub enum BoardFault {
     NoUnit,

@@ -19,6 +19,7 @@ impl Model for KeptText {
 }
 
 impl KeptText {
+    /// A copy of a text.
     pub fn new(alloc: Global, text: &str) -> Result<Self, AllocError>
         ensures { IfOk result (λ kept. kept ≡ text.now) }
     {
@@ -27,6 +28,7 @@ impl KeptText {
         })
     }
 
+    /// The text.
     pub fn as_str(&self) -> &str
         ensures { result.now ≡ self.now }
     {

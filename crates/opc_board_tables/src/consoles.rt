@@ -44,6 +44,7 @@ impl Keeps<ConsoleRow> for ConsoleTable {
     }
 }
 
+/// Puts a console, in the place of the one of its name.
 pub fn put_console<S: Alter>(tx: &mut Transaction<'_, S>, console: &ConsoleRow) -> Result<(), Error>
     ensures same_reference { tx.new.conn.ghost_name ≡ tx.old.conn.ghost_name }
     ensures stays { Stays S.Store tx.old.conn.now tx.new.conn.now result }
@@ -64,6 +65,7 @@ pub fn put_console<S: Alter>(tx: &mut Transaction<'_, S>, console: &ConsoleRow) 
     )
 }
 
+/// Removes the console of a name.
 pub fn remove_console<S: Alter>(
     tx: &mut Transaction<'_, S>,
     name: &ConsoleName,

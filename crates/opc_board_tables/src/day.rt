@@ -12,6 +12,7 @@ use opc_stored::faults::unreadable;
 use opc_stored::queries::read;
 use sqlite::{Alter, Connection, Error, Row, Transaction, params};
 
+/// Sets whether the day is halted.
 pub fn set_halted<S: Alter>(tx: &mut Transaction<'_, S>, halted: bool) -> Result<(), Error>
     ensures same_reference { tx.new.conn.ghost_name ≡ tx.old.conn.ghost_name }
     ensures stays { Stays S.Store tx.old.conn.now tx.new.conn.now result }

@@ -35,6 +35,7 @@ impl Keeps<DeviceRow> for DeviceTable {
     }
 }
 
+/// Puts a device, in the place of the one of its number.
 pub fn put_device<S: Alter>(tx: &mut Transaction<'_, S>, device: &DeviceRow) -> Result<(), Error>
     ensures same_reference { tx.new.conn.ghost_name ≡ tx.old.conn.ghost_name }
     ensures stays { Stays S.Store tx.old.conn.now tx.new.conn.now result }
@@ -53,6 +54,7 @@ pub fn put_device<S: Alter>(tx: &mut Transaction<'_, S>, device: &DeviceRow) -> 
     )
 }
 
+/// Removes the device of a number.
 pub fn remove_device<S: Alter>(tx: &mut Transaction<'_, S>, number: &Device) -> Result<(), Error>
     ensures same_reference { tx.new.conn.ghost_name ≡ tx.old.conn.ghost_name }
     ensures stays { Stays S.Store tx.old.conn.now tx.new.conn.now result }

@@ -28,6 +28,7 @@ impl Keeps<ReplyRow> for ReplyTable {
     }
 }
 
+/// Puts an open reply, in the place of the one of its number.
 pub fn put_reply<S: Alter>(tx: &mut Transaction<'_, S>, reply: &ReplyRow) -> Result<(), Error>
     ensures same_reference { tx.new.conn.ghost_name ≡ tx.old.conn.ghost_name }
     ensures stays { Stays S.Store tx.old.conn.now tx.new.conn.now result }
@@ -42,6 +43,7 @@ pub fn put_reply<S: Alter>(tx: &mut Transaction<'_, S>, reply: &ReplyRow) -> Res
     Ok(())
 }
 
+/// Removes the open reply of a number.
 pub fn remove_reply<S: Alter>(tx: &mut Transaction<'_, S>, id: ReplyId) -> Result<(), Error>
     ensures same_reference { tx.new.conn.ghost_name ≡ tx.old.conn.ghost_name }
     ensures stays { Stays S.Store tx.old.conn.now tx.new.conn.now result }

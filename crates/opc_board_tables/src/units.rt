@@ -39,6 +39,7 @@ impl Keeps<UnitRow> for UnitTable {
     }
 }
 
+/// Puts a unit of work, in the place of the one of its name.
 pub fn put_unit<S: Alter>(tx: &mut Transaction<'_, S>, unit: &UnitRow) -> Result<(), Error>
     ensures same_reference { tx.new.conn.ghost_name ≡ tx.old.conn.ghost_name }
     ensures stays { Stays S.Store tx.old.conn.now tx.new.conn.now result }
@@ -59,6 +60,7 @@ pub fn put_unit<S: Alter>(tx: &mut Transaction<'_, S>, unit: &UnitRow) -> Result
     )
 }
 
+/// Removes the unit of work of a name.
 pub fn remove_unit<S: Alter>(tx: &mut Transaction<'_, S>, name: &UnitName) -> Result<(), Error>
     ensures same_reference { tx.new.conn.ghost_name ≡ tx.old.conn.ghost_name }
     ensures stays { Stays S.Store tx.old.conn.now tx.new.conn.now result }

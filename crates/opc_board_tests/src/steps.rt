@@ -86,7 +86,7 @@ pub fn no_rows(alloc: Global) -> Result<Board> {
     }
 }
 
-/// What a line is answered: `board` asks whether the rows behind it are one, and `define`, `type` and `master` are of
+/// What a line is answered: `board` asks whether the rows after it are one, and `define`, `type` and `master` are of
 /// the last that was.
 pub fn step(alloc: Global, board: &mut Board, line: &str) -> Result<String> {
     let (verb, text) = line.split_once(' ').unwrap_or((line, ""));

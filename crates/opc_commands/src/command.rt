@@ -87,7 +87,7 @@ fn kind_named<T: Tables>(tables: &mut T, command: &Command<'_>) -> Result<UnitKi
     }
 }
 
-// Why the board refuses, unless the request is given up where memory is out.
+// Why the board refuses; out of memory the request is given up.
 fn refusal(fault: BoardFault) -> Result<Fault, StoreFault>
     ensures { IfOk result (λ why. (fault ≢ NoMemory) × (why ≡ board_fault fault)) }
 {
@@ -257,8 +257,8 @@ fn typed<T: Tables>(
     }
 }
 
-/// What a command comes to that is typed at a console, whose row is loaded. It loads no more than the tests need that
-/// come to be made: a command that is denied sees no board.
+/// What a command comes to that is typed at a console, whose row is loaded. It loads only what the
+/// tests need that are reached: a command that is denied sees no board.
 pub fn command_on<T: Tables>(
     tables: &mut T,
     alloc: Global,

@@ -1,12 +1,12 @@
 //! What holds of every state stays so, each as what a call without a body ensures.
 ghost use Rattle.opc_facts.specs.KeptFacts.{BootstrapsKeepFacts, EmptyHasFacts, FactsGiveKeys, RunsKeepFacts, StepsKeepFacts};
 
-/// The empty state has the facts of a state,
+/// The empty state has the facts of a state.
 pub fn empty_state_has_facts()
     ensures { EmptyHasFacts }
 {}
 
-/// by which what it keeps by keys is in their order.
+/// By its facts, what a state keeps by keys is in their order.
 pub fn facts_give_keys()
     ensures { FactsGiveKeys }
 {}
@@ -18,12 +18,12 @@ pub fn steps_keep_facts()
     ensures { StepsKeepFacts }
 {}
 
-/// So does each run,
+/// A run keeps the facts of a state.
 pub fn runs_keep_facts()
     ensures { RunsKeepFacts }
 {}
 
-/// and a first policy.
+/// A first policy keeps the facts of a state.
 pub fn bootstraps_keep_facts()
     ensures { BootstrapsKeepFacts }
 {}

@@ -26,6 +26,7 @@ impl Keeps<ReplyRow> for AnsweredTable {
     }
 }
 
+/// Adds an answered reply after the others.
 pub fn add_answered<S: Alter>(tx: &mut Transaction<'_, S>, reply: &ReplyRow) -> Result<(), Error>
     ensures same_reference { tx.new.conn.ghost_name ≡ tx.old.conn.ghost_name }
     ensures stays { Stays S.Store tx.old.conn.now tx.new.conn.now result }

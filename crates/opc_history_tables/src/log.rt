@@ -26,6 +26,7 @@ impl Keeps<KeptText> for LogTable {
     }
 }
 
+/// Adds a line to the log.
 pub fn add_log<S: Alter>(tx: &mut Transaction<'_, S>, text: &KeptText) -> Result<(), Error>
     ensures same_reference { tx.new.conn.ghost_name ≡ tx.old.conn.ghost_name }
     ensures stays { Stays S.Store tx.old.conn.now tx.new.conn.now result }

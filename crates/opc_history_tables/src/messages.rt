@@ -29,6 +29,7 @@ impl Keeps<MessageRow> for MessageTable {
     }
 }
 
+/// Adds a message after the others.
 pub fn add_message<S: Alter>(tx: &mut Transaction<'_, S>, message: &MessageRow) -> Result<(), Error>
     ensures same_reference { tx.new.conn.ghost_name ≡ tx.old.conn.ghost_name }
     ensures stays { Stays S.Store tx.old.conn.now tx.new.conn.now result }

@@ -10,7 +10,7 @@ use Rattle.opc_http_head.specs.Routes.{after_part, part, part_at}
 abbrev pub is_slash : ℕ → Bool
 is_slash b = b == 47
 
--- the parts behind the first slash
+-- the parts after the first slash
 abbrev later : List ℕ → List (List ℕ)
 later [] = []
 later (b ∷ rest) = slice_split is_slash rest
@@ -34,7 +34,7 @@ part-split (suc n) path = rw (parts path) (behind (after_part path) (λ rest. pa
     behind [] at = rw (part-none n) refl
     behind (b ∷ rest) at = at rest
 
--- the text behind a reference, or an empty text
+-- the text after a reference, or an empty text
 pub shown : (found : Option (Bor (List ℕ))) (none : Bor (List ℕ)) (parts : List (List ℕ)) (n : ℕ) → none.now ≡ [] → option_map (λ (r : Bor (List ℕ)). r.now) found ≡ slice_get parts n
     → (unwrap_or found none).now ≡ unwrap_or (slice_get parts n) []
 shown None none parts n empty e = rw (← e) empty

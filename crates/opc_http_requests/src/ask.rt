@@ -89,7 +89,7 @@ fn request_at(alloc: Global, route: Route, path: &str, body: &[u8]) -> Result<Re
     request_by(alloc, route, console, path, body)
 }
 
-// Reads the body that is planned, behind the head that `buf` begins with, and makes the request.
+// Reads the body that is planned, after the head that `buf` begins with, and makes the request.
 fn read_planned<S: Source>(
     alloc: Global,
     source: &mut S,

@@ -15,12 +15,14 @@ pub(crate) struct UserFlags {
     pub revoked: bool,
 }
 
+/// The name of a kind that a field is, if it is one.
 pub fn read_name<K: NameKind<N>, const N: usize>(text: &str) -> Option<Name<K, N>>
     ensures { result ≡ name_of K.rule text.now }
 {
     Name::read(text).ok()
 }
 
+/// The user, the group or `*` that a field is, if it is one.
 pub fn read_entry_id(text: &str) -> Option<EntryId>
     ensures { result ≡ entry_id_of text.now }
 {
@@ -110,6 +112,7 @@ fn are_lower_digits(text: &str) -> bool
 }
 
 // The digest of a user, who may have none.
+/// The SHA-256 that a field of 64 hexadecimal digits is; an empty field is none.
 pub fn read_digest(text: &str) -> Option<Option<[u8; 32]>>
     ensures { result ≡ digest_of text.now }
 {

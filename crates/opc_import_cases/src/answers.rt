@@ -41,7 +41,7 @@ fn file(alloc: Global, text: &str) -> Result<String> {
     }
 }
 
-/// A record behind the header, as its row is written.
+/// A record after the header, as its row is written.
 fn record(alloc: Global, text: &str) -> Result<String> {
     let file = file_of(alloc, 0, text)?;
     match read_policy(alloc, file.as_str()) {
@@ -54,7 +54,7 @@ fn record(alloc: Global, text: &str) -> Result<String> {
     }
 }
 
-/// How many rows a file has: a number of rows, and a text behind them.
+/// How many rows a file has: a number of rows, and a text after them.
 fn behind(alloc: Global, text: &str) -> Result<String> {
     let (count, last) = text.split_once(' ').context("no number")?;
     let file = file_of(alloc, count.parse()?, last)?;

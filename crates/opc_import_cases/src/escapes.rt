@@ -14,7 +14,7 @@ pub fn unescaped(alloc: Global, text: &str) -> Result<String> {
     Ok(whole)
 }
 
-/// The sign of an escape, and what stands behind it.
+/// The sign of an escape, and what stands after it.
 fn sign_of(part: &str) -> Result<(&str, &str)> {
     if let Some(rest) = part.strip_prefix('n') {
         Ok(("\n", rest))

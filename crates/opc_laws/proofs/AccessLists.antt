@@ -46,7 +46,7 @@ no_profile_to_delete_from = refl
 no_permission_to_delete : refusal (operation.PermitDelete Opercmds (codes "A.B") (codes "ANNA") None) ≡ plainly (fault.Missing (codes "ANNA"))
 no_permission_to_delete = refl
 
--- beside the entry for every console, and behind it
+-- beside the entry for every console, and after it
 permits_at_console : profiles_after (operation.Permit Opercmds (codes "A.B") (codes "EMIL") level.Update (Some (codes "C1")))
     ≡ Some (profile (codes "A.B") (codes "CARL") level.None false (entry (codes "EMIL") level.Read ∷ at (codes "C1") (codes "EMIL") level.Update ∷ []) ∷ of_fred ∷ of_all ∷ [])
 permits_at_console = refl

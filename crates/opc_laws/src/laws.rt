@@ -43,12 +43,12 @@ pub fn lists_every_unit()
     ensures { ListsEveryUnit }
 {}
 
-/// `D A` with a name that unit alone,
+/// `D A` with a name has a line for that unit alone.
 pub fn lists_the_unit()
     ensures { ListsTheUnit }
 {}
 
-/// and `D C` every console.
+/// `D C` has a line for every console.
 pub fn lists_every_console()
     ensures { ListsEveryConsole }
 {}

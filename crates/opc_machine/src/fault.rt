@@ -6,6 +6,7 @@ use opc_board::fault::BoardFault;
 use opc_policy::fault::Fault;
 use opc_reader::line::ReadFault;
 
+/// The fault of a command line that is not read.
 pub fn of_line(fault: ReadFault) -> Fault
     ensures { result ≡ line_fault fault }
 {
@@ -25,6 +26,7 @@ pub fn of_line(fault: ReadFault) -> Fault
     }
 }
 
+/// The fault of a command or an event that the board refuses.
 pub fn of_board(fault: BoardFault) -> Fault
     ensures { result ≡ board_fault fault }
 {

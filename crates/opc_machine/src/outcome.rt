@@ -27,13 +27,14 @@ pub struct Denial {
 /// A deed or a denial; or a fault of memory or of the tables, by which the request is given up.
 pub type Decided = Result<Result<Deed, Denial>, StoreFault>;
 
+/// Nothing is done, for this reason, and by this rule where one decided.
 pub fn denied(fault: Fault, rule: Option<Rule>) -> Decided
     ensures { result ≡ Ok (Err (record { fault = fault; rule = rule })) }
 {
     Ok(Err(Denial { fault, rule }))
 }
 
-// A deed without lines.
+/// A deed without lines.
 pub fn done(alloc: Global, edits: Vec<Edit>, rule: Option<Rule>) -> Decided
     ensures { result ≡ Ok (Ok (record { edits = edits; lines = []; rule = rule })) }
 {

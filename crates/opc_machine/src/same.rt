@@ -5,6 +5,7 @@ ghost use Rattle.opc_machine.specs.Imports.{same_user};
 
 use opc_policy::user::User;
 
+/// Whether two flags are equal.
 pub fn same_flag(flag: bool, other: bool) -> bool
     ensures { result ≡ same_flag flag other }
 {

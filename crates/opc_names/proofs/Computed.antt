@@ -67,7 +67,7 @@ some_suffix : (p : List (List Token)) → ((r : List (List ℕ)) → IsTrue (cov
 some_suffix p is [] = through (or_is (covers p []) false (is []) (λ h. false≢true h, λ h. absurd h)) (suffix_whole p)
 some_suffix p is (s ∷ r) = through (or_is (covers p (s ∷ r)) (list_any (covers p) (suffixes r)) (is (s ∷ r)) (some_suffix p is r)) (suffix_more p s r)
 
--- behind a qualifier other than `**`
+-- after a qualifier other than `**`
 one_part : (q : List Token) (p : List (List Token)) (s : List ℕ) (r : List (List ℕ)) → IsTrue (covers p r) ↔ Covers p r → IsTrue (matches q s && (is_empty p && ends_in_star q || covers p r)) ↔ (Matches q s × (((p ≡ []) × EndsInStar q) ⊎ Covers p r))
 one_part q p s r rest =
     and_is (matches q s) _ (matches_is q s) (or_is (is_empty p && ends_in_star q) (covers p r) (and_is (is_empty p) (ends_in_star q) (is_empty_is p) (ends_in_star_is q)) rest)

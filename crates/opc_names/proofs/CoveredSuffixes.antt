@@ -13,7 +13,7 @@ use Rattle.opc_names.specs.Walk.{qualifiers_left, covered_suffixes, any_from_her
 use Rattle.opc_names.proofs.Parts.{qualifiers_some}
 use Rattle.opc_names.proofs.Stars.{BeginsOther}
 
--- what a qualifier other than `**` covers with those behind it
+-- what a qualifier other than `**` covers with those after it
 computed_part : (q : List Token) (p : List (List Token)) (s : List ℕ) (r : List (List ℕ)) → BeginsOther q → covers (q ∷ p) (s ∷ r) ≡ (matches q s && (is_empty p && ends_in_star q || covers p r))
 computed_part [] p s r b = refl
 computed_part (Literal c ∷ q) p s r b = refl
@@ -52,7 +52,7 @@ any_covered : (p : List (List Token)) (rs : List (List (List ℕ))) → list_any
 any_covered p [] = refl
 any_covered p (r ∷ rs) = ap (λ b. covers p r || b) (any_covered p rs)
 
--- behind `**`, a suffix is covered where it or a shorter one was
+-- after `**`, a suffix is covered where it or a shorter one was
 pub prepended_stars : (q : List Token) (p : List (List Token)) (r : List (List ℕ)) → any_from_here (covered_suffixes p r) ≡ covered_suffixes ((Stars ∷ q) ∷ p) r
 prepended_stars q p [] = refl
 prepended_stars q p (s ∷ r) = let here = any_covered p (suffixes (s ∷ r)) in let rest = prepended_stars q p r in cc

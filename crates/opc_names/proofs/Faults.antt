@@ -123,7 +123,7 @@ all_qualifiers at (q ∷ parts) h =
 pub pattern_qualifiers : (text : List ℕ) → name_fault pattern_rule text ≡ None → AllByRecursion IsQualifier (qualifiers text)
 pattern_qualifiers text h = all_qualifiers 0 (qualifiers text) (name_passes pattern_rule text h).parts
 
--- where the first may begin, the first bad character is behind it
+-- where the first may begin, the first bad character is after it
 pub good_first : (a : Alphabet) (text : List ℕ) → 0 < length text → may_begin a (get_or text 0 0) ≡ true → bad_character a text ≡ option_map (λ i. i + 1) (position (λ d. not (may_follow a d)) (drop 1 text))
 good_first a [] h e = absurd (omega arith)
 good_first a (c ∷ cs) h e = rw e refl

@@ -1,4 +1,4 @@
--- The order of bytes with zeros behind them, by the numbers that their first bytes make.
+-- The order of bytes with zeros after them, by the numbers that their first bytes make.
 use Rattle.std.proofs.Common.{◌≡◌, ◌≢◌, ℕ, zero, ◌+◌, ◌*◌, ◌<◌, ◌≤◌, List, [], ◌∷◌, ◌++◌, suc, ◌-◌, length, take, drop, replicate, refl, sym, ◌∙◌, arith, length-append}
 use Rattle.std.proofs.lemmas.List.{take-append-drop, length-take-le, length-replicate}
 use Rattle.std.specs.List.{AllByRecursion}
@@ -73,14 +73,14 @@ zeros_come_last (suc k) (x ∷ xs) e h = by (nat_cmp x 0) (ranks x 0) (zeros_com
     by Equal m rest n = rest n
     by Greater m rest n = refl
 
--- zeros behind two texts, up to one length, keep their order, where they leave one
+-- zeros after two texts, up to one length, keep their order, where they leave one
 texts : (xs ys : List ℕ) (k j : ℕ) → length xs + k ≡ length ys + j → order (xs ++ replicate k 0) (ys ++ replicate j 0) ≢ Equal → order xs ys ≡ order (xs ++ replicate k 0) (ys ++ replicate j 0)
 texts [] [] k j e h = (let same : k ≡ j = omega (arith, e) in absurd (h (rw same (zeros_are_equal j))))
 texts [] (y ∷ ys) k j e h = sym (zeros_come_first k (y ∷ ys ++ replicate j 0) (omega (arith, e, length-append ys (replicate j 0), length-replicate {A = ℕ} j 0)) h)
 texts (x ∷ xs) [] k j e h = sym (zeros_come_last j (x ∷ xs ++ replicate k 0) (omega (arith, e, length-append xs (replicate k 0), length-replicate {A = ℕ} k 0)) h)
 texts (x ∷ xs) (y ∷ ys) k j e h = carried (nat_cmp x y) _ _ (texts xs ys k j (omega (arith, e))) h
 
--- what bytes with zeros behind them decide, the bytes alone decide
+-- what bytes with zeros after them decide, the bytes alone decide
 pub padded : (n a b : ℕ) (us vs : List ℕ) → IsPadded n a us → IsPadded n b vs → order us vs ≢ Equal → order (take a us) (take b vs) ≡ order us vs
 padded n a b us vs h k m = texts (take a us) (take b vs) (n - a) (n - b) lengths (λ z. m (sym both ∙ z)) ∙ both
   where
@@ -99,7 +99,7 @@ padded n a b us vs h k m = texts (take a us) (take b vs) (n - a) (n - b) lengths
 same_number : (x y : ℕ) → nat_cmp x y ≡ Equal → x ≡ y
 same_number x y e = ranked x y Equal (sym e)
 
--- what begins alike is decided behind it
+-- what begins alike is decided after it
 passed : (r o p q : Ordering) → (p ≡ Equal → o ≡ q) → ordering_then r p ≡ Equal → ordering_then r o ≡ q
 passed Less o p q rest h = cc
 passed Equal o p q rest h = rest h

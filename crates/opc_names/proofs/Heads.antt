@@ -50,7 +50,7 @@ front_through (Percent ∷ q) s t r n m k = (s ++ r, refl)
 front_through (Star ∷ q) s t r n m k = (s ++ r, refl)
 front_through (Stars ∷ q) s t r n m k = (s ++ r, refl)
 
--- the head behind the first qualifier, where that is not `**`
+-- the head after the first qualifier, where that is not `**`
 front_behind : (q : List Token) (p : List (List Token)) (r : List (List ℕ)) → IsPart q → ((r : List (List ℕ)) → Covers p r → IsFront (head (spell p)) (spell_name r)) → Covers (q ∷ p) r → BeginsOther q → IsFront (head (spell (q ∷ p))) (spell_name r)
 front_behind q p [] h more c k = absurd (covers_none q p k c)
 front_behind q p (s ∷ r) h more c k =
@@ -119,7 +119,7 @@ before_stars (Percent ∷ q) t w h b = inl tt
 before_stars (Star ∷ q) t w h b = inl tt
 before_stars (Stars ∷ q) t w h b = absurd b
 
--- two patterns behind a first qualifier, where that of the first is not `**`
+-- two patterns after a first qualifier, where that of the first is not `**`
 order_behind : (x : List Token) (p q : List (List Token)) (r : List (List ℕ)) (opened : Bool) → IsPart x → AllByRecursion IsPart q → Covers (x ∷ p) r → Covers q r → length (head (spell q)) < length (head (spell (x ∷ p))) → BeginsOther x
     → ((q : List (List Token)) (r : List (List ℕ)) → AllByRecursion IsPart q → Covers p r → Covers q r → length (head (spell q)) < length (head (spell p)) → (o : Bool) → BeforeBehind o (spell p) (spell q))
     → BeforeBehind opened (spell (x ∷ p)) (spell q)

@@ -1,4 +1,4 @@
--- Patterns and names as lists of qualifiers, each behind a period.
+-- Patterns and names as lists of qualifiers, each after a period.
 use Rattle.std.proofs.Common.{◌≡◌, ◌≢◌, ℕ, ◌+◌, ◌==◌, ◌&&◌, cond, if◌then◌else◌, true, false, List, [], ◌∷◌, ◌++◌, map, length, refl, sym, ap, ◌∙◌, arith, inl, inr, Some, None}
 use Rattle.std.specs.List.{onto_first, join_with_byte, AllByRecursion}
 use Rattle.std.proofs.lemmas.List.{append-nil}

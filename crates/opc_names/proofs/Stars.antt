@@ -51,7 +51,7 @@ last_star (c ∷ (d ∷ q)) h =
     let rest = last_star (d ∷ q) h.1 in
     rw (tokens-other c (d ∷ q) h.0, sub-one) (λ e. more.1 (rest.0 (rw sub-one e)), λ e. rw sub-one at (rest.1 (more.0 e)))
 
--- what a qualifier other than `**` covers with those behind it
+-- what a qualifier other than `**` covers with those after it
 pub covers_none : (q : List Token) (p : List (List Token)) → BeginsOther q → Covers (q ∷ p) [] → ⊥
 covers_none [] p b h = h
 covers_none (Literal c ∷ q) p b h = h

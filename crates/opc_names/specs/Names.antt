@@ -40,7 +40,7 @@ pattern_rule = record { least = 1; most = 39; alphabet = Generic }
 abbrev pub is_name_character : ℕ → Bool
 is_name_character c = is_ascii_uppercase c || is_ascii_digit c || c == 35 || c == 36 || c == 64
 
--- whether a character may stand behind the first one: 46 is the period, 37 `%`, 42 `*`
+-- whether a character may stand after the first one: 46 is the period, 37 `%`, 42 `*`
 abbrev pub may_follow : Alphabet → ℕ → Bool
 may_follow NameCharacters c = is_name_character c
 may_follow NoDigitFirst c = is_name_character c

@@ -19,7 +19,7 @@ Earlier t u = ⊥
 abbrev pub EndsOpen : List Token → Type 0
 EndsOpen ts = (front : List Token) × ((ts ≡ front ++ Star ∷ []) ⊎ (ts ≡ front ++ Stars ∷ []))
 
--- what decides behind a common part: the earlier token; where one pattern ends, the end, unless the common
+-- what decides after a common part: the earlier token; where one pattern ends, the end, unless the common
 -- part leaves open what follows
 abbrev pub Decides : List Token → List Token → List Token → Type 0
 Decides common [] [] = ⊥
@@ -51,7 +51,7 @@ ends_open [] = false
 ends_open (t ∷ []) = is_open t
 ends_open (t ∷ (u ∷ ts)) = ends_open (u ∷ ts)
 
--- The sort key of a pattern: a byte for each token, and one more behind a last `*` or `**`.
+-- The sort key of a pattern: a byte for each token, and one more after a last `*` or `**`.
 abbrev pub sort_key : List ℕ → List ℕ
 sort_key text = map key_byte (tokens text) ++ (if ends_open (tokens text) then 255 ∷ [] else [])
 

@@ -1,4 +1,4 @@
--- Bytes in an array, with zeros behind them. The model of `Bytes` cites this page, and inner contracts do.
+-- Bytes in an array, with zeros after them. The model of `Bytes` cites this page, and inner contracts do.
 use Rattle.std.specs.Prelude.{◌≡◌, ℕ, ◌+◌, ◌*◌, ◌-◌, ◌≤◌, ◌<◌, List, [], ◌∷◌, ◌++◌, length, take, drop, replicate}
 use Rattle.std.proofs.Common.{arith}
 use Rattle.std.proofs.lemmas.List.{take-append-drop, length-take-le}
@@ -9,7 +9,7 @@ pub record IsPadded (n len : ℕ) (bytes : List ℕ) : Type 0 where
   pub full : length bytes ≡ n
   pub zeros : drop len bytes ≡ replicate (n - len) 0
 
--- bytes with zeros behind them
+-- bytes with zeros after them
 abbrev pub padded_to : ℕ → List ℕ → List ℕ
 padded_to n bytes = bytes ++ replicate (n - length bytes) 0
 
@@ -19,7 +19,7 @@ length-padded n len bytes h = length-take-le len bytes (omega (arith, h.fits, h.
 pub padded-take : (n len : ℕ) (bytes : List ℕ) → IsPadded n len bytes → padded_to n (take len bytes) ≡ bytes
 padded-take n len bytes h = rw (length-padded n len bytes h, ← h.zeros) (take-append-drop len bytes)
 
--- bytes as the digits of a number, behind those of n
+-- bytes as the digits of a number, after those of n
 abbrev pub number_behind : ℕ → List ℕ → ℕ
 number_behind n [] = n
 number_behind n (b ∷ bytes) = number_behind (n * 256 + b) bytes

@@ -35,14 +35,14 @@ abbrev pub any_from_here : List Bool → List Bool
 any_from_here [] = []
 any_from_here (b ∷ bs) = list_any (λ x. x) (b ∷ bs) ∷ any_from_here bs
 
--- the order behind a common part, of which `opened` says whether it ends in `*` or `**`
+-- the order after a common part, of which `opened` says whether it ends in `*` or `**`
 abbrev pub BeforeBehind : Bool → List Token → List Token → Type 0
 BeforeBehind opened [] [] = ⊥
 BeforeBehind opened [] (u ∷ q) = opened ≡ false
 BeforeBehind opened (t ∷ p) [] = opened ≡ true
 BeforeBehind opened (t ∷ p) (u ∷ q) = Earlier t u ⊎ ((t ≡ u) × BeforeBehind (is_open t) p q)
 
--- a byte for each token, and one more behind the last where that leaves open what follows
+-- a byte for each token, and one more after the last where that leaves open what follows
 abbrev pub sort_key_behind : Bool → List Token → List ℕ
 sort_key_behind opened [] = if opened then 255 ∷ [] else []
 sort_key_behind opened (t ∷ ts) = key_byte t ∷ sort_key_behind (is_open t) ts

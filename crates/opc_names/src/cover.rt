@@ -63,7 +63,7 @@ fn prepend_stars(covered: &mut [bool]) -> bool
 }
 
 /// Whether a qualifier other than `**` covers a part of a name, and what follows it in the name:
-/// it is the last one and ends in `*`, or those behind it cover that.
+/// it is the last one and ends in `*`, or those after it cover that.
 fn covers_from(qualifier: &[u8], part: &[u8], is_last: bool, covers_rest: bool) -> bool
     requires { StarOnlyLast qualifier.now }
     ensures { result

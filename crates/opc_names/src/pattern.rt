@@ -48,7 +48,7 @@ impl Pattern {
     }
 }
 
-/// The bytes of a sort key: one for each token, and one more behind a last `*` or `**`.
+/// The bytes of a sort key: one for each token, and one more after a last `*` or `**`.
 fn key_bytes(text: &[u8]) -> ArrayVec<u8, 40>
     requires { length text.now ≤ 39 }
     ensures key { result.items ≡ sort_key_behind false (tokens text.now) }

@@ -35,6 +35,7 @@ impl ReplyId {
         }
     }
 
+    /// The number, 0 to 99.
     pub fn number(self) -> u8
         ensures value { result ≡ self }
         ensures most { result ≤ 99 }

@@ -81,7 +81,7 @@ fn all_texts(alloc: Global, extent: &str) -> Result<Vec<String>> {
     Ok(texts)
 }
 
-/// Adds a text with each character of the alphabet behind it.
+/// Adds a text with each character of the alphabet after it.
 fn push_longer(texts: &mut Vec<String>, at: usize, alphabet: &str) -> Result<()> {
     for character in alphabet.chars() {
         let mut text = texts.get(at).context("no text")?.clone()?;

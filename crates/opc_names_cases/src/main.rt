@@ -1,6 +1,6 @@
 //! Cases of names, patterns and their order, levels, classes, command groups and authority.
 //!
-//! Each line of the input is a case, a subject and its operands; it is written again with the answer behind it. A line
+//! Each line of the input is a case, a subject and its operands; it is written again with the answer after it. A line
 //! that begins with `#`, which says what the rule is, and an empty line are written as they are. The subjects:
 //!
 //! - `user`, `unit`, `group`, `console`, `volume`, `device`, `resource`, `pattern` TEXT: the name with this text, or
@@ -11,7 +11,7 @@
 //! - `level`, `class`, `command-group`, `authority` TEXT: what has this text, and how it is written.
 //! - `includes` LEVEL and `enters` AUTHORITY: the levels that it includes, the command groups that it enters.
 //! - `covers` PATTERN NAME: whether it does; `covers-1000`: how often of a thousand times.
-//! - `ordered` PATTERN ..: whether each comes before those behind it, and before no other.
+//! - `ordered` PATTERN ..: whether each comes before those after it, and before no other.
 //! - `key` and `head` PATTERN: the bytes of its sort key in hexadecimal, and its head.
 //! - `all-covers` and `all-before`: the comparisons of `exhaustive`.
 #![tactic(auto)]

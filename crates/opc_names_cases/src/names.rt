@@ -29,7 +29,7 @@ pub fn shown(alloc: Global, name: &UserId) -> Result<String> {
     Ok(format!(in alloc; "{name:>10}|{name:?}")?)
 }
 
-/// A resource with further names behind it, each after the word for its kind.
+/// A resource with further names after it, each after the word for its kind.
 pub fn with(alloc: Global, words: &str) -> Result<String> {
     let mut words = words.split(' ');
     let mut resource = Resource::read(words.next().unwrap_or(""))?;

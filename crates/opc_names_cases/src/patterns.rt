@@ -41,7 +41,7 @@ pub fn ordered(alloc: Global, texts: &str) -> Result<String> {
     yes_or_no(alloc, in_order)
 }
 
-/// Whether a pattern comes before those behind this place, and before no other.
+/// Whether a pattern comes before those after this place, and before no other.
 fn is_at(place: usize, pattern: &Pattern, patterns: &[Pattern]) -> bool {
     let mut in_order = true;
     for (at, other) in patterns.iter().enumerate() {

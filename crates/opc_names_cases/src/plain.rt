@@ -1,7 +1,7 @@
 //! What patterns cover and their order, written from the definitions alone and as slow as they are.
 use std::alloc::{AllocError, Global};
 
-/// The ranks of `*` and `**`: behind all characters and `%`.
+/// The ranks of `*` and `**`: after all characters and `%`.
 const STAR: u16 = 1001;
 
 const STARS: u16 = 1002;

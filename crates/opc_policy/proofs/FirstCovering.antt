@@ -25,7 +25,7 @@ kept_none : {X : Type 0} (p : X → Bool) (xs : List X) → All (λ x. p x ≡ f
 kept_none p [] h = refl
 kept_none p (x ∷ xs) h = rw (All-head (λ x. p x ≡ false) x xs h) (kept_none p xs (All-tail (λ x. p x ≡ false) x xs h))
 
--- one filter behind another
+-- one filter after another
 pub filter_both : {X : Type 0} (p q : X → Bool) (xs : List X) → filter q (filter p xs) ≡ filter (λ x. p x && q x) xs
 filter_both p q [] = refl
 filter_both {X} p q (x ∷ xs) =

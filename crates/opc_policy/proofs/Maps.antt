@@ -29,7 +29,7 @@ values-insert {K} {X} key_cmp cmp k v (e ∷ es) h = go (key_cmp k e.0) (cmp v e
     go o Equal same later = rw same refl
     go o Greater same later = rw same (ap (λ vs. e.1 ∷ vs) later)
 
--- what holds of each entry still does behind an insertion
+-- what holds of each entry still does after an insertion
 pub All-insert : {K X : Type 0} (P : K × X → Type 0) (key_cmp : K → K → Ordering) (k : K) (v : X) (es : List (K × X)) → P (k, v) → ((e : K × X) → key_cmp k e.0 ≡ Equal → P (e.0, v)) → AllByRecursion P es → AllByRecursion P (insert_entry key_cmp es k v)
 All-insert P key_cmp k v [] new same h = (new, tt)
 All-insert P key_cmp k v (e ∷ es) new same h = go (key_cmp k e.0) (same e) (All-insert P key_cmp k v es new same h.1)

@@ -24,7 +24,7 @@ module _ {X : Type 0} (cmp : X → X → Ordering) (x : X) where
   set-place (y ∷ ys) (suc i) d before within same =
       rw (before 0 (omega arith)) (ap (λ zs. y ∷ zs) (set-place ys i d (λ k l. before (suc k) (omega (arith, l))) (omega (arith, within)) same))
 
-  -- between those before it and those behind it
+  -- between those before it and those after it
   pub insert-place : (xs : List X) (i : ℕ) (d : X) → ((k : ℕ) → k < i → cmp x (get_or xs k d) ≡ Greater) → i ≤ length xs → (i < length xs → cmp x (get_or xs i d) ≡ Less) → insert xs i x ≡ replace_key cmp xs x
   insert-place [] zero d before within behind = refl
   insert-place [] (suc i) d before within behind = absurd (omega (arith, within))

@@ -72,7 +72,7 @@ why_text why.Digest = codes "Digest"
 why_text why.When = codes "When"
 why_text why.Restricted = codes "Restricted"
 
--- the name of a fault, then each detail behind a space, numbers in decimal
+-- the name of a fault, then each detail after a space, numbers in decimal
 abbrev pub fault_text : Fault → List ℕ
 fault_text Empty = codes "Empty"
 fault_text TooLong = codes "TooLong"

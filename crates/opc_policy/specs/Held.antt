@@ -23,7 +23,7 @@ conditional_level profile user (Some console) groups = unwrap_or (first_level pr
 
 -- The higher of both, so that an entry for a console raises a level there and never lowers one. The groups are the
 -- user's connect groups. SPECIAL, AUDITOR and WARNING give no level. (RACF guide: how access to a resource is checked;
--- the rule of conditional entries and RESTRICTED users is this profile's own.)
+-- the rule of conditional entries and RESTRICTED users is this product's own.)
 unfoldable pub held : Profile → User → Option (List ℕ) → List (List ℕ) → Level
 held profile user console groups = higher_level (plain_level profile user groups) (conditional_level profile user console groups)
 

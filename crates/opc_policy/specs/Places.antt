@@ -5,7 +5,7 @@ use Rattle.std.specs.declared.cmp.Ordering.TheVariants.{Less, Equal, Greater}
 use Rattle.opc_policy.specs.Access.{entry_cmp}
 use Rattle.opc_policy.specs.declared.entry.Entry.{Entry}
 
--- an entry comes behind all entries before a place
+-- an entry comes after all entries before a place
 abbrev pub IsBehind : Entry → List Entry → ℕ → Type 0
 IsBehind entry entries place = (k : ℕ) (d : Entry) → k < place → entry_cmp entry (slice_index_or entries k d) ≡ Greater
 

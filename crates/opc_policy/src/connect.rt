@@ -30,6 +30,7 @@ impl Model for Connects {
 }
 
 impl Connects {
+    /// No connects.
     pub fn new(alloc: Global) -> Self
         ensures { result ≡ [] }
     {

@@ -39,6 +39,7 @@ impl Entries {
         }
     }
 
+    /// The entries, in order.
     pub fn as_slice(&self) -> &[Entry]
         ensures value { result.now ≡ self.now }
         ensures in_order { AreInOrder self.now }

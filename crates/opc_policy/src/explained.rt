@@ -35,6 +35,7 @@ impl Model for Patterns {
 }
 
 impl Patterns {
+    /// The patterns, in order.
     pub fn as_slice(&self) -> &[Pattern]
         ensures { result.now ≡ self.now }
     {

@@ -31,6 +31,7 @@ impl Model for Subject {
 }
 
 impl Subject {
+    /// The text of a name.
     pub fn of<K: NameKind<N>, const N: usize>(name: &Name<K, N>) -> Self
         ensures { result ≡ name.now }
     {
@@ -98,6 +99,7 @@ pub enum Why {
 impl Why {
     ghost use Rattle.opc_policy.specs.Faults.{why_text};
 
+    /// What is wrong, in one word.
     pub fn text(&self) -> &str
         ensures text { result.now ≡ why_text self.now }
         ensures ascii { IsAscii (why_text self.now) }
@@ -272,7 +274,7 @@ impl Fault {
         }
     }
 
-    /// The name of the fault, then each of its details behind a space.
+    /// The name of the fault, then each of its details after a space.
     pub fn text(&self, alloc: Global) -> Result<String, AllocError>
         ensures { IfOk result (λ text. string_bytes text ≡ fault_text self.now) }
     {

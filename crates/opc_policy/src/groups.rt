@@ -23,6 +23,7 @@ impl Model for Groups {
 }
 
 impl Groups {
+    /// No groups.
     pub fn new(alloc: Global) -> Self
         ensures { result ≡ [] }
     {

@@ -35,6 +35,7 @@ impl Model for Profiles {
 }
 
 impl Profiles {
+    /// No profiles.
     pub fn new(alloc: Global) -> Self
         ensures { result ≡ [] }
     {
@@ -53,6 +54,7 @@ impl Profiles {
         self.by_key.values()
     }
 
+    /// The profile of a class and a pattern.
     pub fn get(&self, class: Class, pattern: &Pattern) -> Option<&Profile>
         ensures { option_copied result ≡ profile_of self.now class pattern.now }
     {

@@ -31,6 +31,7 @@ impl Model for Users {
 }
 
 impl Users {
+    /// No users.
     pub fn new(alloc: Global) -> Self
         ensures { result ≡ [] }
     {
@@ -39,6 +40,7 @@ impl Users {
         }
     }
 
+    /// The user of an id.
     pub fn get(&self, id: &UserId) -> Option<&User>
         ensures { option_copied result ≡ user_of self.now id.now }
     {

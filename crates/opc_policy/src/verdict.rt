@@ -15,6 +15,7 @@ pub enum Verdict {
 impl Verdict {
     ghost use Rattle.opc_policy.specs.Verdicts.{verdict_text};
 
+    /// The word of the verdict, as `explain` prints it.
     pub fn text(&self) -> &str
         ensures text { result.now ≡ verdict_text self.now }
         ensures ascii { IsAscii (verdict_text self.now) }

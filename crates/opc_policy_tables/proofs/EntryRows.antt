@@ -126,7 +126,7 @@ module _ (old new : SqlState) (count : ℕ) (s : State) (was : Tabulates old.now
 
 -- ---- an entry is put
 
--- one entry row in front, and the others of the list behind
+-- one entry row first, and the others of the list after it
 module _ (class : Class) (pattern : List ℕ) (ps : List Profile) (p : Profile) (it : Split class pattern ps p) (e : Entry) where
   same_test : IsNamed e → (f : Entry) → IsNamed f → is_eq (entry_cmp f e) ≡ is_at e.id (or_empty e.when) f
   same_test named f is = then_eq _ _ ∙ ap₂ (λ a b. a && b) (is_eq-slice_cmp f.id e.id) (tied_consoles f.when e.when is named)

@@ -279,7 +279,7 @@ entry_row_added old new count c was class pattern e h =
     let it = adds the_schema insert_entry 16 entries_at (entry_row class pattern e) insert_entry_plain refl old new was.schema count (lit Null ∷ entry_terms) 6 insert_entry_is (record { uncounted = refl; stampless = refl }) (entry_row class pattern e) refl (ap₂ (λ v (r : Row). v ∷ r) cast_null (entry_cast class pattern e Null)) h in
     spares_entries c old.now new.now was it.spares _ (it.rows _ was.holds.entries)
 
--- and behind those that came before it
+-- and after those that came before it
 pub entries_so_far : (db : Database) (c : Contents) (class : Class) (pattern : List ℕ) (so_far : List Entry) (e : Entry) (more : List Entry) → more ≡ so_far ++ e ∷ []
     → IsMade (record c { entries = entry_row class pattern e ∷ (map (entry_row class pattern) so_far ++ c.entries) }) db → IsMade (record c { entries = map (entry_row class pattern) more ++ c.entries }) db
 entries_so_far db c class pattern so_far e more is was =

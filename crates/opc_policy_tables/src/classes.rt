@@ -15,6 +15,7 @@ use opc_stored::faults::unreadable;
 use opc_stored::queries::read;
 use sqlite::{Alter, Connection, Error, Row, Transaction, params};
 
+/// Sets whether a class is active.
 pub fn set_active<S: Alter>(
     tx: &mut Transaction<'_, S>,
     class: Class,
@@ -56,6 +57,7 @@ fn active_in(rows: &[Row]) -> Result<bool, StoreFault>
     }
 }
 
+/// Which classes are active.
 pub fn actives_on<S: Alter>(conn: &mut Connection<S>) -> Result<ActiveClasses, StoreFault>
     requires { conn.old.in_transaction ≡ false }
     ensures mode { conn.new.in_transaction ≡ false }

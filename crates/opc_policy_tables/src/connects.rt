@@ -33,6 +33,7 @@ impl Keeps<Connect> for ConnectTable {
     }
 }
 
+/// Puts a connect.
 pub fn put_connect<S: Alter>(tx: &mut Transaction<'_, S>, connect: &Connect) -> Result<(), Error>
     ensures same_reference { tx.new.conn.ghost_name ≡ tx.old.conn.ghost_name }
     ensures stays { Stays S.Store tx.old.conn.now tx.new.conn.now result }
@@ -46,6 +47,7 @@ pub fn put_connect<S: Alter>(tx: &mut Transaction<'_, S>, connect: &Connect) -> 
     )
 }
 
+/// Removes a connect.
 pub fn remove_connect<S: Alter>(tx: &mut Transaction<'_, S>, connect: &Connect) -> Result<(), Error>
     ensures same_reference { tx.new.conn.ghost_name ≡ tx.old.conn.ghost_name }
     ensures stays { Stays S.Store tx.old.conn.now tx.new.conn.now result }
@@ -59,6 +61,7 @@ pub fn remove_connect<S: Alter>(tx: &mut Transaction<'_, S>, connect: &Connect) 
     Ok(())
 }
 
+/// The connect that a row of the table holds.
 pub fn connect_in(row: &Row) -> Result<Connect, StoreFault>
     ensures { (c : TheConnect) → row.now ≡ connect_row c → IfOk result (λ v. v ≡ c) }
 {

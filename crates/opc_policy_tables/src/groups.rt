@@ -29,6 +29,7 @@ impl Keeps<GroupName> for GroupTable {
     }
 }
 
+/// Puts a group.
 pub fn put_group<S: Alter>(tx: &mut Transaction<'_, S>, name: &GroupName) -> Result<(), Error>
     ensures same_reference { tx.new.conn.ghost_name ≡ tx.old.conn.ghost_name }
     ensures stays { Stays S.Store tx.old.conn.now tx.new.conn.now result }
@@ -42,6 +43,7 @@ pub fn put_group<S: Alter>(tx: &mut Transaction<'_, S>, name: &GroupName) -> Res
     )
 }
 
+/// Removes a group.
 pub fn remove_group<S: Alter>(tx: &mut Transaction<'_, S>, name: &GroupName) -> Result<(), Error>
     ensures same_reference { tx.new.conn.ghost_name ≡ tx.old.conn.ghost_name }
     ensures stays { Stays S.Store tx.old.conn.now tx.new.conn.now result }

@@ -103,6 +103,7 @@ pub fn put_profile<S: Alter>(tx: &mut Transaction<'_, S>, profile: &Profile) -> 
     Ok(())
 }
 
+/// Removes a profile with its access list.
 pub fn remove_profile<S: Alter>(
     tx: &mut Transaction<'_, S>,
     class: Class,

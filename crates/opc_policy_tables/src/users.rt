@@ -35,6 +35,7 @@ impl Keeps<User> for UserTable {
     }
 }
 
+/// Puts a user, in the place of the one of its id.
 pub fn put_user<S: Alter>(tx: &mut Transaction<'_, S>, user: &User) -> Result<(), Error>
     ensures same_reference { tx.new.conn.ghost_name ≡ tx.old.conn.ghost_name }
     ensures stays { Stays S.Store tx.old.conn.now tx.new.conn.now result }
@@ -55,6 +56,7 @@ pub fn put_user<S: Alter>(tx: &mut Transaction<'_, S>, user: &User) -> Result<()
     )
 }
 
+/// Removes the user of an id.
 pub fn remove_user<S: Alter>(tx: &mut Transaction<'_, S>, id: &UserId) -> Result<(), Error>
     ensures same_reference { tx.new.conn.ghost_name ≡ tx.old.conn.ghost_name }
     ensures stays { Stays S.Store tx.old.conn.now tx.new.conn.now result }
@@ -86,6 +88,7 @@ fn digest_in(row: &Row, at: usize) -> Result<Option<[u8; 32]>, StoreFault>
     }
 }
 
+/// The user that a row of the table holds.
 pub fn user_in(row: &Row) -> Result<User, StoreFault>
     ensures { (u : TheUser) → row.now ≡ user_row u → IfOk result (λ v. v ≡ u) }
 {

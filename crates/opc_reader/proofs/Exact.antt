@@ -27,7 +27,7 @@ laid_of line c r = record {
   word = verb_word r.verb (verb_of c) r.spelled;
   gap_run = all_run is_space r.gap r.behind_verb;
   after_run = all_run is_space r.after r.behind_operands;
-  parted = r.parted;
+  separated = r.separated;
   bare = r.bare;
 }
 
@@ -139,7 +139,7 @@ from_scan line c pass spelled found = record {
   before_verb = run_all is_space before before_run;
   behind_verb = run_all is_space gap gap_run;
   behind_operands = run_all is_space after (ended is_space line).run;
-  parted = (no_gap, no_operands);
+  separated = (no_gap, no_operands);
   bare = (run_rest is_space rest, operands_end);
   spelled = spelled;
   typed = subst Typed place found.typed;

@@ -20,7 +20,7 @@ use Rattle.opc_reader.proofs.Leaves.{name_chars}
 use Rattle.opc_reader.proofs.Quoted.{closed, plain_closed, not_opens}
 use Rattle.opc_reader.proofs.Steps.{over_last, over_quoted_front, number_digits, map_some}
 
--- the first comma is that behind a run of other characters
+-- the first comma is that after a run of other characters
 comma_first : (p : ℕ → Bool) (a b : List ℕ) → p 44 ≡ false → prefix_len p a ≡ length a → position_or_len (λ c. c == 44) (a ++ 44 ∷ b) ≡ length a
 comma_first p [] b none h = refl
 comma_first p (c ∷ a) b none h =
@@ -57,7 +57,7 @@ one_comma (c ∷ []) h = let same : to_ascii_uppercase c ≡ 44 = cc in ap (λ v
   is_comma d k = grind (arith, nat_tests)
 one_comma (c ∷ (d ∷ x)) h = cc
 
--- the text behind the first comma is closed
+-- the text after the first comma is closed
 closed_behind : (p : ℕ → Bool) (a b : List ℕ) (n : ℕ) (text : Text) (s : Stretch) → p 44 ≡ false → prefix_len p a ≡ length a → s.text ≡ a ++ b → AreTyped (Word (codes ",") ∷ AnyText text ∷ []) (record { text = b; from = n }) → open_behind (position (λ c. c == 44) s.text) s ≡ None
 closed_behind p a b n text s none run e (a', b', e', comma, rest) =
     let word : a' ≡ 44 ∷ [] = one_comma a' comma in

@@ -16,7 +16,7 @@ quote_other c (d ∷ cs) e = rw e refl
 doubled_other : (c : ℕ) (text : List ℕ) → (c == 39) ≡ false → doubled (c ∷ text) ≡ c ∷ doubled text
 doubled_other c text e = rw e refl
 
--- the text of doubled apostrophes is closed by the apostrophe behind it
+-- the text of doubled apostrophes is closed by the apostrophe after it
 pub quote_read : (text : List ℕ) → closing_len (doubled text ++ 39 ∷ []) ≡ Some (length (doubled text ++ 39 ∷ []))
 quote_read [] = refl
 quote_read (c ∷ text) =
@@ -121,7 +121,7 @@ pub said : {S E : Type 0} (bytes_of : S → List ℕ) (r : Result S E) (t b : Li
 said bytes_of (Ok v) t b e h = says t (bytes_of v) (h ∙ ap text_value e)
 said bytes_of (Err x) t b e h = tt
 
--- a quoted text at the front, with other text behind it, ends at one place
+-- a quoted text at the front, with other text after it, ends at one place
 pub quote_front : (text rest : List ℕ) → opens_quote rest ≡ false → closing_len (doubled text ++ 39 ∷ rest) ≡ Some (length (doubled text) + 1)
 quote_front [] [] h = refl
 quote_front [] (d ∷ rest) h = rw h refl

@@ -76,7 +76,7 @@ pub record Laid (before verb gap operands after : List ℕ) : Type 0 where
   pub word : IsWord verb
   pub gap_run : prefix_len is_space gap ≡ length gap
   pub after_run : prefix_len is_space after ≡ length after
-  pub parted : (operands ≡ []) ↔ (gap ≡ [])
+  pub separated : (operands ≡ []) ↔ (gap ≡ [])
   pub bare : IsBare operands
 
 pub nothing : (xs : List ℕ) → length xs ≡ 0 → xs ≡ []
@@ -87,7 +87,7 @@ body_end : (before verb gap operands after : List ℕ) → Laid before verb gap 
 body_end before verb gap operands after laid =
     let verb_end = word_end verb laid.word.run in
     let gap_end = suffix_all is_space gap laid.gap_run in
-    let none : length operands ≡ 0 → length gap ≡ 0 = λ e. ap length (laid.parted.0 (nothing operands e)) in
+    let none : length operands ≡ 0 → length gap ≡ 0 = λ e. ap length (laid.separated.0 (nothing operands e)) in
     let bare : suffix_len is_space operands ≡ 0 = laid.bare.1 in
     let one = suffix_append is_space gap operands in
     let two = suffix_append is_space verb (gap ++ operands) in
@@ -127,14 +127,14 @@ scan before verb gap operands after laid =
 
 pub scan_verb : (before verb gap operands after : List ℕ) (n : ℕ) → Laid before verb gap operands after → verb_place (record { text = verb ++ (gap ++ operands); from = n }) ≡ record { text = verb; from = n }
 scan_verb before verb gap operands after n laid =
-    let stops = gap_stops gap operands laid.gap_run laid.parted.1 in
+    let stops = gap_stops gap operands laid.gap_run laid.separated.1 in
     let run : prefix_len no_space (verb ++ (gap ++ operands)) ≡ length verb = grind (arith, nat_tests, prefix_len-append no_space verb (gap ++ operands), stops, laid.word.run) in
     let last : List ℕ → Stretch = λ t. record { text = t; from = n } in
     ap (λ k. last (take k (verb ++ (gap ++ operands)))) run ∙ ap last (take-append_seam verb (gap ++ operands))
 
 pub scan_operands : (before verb gap operands after : List ℕ) (n : ℕ) → Laid before verb gap operands after → operands_place (record { text = verb ++ (gap ++ operands); from = n }) ≡ record { text = operands; from = n + length verb + length gap }
 scan_operands before verb gap operands after n laid =
-    let stops = gap_stops gap operands laid.gap_run laid.parted.1 in
+    let stops = gap_stops gap operands laid.gap_run laid.separated.1 in
     let run : prefix_len no_space (verb ++ (gap ++ operands)) ≡ length verb = grind (arith, nat_tests, prefix_len-append no_space verb (gap ++ operands), stops, laid.word.run) in
     let bare : prefix_len is_space operands ≡ 0 = laid.bare.0 in
     let skip : prefix_len is_space (gap ++ operands) ≡ length gap = grind (arith, nat_tests, prefix_len-append is_space gap operands, bare, laid.gap_run) in

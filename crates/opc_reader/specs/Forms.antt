@@ -15,7 +15,7 @@ use Rattle.opc_reader.specs.Operands.{number}
 use Rattle.opc_reader.specs.Quotes.{OpensQuote, IsQuoted}
 use Rattle.opc_reader.specs.Stretches.{Stretch, folded}
 
--- a part of what stands behind a verb
+-- a part of what stands after a verb
 pub data Part : Type 0 where
   Word : List ℕ → Part
   Name : NameRule → Operand (List ℕ) → Part

@@ -45,7 +45,7 @@ pub record Reads (line : List ℕ) (c : Command) : Type 0 where
   pub before_verb : AreSpaces before
   pub behind_verb : AreSpaces gap
   pub behind_operands : AreSpaces after
-  pub parted : (operands ≡ []) ↔ (gap ≡ [])
+  pub separated : (operands ≡ []) ↔ (gap ≡ [])
   pub bare : IsBare operands
   pub spelled : lookup verbs (folded verb) ≡ Some (verb_of c)
   pub typed : AreTyped (parts c) (record { text = operands; from = length before + length verb + length gap })
@@ -68,7 +68,7 @@ operands_place s = skip_spaces (behind (prefix_len (λ c. not (is_space c)) s.te
 abbrev pub span : Stretch → Span
 span s = record { from = s.from; to = s.from + length s.text }
 
--- Where a quoted text stands that isn't closed: behind the first comma of F and R, whatever stands before it, and
+-- Where a quoted text stands that isn't closed: after the first comma of F and R, whatever stands before it, and
 -- as the first operand of SE and L. 44 is the comma.
 abbrev pub open_at : ℕ → List ℕ → Option ℕ
 open_at at text = if is_open text then Some at else None

@@ -52,7 +52,7 @@ abbrev pub opens_quote : List ℕ → Bool
 opens_quote [] = false
 opens_quote (c ∷ cs) = c == 39
 
--- the text of what stands behind the first apostrophe, up to the one that closes it
+-- the text of what stands after the first apostrophe, up to the one that closes it
 abbrev pub unquoted : List ℕ → List ℕ
 unquoted [] = []
 unquoted (c ∷ []) = if c == 39 then [] else c ∷ []

@@ -36,7 +36,7 @@ only x s = if length s.text == 0 then Some x else None
 abbrev pub fixed : {A : Type 0} → List ℕ → A → Stretch → Option A
 fixed w x s = if bytes_eq (folded s.text) w then Some x else None
 
--- A name is the run of name characters, and what stands behind it begins with no other.
+-- A name is the run of name characters, and what stands after it begins with no other.
 abbrev pub name_operand : NameRule → ℕ → Stretch → Option (Operand (List ℕ) × Stretch)
 name_operand rule n s =
     if is_none (name_fault rule (folded (take n s.text))) then Some (record { value = folded (take n s.text); typed = front n s }, behind n s) else None
@@ -49,7 +49,7 @@ last_name rule s = do
   x ← name rule s
   only x.0 x.1
 
--- a number, and what stands behind it
+-- a number, and what stands after it
 abbrev pub number_operand : ℕ → Stretch → Option (Operand ℕ × Stretch)
 number_operand n s = option_map (λ v. (record { value = v; typed = front n s }, behind n s)) (number (take n s.text))
 
@@ -83,7 +83,7 @@ display s =
       name ← last_name unit_rule rest
       Some (DisplayUnit name)))))
 
--- behind `U=` a user, else a name
+-- after `U=` a user, else a name
 abbrev pub cancel_behind : Option Stretch → Stretch → Option Command
 cancel_behind (Some rest) s = do
   user ← last_name user_rule rest

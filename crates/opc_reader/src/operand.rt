@@ -27,7 +27,7 @@ fn name_len(text: &[u8]) -> usize
     text.iter().take_while(|c| in_name(**c)).count()
 }
 
-/// A name, and what stands behind it.
+/// A name, and what stands after it.
 #[tactic(auto, unfolding(crate::specs::Reading::name))]
 pub(crate) fn name<'a, K: NameKind<8>>(
     s: &Piece<'a>,
@@ -73,7 +73,7 @@ fn number(text: &[u8]) -> Option<ReplyId>
     }
 }
 
-/// A number of one or two digits, and what stands behind it.
+/// A number of one or two digits, and what stands after it.
 #[tactic(auto, unfolding(crate::specs::Reading::number_front))]
 pub(crate) fn number_front<'a>(s: &Piece<'a>) -> Option<(Operand<'a, ReplyId>, Piece<'a>)>
     ensures { result ≡ number_front s.now }
@@ -127,7 +127,7 @@ pub(crate) fn quoted_text<'a>(s: Piece<'a>) -> Option<Text<'a>>
     }
 }
 
-/// Quoted text, and what stands behind it.
+/// Quoted text, and what stands after it.
 #[tactic(auto, unfolding(crate::specs::Reading::quoted_front))]
 pub(crate) fn quoted_front<'a>(s: &Piece<'a>) -> Option<(Text<'a>, Piece<'a>)>
     ensures { result ≡ quoted_front s.now }

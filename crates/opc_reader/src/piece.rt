@@ -25,7 +25,7 @@ impl<'a> Model for Piece<'a> {
     ghost invariant = { λ p. IsAscii p.text.now × (p.from + length p.text.now ≤ 126) };
 }
 
-/// Where a piece of a line stands, as byte places: `from` is its first, `to` the one behind its last.
+/// Where a piece of a line stands, as byte places: `from` is its first, `to` the one after its last.
 #[derive(Clone, Copy, Debug, PartialEq, Eq)]
 pub struct Span {
     pub from: usize,
@@ -63,7 +63,7 @@ impl<'a> Piece<'a> {
         }
     }
 
-    /// Its first bytes, and those behind them.
+    /// Its first bytes, and those after them.
     pub(crate) fn split(&self, at: usize) -> (Piece<'a>, Piece<'a>)
         requires { at ≤ length self.now.text }
         ensures front { result.0 ≡ front at self.now }
@@ -89,7 +89,7 @@ impl<'a> Piece<'a> {
         Folded::of(self.text)
     }
 
-    /// What stands behind a word, where the piece begins with it in any case.
+    /// What stands after a word, where the piece begins with it in any case.
     #[tactic(auto, unfolding(crate::specs::Stretches::word))]
     pub(crate) fn word(&self, text: &str) -> Option<Piece<'a>>
         ensures { result ≡ word text.now self.now }

@@ -1,6 +1,6 @@
 //! Cases of command lines: how they are read, what their texts say, and what commands need.
 //!
-//! Each line of the input is a case, a subject and a command line; it is written again with the answer behind it. A line
+//! Each line of the input is a case, a subject and a command line; it is written again with the answer after it. A line
 //! that begins with `#`, which says what the rule is, and an empty line are written as they are. In a command line
 //! `«TEXT»` stands for a text that is hard to see, `«TIMES*TEXT»` for one so many times, and U+ with hexadecimal digits
 //! as the text for one character. The subjects:

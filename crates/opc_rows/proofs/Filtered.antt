@@ -98,7 +98,7 @@ module _ {A : Type 0} where
       go false more = ap (λ ws. cond (t y) (y ∷ ws) ws) more
 
   module _ (before : A → A → Bool) (trans : (x y z : A) → before x y ≡ true → before y z ≡ true → before x z ≡ true) where
-    -- it goes before all that are behind the one that it is before
+    -- it goes before all that are after the one that it is before
     put_first : (x : A) (ys : List A) (s : A → Bool) → AllByRecursion (λ z. before x z ≡ true) ys → put before x (filter s ys) ≡ x ∷ filter s ys
     put_first x [] s behind = refl
     put_first x (y ∷ ys) s behind = go (s y) (put_first x ys s behind.1)

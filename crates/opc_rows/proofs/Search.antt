@@ -46,7 +46,7 @@ changed_nowhere p f (x ∷ xs) = elim (p x) as (λ b. cond b (Some x) (find p xs
   | false ↦ λ none. ap (λ ws. x ∷ ws) (changed_nowhere p f xs none)
 ]
 
--- an element put behind all that it isn't before
+-- an element put after all that it isn't before
 pub insert_behind : {A : Type 0} (before : A → A → Bool) (x : A) (xs : List A) (at : ℕ) → at ≤ length xs → IsPartitionPoint (λ y. before x y ≡ false) (λ y. before x y ≡ true) xs at → insert xs at x ≡ put before x xs
 insert_behind before x xs at within parted =
     let first : position_or_len (before x) xs ≡ at = position_or_len_is (before x) xs at x within (λ k lt. parted.0 k x (omega arith) lt) (λ lt. parted.1 at x (omega arith) lt) in

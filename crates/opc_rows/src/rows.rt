@@ -37,6 +37,7 @@ impl<R> Model for Rows<R> {
 }
 
 impl<R> Rows<R> {
+    /// No rows.
     pub fn new(alloc: Global) -> Self
         ensures { result ≡ [] }
     {
@@ -53,6 +54,7 @@ impl<R> Rows<R> {
         self.items.push(row)
     }
 
+    /// The rows, in order.
     pub fn as_slice(&self) -> &[R]
         ensures { result.now ≡ self.now }
     {
@@ -96,7 +98,7 @@ impl<R: Keyed + Drop> Rows<R> {
         ensures ok { OnOk result (self.new ≡ put (comes_before R.Key.cmp R.key_of) row self.old) }
         ensures err { OnErr result (self.new ≡ self.old) }
     {
-        let at = self.place_behind(row.key());
+        let at = self.place_after(row.key());
         self.items.insert(at, row)
     }
 
@@ -145,7 +147,7 @@ impl<R: Keyed + Drop> Rows<R> {
     }
 
     // Where the rows of greater keys begin.
-    fn place_behind(&self, key: &R::Key) -> usize
+    fn place_after(&self, key: &R::Key) -> usize
         requires { IsInKeyOrder R.Key.cmp R.key_of self.now }
         ensures within { result ≤ length self.now }
         ensures parted { IsPartitionPoint

@@ -13,10 +13,10 @@ use Rattle.opc_board.specs.declared.rows.UnitKind.{UnitKind}
 use Rattle.opc_board.specs.declared.rows.UnitKind.TheVariants.{Job, Stc, Tsu}
 use Rattle.opc_board.specs.Texts.{columns, two_digits}
 use Rattle.opc_script.specs.Events.{IsName, IsKind, kind_words, cancelable_words, event_text}
-use Rattle.opc_script.specs.Reading.{is_space, parted, name_in, plain_kind, started_kind, kind_of, kind_in, job_in, allocate, not_empty, asked, ask, event_of, event_in}
+use Rattle.opc_script.specs.Reading.{is_space, separated, name_in, plain_kind, started_kind, kind_of, kind_in, job_in, allocate, not_empty, asked, ask, event_of, event_in}
 use Rattle.opc_script.specs.Laws.{EventsReadBack}
 use Rattle.opc_names.proofs.Faults.{begin_follows, name_passes, none_of_map}
-use Rattle.opc_script.proofs.Words.{IsWord, parted_back, parted_none}
+use Rattle.opc_script.proofs.Words.{IsWord, separated_back, separated_none}
 use Rattle.opc_script.proofs.Spelled.{before_kind}
 use Rattle.opc_script.proofs.Numbers.{digits_are_word, id_back}
 
@@ -65,13 +65,13 @@ kind_back Job false h = refl
 kind_back Tsu true h = refl
 kind_back Tsu false h = refl
 kind_back (Stc member) true h =
-    let behind : parted (codes "STC" ++ 32 ∷ member) ≡ Some (codes "STC", member) = parted_back (codes "STC") member refl in
-    let alone : parted member ≡ None = parted_none member (name_is_word unit_rule member h) in
+    let behind : separated (codes "STC" ++ 32 ∷ member) ≡ Some (codes "STC", member) = separated_back (codes "STC") member refl in
+    let alone : separated member ≡ None = separated_none member (name_is_word unit_rule member h) in
     ap (kind_of (codes "STC" ++ 32 ∷ member)) behind ∙ (rw (alone, name_back unit_rule member h) refl)
 kind_back (Stc member) false h =
     let rest : List ℕ = member ++ 32 ∷ codes "NONCANCEL" in
-    let behind : parted (codes "STC" ++ 32 ∷ rest) ≡ Some (codes "STC", rest) = parted_back (codes "STC") rest refl in
-    let parts : parted rest ≡ Some (member, codes "NONCANCEL") = parted_back member (codes "NONCANCEL") (name_is_word unit_rule member h) in
+    let behind : separated (codes "STC" ++ 32 ∷ rest) ≡ Some (codes "STC", rest) = separated_back (codes "STC") rest refl in
+    let parts : separated rest ≡ Some (member, codes "NONCANCEL") = separated_back member (codes "NONCANCEL") (name_is_word unit_rule member h) in
     ap (kind_of (codes "STC" ++ 32 ∷ rest)) behind ∙ (rw (parts, name_back unit_rule member h) refl)
 
 job_back : (name : List ℕ) (kind : UnitKind) (cancelable : Bool) → IsName unit_rule name → IsKind kind
@@ -79,13 +79,13 @@ job_back : (name : List ℕ) (kind : UnitKind) (cancelable : Bool) → IsName un
 unfolding job_in
 job_back name kind cancelable n k =
     let rest : List ℕ = columns (kind_words kind ++ cancelable_words cancelable) in
-    let parts : parted (name ++ 32 ∷ rest) ≡ Some (name, rest) = parted_back name rest (name_is_word unit_rule name n) in
+    let parts : separated (name ++ 32 ∷ rest) ≡ Some (name, rest) = separated_back name rest (name_is_word unit_rule name n) in
     rw (parts, name_back unit_rule name n, kind_back kind cancelable k) refl
 
 allocate_back : (device unit : List ℕ) → IsName device_rule device → IsName unit_rule unit → allocate (device ++ 32 ∷ unit) ≡ Some (event.Allocate device unit)
 unfolding allocate
 allocate_back device unit d u =
-    let parts : parted (device ++ 32 ∷ unit) ≡ Some (device, unit) = parted_back device unit (name_is_word device_rule device d) in
+    let parts : separated (device ++ 32 ∷ unit) ≡ Some (device, unit) = separated_back device unit (name_is_word device_rule device d) in
     rw (parts, name_back device_rule device d, name_back unit_rule unit u) refl
 
 told_back : (told : List ℕ) → 0 < length told → not_empty told ≡ Some told
@@ -94,12 +94,12 @@ told_back told h = grind (arith, nat_tests, h)
 ask_back : (id : ℕ) (told : List ℕ) → id < 100 → 0 < length told → ask (two_digits id ++ 32 ∷ told) ≡ Some (event.Ask id told)
 unfolding asked
 ask_back id told low long =
-    let parts : parted (two_digits id ++ 32 ∷ told) ≡ Some (two_digits id, told) = parted_back (two_digits id) told (digits_are_word id low) in
+    let parts : separated (two_digits id ++ 32 ∷ told) ≡ Some (two_digits id, told) = separated_back (two_digits id) told (digits_are_word id low) in
     rw (parts, id_back id low, told_back told long) refl
 
 -- what follows a verb is read by the verb
 verb_back : (verb rest : List ℕ) (e : Event) → IsWord verb → event_of (verb ++ 32 ∷ rest) (Some (verb, rest)) ≡ Some e → event_in (verb ++ 32 ∷ rest) ≡ Some e
-verb_back verb rest e w h = ap (event_of (verb ++ 32 ∷ rest)) (parted_back verb rest w) ∙ h
+verb_back verb rest e w h = ap (event_of (verb ++ 32 ∷ rest)) (separated_back verb rest w) ∙ h
 
 pub reads_back : EventsReadBack
 reads_back (event.JobIn name kind cancelable) h =

@@ -10,9 +10,9 @@ use Rattle.opc_board.specs.declared.rows.UnitKind.{UnitKind}
 use Rattle.opc_board.specs.declared.rows.UnitKind.TheVariants.{Job, Stc, Tsu}
 use Rattle.opc_board.specs.Texts.{columns, two_digits}
 use Rattle.opc_script.specs.Events.{IsKind, IsEvent, kind_words, cancelable_words, event_text}
-use Rattle.opc_script.specs.Reading.{◌>>=◌, parted, name_in, id_in, flag_of, flagged, kinds, plain_kind, started_kind, kind_of, kind_in, job_in, allocate, not_empty, asked, ask, verbs, event_by, event_of}
+use Rattle.opc_script.specs.Reading.{◌>>=◌, separated, name_in, id_in, flag_of, flagged, kinds, plain_kind, started_kind, kind_of, kind_in, job_in, allocate, not_empty, asked, ask, verbs, event_by, event_of}
 use Rattle.opc_script.specs.Laws.{EventsAreSpelled}
-use Rattle.opc_script.proofs.Words.{bytes_same, bind_some, mapped, name_is, parted_is}
+use Rattle.opc_script.proofs.Words.{bytes_same, bind_some, mapped, name_is, separated_is}
 use Rattle.opc_script.proofs.Numbers.{id_is}
 
 -- a text is these words, one space between them
@@ -23,16 +23,16 @@ abbrev Flagged : List ℕ → List ℕ × Bool → Type 0
 Flagged text word = IsOf text (word.0 ∷ cancelable_words word.1)
 
 flagged_is : (text : List ℕ) (word : List ℕ × Bool) → flagged text ≡ Some word → Flagged text word
-flagged_is text word h = go (parted text) refl h
+flagged_is text word h = go (separated text) refl h
   where
-    test : (words : List ℕ × List ℕ) → parted text ≡ Some words → (b : Bool) → bytes_eq words.1 (codes "NONCANCEL") ≡ b → (if b then Some (words.0, false) else None) ≡ Some word → Flagged text word
+    test : (words : List ℕ × List ℕ) → separated text ≡ Some words → (b : Bool) → bytes_eq words.1 (codes "NONCANCEL") ≡ b → (if b then Some (words.0, false) else None) ≡ Some word → Flagged text word
     test words p true e k =
         let same : (words.0, false) ≡ word = search (rules, k) in
         let ends : words.1 ≡ codes "NONCANCEL" = bytes_same _ _ e in
-        subst (Flagged text) same (parted_is text words p ∙ ap (λ t. words.0 ++ 32 ∷ t) ends)
+        subst (Flagged text) same (separated_is text words p ∙ ap (λ t. words.0 ++ 32 ∷ t) ends)
     test words p false e k = absurd (search (rules, k))
 
-    go : (o : Option (List ℕ × List ℕ)) → parted text ≡ o → flag_of text o ≡ Some word → Flagged text word
+    go : (o : Option (List ℕ × List ℕ)) → separated text ≡ o → flag_of text o ≡ Some word → Flagged text word
     go None p k = subst (Flagged text) (let same : (text, true) ≡ word = search (rules, k) in same) refl
     go (Some words) p k = test words p (bytes_eq words.1 (codes "NONCANCEL")) refl k
 
@@ -67,19 +67,19 @@ started_is text kind h =
     (n.0, ap (λ t. codes "STC" ++ 32 ∷ t) (flagged_is text w.0 w.1 ∙ ap (λ member. columns (member ∷ cancelable_words w.0.1)) n.1))
 
 kind_is : (text : List ℕ) (kind : UnitKind × Bool) → kind_in text ≡ Some kind → Kinded text kind
-kind_is text kind h = go (parted text) refl h
+kind_is text kind h = go (separated text) refl h
   where
-    test : (words : List ℕ × List ℕ) → parted text ≡ Some words → (b : Bool) → bytes_eq words.0 (codes "STC") ≡ b → (if b then started_kind words.1 else plain_kind text) ≡ Some kind → Kinded text kind
+    test : (words : List ℕ × List ℕ) → separated text ≡ Some words → (b : Bool) → bytes_eq words.0 (codes "STC") ≡ b → (if b then started_kind words.1 else plain_kind text) ≡ Some kind → Kinded text kind
     test words p true e k =
         let s = started_is words.1 kind k in
-        (s.0, parted_is text words p ∙ ap (λ t. t ++ 32 ∷ words.1) (bytes_same _ _ e) ∙ s.1)
+        (s.0, separated_is text words p ∙ ap (λ t. t ++ 32 ∷ words.1) (bytes_same _ _ e) ∙ s.1)
     test words p false e k = plain_is text kind k
 
-    go : (o : Option (List ℕ × List ℕ)) → parted text ≡ o → kind_of text o ≡ Some kind → Kinded text kind
+    go : (o : Option (List ℕ × List ℕ)) → separated text ≡ o → kind_of text o ≡ Some kind → Kinded text kind
     go None p k = plain_is text kind k
     go (Some words) p k = test words p (bytes_eq words.0 (codes "STC")) refl k
 
--- a text behind the word of a verb
+-- a text after the word of a verb
 abbrev Behind : List ℕ → List ℕ → Event → Type 0
 Behind verb text e = IsEvent e × (verb ++ 32 ∷ text ≡ event_text e)
 
@@ -91,7 +91,7 @@ before_kind name Tsu more = refl
 job_is : (text : List ℕ) (e : Event) → job_in text ≡ Some e → Behind (codes "JOBIN") text e
 unfolding job_in
 job_is text e h =
-    let w = bind_some (parted text) _ e h in
+    let w = bind_some (separated text) _ e h in
     let n = bind_some (name_in unit_rule w.0.0) _ e w.2 in
     let k = bind_some (kind_in w.0.1) _ e n.2 in
     let name = name_is unit_rule w.0.0 n.0 n.1 in
@@ -99,13 +99,13 @@ job_is text e h =
     let same : event.JobIn n.0 k.0.0 k.0.1 ≡ e = search (rules, k.2) in
     subst (Behind (codes "JOBIN") text) same (
       (name.0, kind.0),
-      ap (λ t. codes "JOBIN" ++ 32 ∷ t) (parted_is text w.0 w.1 ∙ ap (λ t. t ++ 32 ∷ w.0.1) name.1 ∙ ap (λ t. n.0 ++ 32 ∷ t) kind.1 ∙ sym (before_kind n.0 k.0.0 (cancelable_words k.0.1))),
+      ap (λ t. codes "JOBIN" ++ 32 ∷ t) (separated_is text w.0 w.1 ∙ ap (λ t. t ++ 32 ∷ w.0.1) name.1 ∙ ap (λ t. n.0 ++ 32 ∷ t) kind.1 ∙ sym (before_kind n.0 k.0.0 (cancelable_words k.0.1))),
     )
 
 allocate_is : (text : List ℕ) (e : Event) → allocate text ≡ Some e → Behind (codes "ALLOCATE") text e
 unfolding allocate
 allocate_is text e h =
-    let w = bind_some (parted text) _ e h in
+    let w = bind_some (separated text) _ e h in
     let d = bind_some (name_in device_rule w.0.0) _ e w.2 in
     let u = bind_some (name_in unit_rule w.0.1) _ e d.2 in
     let device = name_is device_rule w.0.0 d.0 d.1 in
@@ -113,7 +113,7 @@ allocate_is text e h =
     let same : event.Allocate d.0 u.0 ≡ e = search (rules, u.2) in
     subst (Behind (codes "ALLOCATE") text) same (
       (device.0, unit.0),
-      ap (λ t. codes "ALLOCATE" ++ 32 ∷ t) (parted_is text w.0 w.1 ∙ ap (λ t. t ++ 32 ∷ w.0.1) device.1 ∙ ap (λ t. d.0 ++ 32 ∷ t) unit.1),
+      ap (λ t. codes "ALLOCATE" ++ 32 ∷ t) (separated_is text w.0 w.1 ∙ ap (λ t. t ++ 32 ∷ w.0.1) device.1 ∙ ap (λ t. d.0 ++ 32 ∷ t) unit.1),
     )
 
 told_is : (text told : List ℕ) → not_empty text ≡ Some told → (0 < length told) × (text ≡ told)
@@ -125,7 +125,7 @@ told_is (c ∷ text) told h =
 asked_is : (text : List ℕ) (parts : ℕ × List ℕ) → asked text ≡ Some parts → IsEvent (event.Ask parts.0 parts.1) × (text ≡ two_digits parts.0 ++ 32 ∷ parts.1)
 unfolding asked
 asked_is text parts h =
-    let w = bind_some (parted text) _ parts h in
+    let w = bind_some (separated text) _ parts h in
     let i = bind_some (id_in w.0.0) _ parts w.2 in
     let t = bind_some (not_empty w.0.1) _ parts i.2 in
     let id = id_is w.0.0 i.0 i.1 in
@@ -133,7 +133,7 @@ asked_is text parts h =
     let same : (i.0, t.0) ≡ parts = search (rules, t.2) in
     subst (λ q. IsEvent (event.Ask q.0 q.1) × (text ≡ two_digits q.0 ++ 32 ∷ q.1)) same (
       (id.0, told.0),
-      parted_is text w.0 w.1 ∙ ap (λ x. x ++ 32 ∷ w.0.1) id.1 ∙ ap (λ x. two_digits i.0 ++ 32 ∷ x) told.1,
+      separated_is text w.0 w.1 ∙ ap (λ x. x ++ 32 ∷ w.0.1) id.1 ∙ ap (λ x. two_digits i.0 ++ 32 ∷ x) told.1,
     )
 
 ask_is : (text : List ℕ) (e : Event) → ask text ≡ Some e → Behind (codes "ASK") text e
@@ -179,20 +179,20 @@ by_is verb text e h =
     row_is verb text (codes "FREE") e (λ text. option_map event.Free (name_in device_rule text)) [] (bytes_eq verb (codes "FREE")) refl h (free_is text e) (λ h. no_row text e h)))))
 
 pub spelled : EventsAreSpelled
-spelled text e h = go (parted text) refl h
+spelled text e h = go (separated text) refl h
   where
-    test : (words : List ℕ × List ℕ) → parted text ≡ Some words → (b : Bool) → bytes_eq words.0 (codes "ASK") ≡ b → (if b then ask words.1 else event_by words.0 words.1) ≡ Some e → IsEvent e × (text ≡ event_text e)
+    test : (words : List ℕ × List ℕ) → separated text ≡ Some words → (b : Bool) → bytes_eq words.0 (codes "ASK") ≡ b → (if b then ask words.1 else event_by words.0 words.1) ≡ Some e → IsEvent e × (text ≡ event_text e)
     test words p true eq k =
         let a = ask_is words.1 e k in
-        (a.0, parted_is text words p ∙ ap (λ t. t ++ 32 ∷ words.1) (bytes_same _ _ eq) ∙ a.1)
+        (a.0, separated_is text words p ∙ ap (λ t. t ++ 32 ∷ words.1) (bytes_same _ _ eq) ∙ a.1)
     test words p false eq k =
         let a = by_is words.0 words.1 e k in
-        (a.0, parted_is text words p ∙ a.1)
+        (a.0, separated_is text words p ∙ a.1)
 
     alone : (b : Bool) → bytes_eq text (codes "RESUME") ≡ b → (if b then Some event.Resume else None) ≡ Some e → IsEvent e × (text ≡ event_text e)
     alone true eq k = subst (λ x. IsEvent x × (text ≡ event_text x)) (let same : event.Resume ≡ e = search (rules, k) in same) (tt, bytes_same _ _ eq)
     alone false eq k = absurd (search (rules, k))
 
-    go : (o : Option (List ℕ × List ℕ)) → parted text ≡ o → event_of text o ≡ Some e → IsEvent e × (text ≡ event_text e)
+    go : (o : Option (List ℕ × List ℕ)) → separated text ≡ o → event_of text o ≡ Some e → IsEvent e × (text ≡ event_text e)
     go None p k = alone (bytes_eq text (codes "RESUME")) refl k
     go (Some words) p k = test words p (bytes_eq words.0 (codes "ASK")) refl k

@@ -1,4 +1,4 @@
--- Words parted at a space, and put together again.
+-- Words separated at a space, and put together again.
 use Rattle.std.proofs.Common.{◌≡◌, ◌<◌, ◌+◌, ◌&&◌, ℕ, suc, Bool, true, false, not, List, [], ◌∷◌, ◌++◌, Option, Some, None, length, take, drop, get_or, refl, subst, rules, arith, nat_lt, if◌then◌else◌}
 use Rattle.std.proofs.lemmas.Bool.{lt-ltb, le-ltb}
 use Rattle.std.proofs.lemmas.Bool.Decides.{nat_tests}
@@ -12,7 +12,7 @@ use Rattle.std.proofs.lemmas.List.Sums.{split_at_first, passes_at_first}
 use Rattle.opc_names.specs.declared.rule.NameRule.{NameRule}
 use Rattle.opc_names.specs.Names.{name_fault}
 use Rattle.opc_script.specs.Events.{IsName}
-use Rattle.opc_script.specs.Reading.{◌>>=◌, is_space, parted, name_in}
+use Rattle.opc_script.specs.Reading.{◌>>=◌, is_space, separated, name_in}
 
 pub bytes_same : (a b : List ℕ) → bytes_eq a b ≡ true → a ≡ b
 bytes_same a b h = search (rules, bytes_eq-Decides)
@@ -42,8 +42,8 @@ is_32 : (c : ℕ) → is_space c ≡ true → c ≡ 32
 is_32 c h = grind (arith, nat_tests)
 
 -- the two words stand round a space
-pub parted_is : (text : List ℕ) (words : List ℕ × List ℕ) → parted text ≡ Some words → text ≡ words.0 ++ 32 ∷ words.1
-parted_is text words h =
+pub separated_is : (text : List ℕ) (words : List ℕ × List ℕ) → separated text ≡ Some words → text ≡ words.0 ++ 32 ∷ words.1
+separated_is text words h =
     let c = chosen (nat_lt (position_or_len is_space text) (length text)) (λ at. (take at text, drop (at + 1) text)) (position_or_len is_space text) words h in
     let low : position_or_len is_space text < length text = grind (arith, nat_tests, c.0) in
     let at : get_or text (position_or_len is_space text) 0 ≡ 32 = is_32 _ (passes_at_first is_space text 0 low) in
@@ -54,7 +54,7 @@ parted_is text words h =
 abbrev pub IsWord : List ℕ → Type 0
 IsWord word = list_all (λ c. not (is_space c)) word ≡ true
 
--- where the first space is, if it stands behind a word, or nowhere
+-- where the first space is, if it stands after a word, or nowhere
 abbrev IsAt : List ℕ → List ℕ → Type 0
 IsAt word rest = position_or_len is_space (word ++ rest) ≡ length word
 
@@ -70,8 +70,8 @@ pub no_space : (word : List ℕ) → IsWord word → IsAt word []
 no_space [] h = refl
 no_space (c ∷ word) h = further c word [] (is_space c) refl h (no_space word)
 
-pub parted_back : (word rest : List ℕ) → IsWord word → parted (word ++ 32 ∷ rest) ≡ Some (word, rest)
-parted_back word rest h =
+pub separated_back : (word rest : List ℕ) → IsWord word → separated (word ++ 32 ∷ rest) ≡ Some (word, rest)
+separated_back word rest h =
     let at : position_or_len is_space (word ++ 32 ∷ rest) ≡ length word = first_space word rest h in
     let long : length (word ++ 32 ∷ rest) ≡ length word + suc (length rest) = length-append word (32 ∷ rest) in
     let low : nat_lt (length word) (length (word ++ 32 ∷ rest)) ≡ true = lt-ltb _ _ (omega (arith, long)) in
@@ -79,8 +79,8 @@ parted_back word rest h =
     let back : drop (length word + 1) (word ++ 32 ∷ rest) ≡ rest = drop-append-add word (32 ∷ rest) 1 in
     rw (at, low, front, back) refl
 
-pub parted_none : (word : List ℕ) → IsWord word → parted word ≡ None
-parted_none word h =
+pub separated_none : (word : List ℕ) → IsWord word → separated word ≡ None
+separated_none word h =
     let at : position_or_len is_space word ≡ length word = subst (λ t. position_or_len is_space t ≡ length word) (append-nil word) (no_space word h) in
     let high : nat_lt (length word) (length word) ≡ false = le-ltb _ _ (omega arith) in
     rw (at, high) refl

@@ -21,9 +21,9 @@ None >>= f = None
 abbrev pub is_space : ℕ → Bool
 is_space c = c == 32
 
--- the first word of a text, and what stands behind the space after it
-abbrev pub parted : List ℕ → Option (List ℕ × List ℕ)
-parted text = option_map (λ at. (take at text, drop (at + 1) text)) (position is_space text)
+-- the first word of a text, and what follows the space after it
+abbrev pub separated : List ℕ → Option (List ℕ × List ℕ)
+separated text = option_map (λ at. (take at text, drop (at + 1) text)) (position is_space text)
 
 abbrev pub name_in : NameRule → List ℕ → Option (List ℕ)
 name_in rule text = if is_none (name_fault rule text) then Some text else None
@@ -39,7 +39,7 @@ flag_of text None = Some (text, true)
 flag_of text (Some words) = if bytes_eq words.1 (codes "NONCANCEL") then Some (words.0, false) else None
 
 abbrev pub flagged : List ℕ → Option (List ℕ × Bool)
-flagged text = flag_of text (parted text)
+flagged text = flag_of text (separated text)
 
 abbrev pub kinds : List (List ℕ × UnitKind)
 kinds = (codes "JOB", Job) ∷ (codes "TSU", Tsu) ∷ []
@@ -62,18 +62,18 @@ kind_of text None = plain_kind text
 kind_of text (Some words) = if bytes_eq words.0 (codes "STC") then started_kind words.1 else plain_kind text
 
 abbrev pub kind_in : List ℕ → Option (UnitKind × Bool)
-kind_in text = kind_of text (parted text)
+kind_in text = kind_of text (separated text)
 
 unfoldable pub job_in : List ℕ → Option Event
 job_in text = do
-  words ← parted text
+  words ← separated text
   name ← name_in unit_rule words.0
   kind ← kind_in words.1
   Some (event.JobIn name kind.0 kind.1)
 
 unfoldable pub allocate : List ℕ → Option Event
 allocate text = do
-  words ← parted text
+  words ← separated text
   device ← name_in device_rule words.0
   unit ← name_in unit_rule words.1
   Some (event.Allocate device unit)
@@ -83,7 +83,7 @@ not_empty text = if length text == 0 then None else Some text
 
 unfoldable pub asked : List ℕ → Option (ℕ × List ℕ)
 asked text = do
-  words ← parted text
+  words ← separated text
   id ← id_in words.0
   told ← not_empty words.1
   Some (id, told)
@@ -110,4 +110,4 @@ event_of text (Some words) = if bytes_eq words.0 (codes "ASK") then ask words.1 
 
 -- The event that a text tells.
 abbrev pub event_in : List ℕ → Option Event
-event_in text = event_of text (parted text)
+event_in text = event_of text (separated text)

@@ -9,7 +9,7 @@ use Rattle.std.specs.Str.Parse.{digits_value}
 use Rattle.opc_names.specs.Names.{console_rule}
 use Rattle.opc_machine.specs.declared.request.Request.{Request}
 use Rattle.opc_machine.specs.declared.request.Request.TheVariants.{Command, Event}
-use Rattle.opc_script.specs.Reading.{◌>>=◌, is_space, parted, name_in, event_in}
+use Rattle.opc_script.specs.Reading.{◌>>=◌, is_space, separated, name_in, event_in}
 
 -- the most digits of a moment
 abbrev pub moment_digits : ℕ
@@ -35,9 +35,9 @@ request_of words =
 -- The parts of a line, with one space between them: the moment, and then console or `*`, and text.
 unfoldable pub parts_in : List ℕ → Option (ℕ × (List ℕ × List ℕ))
 parts_in line = do
-  words ← parted line
+  words ← separated line
   moment ← moment_in words.0
-  rest ← parted words.1
+  rest ← separated words.1
   Some (moment, rest)
 
 -- the request of a line

@@ -14,7 +14,7 @@ use Rattle.opc_machine.specs.declared.request.Answer.TheVariants.{Done, Refused}
 abbrev pub ended : List ℕ → List ℕ
 ended text = text ++ 10 ∷ []
 
--- a line of an answer stands behind two spaces
+-- a line of an answer stands after two spaces
 abbrev pub shown_line : Line → List ℕ
 shown_line line = ended (codes "  " ++ line.text)
 

@@ -1,6 +1,6 @@
 //! Events, as a script tells them.
 ghost use Rattle.std.specs.Prelude.{◌≡◌, IfOk, MatchOption, None, Some};
-ghost use Rattle.opc_script.specs.Reading.{ask, asked, allocate, event_by, event_in, flagged, id_in, job_in, kind_in, kinds, name_in, parted, plain_kind, started_kind};
+ghost use Rattle.opc_script.specs.Reading.{ask, asked, allocate, event_by, event_in, flagged, id_in, job_in, kind_in, kinds, name_in, separated, plain_kind, started_kind};
 ghost use Rattle.opc_names.specs.Spellings.{lookup};
 
 use opc_board::event::Event;
@@ -10,9 +10,9 @@ use opc_names::name::{Name, NameKind};
 use opc_names::reply_id::ReplyId;
 use std::alloc::{AllocError, Global};
 
-/// The first word of a text, and what stands behind the space after it.
-pub(crate) fn parted(text: &str) -> Option<(&str, &str)>
-    ensures { MatchOption result (parted text.now ≡ None) (λ words. parted text.now ≡ Some (words.0.now, words.1.now)) }
+/// The first word of a text, and what follows the space after it.
+pub(crate) fn separated(text: &str) -> Option<(&str, &str)>
+    ensures { MatchOption result (separated text.now ≡ None) (λ words. separated text.now ≡ Some (words.0.now, words.1.now)) }
 {
     text.split_once(' ')
 }
@@ -27,7 +27,7 @@ pub(crate) fn name_in<K: NameKind<N>, const N: usize>(text: &str) -> Option<Name
 fn flagged(text: &str) -> Option<(&str, bool)>
     ensures { MatchOption result (flagged text.now ≡ None) (λ word. flagged text.now ≡ Some (word.0.now, word.1)) }
 {
-    match parted(text) {
+    match separated(text) {
         None => Some((text, true)),
         Some((word, "NONCANCEL")) => Some((word, false)),
         Some(_) => None,
@@ -65,7 +65,7 @@ fn started_kind(text: &str) -> Option<(UnitKind, bool)>
 fn kind_in(text: &str) -> Option<(UnitKind, bool)>
     ensures { result ≡ kind_in text.now }
 {
-    match parted(text) {
+    match separated(text) {
         Some(("STC", rest)) => started_kind(rest),
         _ => plain_kind(text),
     }
@@ -75,7 +75,7 @@ fn kind_in(text: &str) -> Option<(UnitKind, bool)>
 fn job_in(text: &str) -> Option<Event>
     ensures { result ≡ job_in text.now }
 {
-    let (name, kind) = parted(text)?;
+    let (name, kind) = separated(text)?;
     let name = name_in(name)?;
     let (kind, cancelable) = kind_in(kind)?;
     Some(Event::JobIn {
@@ -89,7 +89,7 @@ fn job_in(text: &str) -> Option<Event>
 fn allocate(text: &str) -> Option<Event>
     ensures { result ≡ allocate text.now }
 {
-    let (device, unit) = parted(text)?;
+    let (device, unit) = separated(text)?;
     Some(Event::Allocate {
         device: name_in(device)?,
         unit: name_in(unit)?,
@@ -112,7 +112,7 @@ fn id_in(text: &str) -> Option<ReplyId>
 fn asked(text: &str) -> Option<(ReplyId, &str)>
     ensures { MatchOption result (asked text.now ≡ None) (λ parts. asked text.now ≡ Some (parts.0, parts.1.now)) }
 {
-    let (id, told) = parted(text)?;
+    let (id, told) = separated(text)?;
     let id = id_in(id)?;
     if told.is_empty() {
         return None;
@@ -136,7 +136,7 @@ fn ask(alloc: Global, text: &str) -> Result<Option<Event>, AllocError>
 pub(crate) fn event_in(alloc: Global, text: &str) -> Result<Option<Event>, AllocError>
     ensures { IfOk result (λ event. event ≡ event_in text.now) }
 {
-    match parted(text) {
+    match separated(text) {
         None if text == "RESUME" => Ok(Some(Event::Resume)),
         None => Ok(None),
         Some(("ASK", rest)) => ask(alloc, rest),
@@ -144,7 +144,7 @@ pub(crate) fn event_in(alloc: Global, text: &str) -> Result<Option<Event>, Alloc
     }
 }
 
-// The event of a word but ASK, with what stands behind it.
+// The event of a word but ASK, with what stands after it.
 fn told(verb: &str, rest: &str) -> Option<Event>
     ensures { result ≡ event_by verb.now rest.now }
 {

@@ -4,7 +4,7 @@ ghost use Rattle.std.specs.Char.{is_ascii_digit};
 ghost use Rattle.std.specs.List.{list_all};
 ghost use Rattle.opc_script.specs.Scripts.{is_blank, is_number, moment_in, parts_in, request_in, request_of};
 
-use crate::event::{event_in, name_in, parted};
+use crate::event::{event_in, name_in, separated};
 use opc_board::text::KeptText;
 use opc_gate::request::Request;
 use std::alloc::{AllocError, Global};
@@ -56,9 +56,9 @@ fn request_of(alloc: Global, who: &str, text: &str) -> Result<Option<Request>, A
 fn parts_in(line: &str) -> Option<(u64, &str, &str)>
     ensures { MatchOption result (parts_in line.now ≡ None) (λ parts. parts_in line.now ≡ Some (parts.0, (parts.1.now, parts.2.now))) }
 {
-    let (moment, rest) = parted(line)?;
+    let (moment, rest) = separated(line)?;
     let moment = moment_in(moment)?;
-    let (who, text) = parted(rest)?;
+    let (who, text) = separated(rest)?;
     Some((moment, who, text))
 }
 

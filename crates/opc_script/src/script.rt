@@ -67,7 +67,7 @@ fn lines_of(alloc: Global, script: &str) -> Result<Vec<&str>, AllocError>
     script.lines().collect(alloc)
 }
 
-// Reads the line with this number: its request goes behind those before it, unless it is blank.
+// Reads the line with this number: its request goes after those before it, unless it is blank.
 #[tactic(auto, using(crate::proofs::Lines::blank_asks_nothing))]
 fn read_line(
     alloc: Global,

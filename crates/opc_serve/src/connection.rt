@@ -33,6 +33,7 @@ pub struct Side<'a, C: Connection> {
 }
 
 impl<'a, C: Connection> Side<'a, C> {
+    /// One side of a connection, which nothing has passed yet.
     pub fn of(connection: &'a C) -> Self {
         Side { connection }
     }

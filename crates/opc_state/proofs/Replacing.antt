@@ -62,7 +62,7 @@ module _ {R : Type 0} (cmp : R → R → Ordering) (total : IsTotalOrder cmp) (i
       turned : cmp q k ≡ cmp q r
       turned = total.antisymm q k ∙ ap ordering_reverse (total.congr k r q (tied_back total r k (tie r k h))) ∙ sym (total.antisymm q r)
 
-  -- none of those behind is at the key
+  -- none of those after is at the key
   pub none_behind : (r k : R) (rows : List R) → is_at r k ≡ true → AllByRecursion (λ q. before r q ≡ true) rows → at k rows ≡ None
   none_behind r k [] h behind = refl
   none_behind r k (q ∷ rows) h behind = rw (apart r q k behind.0 h) (none_behind r k rows h behind.1)

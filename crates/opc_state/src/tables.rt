@@ -42,15 +42,18 @@ pub trait Tables {
     /// A crash may leave tables that represent the state.
     ghost may_leave: { Self → State → Type 0 };
 
+    /// The console of a name.
     fn console(&mut self, name: &ConsoleName) -> Result<Option<ConsoleRow>, StoreFault>
         ensures kept { IsKept is_sure represents may_leave self.old self.new }
         ensures console { Answers (is_sure self.new) (represents self.old) result (λ s row. row ≡ console_at s.board name.now) }
         ensures keyed { Answers (is_sure self.new) (represents self.old) result (λ s _. IsKeyed s) };
 
+    /// The unit of work of a name.
     fn unit(&mut self, name: &UnitName) -> Result<Option<UnitRow>, StoreFault>
         ensures kept { IsKept is_sure represents may_leave self.old self.new }
         ensures unit { Answers (is_sure self.new) (represents self.old) result (λ s row. row ≡ unit_at s.board name.now) };
 
+    /// The device of a number.
     fn device(&mut self, number: &Device) -> Result<Option<DeviceRow>, StoreFault>
         ensures kept { IsKept is_sure represents may_leave self.old self.new }
         ensures device { Answers (is_sure self.new) (represents self.old) result (λ s row. row ≡ device_at s.board number.now) };
@@ -76,27 +79,32 @@ pub trait Tables {
         ensures kept { IsKept is_sure represents may_leave self.old self.new }
         ensures consoles { Answers (is_sure self.new) (represents self.old) result (λ s rows. rows ≡ consoles_of s.board user.now) };
 
-    /// The online consoles with AUTH MASTER, in order, two at most: of two, one is another than any that is named.
+    /// The online consoles with AUTH MASTER, in order, two at most: with two, at least one is not the console that is named.
     fn masters(&mut self, alloc: Global) -> Result<Rows<ConsoleRow>, StoreFault>
         ensures kept { IsKept is_sure represents may_leave self.old self.new }
         ensures masters { Answers (is_sure self.new) (represents self.old) result (λ s rows. rows ≡ take 2 (masters s.board)) };
 
+    /// All units of work, in order.
     fn units(&mut self, alloc: Global) -> Result<Rows<UnitRow>, StoreFault>
         ensures kept { IsKept is_sure represents may_leave self.old self.new }
         ensures units { Answers (is_sure self.new) (represents self.old) result (λ s rows. rows ≡ s.board.units) };
 
+    /// All devices, in order.
     fn devices(&mut self, alloc: Global) -> Result<Rows<DeviceRow>, StoreFault>
         ensures kept { IsKept is_sure represents may_leave self.old self.new }
         ensures devices { Answers (is_sure self.new) (represents self.old) result (λ s rows. rows ≡ s.board.devices) };
 
+    /// All consoles, in order.
     fn consoles(&mut self, alloc: Global) -> Result<Rows<ConsoleRow>, StoreFault>
         ensures kept { IsKept is_sure represents may_leave self.old self.new }
         ensures consoles { Answers (is_sure self.new) (represents self.old) result (λ s rows. rows ≡ s.board.consoles) };
 
+    /// All open replies, in order.
     fn replies(&mut self, alloc: Global) -> Result<Rows<ReplyRow>, StoreFault>
         ensures kept { IsKept is_sure represents may_leave self.old self.new }
         ensures replies { Answers (is_sure self.new) (represents self.old) result (λ s rows. rows ≡ s.board.replies) };
 
+    /// The user of an id.
     fn user(&mut self, alloc: Global, id: &UserId) -> Result<Option<User>, StoreFault>
         ensures kept { IsKept is_sure represents may_leave self.old self.new }
         ensures user { Answers (is_sure self.new) (represents self.old) result (λ s user. user ≡ user_of s.policy.users id.now) };
@@ -111,6 +119,7 @@ pub trait Tables {
         ensures kept { IsKept is_sure represents may_leave self.old self.new }
         ensures groups { Answers (is_sure self.new) (represents self.old) result (λ s groups. groups.items ≡ take most (groups_of s.policy.connects user.now)) };
 
+    /// Whether a class is active.
     fn is_active(&mut self, class: Class) -> Result<bool, StoreFault>
         ensures kept { IsKept is_sure represents may_leave self.old self.new }
         ensures active { Answers (is_sure self.new) (represents self.old) result (λ s active. active ≡ is_active s.policy.active class) };

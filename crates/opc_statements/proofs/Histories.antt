@@ -49,7 +49,7 @@ module _ {X : Type 0} (k : History X) where
     pub gives : (x : X) → value_rows (params x) width (length terms / width) terms ≡ (Null ∷ k.values x) ∷ []
     pub stores : (x : X) → StoresAsIs k.table.columns (k.values x)
 
-  -- one more, behind those that are there; and where its number is one that a table can hold, there are not more rows than that
+  -- one more, after those that are there; and where its number is one that a table can hold, there are not more rows than that
   pub record Grows (old new : State) (xs : List X) (x : X) : Type 0 where
     pub spares : Spares k.schema k.table old.now.trees new.now
     pub rows : new.now.trees k.table.tree ≡ numbered_rows k.values 1 (xs ++ x ∷ [])

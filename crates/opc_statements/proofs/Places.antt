@@ -35,7 +35,7 @@ none_dropped : {X : Type 0} (n : ℕ) → (let none : List X = [] in drop n none
 none_dropped zero = refl
 none_dropped (suc n) = refl
 
--- those behind a number
+-- those after a number
 pub placed_behind : {X : Type 0} (k n : ℕ) (xs : List X) → filter (λ (p : ℕ × X). nat_lt k p.0) (placed n xs) ≡ drop (suc k - n) (placed n xs)
 placed_behind k n [] = sym (none_dropped (suc k - n))
 placed_behind {X} k n (x ∷ xs) = go (nat_lt k n) refl (placed_behind k (n + 1) xs)

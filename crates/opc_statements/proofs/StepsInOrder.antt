@@ -22,7 +22,7 @@ module _ {S : Type 0} (g : Ghosts S) where
   pub stays_for : (X Y E : Type 0) (x : X) (y : Y) (a b : Held S) → (let r : Result X E = Ok x in Stays g a b r) → (let r : Result Y E = Ok y in Stays g a b r)
   stays_for X Y E x y a b h = record { survives = h.survives; kept = h.kept; inside = h.inside }
 
-  -- one more statement, behind those that ran
+  -- one more statement, after those that ran
   ran_behind : (before : List (List ℕ)) (sql : List ℕ) (a b c : Held S) (count : ℕ) → RanAll g before a b → Ran g sql [] b c count → RanAll g (before ++ sql ∷ []) a c
   ran_behind [] sql a b c count h ran = (c, count, subst (λ (x : Held S). Ran g sql [] x c count) h ran, refl)
   ran_behind (first ∷ before) sql a b c count h ran = (h.0, h.1, h.2, ran_behind before sql h.0 b c count h.3 ran)

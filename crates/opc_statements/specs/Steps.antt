@@ -31,7 +31,7 @@ module _ {S : Type 0} (g : Ghosts S) where
   RanAll [] old new = new ≡ old
   RanAll (sql ∷ more) old new = (mid : Held S) × (count : ℕ) × Ran sql [] old mid count × RanAll more mid new
 
-  -- The first statement ran; where it found no row, the second ran behind it, with the same parameters, and else nothing did.
+  -- The first statement ran; where it found no row, the second ran after it, with the same parameters, and else nothing did.
   pub record Puts (update insert : List ℕ) (params : Row) (old new : Held S) : Type 0 where
     pub mid : Held S
     pub found : ℕ

@@ -64,7 +64,7 @@ fn tell_text(lines: &mut String, row: &Row) -> Result<(), Fail> {
     Ok(())
 }
 
-/// A line with the texts that a query gives, each with a space behind it.
+/// A line with the texts that a query gives, each with a space after it.
 fn tell_query<S: Alter>(lines: &mut String, conn: &mut Connection<S>, sql: &str) -> Result<(), Fail>
     ensures mode { conn.old.in_transaction ≡ false → conn.new.in_transaction ≡ false }
 {

@@ -31,7 +31,7 @@ const LASTING_TABLES: [&str; 13] = [
     "CREATE TABLE grp (name TEXT NOT NULL PRIMARY KEY) STRICT",
 ];
 
-/// Those of the tables that have changed since, with the one that refers to them: each after those that it refers to.
+/// The tables that differ between the versions, with the one that refers to them: each after those that it refers to.
 const LAST_TABLES: [&str; 4] = [
     "CREATE TABLE usr (id TEXT NOT NULL PRIMARY KEY, special INTEGER NOT NULL, auditor INTEGER NOT NULL, revoked INTEGER NOT NULL, digest BLOB, restricted INTEGER NOT NULL) STRICT",
     "CREATE TABLE connects (usr TEXT NOT NULL REFERENCES usr, grp TEXT NOT NULL REFERENCES grp, PRIMARY KEY (usr, grp)) STRICT",

@@ -34,7 +34,7 @@ fn a_read_that_fails_ends_it(rt: HostRuntime) -> Result<(), Fail> {
             Err(fault) => assert_eq!(rt; fault, ReadingFault::Read),
         }
     }
-    // Nothing is read behind the end of the body.
+    // Nothing is read after the end of the body.
     match asked(rt.alloc(), Narrow::new(COMMAND, Some(COMMAND.len())))? {
         Ok(line) => assert_eq!(rt; line.as_str(), "command C1 D U"),
         Err(_) => assert!(rt; false),
@@ -42,7 +42,7 @@ fn a_read_that_fails_ends_it(rt: HostRuntime) -> Result<(), Fail> {
     Ok(())
 }
 
-// How many bytes are read of a request with a body of so many spaces, and more behind it, and the fault.
+// How many bytes are read of a request with a body of so many spaces, and more after it, and the fault.
 fn taken(alloc: Global, length: usize) -> Result<(usize, Option<ReadingFault>), AllocError> {
     let mut text = format!(in alloc;
         "POST /consoles/C1/command HTTP/1.1\r\nContent-Length: {length}\r\n\r\n"

@@ -1,7 +1,7 @@
 use Rattle.std.proofs.Common.{rules, not, is_lt}
 use Rattle.std.proofs.lemmas.List.Sorted.{IsPartitionPoint-from_clause}
 use Rattle.opc_rows.proofs.Search.{parted_by_key, cut_by_key}
-use Rattle.opc_rows.proofs.rows.Rows.place_behind.Goals as goal
+use Rattle.opc_rows.proofs.rows.Rows.place_after.Goals as goal
 
 pub returns-clause-parted : goal.returns-clause-parted
 returns-clause-parted g c =

@@ -33,7 +33,7 @@ class Function:
 
 
 def without_parameters(head):
-    """The head of an impl behind its type parameters."""
+    """The head of an impl after its type parameters."""
     if not head.startswith("<"):
         return head
     depth = 0

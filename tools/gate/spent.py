@@ -5,7 +5,7 @@ TICK = os.sysconf("SC_CLK_TCK")
 
 
 class Spent:
-    """Looks each second at the provers that run below a folder. What a prover does behind the last look is not counted."""
+    """Looks each second at the provers that run below a folder. What a prover does after the last look is not counted."""
 
     def __init__(self, root):
         self.root, self.of_each, self.ended = os.path.realpath(root), {}, threading.Event()

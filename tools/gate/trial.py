@@ -27,7 +27,7 @@ class InPlace:
         return self.owner(), self.function.name
 
     def owner(self, argument=False):
-        """How the name of what it belongs to begins: the type's, behind it the trait's, and that of the trait's argument."""
+        """How the name of what it belongs to begins: the type's, after it the trait's, and that of the trait's argument."""
         head = re.match(r".*?\bimpl\b(.*)", self.function.block)
         if not head:
             return ""

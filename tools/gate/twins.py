@@ -24,7 +24,7 @@ def stem_in(texts):
 
 
 def with_twins(texts, twins):
-    """The texts of src/ with the twins, each behind its function. Notes the lines of each, counted from 1."""
+    """The texts of src/ with the twins, each after its function. Notes the lines of each, counted from 1."""
     made = {}
     for path in {it.path for it in twins}:
         lines, added = texts[path].split("\n"), 0

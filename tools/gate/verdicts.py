@@ -78,7 +78,7 @@ def must_fail(ran, changed):
         return False, "the kept work of a library could not be used"
     if ran.status == 0:
         return False, "NOT REFUSED: the crate is still proved with this edit"
-    # (rt, unlike rattle, says more behind that line)
+    # (rt, unlike rattle, says more after that line)
     if ran.status != 1 or not any(it.startswith("logic=not-proved") for it in ran.lines):
         return False, "it did not reach the prover: " + " ".join(ran.lines[:4])
     told = [it for it in ran.lines if re.match(r"(note: )?\S+:\d+:\d+:", it)]

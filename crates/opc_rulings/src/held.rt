@@ -20,7 +20,7 @@ use opc_state::tables::Tables;
 use std::alloc::Global;
 
 /// How many entries, and how many groups, are loaded at first: more than most access lists have.
-const FIRST: u32 = 12;
+const FIRST: u32 = 14;
 
 /// The level that a user holds at a console in a profile, whose access list is still in the tables. More and more of the
 /// access list and of the user's groups are loaded, until one of them is whole: it asks for what counts of the other.

@@ -1,4 +1,4 @@
-//! The gate: commands from consoles and events, each answered and accounted for by the written policy of its moment.
+//! The gate: requests of all six kinds, each answered and accounted for by the written policy of its moment.
 #![tactic(auto)]
 
 pub mod gate;

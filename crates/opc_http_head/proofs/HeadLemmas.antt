@@ -12,7 +12,7 @@ use Rattle.opc_http_link.specs.Reads.{ReadsMore}
 use Rattle.opc_http_link.proofs.Reading.{consumes-more}
 use Rattle.opc_http_head.specs.Head.{FoundHead, NoHead}
 
--- what was read stands at the front of the first 8,192 bytes
+-- what was read stands at the start of the first 8,192 bytes
 front : (all buf left : List ℕ) → all ≡ buf ++ left → length buf ≤ 8192 → take 8192 all ≡ buf ++ take (8192 - length buf) left
 front all buf left e fits =
     let whole : 8192 ≡ length buf + (8192 - length buf) = omega arith in

@@ -42,7 +42,7 @@ pub fn with(alloc: Global, words: &str) -> Result<String> {
 
 fn longer(resource: &Resource, kind: &str, name: &str) -> Result<Resource> {
     if resource.text().len() > LONGEST_FRONT {
-        return Err(anyhow!("no room behind {resource}"));
+        return Err(anyhow!("no room after {resource}"));
     }
     match kind {
         "unit" => Ok(resource.with(&UnitName::read(name)?)),

@@ -55,7 +55,7 @@ no_count p h (x ∷ xs) = rw (h x) (no_count p h xs)
 pub count_none : {X : Type 0} (p : X → Bool) → ((x : X) → p x ≡ false) → (xs : List X) → count_by p xs ≡ 0
 count_none p h xs = sym (counts p xs) ∙ no_count p h xs
 
--- a text is a front of a name
+-- a text is a prefix of a name
 pub front_is : (h name : List ℕ) → starts_with nat_eq name h ≡ true → h ≡ take (length h) name
 front_is h name e = (bytes_eq-Decides h (take (length h) name)).0 e
 

@@ -257,7 +257,7 @@ profile_defined old new count s x valid was h some =
     let there = profile_there old new count s x was.rows was.ordered.profiles h some in
     record { ordered = definition_kept s was.ordered x valid there.0 there.1; rows = profile_set old new count s x was.rows was.ordered.profiles h some }
 
--- a profile that was not there, and its access list, in front of all others
+-- a profile that was not there, and its access list, before all others
 pub profile_comes : (db : Database) (s : State) (x : Profile) → KeysDiffer → IsPattern x.pattern → AllByRecursion (λ (p : Profile). IsPattern p.pattern) s.policy.profiles → Rises profile_cmp s.policy.profiles → profile_of s.policy.profiles x.class x.pattern ≡ None
     → IsMade (record (contents_of s) { profiles = profile_row x ∷ map profile_row s.policy.profiles; entries = entry_rows x ++ flat_map entry_rows s.policy.profiles }) db → Tabulates db (with_profiles (with_definition x s.policy.profiles) s)
 profile_comes db s x differ valid patterns up absent was =
@@ -272,7 +272,7 @@ profile_comes db s x differ valid patterns up absent was =
     let defined : with_definition x ps ≡ with_profile x ps = ap (λ (o : Option Profile). with_profile (record x { entries = option_map_or (λ (q : Profile). q.entries) o x.entries }) ps) absent in
     subst (λ (l : List Profile). Tabulates db (with_profiles l s)) (sym defined) two
 
--- one more entry, in front of all others
+-- one more entry, before all others
 pub entry_row_added : (old new : SqlState) (count : ℕ) (c : Contents) → IsMade c old.now → (class : Class) (pattern : List ℕ) (e : Entry) → Executes insert_entry (entry_row class pattern e) old new (Ok count)
     → IsMade (record c { entries = entry_row class pattern e ∷ c.entries }) new.now
 entry_row_added old new count c was class pattern e h =

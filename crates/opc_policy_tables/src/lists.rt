@@ -48,7 +48,7 @@ fn first_of(rows: &[Row], pattern: &str) -> usize
     rows.partition_point(|row| is_before(row, pattern))
 }
 
-// How many rows of a pattern stand in front.
+// How many rows of a pattern come first.
 fn count_of(rows: &[Row], pattern: &str) -> usize
     ensures bound { result ≤ length rows.now }
     ensures count { result ≡ length (take_while (is_of pattern.now) rows.now) }

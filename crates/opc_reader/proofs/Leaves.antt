@@ -1,4 +1,4 @@
--- Words, names and numbers at the front of a stretch.
+-- Words, names and numbers at the start of a stretch.
 use Rattle.std.proofs.Common.{◌≡◌, ℕ, ◌+◌, ◌≤◌, ◌<◌, ◌==◌, Bool, true, false, not, cond, nat_lt, List, [], ◌∷◌, ◌++◌, length, take, drop, Option, Some, None, refl, sym, ap, ◌∙◌, subst, arith, rules, suc}
 use Rattle.std.specs.Option.{option_map, option_or, is_none}
 use Rattle.std.specs.List.{prefix_len, position, position_or_len}

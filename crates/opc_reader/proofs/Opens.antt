@@ -68,7 +68,7 @@ closed_behind p a b n text s none run e (a', b', e', comma, rest) =
     let behind_it : drop (length a + 1) s.text ≡ b' = ap (drop (length a + 1)) (whole ∙ sym (append_assoc a (44 ∷ []) b')) ∙ ap (λ n. drop n ((a ++ 44 ∷ []) ++ b')) (sym (length-append a (44 ∷ []))) ∙ drop-append_seam (a ++ 44 ∷ []) b' in
     rw (place, behind_it, text_closed text _ (over_last (AnyText text) _ rest)) refl
 
--- a quoted text at the front is closed
+-- a quoted text at the start is closed
 closed_front : (t : Text) (s r : Stretch) → quoted_front s ≡ Some (t, r) → is_open s.text ≡ false
 unfolding quoted_front
 closed_front t s r h = let found = map_some (λ n. (record { typed = front n s }, behind n s)) (quoted_len s.text) (t, r) h in counted s.text found.0 found.1 where

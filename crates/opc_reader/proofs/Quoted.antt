@@ -121,7 +121,7 @@ pub said : {S E : Type 0} (bytes_of : S → List ℕ) (r : Result S E) (t b : Li
 said bytes_of (Ok v) t b e h = says t (bytes_of v) (h ∙ ap text_value e)
 said bytes_of (Err x) t b e h = tt
 
--- a quoted text at the front, with other text after it, ends at one place
+-- a quoted text at the start, with other text after it, ends at one place
 pub quote_front : (text rest : List ℕ) → opens_quote rest ≡ false → closing_len (doubled text ++ 39 ∷ rest) ≡ Some (length (doubled text) + 1)
 quote_front [] [] h = refl
 quote_front [] (d ∷ rest) h = rw h refl

@@ -20,7 +20,7 @@ OpensQuote (c ∷ text) = c ≡ 39
 abbrev pub IsQuoted : List ℕ → Type 0
 IsQuoted typed = (text : List ℕ) × (typed ≡ quoted text)
 
--- Behind an apostrophe: how many characters the quoted text has up to the one that closes it, which is
+-- After an apostrophe: how many characters the quoted text has up to the one that closes it, which is
 -- the first that isn't one of a pair
 abbrev pub closing_len : List ℕ → Option ℕ
 closing_len [] = None

@@ -9,7 +9,7 @@ use std::alloc::{AllocError, Global};
 
 const APOSTROPHE: u8 = b'\'';
 
-/// Behind an apostrophe: how many bytes the quoted text still has, the apostrophe that closes it included.
+/// After an apostrophe: how many bytes the quoted text still has, the apostrophe that closes it included.
 fn closing_len(bytes: &[u8]) -> Option<usize>
     ensures value { result ≡ closing_len bytes.now }
     ensures within { IfSome result (λ n. n ≤ length bytes.now) }

@@ -108,7 +108,7 @@ module _ {K R : Type 0} (cmp : K → K → Ordering) (total : IsTotalOrder cmp) 
         | false ↦ λ above. ties _ key ∙ ap is_eq (cut.1 k d (grind (arith, nat_tests, above)) lt)
       ] refl)
 
-  -- the rows that a key isn't less than stand in front
+  -- the rows that a key isn't less than come first
   pub parted_by_key : (xs : List R) (key : K) → IsInKeyOrder cmp key_of xs → IsPartitionedBy (λ row. not (is_lt (cmp key (key_of row)))) xs
   parted_by_key xs key order i j d le within passes =
       elim (is_lt (cmp key (key_of (get_or xs i d)))) as (λ b. is_lt (cmp key (key_of (get_or xs i d))) ≡ b → not b ≡ true) [

@@ -164,8 +164,8 @@ fn sum(rows: u64, read: u64) -> Result<u64, StoreFault>
     }
 }
 
-/// The profile of a class that decides a resource, but for its access list: the tables are asked for the prefixes of the name as heads, from the
-/// whole name down to the empty one, and no more once a profile covers.
+/// The profile of a class that decides a resource, but for its access list: the tables are asked for the prefixes of
+/// the name as heads, from the whole name down to the empty one, and no more once a profile covers.
 pub fn deciding_on<S: Alter>(
     alloc: Global,
     conn: &mut Connection<S>,

@@ -36,7 +36,13 @@ def is_policy_of_operations(file):
     return taken <= wide and set(exported(file)[1:]) == (wide - taken) | given
 
 
+def alters(step):
+    """Whether it is an operation or an import that is done."""
+    return re.search("/(admin|import)", step.path) is not None and step.wanted.startswith(b"HTTP/1.1 200 ")
+
+
 def rows(tally, room, base):
+    unaltered = exported(shutil.copy(base, f"{room}/unaltered"))
     for by, ask in CLIENTS.items():
         for title, (steps, account) in worked.ROWS.items():
             file, began = f"{room}/rows", int(time.time())
@@ -49,3 +55,5 @@ def rows(tally, room, base):
             tally.wants(f"{title}: the moments", all(began <= moment <= time.time() for moment in stored.moments(file)))
             if title.startswith(worked.OPERATIONS):
                 tally.wants(f"{title}: the policy", is_policy_of_operations(file), exported(file))
+            if not any(map(alters, steps)):
+                tally.equal(f"{title}: the policy and the consoles, as before", exported(file), unaltered)

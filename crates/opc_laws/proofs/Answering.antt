@@ -28,10 +28,11 @@ use Rattle.opc_machine.specs.Rulings.{acting, logon_denial, logon_ruling, shown}
 use Rattle.opc_laws.specs.Laws.{BoardFaultsAreAnswered, DenialsAreAnswered, IsDeniedBy, IsHeard, IsKeptOff, IsNamedBy, IsRuledOut, IsShutOut}
 use Rattle.opc_laws.proofs.Acting.{console_back}
 use Rattle.opc_laws.proofs.Denying.{IsLogonRule, logon_rule}
+use Rattle.opc_laws.proofs.Knowing.{known_back}
 use Rattle.opc_laws.proofs.Naming.{IsProper, logon_proper, ruling_proper}
 
 -- what comes of a line that is heard is what comes of its command
-heard_so : (s : State) (name text : List ℕ) (c : ConsoleRow) (k : Command) → IsHeard s name text c k → command_outcome s name text ≡ typed s c k (need_of s.board k)
+pub heard_so : (s : State) (name text : List ℕ) (c : ConsoleRow) (k : Command) → IsHeard s name text c k → command_outcome s name text ≡ typed s c k (need_of s.board k)
 heard_so s name text c k heard =
     ap (λ x. x >>= λ d. command_in text >>= λ l. typed s d l (need_of s.board l)) (console_back (console_at s.board name) c heard.there heard.online)
     ∙ ap (λ x. command_or x >>= λ l. typed s c l (need_of s.board l)) (reads_so text k heard.reads)
@@ -57,7 +58,7 @@ module _ (s : State) (name text : List ℕ) (why : Rule) where
     named = subst (IsProper logon_fault) off.denied (logon_proper s off.console off.user);
     comes = heard_so s name text off.console (command.Logon off.id off.password) off.heard
         ∙ ap (λ x. nobody_on x >>= λ _. found fault.BadLogon (known_by s off.id.value off.password.value) >>= λ user. let_on (logon_ruling s off.console user) >>= λ w. does (record s { board = logged_on off.console.name off.id.value s.board }) [] (Some w)) off.nobody
-        ∙ ap (λ x. found fault.BadLogon x >>= λ user. let_on (logon_ruling s off.console user) >>= λ w. does (record s { board = logged_on off.console.name off.id.value s.board }) [] (Some w)) off.known
+        ∙ ap (λ x. found fault.BadLogon x >>= λ user. let_on (logon_ruling s off.console user) >>= λ w. does (record s { board = logged_on off.console.name off.id.value s.board }) [] (Some w)) (known_back s off.id.value off.password.value off.user off.known)
         ∙ ap (λ x. let_on x >>= λ w. does (record s { board = logged_on off.console.name off.id.value s.board }) [] (Some w)) off.denied;
   }
 

@@ -142,6 +142,24 @@ owner_deletes_none_of_the_other_class = refl
 owner_alters_no_user : refused_to (codes "C5") (operation.AltUser (codes "CARL") true false false None false) ≡ plainly fault.NotSpecial
 owner_alters_no_user = refl
 
+owner_adds_no_user : refused_to (codes "C5") (operation.AddUser (codes "BERT") false false None false) ≡ plainly fault.NotSpecial
+owner_adds_no_user = refl
+
+owner_deletes_no_user : refused_to (codes "C5") (operation.DelUser (codes "GUS")) ≡ plainly fault.NotSpecial
+owner_deletes_no_user = refl
+
+owner_adds_no_group : refused_to (codes "C5") (operation.AddGroup (codes "DAY")) ≡ plainly fault.NotSpecial
+owner_adds_no_group = refl
+
+owner_connects_nobody : refused_to (codes "C5") (operation.Connect (codes "CARL") (codes "OPS")) ≡ plainly fault.NotSpecial
+owner_connects_nobody = refl
+
+owner_removes_nobody : refused_to (codes "C5") (operation.Remove (codes "DORA") (codes "OPS")) ≡ plainly fault.NotSpecial
+owner_removes_nobody = refl
+
+owner_defines_no_console : refused_to (codes "C5") (operation.DefineConsole (codes "C5") auth.Master Optional) ≡ plainly fault.NotSpecial
+owner_defines_no_console = refl
+
 owner_activates_nothing : refused_to (codes "C5") (operation.ClassActive Opercmds false) ≡ plainly fault.NotSpecial
 owner_activates_nothing = refl
 

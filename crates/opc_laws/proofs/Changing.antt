@@ -54,7 +54,7 @@ asking_is s name c h =
     let asks : MayAsk s name a.0 = record { there = at.0; online = at.1; logon = unless_denied_ok (logon_denial s a.0) u.0 u.1 } in
     subst (MayAsk s name) (ok_is a.0 c u.2) asks
 
-asking_back : (s : State) (name : List ℕ) (c : ConsoleRow) → MayAsk s name c → console_asking s name ≡ Ok c
+pub asking_back : (s : State) (name : List ℕ) (c : ConsoleRow) → MayAsk s name c → console_asking s name ≡ Ok c
 asking_back s name c asks =
     ap (λ x. x >>= λ d. unless_denied (logon_denial s d) >>= λ _. Ok d) (console_back (console_at s.board name) c asks.there asks.online)
     ∙ ap (λ o. unless_denied o >>= λ _. Ok c) asks.logon
@@ -99,6 +99,7 @@ administers_wherever s moment name o c next answer new asks may makes_it (inr (i
 -- what is listed of the profiles of a class
 listed : (s : State) (c : ConsoleRow) (class : Class) (new : State) → new ≡ s → ListsProfiles s c class (map profile_line (filter (profile_shown s c) (of_class class s.policy.profiles))) new
 listed s c class new same = record {
+  each_once = refl;
   exactly = λ line. (
     λ h.
         let found = made_of profile_line (filter (profile_shown s c) (of_class class s.policy.profiles)) line h in
@@ -201,7 +202,7 @@ imports_only s moment name number all lines why new (inr (inr done)) =
     (a.0, asking_is s name a.0 a.1, is_on (is_special (acting s a.0)) (refuse_if_ok _ _ _ _ u.1), batch_is s number all lines new (batch_of s.batches number) refl d.0 u.2 d.2 ends)
 
 -- where SPECIAL imports, it comes to what comes of the batch
-import_right : (s : State) (name : List ℕ) (number : ℕ) (all : List Row) (c : ConsoleRow) → MayAsk s name c → is_special (acting s c) ≡ true → import_outcome s name number all ≡ batch_outcome s number all (batch_of s.batches number)
+pub import_right : (s : State) (name : List ℕ) (number : ℕ) (all : List Row) (c : ConsoleRow) → MayAsk s name c → is_special (acting s c) ≡ true → import_outcome s name number all ≡ batch_outcome s number all (batch_of s.batches number)
 import_right s name number all c asks may =
     ap (λ x. x >>= λ d. refuse_if NotSpecial None (not (is_special (acting s d))) >>= λ _. batch_outcome s number all (batch_of s.batches number)) (asking_back s name c asks)
     ∙ ap (λ b. refuse_if NotSpecial None (not b) >>= λ _. batch_outcome s number all (batch_of s.batches number)) may

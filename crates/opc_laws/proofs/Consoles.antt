@@ -1,9 +1,9 @@
 -- For whom consoles act.
-use Rattle.std.proofs.Common.{◌≡◌, ℕ, false, ◌&&◌, ◌||◌, if◌then◌else◌, List, Option, Some, None, codes, refl, sym, ap, ◌∙◌}
+use Rattle.std.proofs.Common.{◌≡◌, inl, inr, ℕ, false, ◌&&◌, ◌||◌, if◌then◌else◌, List, Option, Some, None, codes, refl, sym, ap, ◌∙◌}
 use Rattle.std.specs.Option.{is_none, option_and_then, option_or}
 use Rattle.std.proofs.lemmas.Bool.{and_right}
 use Rattle.opc_policy.specs.declared.mode.Mode.{Mode}
-use Rattle.opc_policy.specs.declared.mode.Mode.TheVariants.{Optional, Auto}
+use Rattle.opc_policy.specs.declared.mode.Mode.TheVariants.{Optional, Auto, Required}
 use Rattle.opc_policy.specs.declared.need.Need.{Need}
 use Rattle.opc_policy.specs.declared.rule.Rule.{Rule}
 use Rattle.opc_policy.specs.declared.rule.Rule.TheVariants as rule
@@ -18,7 +18,7 @@ use Rattle.opc_machine.specs.declared.operation.Operation.{Operation}
 use Rattle.opc_machine.specs.declared.operation.Operation.TheVariants as operation
 use Rattle.opc_machine.specs.Rights.{holds_read, is_owner, is_special, owns_changed, sees_all}
 use Rattle.opc_machine.specs.Rulings.{access_ruling, acting, acting_user, denied_or, is_allowed, is_auto, is_required, is_revoked, logon_denial, need_to_show, own_user, passes, ruling}
-use Rattle.opc_laws.specs.ActingLaws.{ActsAlone, ActsAs, AutoConsolesActForTheirOwn, IsAccountedTo, OptionalConsolesActAlone, OtherAutoConsolesActAlone, WhoIsOnComesFirst}
+use Rattle.opc_laws.specs.ActingLaws.{ActsAlone, ActsAs, ActsFor, AutoConsolesActForTheirOwn, IsAccountedTo, OptionalConsolesActAlone, OtherAutoConsolesActAlone, OthersAreAccountedToNobody, RequiredConsolesActForNobody, WhoIsOnComesFirst}
 
 -- whether the user who acts is revoked, where nobody has to be on
 abbrev revoked_only : Option User → Option Rule
@@ -58,7 +58,11 @@ accounted_to : (s : State) (c : ConsoleRow) (user : Option (List ℕ)) → actin
 accounted_to s c user is = λ moment r name code why names at. ap (text_or (codes "-"))
     (ap (λ o. option_and_then (acting_user s) (option_and_then (console_at s.board) o)) names ∙ ap (option_and_then (acting_user s)) at ∙ is)
 
-nobody_owns : (s : State) (o : Operation) → owns_changed s.policy None o ≡ false
+acts_for : (s : State) (c : ConsoleRow) (user : Option (List ℕ)) → acting_user s c ≡ user → ActsFor s c user
+acts_for s c None is = record { acts = ap (option_and_then (user_of s.policy.users)) is; told = accounted_to s c None is }
+acts_for s c (Some id) is = record { acts = ap (option_and_then (user_of s.policy.users)) is; told = accounted_to s c (Some id) is }
+
+pub nobody_owns : (s : State) (o : Operation) → owns_changed s.policy None o ≡ false
 nobody_owns s (operation.RAlter class pattern owner uacc warning) = refl
 nobody_owns s (operation.RDelete class pattern) = refl
 nobody_owns s (operation.Permit class pattern id level when) = refl
@@ -75,7 +79,7 @@ acts_alone s c here is =
       rights = λ o. ap (λ u. is_special u || owns_changed s.policy u o) who ∙ nobody_owns s o;
       profiles = λ p. ap (λ u. sees_all u || is_owner u (Some p) || holds_read s c u p) who;
       account = ap sees_all who;
-      nobody = accounted_to s c None is;
+      nobody = acts_for s c None is;
     }
 
 -- an AUTO console where nobody is on
@@ -89,7 +93,7 @@ module _ (s : State) (c : ConsoleRow) (auto : c.mode ≡ Auto) (nobody : c.user 
 pub for_their_own : AutoConsolesActForTheirOwn
 for_their_own s c auto nobody stored =
     let is : acting_user s c ≡ Some c.name = acting_is s c auto nobody ∙ ap (λ b. if b then Some c.name else None) stored in
-    (acts_as s c c.mode (Some c.name) (not_required s c auto nobody) (and_right (is_required c.mode) false refl) (ap (option_and_then (user_of s.policy.users)) is), accounted_to s c (Some c.name) is)
+    (acts_for s c (Some c.name) is, acts_as s c c.mode (Some c.name) (not_required s c auto nobody) (and_right (is_required c.mode) false refl) (ap (option_and_then (user_of s.policy.users)) is))
 
 pub for_nobody : OtherAutoConsolesActAlone
 for_nobody s c auto nobody none = acts_alone s c (not_required s c auto nobody) (acting_is s c auto nobody ∙ ap (λ b. if b then Some c.name else None) none)
@@ -104,4 +108,13 @@ who_is_on_first s c user on =
     let on_there : acting_user s (record c { mode = Optional }) ≡ Some user = ap (λ o. option_or o (own_user s (record c { mode = Optional }))) on in
     let is : acting_user s c ≡ Some user = ap (λ o. option_or o (own_user s c)) on in
     let here : (is_required c.mode && is_none c.user) ≡ false = and_right (is_required c.mode) (is_none c.user) (ap is_none on) in
-    (acts_as s c Optional c.user here refl (ap (option_and_then (user_of s.policy.users)) (is ∙ sym on_there)), accounted_to s c (Some user) is)
+    (acts_for s c (Some user) is, acts_as s c Optional c.user here refl (ap (option_and_then (user_of s.policy.users)) (is ∙ sym on_there)))
+
+pub required_for_nobody : RequiredConsolesActForNobody
+required_for_nobody s c required nobody =
+    acts_for s c None (ap (λ o. option_or o (own_user s c)) nobody ∙ ap (λ m. if is_auto m && has_user s.policy c.name then Some c.name else None) required)
+
+pub others_to_nobody : OthersAreAccountedToNobody
+others_to_nobody s moment r code why (inl none) = ap (λ o. text_or (codes "-") (option_and_then (acting_user s) (option_and_then (console_at s.board) o))) none
+others_to_nobody s moment r code why (inr h) =
+    ap (λ o. text_or (codes "-") (option_and_then (acting_user s) (option_and_then (console_at s.board) o))) h.1 ∙ ap (λ o. text_or (codes "-") (option_and_then (acting_user s) o)) h.2

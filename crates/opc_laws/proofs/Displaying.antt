@@ -1,5 +1,5 @@
 -- What displays list.
-use Rattle.std.proofs.Common.{◌≡◌, ℕ, zero, suc, arith, true, List, Option, Some, None, map, refl, rules, sym, ap, subst, ◌∙◌, codes}
+use Rattle.std.proofs.Common.{◌≡◌, ℕ, zero, suc, arith, true, List, Option, Some, None, filter, map, refl, rules, sym, ap, subst, ◌∙◌, codes}
 use Rattle.std.specs.List.{Contains}
 use Rattle.opc_names.specs.declared.group.Group.TheVariants.{Info}
 use Rattle.opc_names.specs.declared.level.Level.TheVariants.{Read}
@@ -18,7 +18,7 @@ use Rattle.opc_board.specs.Facts.{unit_at}
 use Rattle.opc_board.specs.Texts.{console_line, lines_of, unit_line}
 use Rattle.opc_state.specs.State.{State}
 use Rattle.opc_machine.specs.Rulings.{is_allowed, need_to_show, passes, ruling, shown}
-use Rattle.opc_laws.specs.DisplayLaws.{LinesAreAboutWhatTheyList, ListsEveryConsole, ListsEveryUnit, ListsTheUnit, MayBeShown}
+use Rattle.opc_laws.specs.DisplayLaws.{LinesAreAboutWhatTheyList, ListsEachConsoleOnce, ListsEachUnitOnce, ListsEveryConsole, ListsEveryUnit, ListsTheUnit, ListsTheUnitOnce, MayBeShown}
 use Rattle.opc_laws.proofs.Acting.{lists_exactly}
 use Rattle.opc_laws.proofs.Changing.{made_of, makes}
 
@@ -108,3 +108,21 @@ the_unit s c name why lines rule new acts line =
             ap (shown s c) h.1 ∙ is_shown s c (codes "MVS.DISPLAY.JOB") h.0.name h.3,
           ),
     )
+
+pub each_unit_once : ListsEachUnitOnce
+each_unit_once s c why lines rule new acts =
+    let told : lines ≡ filter (shown s c) acts.act.lines = search (rules, acts.answered) in
+    let made : acts.act.lines ≡ map unit_line s.board.units = search (rules, acts.makes) in
+    told ∙ ap (filter (shown s c)) made
+
+pub each_console_once : ListsEachConsoleOnce
+each_console_once s c why lines rule new acts =
+    let told : lines ≡ filter (shown s c) acts.act.lines = search (rules, acts.answered) in
+    let made : acts.act.lines ≡ map console_line s.board.consoles = search (rules, acts.makes) in
+    told ∙ ap (filter (shown s c)) made
+
+pub the_unit_once : ListsTheUnitOnce
+the_unit_once s c name why lines rule new acts =
+    let told : lines ≡ filter (shown s c) acts.act.lines = search (rules, acts.answered) in
+    let made : acts.act.lines ≡ lines_of (unit_at s.board name.value) = search (rules, acts.makes) in
+    told ∙ ap (filter (shown s c)) made

@@ -10,7 +10,8 @@ use Rattle.opc_machine.specs.declared.request.Answer.{Answer}
 use Rattle.opc_machine.specs.Commands.{command_in, command_outcome, console_for, need_of, typed}
 use Rattle.opc_machine.specs.Outcome.{◌>>=◌}
 use Rattle.opc_machine.proofs.Inversion.{bind_ok, command_is, console_is, done_is, not_given_up}
-use Rattle.opc_laws.specs.Laws.{IsSession, OnlyWhatIsHeardIsDone, RequestsAreJudgedInTurn}
+use Rattle.opc_laws.specs.Laws.{GivenUpForWantOfMemoryOrStore, IsSession, NothingAskedChangesNothing, OnlyWhatIsHeardIsDone, RequestsAreJudgedInTurn}
+use Rattle.opc_laws.specs.NeedLaws.{NeedsAreOfTheTable}
 
 -- each command but LOGON and LOGOFF needs something
 needs_something : (b : BoardRows) (k : Command) → IsSession k ⊎ ((need : Need) × (need_of b k ≡ Some need))
@@ -71,3 +72,41 @@ in_turn s (b ∷ before) r later (answer ∷ answers) new runs =
       step = more.step;
       rest = more.rest;
     }
+
+pub of_the_table : NeedsAreOfTheTable
+of_the_table b command.DisplayUnits = λ kind. refl
+of_the_table b (command.DisplayUnit name) = λ kind. refl
+of_the_table b command.DisplayDevices = λ kind. refl
+of_the_table b command.DisplayConsoles = λ kind. refl
+of_the_table b command.DisplayReplies = λ kind. refl
+of_the_table b (command.Cancel name) = refl
+of_the_table b (command.CancelUser user) = λ kind. refl
+of_the_table b (command.Force name) = refl
+of_the_table b (command.Start member) = λ kind. refl
+of_the_table b (command.StartAs member id) = λ kind. refl
+of_the_table b (command.Stop name) = refl
+of_the_table b (command.Modify name text) = refl
+of_the_table b (command.Reply id text) = λ kind. refl
+of_the_table b (command.VaryDeviceOnline device) = λ kind. refl
+of_the_table b (command.VaryDeviceOffline device) = λ kind. refl
+of_the_table b (command.Mount device volume) = λ kind. refl
+of_the_table b (command.Unload device) = λ kind. refl
+of_the_table b (command.Swap from to) = λ kind. refl
+of_the_table b (command.VaryConsoleOnline console) = λ kind. refl
+of_the_table b (command.VaryConsoleOffline console) = λ kind. refl
+of_the_table b (command.VaryConsoleAuth console auth) = λ kind. refl
+of_the_table b (command.ResetConsole console) = λ kind. refl
+of_the_table b (command.Send text user) = λ kind. refl
+of_the_table b (command.Log text) = λ kind. refl
+of_the_table b command.Monitor = λ kind. refl
+of_the_table b command.StopMonitor = λ kind. refl
+of_the_table b command.Halt = λ kind. refl
+of_the_table b (command.Logon user password) = λ kind. refl
+of_the_table b command.Logoff = λ kind. refl
+
+pub nothing_asked : NothingAskedChangesNothing
+nothing_asked s [] new runs = (refl, runs)
+nothing_asked s (answer ∷ answers) new runs = absurd runs
+
+pub gives_up_for : GivenUpForWantOfMemoryOrStore
+gives_up_for answer gives_up = gives_up

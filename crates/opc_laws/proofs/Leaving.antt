@@ -38,7 +38,7 @@ use Rattle.opc_machine.specs.Outcome.{Denial, Outcome, ◌>>=◌, does, found, o
 use Rattle.opc_machine.specs.Rights.{account_shown, console_asking, is_special, may_change, profile_shown, right_fault}
 use Rattle.opc_machine.specs.Rulings.{acting, logon_ruling, ruling, shown}
 use Rattle.opc_machine.proofs.Inversion.{bind_ok, acted_ok, done_is, not_given_up}
-use Rattle.opc_laws.specs.LeavingLaws.{AccountRowsTell, AreBatchesLeft, EventFaultsAreAnswered, EventsHappenWhereverPossible, EventsOnlyDoTheirEffect, IsBatchKept, IsWarned, LeavesRest, WhatIsDoneLeavesRest}
+use Rattle.opc_laws.specs.LeavingLaws.{AccountRowsTell, AreBatchesLeft, EventFaultsAreAnswered, EventsHappenWhereverPossible, EventsOnlyDoTheirEffect, IsBatchKept, IsWarned, LeavesRest, RequestsNameTheirConsole, WhatIsDoneLeavesRest}
 
 -- where something is done, its state is of this kind
 abbrev pub IfDoes : (State → Type 0) → Outcome → Type 0
@@ -198,6 +198,14 @@ leaves_rest s moment r lines why new (inr (inr done)) =
     let left : IsLeftBy s r d.0.state = subst (IfDoes (IsLeftBy s r)) d.1 (outcome_left s r) in
     let ends : new ≡ after s moment r (Ok d.0) = done.becomes ∙ ap (after s moment r) d.1 in
     subst (LeavesRest s moment r why) (sym ends) (subst (λ w. LeavesRest s moment r w (after s moment r (Ok d.0))) (sym d.3) (row_added s moment r d.0.state d.0.rule left (is_warned d.0.rule) refl))
+
+pub console_named : RequestsNameTheirConsole
+console_named (input.Command name text) = refl
+console_named (input.Admin name o) = refl
+console_named (input.ListProfiles name class) = refl
+console_named (input.ListAccount name from count) = refl
+console_named (input.Import name number rows) = refl
+console_named (input.Event e) = refl
 
 pub rows_tell : AccountRowsTell
 rows_tell s moment r code why = record { moment = refl; console = refl; code = refl; rule = refl }

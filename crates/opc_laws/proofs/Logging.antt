@@ -20,6 +20,7 @@ use Rattle.opc_machine.specs.Machine.{answer_of, after, accounted, account_row, 
 use Rattle.opc_laws.specs.Laws.{LogsOnOnlyWhereAllowed, LogsOnWhereverAllowed, LogsOffOnlyWhereSomebodyIsOn, LogsOffWhereverSomebodyIsOn}
 use Rattle.opc_machine.proofs.Inversion.{bind_ok, found_ok, refuse_if_ok, done_is, not_given_up, console_is}
 use Rattle.opc_laws.proofs.Acting.{either, console_back}
+use Rattle.opc_laws.proofs.Knowing.{known_back, known_is}
 
 pub nobody_ok : (o : Option (List ℕ)) (u : Unit {0}) → nobody_on o ≡ Ok u → o ≡ None
 nobody_ok None u h = refl
@@ -60,7 +61,7 @@ on_only_where s moment name text id password lines why new it_reads (inr (inr do
       record {
         heard = record { there = at.0; online = at.1; reads = it_reads };
         nobody = nobody_ok console.user n.0 n.1;
-        known = found_ok _ _ _ u.1;
+        known = known_is s id.value password.value u.0 (found_ok _ _ _ u.1);
         allowed = let_on_ok _ _ r.1;
       },
       record {
@@ -84,7 +85,7 @@ on_wherever s moment name text console id password user why answer new lets (inr
     let of_nobody : logon s console id.value password.value ≡ (found fault.BadLogon (known_by s id.value password.value) >>= λ user. let_on (logon_ruling s console user) >>= λ rule. does (record s { board = logged_on console.name id.value s.board }) [] (Some rule)) =
     ap (λ x. nobody_on x >>= λ _. found fault.BadLogon (known_by s id.value password.value) >>= λ user. let_on (logon_ruling s console user) >>= λ rule. does (record s { board = logged_on console.name id.value s.board }) [] (Some rule)) lets.nobody in
     let of_user : (found fault.BadLogon (known_by s id.value password.value) >>= λ user. let_on (logon_ruling s console user) >>= λ rule. does (record s { board = logged_on console.name id.value s.board }) [] (Some rule)) ≡ (let_on (logon_ruling s console user) >>= λ rule. does (record s { board = logged_on console.name id.value s.board }) [] (Some rule)) =
-    ap (λ x. found fault.BadLogon x >>= λ user. let_on (logon_ruling s console user) >>= λ rule. does (record s { board = logged_on console.name id.value s.board }) [] (Some rule)) lets.known in
+    ap (λ x. found fault.BadLogon x >>= λ user. let_on (logon_ruling s console user) >>= λ rule. does (record s { board = logged_on console.name id.value s.board }) [] (Some rule)) (known_back s id.value password.value user lets.known) in
     let of_ruling : (let_on (logon_ruling s console user) >>= λ rule. does (record s { board = logged_on console.name id.value s.board }) [] (Some rule)) ≡ Ok deed =
     ap (λ x. let_on x >>= λ rule. does (record s { board = logged_on console.name id.value s.board }) [] (Some rule)) lets.allowed in
     let comes : command_outcome s name text ≡ Ok deed = of_console ∙ of_line ∙ of_nobody ∙ of_user ∙ of_ruling in

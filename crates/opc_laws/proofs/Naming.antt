@@ -44,6 +44,7 @@ use Rattle.opc_machine.specs.Machine.{IsGivenUp}
 use Rattle.opc_machine.specs.Inputs.{Input}
 use Rattle.opc_machine.specs.Inputs as input
 use Rattle.opc_laws.specs.Laws.{IsAllowed, IsHeard, IsOfAuthority, IsNamedBy, IsDeniedBy, IsRefusedByBoard}
+use Rattle.opc_laws.proofs.Knowing.{known_is}
 use Rattle.opc_laws.proofs.Logging.{nobody_ok}
 use Rattle.opc_laws.proofs.Plain.{IsPlain}
 use Rattle.opc_laws.proofs.Reasons.{decides_in_class}
@@ -182,7 +183,7 @@ module _ (s : State) (name text : List ℕ) where
       → (r : Ruling) → logon_ruling s c user ≡ r → IsProper logon_fault r → IfRefused (IsTold s (input.Command name text)) (let_on r)
   kept_off c id password heard nobody user known (Allowed why) is proper = tt
   kept_off c id password heard nobody user known (Denied why) is proper =
-      inl (proper, inr (record { console = c; id = id; password = password; heard = heard; nobody = nobody; user = user; known = known; denied = is }))
+      inl (proper, inr (record { console = c; id = id; password = password; heard = heard; nobody = nobody; user = user; known = known_is s id.value password.value user known; denied = is }))
 
   logon_told : (c : ConsoleRow) (id password : Operand (List ℕ)) → IsHeard s name text c (command.Logon id password) → IfRefused (IsTold s (input.Command name text)) (logon s c id.value password.value)
   logon_told c id password heard =

@@ -163,6 +163,9 @@ not_owner = refl
 not_owner_of_none : refused_at (codes "C1") (operation.RDelete Opercmds (codes "C")) ≡ plainly fault.NotOwner
 not_owner_of_none = refl
 
+nobody_is_not_owner : refused_at (codes "C7") (operation.RDelete Opercmds (codes "A.B")) ≡ plainly fault.NotOwner
+nobody_is_not_owner = refl
+
 owner_permits : refused_at (codes "C5") (operation.Permit Opercmds (codes "A.B") (codes "CARL") level.Update None) ≡ None
 owner_permits = refl
 

@@ -1,14 +1,15 @@
 -- What the access machine means to those who administer, list and import.
-use Rattle.std.specs.Prelude.{◌≡◌, ◌⊎◌, ◌↔◌, ℕ, true, List, [], ◌∷◌, Option, Some, None, Ok, Contains, codes, map}
+use Rattle.std.specs.Prelude.{◌≡◌, ◌⊎◌, ◌↔◌, ℕ, true, List, [], ◌∷◌, Option, Some, None, Ok, Contains, codes, filter, map}
 use Rattle.opc_names.specs.declared.class.Class.{Class}
 use Rattle.opc_policy.specs.declared.profile.Profile.{Profile}
 use Rattle.opc_policy.specs.declared.row.Row.{Row}
 use Rattle.opc_policy.specs.declared.rule.Rule.{Rule}
-use Rattle.opc_policy.specs.Deciding.{of_class}
+use Rattle.opc_policy.specs.Deciding.{AreMostSpecificFirst, of_class}
 use Rattle.opc_board.specs.declared.line.Line.{Line}
 use Rattle.opc_board.specs.declared.rows.ConsoleRow.{ConsoleRow}
 use Rattle.opc_board.specs.Facts.{console_at}
 use Rattle.opc_state.specs.declared.change.Batch.{Batch}
+use Rattle.opc_state.specs.Facts.{IsKeyed}
 use Rattle.opc_state.specs.Members.{with_batch}
 use Rattle.opc_state.specs.State.{State}
 use Rattle.opc_state.specs.Loads.{asked_for}
@@ -43,8 +44,10 @@ AdministersWhereverAllowed =
     → MayAsk s name console → may_change s console o ≡ true → changed s o ≡ Ok next → Step s moment (input.Admin name o) answer new
     → IsGivenUp answer ⊎ ((answer ≡ Done [] None) × (new ≡ next))
 
--- Of the profiles of a class, exactly those are listed that may be shown, and nothing changes.
+-- Of the profiles of a class, exactly those are listed that may be shown, each once, in the order of the state, and
+-- nothing changes.
 pub record ListsProfiles (s : State) (console : ConsoleRow) (class : Class) (lines : List Line) (new : State) : Type 0 where
+  pub each_once : lines ≡ map profile_line (filter (profile_shown s console) (of_class class s.policy.profiles))
   pub exactly : (line : Line) → Contains lines line ↔ ((p : Profile) × (line ≡ profile_line p) × Contains (of_class class s.policy.profiles) p × (profile_shown s console p ≡ true))
   pub same : new ≡ s
 
@@ -57,6 +60,10 @@ abbrev pub ListsProfilesWhereverAsked : Type 0
 ListsProfilesWhereverAsked =
     (s : State) (moment : ℕ) (name : List ℕ) (class : Class) (console : ConsoleRow) (answer : Answer) (new : State) → MayAsk s name console → Step s moment (input.ListProfiles name class) answer new
     → IsGivenUp answer ⊎ ((lines : List Line) × (answer ≡ Done lines None) × ListsProfiles s console class lines new)
+
+-- In that order the more specific comes first, and none comes twice.
+abbrev pub MoreSpecificProfilesComeFirst : Type 0
+MoreSpecificProfilesComeFirst = (s : State) → IsKeyed s → AreMostSpecificFirst s.policy.profiles
 
 -- The account is listed only where it may be shown,
 abbrev pub ListsAccountOnlyWhereShown : Type 0

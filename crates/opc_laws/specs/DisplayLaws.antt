@@ -1,5 +1,5 @@
 -- What displays list, to those who read them.
-use Rattle.std.specs.Prelude.{◌≡◌, ◌↔◌, ℕ, true, List, Option, Some, Contains, codes}
+use Rattle.std.specs.Prelude.{◌≡◌, ◌↔◌, ℕ, true, List, Option, Some, Contains, codes, filter, map}
 use Rattle.opc_names.specs.declared.group.Group.TheVariants.{Info}
 use Rattle.opc_names.specs.declared.level.Level.TheVariants.{Read}
 use Rattle.opc_policy.specs.declared.rule.Rule.{Rule}
@@ -12,7 +12,7 @@ use Rattle.opc_board.specs.declared.line.Line.{Line}
 use Rattle.opc_board.specs.declared.rows.ConsoleRow.{ConsoleRow}
 use Rattle.opc_board.specs.declared.rows.UnitRow.{UnitRow}
 use Rattle.opc_board.specs.Facts.{unit_at}
-use Rattle.opc_board.specs.Texts.{console_line, unit_line}
+use Rattle.opc_board.specs.Texts.{console_line, lines_of, unit_line}
 use Rattle.opc_state.specs.State.{State}
 use Rattle.opc_machine.specs.declared.request.Answer.TheVariants.{Done}
 use Rattle.opc_machine.specs.Rulings.{ruling, shown}
@@ -50,3 +50,19 @@ abbrev pub ListsEveryConsole : Type 0
 ListsEveryConsole =
     (s : State) (console : ConsoleRow) (why : Rule) (lines : List Line) (rule : Option Rule) (new : State) → Acts s console command.DisplayConsoles why (Done lines rule) new → (line : Line)
     → Contains lines line ↔ ((row : ConsoleRow) × (line ≡ console_line row) × Contains s.board.consoles row × MayBeShown s console (codes "MVS.DISPLAY.CN") row.name)
+
+-- They list each of these once, in the order of the board.
+abbrev pub ListsEachUnitOnce : Type 0
+ListsEachUnitOnce =
+    (s : State) (console : ConsoleRow) (why : Rule) (lines : List Line) (rule : Option Rule) (new : State) → Acts s console command.DisplayUnits why (Done lines rule) new
+    → lines ≡ filter (shown s console) (map unit_line s.board.units)
+
+abbrev pub ListsTheUnitOnce : Type 0
+ListsTheUnitOnce =
+    (s : State) (console : ConsoleRow) (name : Operand (List ℕ)) (why : Rule) (lines : List Line) (rule : Option Rule) (new : State) → Acts s console (command.DisplayUnit name) why (Done lines rule) new
+    → lines ≡ filter (shown s console) (lines_of (unit_at s.board name.value))
+
+abbrev pub ListsEachConsoleOnce : Type 0
+ListsEachConsoleOnce =
+    (s : State) (console : ConsoleRow) (why : Rule) (lines : List Line) (rule : Option Rule) (new : State) → Acts s console command.DisplayConsoles why (Done lines rule) new
+    → lines ≡ filter (shown s console) (map console_line s.board.consoles)

@@ -1,6 +1,7 @@
 -- What the access machine means to those who use it.
 use Rattle.std.specs.Prelude.{◌≡◌, ◌⊎◌, ◌↔◌, ℕ, true, List, [], ◌∷◌, ◌++◌, Option, Some, None, Ok, Err, filter, Contains}
 use Rattle.std.specs.Option.{is_some}
+use Rattle.sha2.specs.Sha256.{sha256}
 use Rattle.opc_names.specs.declared.class.Class.{Class}
 use Rattle.opc_names.specs.declared.class.Class.TheVariants.{Console, Opercmds}
 use Rattle.opc_policy.specs.declared.fault.Fault.{Fault}
@@ -11,6 +12,7 @@ use Rattle.opc_policy.specs.declared.rule.Rule.TheVariants as rule
 use Rattle.opc_policy.specs.declared.ruling.Ruling.TheVariants.{Allowed, Denied}
 use Rattle.opc_policy.specs.declared.user.User.{User}
 use Rattle.opc_policy.specs.Faults.{fault_code}
+use Rattle.opc_policy.specs.Members.{user_of}
 use Rattle.opc_reader.specs.declared.command.Command.{Command}
 use Rattle.opc_reader.specs.declared.command.Command.TheVariants as command
 use Rattle.opc_reader.specs.declared.command.Operand.{Operand}
@@ -29,7 +31,7 @@ use Rattle.opc_machine.specs.Faults.{board_fault}
 use Rattle.opc_machine.specs.Inputs.{Input}
 use Rattle.opc_machine.specs.Inputs as input
 use Rattle.opc_machine.specs.Rulings.{ruling, logon_denial, logon_ruling, shown}
-use Rattle.opc_machine.specs.Commands.{need_of, known_by}
+use Rattle.opc_machine.specs.Commands.{need_of}
 use Rattle.opc_machine.specs.Machine.{Runs, Step, IsGivenUp, account_row}
 
 -- A line typed at a console is a command that is heard: the console is there and online, and the line reads.
@@ -84,12 +86,17 @@ ListsExactlyWhatMayBeShown =
     (s : State) (console : ConsoleRow) (command : Command) (why : Rule) (lines : List Line) (rule : Option Rule) (new : State) (acts : Acts s console command why (Done lines rule) new) (line : Line)
     → Contains lines line ↔ (Contains acts.act.lines line × (shown s console line ≡ true))
 
+-- The user of this id is stored, and with the SHA-256 of this password; whoever has none knows no password.
+pub record IsKnown (s : State) (id password : List ℕ) (user : User) : Type 0 where
+  pub stored : user_of s.policy.users id ≡ Some user
+  pub digest : user.digest ≡ Some (sha256 password)
+
 -- A LOGON may let the user on: the line is heard, nobody is on, the password is the user's, and the policy of this
 -- moment allows it.
 pub record IsLetOn (s : State) (name text : List ℕ) (console : ConsoleRow) (id password : Operand (List ℕ)) (user : User) (why : Rule) : Type 0 where
   pub heard : IsHeard s name text console (command.Logon id password)
   pub nobody : console.user ≡ None
-  pub known : known_by s id.value password.value ≡ Some user
+  pub known : IsKnown s id.value password.value user
   pub allowed : logon_ruling s console user ≡ Allowed why
 
 -- The user is on, by that rule, and the policy stays.
@@ -149,6 +156,10 @@ RefusalsChangeNothing =
 abbrev pub GivenUpChangesNothing : Type 0
 GivenUpChangesNothing = (s : State) (moment : ℕ) (r : Input) (fault : Fault) (why : Option Rule) (new : State) → IsGivenUp (Refused fault why) → Step s moment r (Refused fault why) new → new ≡ s
 
+-- Only two answers give a request up: there was no memory, or the store failed.
+abbrev pub GivenUpForWantOfMemoryOrStore : Type 0
+GivenUpForWantOfMemoryOrStore = (answer : Answer) → IsGivenUp answer → (answer ≡ Refused fault.NoMemory None) ⊎ (answer ≡ Refused fault.Store None)
+
 -- the refusals of authority
 abbrev pub IsOfAuthority : Fault → Type 0
 IsOfAuthority fault.LogonRequired = Unit {0}
@@ -201,7 +212,7 @@ pub record IsKeptOff (s : State) (name text : List ℕ) (why : Rule) : Type 0 wh
   pub heard : IsHeard s name text console (command.Logon id password)
   pub nobody : console.user ≡ None
   pub user : User
-  pub known : known_by s id.value password.value ≡ Some user
+  pub known : IsKnown s id.value password.value user
   pub denied : logon_ruling s console user ≡ Denied why
 
 -- The logon rule denies whatever is asked at a console that is there and online.
@@ -273,3 +284,7 @@ abbrev pub RequestsAreJudgedInTurn : Type 0
 RequestsAreJudgedInTurn =
     (s : State) (before : List (ℕ × Input)) (r : ℕ × Input) (later : List (ℕ × Input)) (answers : List Answer) (new : State) → Runs s (before ++ r ∷ later) answers new
     → IsJudgedInTurn s before r later answers new
+
+-- Where nothing is asked nothing is answered, and nothing changes.
+abbrev pub NothingAskedChangesNothing : Type 0
+NothingAskedChangesNothing = (s : State) (answers : List Answer) (new : State) → Runs s [] answers new → (answers ≡ []) × (new ≡ s)

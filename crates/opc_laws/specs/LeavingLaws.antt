@@ -48,6 +48,18 @@ pub record LeavesRest (s : State) (moment : ℕ) (r : Input) (why : Option Rule)
 abbrev pub WhatIsDoneLeavesRest : Type 0
 WhatIsDoneLeavesRest = (s : State) (moment : ℕ) (r : Input) (lines : List Line) (why : Option Rule) (new : State) → Step s moment r (Done lines why) new → LeavesRest s moment r why new
 
+-- A request names the console at which it is asked, and an event none.
+abbrev pub IsNamedIn : Input → Option (List ℕ) → Type 0
+IsNamedIn (input.Command name text) console = console ≡ Some name
+IsNamedIn (input.Admin name operation) console = console ≡ Some name
+IsNamedIn (input.ListProfiles name class) console = console ≡ Some name
+IsNamedIn (input.ListAccount name from count) console = console ≡ Some name
+IsNamedIn (input.Import name number rows) console = console ≡ Some name
+IsNamedIn (input.Event e) console = console ≡ None
+
+abbrev pub RequestsNameTheirConsole : Type 0
+RequestsNameTheirConsole = (r : Input) → IsNamedIn r (console_of r)
+
 -- A row of the account tells the moment, the console or `*`, what came of it and by which rule.
 pub record Tells (at : ℕ) (r : Input) (what : List ℕ) (why : Option Rule) (row : AccountRow) : Type 0 where
   pub moment : row.moment ≡ at

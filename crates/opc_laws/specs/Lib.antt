@@ -1,7 +1,12 @@
 pub mod ActingLaws
 pub mod ChangingLaws
 pub mod DisplayLaws
+pub mod FaultLaws
 pub mod HoldingLaws
 pub mod Laws
 pub mod LeavingLaws
+pub mod NeedLaws
+pub mod ObstacleLaws
+pub mod RightLaws
 pub mod RulingLaws
+pub mod TakingLaws

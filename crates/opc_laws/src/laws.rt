@@ -1,11 +1,16 @@
 //! What the access machine means to those who use it, each law as what a call without a body ensures.
-ghost use Rattle.opc_laws.specs.ActingLaws.{AutoConsolesActForTheirOwn, OptionalConsolesActAlone, OtherAutoConsolesActAlone, WhoIsOnComesFirst};
-ghost use Rattle.opc_laws.specs.ChangingLaws.{AdministersOnlyWhereAllowed, AdministersWhereverAllowed, ImportsOnlyWhereAllowed, ImportsWhereverAllowed, ListsAccountOnlyWhereShown, ListsAccountWhereverShown, ListsExactlyProfilesShown, ListsProfilesWhereverAsked, RepeatsWhereverAllowed, SameRowsAreEqual};
-ghost use Rattle.opc_laws.specs.DisplayLaws.{LinesAreAboutWhatTheyList, ListsEveryConsole, ListsEveryUnit, ListsTheUnit};
+ghost use Rattle.opc_laws.specs.ActingLaws.{AutoConsolesActForTheirOwn, OptionalConsolesActAlone, OtherAutoConsolesActAlone, OthersAreAccountedToNobody, RequiredConsolesActForNobody, WhoIsOnComesFirst};
+ghost use Rattle.opc_laws.specs.ChangingLaws.{AdministersOnlyWhereAllowed, AdministersWhereverAllowed, ImportsOnlyWhereAllowed, ImportsWhereverAllowed, ListsAccountOnlyWhereShown, ListsAccountWhereverShown, ListsExactlyProfilesShown, ListsProfilesWhereverAsked, MoreSpecificProfilesComeFirst, RepeatsWhereverAllowed, SameRowsAreEqual};
+ghost use Rattle.opc_laws.specs.DisplayLaws.{LinesAreAboutWhatTheyList, ListsEachConsoleOnce, ListsEachUnitOnce, ListsEveryConsole, ListsEveryUnit, ListsTheUnit, ListsTheUnitOnce};
+ghost use Rattle.opc_laws.specs.FaultLaws.{AdministrationFaultsAreAnswered, BadLinesAreAnswered, ChangedBatchesAreAnswered, ImportFaultsAreAnswered, LogonFaultsAreAnswered, MissingConsolesAreAnswered, MissingRightsAreAnswered, OfflineConsolesAreAnswered};
 ghost use Rattle.opc_laws.specs.HoldingLaws.{ConsoleEntriesRaise, ConsolesNeverLower, EntriesCountAtTheirConsole, LevelsAreGiven, RestrictedUsersAreNamed};
-ghost use Rattle.opc_laws.specs.Laws.{ActsOnlyWhereAllowed, ActsWhereverAllowed, BoardFaultsAreAnswered, DenialsAreAnswered, GivenUpChangesNothing, ListsExactlyWhatMayBeShown, LogsOffOnlyWhereSomebodyIsOn, LogsOffWhereverSomebodyIsOn, LogsOnOnlyWhereAllowed, LogsOnWhereverAllowed, OnlyWhatIsHeardIsDone, RefusalsChangeNothing, RefusalsNameNoOtherRule, RefusalsOfAuthorityNameTheirRule, RequestsAreJudgedInTurn};
-ghost use Rattle.opc_laws.specs.LeavingLaws.{AccountRowsTell, EventFaultsAreAnswered, EventsHappenWhereverPossible, EventsOnlyDoTheirEffect, WhatIsDoneLeavesRest};
+ghost use Rattle.opc_laws.specs.Laws.{ActsOnlyWhereAllowed, ActsWhereverAllowed, BoardFaultsAreAnswered, DenialsAreAnswered, GivenUpChangesNothing, GivenUpForWantOfMemoryOrStore, ListsExactlyWhatMayBeShown, LogsOffOnlyWhereSomebodyIsOn, LogsOffWhereverSomebodyIsOn, LogsOnOnlyWhereAllowed, LogsOnWhereverAllowed, NothingAskedChangesNothing, OnlyWhatIsHeardIsDone, RefusalsChangeNothing, RefusalsNameNoOtherRule, RefusalsOfAuthorityNameTheirRule, RequestsAreJudgedInTurn};
+ghost use Rattle.opc_laws.specs.LeavingLaws.{AccountRowsTell, EventFaultsAreAnswered, EventsHappenWhereverPossible, EventsOnlyDoTheirEffect, RequestsNameTheirConsole, WhatIsDoneLeavesRest};
+ghost use Rattle.opc_laws.specs.NeedLaws.{NeedsAreOfTheTable};
+ghost use Rattle.opc_laws.specs.ObstacleLaws.{ObstaclesAreFaults, OperationsAreDoneWithoutObstacle};
+ghost use Rattle.opc_laws.specs.RightLaws.{AccountIsSeenByAuditors, ImportsAreOfSpecial, ProfilesAreSeenByReaders, RightsAreOfSpecialAndOwners};
 ghost use Rattle.opc_laws.specs.RulingLaws.{LogonRuleSaysWhy, LogonRulingsSayWhy, RulingsSayWhy};
+ghost use Rattle.opc_laws.specs.TakingLaws.{BatchesAreFoundByNumber, OperationsDoWhatTheySay, OperationsKeepAMaster, RowsAreTakenInTurn};
 
 /// A command acts only where the written policy of that moment allows it.
 pub fn acts_only_where_allowed()
@@ -23,9 +28,19 @@ pub fn only_what_is_heard_is_done()
     ensures { OnlyWhatIsHeardIsDone }
 {}
 
+/// What a command needs is that of the table, and goes by the kind of the unit that C, FORCE, P and F name.
+pub fn needs_are_of_the_table()
+    ensures { NeedsAreOfTheTable }
+{}
+
 /// Each request of a list is judged by the state that those before it leave.
 pub fn requests_are_judged_in_turn()
     ensures { RequestsAreJudgedInTurn }
+{}
+
+/// Where nothing is asked nothing is answered, and nothing changes.
+pub fn nothing_asked_changes_nothing()
+    ensures { NothingAskedChangesNothing }
 {}
 
 /// A unit's or a console's line is listed exactly where the written policy of that moment lets it be shown.
@@ -51,6 +66,13 @@ pub fn lists_the_unit()
 /// `D C` has a line for every console.
 pub fn lists_every_console()
     ensures { ListsEveryConsole }
+{}
+
+/// They list each of these once, in the order of the board.
+pub fn displays_list_each_once()
+    ensures units { ListsEachUnitOnce }
+    ensures unit { ListsTheUnitOnce }
+    ensures consoles { ListsEachConsoleOnce }
 {}
 
 /// A user is logged on only where nobody is on, the password is the user's, and the written policy of that moment
@@ -85,6 +107,24 @@ pub fn administers_wherever_allowed()
     ensures { AdministersWhereverAllowed }
 {}
 
+/// The right to administer: of SPECIAL, or of the owner of the profile that is altered, deleted or permitted.
+pub fn rights_are_of_special_and_owners()
+    ensures { RightsAreOfSpecialAndOwners }
+{}
+
+/// An operation does what it says and nothing else, and leaves an online console with AUTH MASTER where there is one.
+pub fn operations_do_what_they_say()
+    ensures done { OperationsDoWhatTheySay }
+    ensures master { OperationsKeepAMaster }
+{}
+
+/// Each operation is refused by the first of what is in its way (E52, E53, E55), and without any is done, unless the last
+/// online console with AUTH MASTER were lost (E41).
+pub fn operations_are_refused_by_what_is_in_their_way()
+    ensures refused { ObstaclesAreFaults }
+    ensures done { OperationsAreDoneWithoutObstacle }
+{}
+
 /// A profile's line is listed exactly where the written policy of that moment lets it be shown.
 pub fn lists_exactly_profiles_shown()
     ensures { ListsExactlyProfilesShown }
@@ -95,6 +135,16 @@ pub fn lists_profiles_wherever_asked()
     ensures { ListsProfilesWhereverAsked }
 {}
 
+/// A profile may be shown to SPECIAL, AUDITOR, its owner and whoever holds READ in it,
+pub fn profiles_are_seen_by_readers()
+    ensures { ProfilesAreSeenByReaders }
+{}
+
+/// and of two of a class that are listed the more specific comes first.
+pub fn more_specific_profiles_come_first()
+    ensures { MoreSpecificProfilesComeFirst }
+{}
+
 /// The account is listed only where the written policy of that moment lets it be shown.
 pub fn lists_account_only_where_shown()
     ensures { ListsAccountOnlyWhereShown }
@@ -103,6 +153,16 @@ pub fn lists_account_only_where_shown()
 /// The account is listed wherever it may be shown, unless the request is given up.
 pub fn lists_account_wherever_shown()
     ensures { ListsAccountWhereverShown }
+{}
+
+/// The account may be shown to SPECIAL and AUDITOR.
+pub fn account_is_seen_by_auditors()
+    ensures { AccountIsSeenByAuditors }
+{}
+
+/// Only where whoever acts has SPECIAL is anything imported.
+pub fn imports_are_of_special()
+    ensures { ImportsAreOfSpecial }
 {}
 
 /// An import is done only for SPECIAL, and in whole.
@@ -125,6 +185,16 @@ pub fn same_rows_are_equal()
     ensures { SameRowsAreEqual }
 {}
 
+/// The rows of an import are taken one after another, each by what those before it leave, and all of them.
+pub fn rows_are_taken_in_turn()
+    ensures { RowsAreTakenInTurn }
+{}
+
+/// The batch of a number is found exactly where one is kept.
+pub fn batches_are_found_by_number()
+    ensures { BatchesAreFoundByNumber }
+{}
+
 /// A refusal changes nothing but the account, to which it adds its row.
 pub fn refusals_change_nothing()
     ensures { RefusalsChangeNothing }
@@ -133,6 +203,11 @@ pub fn refusals_change_nothing()
 /// A request that is given up changes nothing, not even the account.
 pub fn given_up_changes_nothing()
     ensures { GivenUpChangesNothing }
+{}
+
+/// A request is given up for want of memory (E90) or because the store failed (E91), and is answered so.
+pub fn given_up_for_want_of_memory_or_store()
+    ensures { GivenUpForWantOfMemoryOrStore }
 {}
 
 /// A refusal of authority names its rule, a profile, a console's group or the logon rule, and that rule denies by the
@@ -156,6 +231,37 @@ pub fn board_faults_are_answered()
     ensures { BoardFaultsAreAnswered }
 {}
 
+/// At a console that is not there (E10) or offline (E11) nothing is asked.
+pub fn missing_consoles_are_answered()
+    ensures missing { MissingConsolesAreAnswered }
+    ensures offline { OfflineConsolesAreAnswered }
+{}
+
+/// A line that is no command is refused by its first fault.
+pub fn bad_lines_are_answered()
+    ensures { BadLinesAreAnswered }
+{}
+
+/// A LOGON is refused where somebody is on (E15), then where the password is not the user's (E14); LOGOFF where nobody is on
+/// (E16).
+pub fn logon_faults_are_answered()
+    ensures { LogonFaultsAreAnswered }
+{}
+
+/// Where the right is missing, that alone is answered, whatever else is in the way: that only SPECIAL may (E50), or only the
+/// owner of the profile too (E51).
+pub fn missing_rights_are_answered()
+    ensures { MissingRightsAreAnswered }
+{}
+
+/// Where the right is there, what is in the way of the change or of a row is answered, and of a batch that is kept with other
+/// rows that it is (E56).
+pub fn what_is_in_the_way_is_answered()
+    ensures administration { AdministrationFaultsAreAnswered }
+    ensures rows { ImportFaultsAreAnswered }
+    ensures batch { ChangedBatchesAreAnswered }
+{}
+
 /// What is done leaves the account and the batches as they are. Its row is added exactly where a warning alone let it
 /// pass, and an import keeps its batch.
 pub fn what_is_done_leaves_the_rest()
@@ -165,6 +271,11 @@ pub fn what_is_done_leaves_the_rest()
 /// A row of the account tells the moment, the console, what came of it and by which rule.
 pub fn account_rows_tell()
     ensures { AccountRowsTell }
+{}
+
+/// A request names the console at which it is asked, and an event none.
+pub fn requests_name_their_console()
+    ensures { RequestsNameTheirConsole }
 {}
 
 /// An event changes the board by its effect, and nothing else.
@@ -238,7 +349,17 @@ pub fn optional_consoles_act_alone()
     ensures { OptionalConsolesActAlone }
 {}
 
+/// A REQUIRED console where nobody is on acts for nobody.
+pub fn required_consoles_act_for_nobody()
+    ensures { RequiredConsolesActForNobody }
+{}
+
 /// A console of any mode acts for the user who is on there.
 pub fn who_is_on_comes_first()
     ensures { WhoIsOnComesFirst }
+{}
+
+/// What is asked at no console, or at one that is not there, is accounted to nobody.
+pub fn others_are_accounted_to_nobody()
+    ensures { OthersAreAccountedToNobody }
 {}

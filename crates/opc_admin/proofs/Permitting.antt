@@ -31,7 +31,7 @@ use Rattle.opc_state.specs.State.{State}
 use Rattle.opc_state.proofs.SameRows.{first, name_itself, names, rest}
 use Rattle.opc_machine.specs.declared.operation.Operation.TheVariants as operation
 use Rattle.opc_machine.specs.Administration.{has_entry_for, is_permitted, policy_changed}
-use Rattle.opc_admin.specs.Operations.{has_level, same_definition}
+use Rattle.opc_admin.specs.Operations.{has_level, level_in, same_definition}
 use Rattle.opc_admin.proofs.Idle.{found_passes, found_put, itself, none_found, none_left, put_again, some_is}
 use Rattle.opc_admin.proofs.People.{there_is, there_is_none}
 use Rattle.opc_admin.proofs.Same.{AreDefinedAlike, definition_is, definition_itself, level_is}
@@ -181,11 +181,46 @@ listed_at (Some p) when id = found_any (is_for when id) p.entries
 is_listed : (s : State) (class : Class) (pattern id : List ℕ) (when : Option (List ℕ)) → is_some (level_for s.policy class pattern id when) ≡ is_permitted s.policy class pattern id when
 is_listed s class pattern id when = listed_at (profile_of s.policy.profiles class pattern) when id
 
--- so it is for what is loaded there
-pub loaded_is : (s : State) (class : Class) (pattern id : List ℕ) (asked when : Option (List ℕ)) → asked ≡ when → (level : Option Level) → level ≡ level_for s.policy class pattern id asked
-    → is_some level ≡ is_permitted s.policy class pattern id when
-loaded_is s class pattern id asked when at level loaded =
-    ap is_some loaded ∙ ap (λ w. is_some (level_for s.policy class pattern id w)) at ∙ is_listed s class pattern id when
+-- Where an entry has a level its profile is there,
+level_at : (p : Option Profile) (when : Option (List ℕ)) (id : List ℕ) (level : Level) → entry_level (option_map_or (λ (q : Profile). q.entries) p []) when id ≡ Some level
+    → option_map (λ (q : Profile). entry_level q.entries when id) p ≡ Some (Some level)
+level_at None when id level h = absurd (search (rules, h))
+level_at (Some p) when id level h = ap Some h
+
+pub level_loaded : (s : State) (class : Class) (pattern id : List ℕ) (asked when : Option (List ℕ)) (level : Level) → asked ≡ when → Some level ≡ level_for s.policy class pattern id asked
+    → Some (Some level) ≡ level_in s.policy class pattern id when
+level_loaded s class pattern id asked when level at loaded =
+    sym (level_at (profile_of s.policy.profiles class pattern) when id level (ap (level_for s.policy class pattern id) (sym at) ∙ sym loaded))
+
+-- where it has none the profile is asked for,
+none_at : (p : Option Profile) (when : Option (List ℕ)) (id : List ℕ) → is_some p ≡ true → entry_level (option_map_or (λ (q : Profile). q.entries) p []) when id ≡ None
+    → option_map (λ (q : Profile). entry_level q.entries when id) p ≡ Some None
+none_at None when id there h = absurd (search (rules, there))
+none_at (Some p) when id there h = ap Some h
+
+pub none_loaded : (s : State) (class : Class) (pattern id : List ℕ) (asked when : Option (List ℕ)) → asked ≡ when → None ≡ level_for s.policy class pattern id asked
+    → true ≡ is_some (profile_of s.policy.profiles class pattern) → Some None ≡ level_in s.policy class pattern id when
+none_loaded s class pattern id asked when at loaded there =
+    sym (none_at (profile_of s.policy.profiles class pattern) when id (sym there) (ap (level_for s.policy class pattern id) (sym at) ∙ sym loaded))
+
+pub no_profile : (s : State) (class : Class) (pattern id : List ℕ) (when : Option (List ℕ)) → false ≡ is_some (profile_of s.policy.profiles class pattern) → None ≡ level_in s.policy class pattern id when
+no_profile s class pattern id when free = sym (ap (option_map (λ (q : Profile). entry_level q.entries when id)) (not_there _ (sym free)))
+
+-- and what is found then is the level of the entry in a profile that is there.
+found_at : (p : Option Profile) (when : Option (List ℕ)) (id : List ℕ) (held : Option Level) → option_map (λ (q : Profile). entry_level q.entries when id) p ≡ Some held
+    → (is_some p ≡ true) × (entry_level (option_map_or (λ (q : Profile). q.entries) p []) when id ≡ held)
+found_at None when id held h = absurd (search (rules, h))
+found_at (Some p) when id held h = (refl, some_is _ held h)
+
+module _ (s : State) (class : Class) (pattern id : List ℕ) (when : Option (List ℕ)) (held : Option Level) (is : level_in s.policy class pattern id when ≡ Some held) where
+  pub profile_there : is_some (profile_of s.policy.profiles class pattern) ≡ true
+  profile_there = (found_at (profile_of s.policy.profiles class pattern) when id held is).0
+
+  pub level_there : level_for s.policy class pattern id when ≡ held
+  level_there = (found_at (profile_of s.policy.profiles class pattern) when id held is).1
+
+  pub permitted_there : is_permitted s.policy class pattern id when ≡ is_some held
+  permitted_there = sym (is_listed s class pattern id when) ∙ ap is_some level_there
 
 pub may_be_deleted : (s : State) (b : BoardRows) (class : Class) (pattern id : List ℕ) (when : Option (List ℕ)) → is_some (profile_of s.policy.profiles class pattern) ≡ true
     → is_permitted s.policy class pattern id when ≡ true

@@ -5,16 +5,16 @@ ghost use Rattle.opc_policy.specs.Taken.{has_holder};
 ghost use Rattle.opc_state.specs.Asked.{Answers};
 ghost use Rattle.opc_state.specs.Changes.{IsKept};
 ghost use Rattle.opc_state.specs.Facts.{IsKeyed};
-ghost use Rattle.opc_state.specs.Loads.{level_for};
 ghost use Rattle.opc_machine.specs.declared.operation.Operation.TheVariants as operation;
-ghost use Rattle.opc_machine.specs.Administration.{is_permitted, policy_changed};
+ghost use Rattle.opc_machine.specs.Administration.{policy_changed};
 ghost use Rattle.opc_machine.specs.Deeds.{IsOutcome};
-ghost use Rattle.opc_admin.specs.Operations.{has_level, policy_outcome, same_definition};
+ghost use Rattle.opc_admin.specs.Operations.{has_level, level_in, policy_outcome, same_definition};
 
 use crate::deeds::{done_by, exists, missing};
 use opc_machine::outcome::{Decided, denied, done};
 use opc_machine::same::same_flag;
 use opc_names::class::Class;
+use opc_names::level::Level;
 use opc_names::name::{ConsoleName, Pattern};
 use opc_policy::entry::{Entry, EntryId};
 use opc_policy::fault::{Fault, Subject};
@@ -47,36 +47,37 @@ fn has_holder<T: Tables>(tables: &mut T, id: &EntryId) -> Result<bool, StoreFaul
     Ok(id.text() == "*" || tables.has_user(id.text())? || tables.has_group(id.text())?)
 }
 
-// Whether an access list has this very entry.
-fn has_entry<T: Tables>(
+// The level of the entry for an id in the access list of a profile, at one console or, where none is given, at every
+// console; and whether there is such a profile, which is asked only where it has no such entry.
+fn level_in<T: Tables>(
     tables: &mut T,
-    class: Class,
-    pattern: &Pattern,
-    entry: &Entry,
-) -> Result<bool, StoreFault>
-    ensures kept { IsKept T.is_sure T.represents T.may_leave tables.old tables.new }
-    ensures has { Answers (T.is_sure tables.new) (T.represents tables.old) result (λ s has. has ≡ has_level (level_for s.policy class pattern.now entry.now.id entry.now.when) entry.now.level) }
-{
-    match tables.level_for(class, pattern, &entry.id, entry.when.as_ref())? {
-        Some(level) => Ok(level.text() == entry.level.text()),
-        None => Ok(false),
-    }
-}
-
-// Whether an access list has an entry for an id, at one console or, where none is given, at every console.
-fn is_permitted<T: Tables>(
-    tables: &mut T,
+    alloc: Global,
     class: Class,
     pattern: &Pattern,
     id: &EntryId,
-    when: Option<ConsoleName>,
-) -> Result<bool, StoreFault>
+    when: &Option<ConsoleName>,
+) -> Result<Option<Option<Level>>, StoreFault>
     ensures kept { IsKept T.is_sure T.represents T.may_leave tables.old tables.new }
-    ensures permitted { Answers (T.is_sure tables.new) (T.represents tables.old) result (λ s permitted. permitted ≡ is_permitted s.policy class pattern.now id.now when) }
+    ensures level { Answers (T.is_sure tables.new) (T.represents tables.old) result (λ s level. level ≡ level_in s.policy class pattern.now id.now when.now) }
 {
     match tables.level_for(class, pattern, id, when.as_ref())? {
-        Some(_) => Ok(true),
-        None => Ok(false),
+        Some(level) => Ok(Some(Some(level))),
+        None => {
+            if is_defined(tables, alloc, class, pattern)? {
+                Ok(Some(None))
+            } else {
+                Ok(None)
+            }
+        }
+    }
+}
+
+fn has_level(held: Option<Level>, level: Level) -> bool
+    ensures { result ≡ has_level held level }
+{
+    match held {
+        Some(held) => held.text() == level.text(),
+        None => false,
     }
 }
 
@@ -141,6 +142,7 @@ pub(crate) fn rdelete<T: Tables>(
 }
 
 /// An entry of the access list of a profile that is there, for a user or a group that is stored or for everyone (E53).
+#[tactic(auto, using(crate::proofs::Permitting::profile_there))]
 pub(crate) fn permit<T: Tables>(
     tables: &mut T,
     alloc: Global,
@@ -152,19 +154,20 @@ pub(crate) fn permit<T: Tables>(
     ensures outcome { Answers (T.is_sure tables.new) (T.represents tables.old) result (λ s o. IsKeyed s →
         IsOutcome s (policy_outcome s (policy_changed s.board (operation.Permit class pattern.now entry.id entry.level entry.when) s.policy)) o) }
 {
-    if !is_defined(tables, alloc, class, pattern)? {
+    let Some(stored) = level_in(tables, alloc, class, pattern, &entry.id, &entry.when)? else {
         return missing(pattern);
-    }
+    };
     if !has_holder(tables, &entry.id)? {
         return denied(Fault::Missing(Subject::of_entry(&entry.id)), None);
     }
-    if has_entry(tables, class, pattern, &entry)? {
+    if has_level(stored, entry.level) {
         return done(alloc, Vec::new(alloc), None);
     }
     done_by(alloc, Edit::PutEntry(class, *pattern, entry))
 }
 
 /// The entry for an id, and for one console alone or for every console, is no more. It and its profile are there (E53).
+#[tactic(auto, using(crate::proofs::Permitting::profile_there, crate::proofs::Permitting::permitted_there))]
 pub(crate) fn permit_delete<T: Tables>(
     tables: &mut T,
     alloc: Global,
@@ -177,11 +180,9 @@ pub(crate) fn permit_delete<T: Tables>(
     ensures outcome { Answers (T.is_sure tables.new) (T.represents tables.old) result (λ s o.
         IsOutcome s (policy_outcome s (policy_changed s.board (operation.PermitDelete class pattern.now id.now when) s.policy)) o) }
 {
-    if !is_defined(tables, alloc, class, pattern)? {
-        return missing(pattern);
+    match level_in(tables, alloc, class, pattern, id, &when)? {
+        None => missing(pattern),
+        Some(None) => denied(Fault::Missing(Subject::of_entry(id)), None),
+        Some(Some(_)) => done_by(alloc, Edit::RemoveEntry(class, *pattern, *id, when)),
     }
-    if !is_permitted(tables, class, pattern, id, when)? {
-        return denied(Fault::Missing(Subject::of_entry(id)), None);
-    }
-    done_by(alloc, Edit::RemoveEntry(class, *pattern, *id, when))
 }

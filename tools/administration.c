@@ -49,10 +49,8 @@ STATEMENT(CONSOLES, "SELECT name, auth, mode, online, usr, monitor FROM consoles
 
 #define CLASS "OPERCMDS"
 
-/* The console that asks, loaded for the account and again for who acts there. */
-static void asking(const char *console, const char *user) {
-    ROWS(CONSOLE, "t", console), ROWS(CONSOLE, "t", console), ROWS(USER, "t", user);
-}
+/* The console that asks, and who acts there. */
+static void asking(const char *console, const char *user) { ROWS(CONSOLE, "t", console), ROWS(USER, "t", user); }
 
 static void wants(int found, const char *what) { if (!found) fail(what); }
 
@@ -100,13 +98,14 @@ static void see_profile(int is_there) { wants(ROWS(DEFINITION, "tt", CLASS, patt
 static void see_owner(void) { wants(ROWS(HAS_USER, "t", "SECADM"), "SECADM"); }
 static void see_entry(int is_there) { wants(ROWS(LEVEL_FOR, "tttt", CLASS, pattern, user, "") == is_there, user); }
 
-static void define(void) { see_profile(0), see_owner(), begin(), put_profile(pattern, "SECADM", 0), commit(); }
-static void alter(void) { see_profile(1), see_owner(), begin(), put_profile(pattern, "SECADM", 1), commit(); }
+/* A definition that is put is looked up once more, by the cache. */
+static void define(void) { see_profile(0), see_owner(), see_profile(0), begin(), put_profile(pattern, "SECADM", 0), commit(); }
+static void alter(void) { see_profile(1), see_owner(), see_profile(1), begin(), put_profile(pattern, "SECADM", 1), commit(); }
 static void delete(void) { see_profile(1), begin(), run(&DEL_ENTRIES, "tt", CLASS, pattern), run(&DEL_PROFILE, "tt", CLASS, pattern), commit(); }
 static void permit(void) {
-    see_profile(1), see_user(), see_entry(0), begin(), PUT(SET_ENTRY, ADD_ENTRY, "tttti", CLASS, pattern, user, "", 2), commit();
+    see_entry(0), see_profile(1), see_user(), begin(), PUT(SET_ENTRY, ADD_ENTRY, "tttti", CLASS, pattern, user, "", 2), commit();
 }
-static void permit_delete(void) { see_profile(1), see_entry(1), begin(), run(&DEL_ENTRY, "tttt", CLASS, pattern, user, ""), commit(); }
+static void permit_delete(void) { see_entry(1), begin(), run(&DEL_ENTRY, "tttt", CLASS, pattern, user, ""), commit(); }
 
 /* Classes, consoles and listings of a few rows. */
 

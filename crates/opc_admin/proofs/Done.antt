@@ -6,6 +6,7 @@ use Rattle.opc_policy.specs.declared.policy.Policy.{Policy}
 use Rattle.opc_policy.specs.declared.source.StoreFault.{StoreFault}
 use Rattle.opc_state.specs.declared.change.Edit.{Edit}
 use Rattle.opc_state.specs.Changes.{all_edited, edited}
+use Rattle.opc_state.specs.Facts.{IsKeyed}
 use Rattle.opc_state.specs.State.{State}
 use Rattle.opc_machine.specs.declared.outcome.Deed as found
 use Rattle.opc_machine.specs.declared.outcome.Denial as found_denial
@@ -71,6 +72,6 @@ policy_alone s (Ok p) = ap (λ b. state_outcome (mastered b (record s { policy =
 policy_alone s (Err f) = refl
 
 -- so what is the outcome of the policy alone is that of the state
-pub to_state : (s : State) (made : Result Policy Fault) (r : Result (Result found.Deed found_denial.Denial) StoreFault) → IfOk r (λ o. IsOutcome s (policy_outcome s made) o)
-    → IfOk r (λ o. IsOutcome s (state_outcome (with_rows_of s s.board made)) o)
-to_state s made r h = subst (λ x. IfOk r (λ o. IsOutcome s x o)) (sym (policy_alone s made)) h
+pub to_state : (s : State) (made : Result Policy Fault) (r : Result (Result found.Deed found_denial.Denial) StoreFault) → IfOk r (λ o. IsKeyed s → IsOutcome s (policy_outcome s made) o)
+    → IfOk r (λ o. IsKeyed s → IsOutcome s (state_outcome (with_rows_of s s.board made)) o)
+to_state s made r h = subst (λ x. IfOk r (λ o. IsKeyed s → IsOutcome s x o)) (sym (policy_alone s made)) h

@@ -1,22 +1,25 @@
 //! Who has the right to an operation, and what it comes to.
-ghost use Rattle.std.specs.Prelude.{◌≡◌};
+ghost use Rattle.std.specs.Prelude.{◌≡◌, true};
+ghost use Rattle.opc_board.specs.Facts.{Name, console_at};
 ghost use Rattle.opc_policy.specs.Profiles.{profile_of};
 ghost use Rattle.opc_state.specs.Asked.{Answers};
 ghost use Rattle.opc_state.specs.Changes.{IsKept};
 ghost use Rattle.opc_state.specs.Facts.{IsKeyed};
-ghost use Rattle.opc_machine.specs.Administration.{admin_outcome, changed};
+ghost use Rattle.opc_machine.specs.Administration.{admin_outcome, changed, definition};
 ghost use Rattle.opc_machine.specs.Deeds.{IsOutcome};
 ghost use Rattle.opc_machine.specs.Rights.{is_owner, may_change, right_fault};
 ghost use Rattle.opc_machine.specs.Rulings.{acting};
-ghost use Rattle.opc_admin.specs.Operations.{state_outcome};
+ghost use Rattle.opc_admin.specs.Operations.{is_of_profiles, state_outcome};
 
 use crate::consoles::define_console;
 use crate::members::{add_group, add_user, alt_user, class_active, connect, del_user, remove};
 use crate::profiles::{permit, permit_delete, ralter, rdefine, rdelete};
+use opc_board::rows::ConsoleRow;
 use opc_machine::operation::Operation;
 use opc_machine::outcome::{Decided, denied};
 use opc_names::class::Class;
-use opc_names::name::{ConsoleName, Pattern};
+use opc_names::level::Level;
+use opc_names::name::{Pattern, UserId};
 use opc_policy::connect::Connect;
 use opc_policy::entries::Entries;
 use opc_policy::entry::Entry;
@@ -81,89 +84,75 @@ fn may_change<T: Tables>(
     }
 }
 
-// What an operation comes to that whoever asks has the right to.
-fn changed_on<T: Tables>(tables: &mut T, alloc: Global, op: &Operation) -> Decided
+// The user that an operation gives.
+fn given_user(
+    id: UserId,
+    special: bool,
+    auditor: bool,
+    revoked: bool,
+    digest: Option<[u8; 32]>,
+    restricted: bool,
+) -> User
+    ensures { result ≡ record { id = id; special = special; auditor = auditor; revoked = revoked; digest = digest; restricted = restricted } }
+{
+    User {
+        id,
+        special,
+        auditor,
+        revoked,
+        digest,
+        restricted,
+    }
+}
+
+// The profile that an operation defines, without an access list.
+fn definition(
+    alloc: Global,
+    class: Class,
+    pattern: Pattern,
+    owner: UserId,
+    uacc: Level,
+    warning: bool,
+) -> Profile
+    ensures { result ≡ definition class pattern owner uacc warning }
+{
+    Profile {
+        class,
+        pattern,
+        owner,
+        uacc,
+        warning,
+        entries: Entries::new(alloc),
+    }
+}
+
+// What an operation on a profile or its access list comes to that whoever asks has the right to.
+fn profile_changed_on<T: Tables>(tables: &mut T, alloc: Global, op: &Operation) -> Decided
+    requires { is_of_profiles op.now ≡ true }
     ensures kept { IsKept T.is_sure T.represents T.may_leave tables.old tables.new }
     ensures outcome { Answers (T.is_sure tables.new) (T.represents tables.old) result (λ s o. IsKeyed s → IsOutcome s (state_outcome (changed s op.now)) o) }
 {
     match *op {
-        Operation::AddUser {
-            id,
-            special,
-            auditor,
-            digest,
-            restricted,
-        } => add_user(
-            tables,
-            alloc,
-            User {
-                id,
-                special,
-                auditor,
-                revoked: false,
-                digest,
-                restricted,
-            },
-        ),
-        Operation::AltUser {
-            id,
-            special,
-            auditor,
-            revoked,
-            digest,
-            restricted,
-        } => alt_user(
-            tables,
-            alloc,
-            User {
-                id,
-                special,
-                auditor,
-                revoked,
-                digest,
-                restricted,
-            },
-        ),
-        Operation::DelUser { id } => del_user(tables, alloc, id),
-        Operation::AddGroup { name } => add_group(tables, alloc, name),
-        Operation::Connect { user, group } => connect(tables, alloc, Connect { user, group }),
-        Operation::Remove { user, group } => remove(tables, alloc, Connect { user, group }),
         Operation::RDefine {
             class,
             pattern,
             owner,
             uacc,
             warning,
-        } => rdefine(
-            tables,
-            alloc,
-            Profile {
-                class,
-                pattern,
-                owner,
-                uacc,
-                warning,
-                entries: Entries::new(alloc),
-            },
-        ),
+        } => {
+            let profile = definition(alloc, class, pattern, owner, uacc, warning);
+            rdefine(tables, alloc, profile)
+        }
         Operation::RAlter {
             class,
             pattern,
             owner,
             uacc,
             warning,
-        } => ralter(
-            tables,
-            alloc,
-            Profile {
-                class,
-                pattern,
-                owner,
-                uacc,
-                warning,
-                entries: Entries::new(alloc),
-            },
-        ),
+        } => {
+            let profile = definition(alloc, class, pattern, owner, uacc, warning);
+            ralter(tables, alloc, profile)
+        }
         Operation::RDelete { class, pattern } => rdelete(tables, alloc, class, &pattern),
         Operation::Permit {
             class,
@@ -178,23 +167,63 @@ fn changed_on<T: Tables>(tables: &mut T, alloc: Global, op: &Operation) -> Decid
             id,
             when,
         } => permit_delete(tables, alloc, class, &pattern, &id, when),
+        _ => unreachable!(),
+    }
+}
+
+// What an operation comes to that whoever asks has the right to.
+fn changed_on<T: Tables>(tables: &mut T, alloc: Global, op: &Operation) -> Decided
+    ensures kept { IsKept T.is_sure T.represents T.may_leave tables.old tables.new }
+    ensures outcome { Answers (T.is_sure tables.new) (T.represents tables.old) result (λ s o. IsKeyed s → IsOutcome s (state_outcome (changed s op.now)) o) }
+{
+    match *op {
+        Operation::AddUser {
+            id,
+            special,
+            auditor,
+            digest,
+            restricted,
+        } => {
+            let user = given_user(id, special, auditor, false, digest, restricted);
+            add_user(tables, alloc, user)
+        }
+        Operation::AltUser {
+            id,
+            special,
+            auditor,
+            revoked,
+            digest,
+            restricted,
+        } => {
+            let user = given_user(id, special, auditor, revoked, digest, restricted);
+            alt_user(tables, alloc, user)
+        }
+        Operation::DelUser { id } => del_user(tables, alloc, id),
+        Operation::AddGroup { name } => add_group(tables, alloc, name),
+        Operation::Connect { user, group } => connect(tables, alloc, Connect { user, group }),
+        Operation::Remove { user, group } => remove(tables, alloc, Connect { user, group }),
         Operation::ClassActive { class, active } => class_active(tables, alloc, class, active),
         Operation::DefineConsole { name, auth, mode } => {
             define_console(tables, alloc, name, auth, mode)
         }
+        Operation::RDefine { .. }
+        | Operation::RAlter { .. }
+        | Operation::RDelete { .. }
+        | Operation::Permit { .. }
+        | Operation::PermitDelete { .. } => profile_changed_on(tables, alloc, op),
     }
 }
 
-/// What an operation of administration comes to that is asked at a console: who may ask (E10 to E13), the right (E50,
-/// E51), and what the operation itself refuses.
+/// What an operation of administration comes to that is asked at a console, whose row is loaded: who may ask (E10 to
+/// E13), the right (E50, E51), and what the operation itself refuses.
 pub fn admin_on<T: Tables>(
     tables: &mut T,
     alloc: Global,
-    console: &ConsoleName,
+    console: Option<ConsoleRow>,
     op: &Operation,
 ) -> Decided
     ensures kept { IsKept T.is_sure T.represents T.may_leave tables.old tables.new }
-    ensures outcome { Answers (T.is_sure tables.new) (T.represents tables.old) result (λ s o. IsOutcome s (admin_outcome s console.now op.now) o) }
+    ensures outcome { Answers (T.is_sure tables.new) (T.represents tables.old) result (λ s o. (name : Name) → console ≡ console_at s.board name → IsKeyed s → IsOutcome s (admin_outcome s name op.now) o) }
 {
     let asking = match asking_on(tables, alloc, console)? {
         Ok(asking) => asking,

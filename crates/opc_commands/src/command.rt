@@ -31,6 +31,7 @@ use opc_policy::unit_kind::UnitKindAt;
 use opc_policy::user::User;
 use opc_reader::command::{Command, Password};
 use opc_reader::line::{ReadFault, read_command};
+use opc_rulings::asking::console_for;
 use opc_rulings::ruling::{logon_ruling_on, ruling_on, shown_lines};
 use opc_sights::sight::{console_sight_on, event_sight_on, sight_on};
 use opc_state::tables::Tables;
@@ -257,8 +258,8 @@ fn typed<T: Tables>(
     }
 }
 
-/// What a command comes to that is typed at a console, whose row is loaded. It loads only what the
-/// tests need that are reached: a command that is denied sees no board.
+/// What a command comes to that is typed at a console, whose row is loaded. It loads only what the tests need that are
+/// reached: a command that is denied sees no board.
 pub fn command_on<T: Tables>(
     tables: &mut T,
     alloc: Global,
@@ -268,14 +269,12 @@ pub fn command_on<T: Tables>(
     ensures kept { IsKept T.is_sure T.represents T.may_leave tables.old tables.new }
     ensures outcome { Answers (T.is_sure tables.new) (T.represents tables.old) result (λ s o. (name : Name) → console ≡ console_at s.board name → IsOutcome s (command_outcome s name text.now) o) }
 {
-    let Some(row) = console else {
-        return denied(Fault::NoConsole, None);
+    let console = match console_for(console) {
+        Ok(console) => console,
+        Err(denial) => return Ok(Err(denial)),
     };
-    if !row.online {
-        return denied(Fault::ConsoleOffline, None);
-    }
     match read(text) {
-        Ok(command) => typed(tables, alloc, &row, &command),
+        Ok(command) => typed(tables, alloc, &console, &command),
         Err(fault) => denied(fault::of_line(fault), None),
     }
 }

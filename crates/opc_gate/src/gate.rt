@@ -1,10 +1,11 @@
 //! The gate.
-ghost use Rattle.std.specs.Prelude.{◌≡◌, ◌≢◌, ◌≤◌, ◌⊎◌, [], IfErr, IfOk, OnErr, OnOk, Ok, Err, length, ℕ};
+ghost use Rattle.std.specs.Prelude.{◌≡◌, ◌≢◌, ◌≤◌, ◌⊎◌, [], IfErr, IfOk, IfSome, OnErr, OnOk, Ok, Err, length, ℕ};
 ghost use Rattle.opc_policy.specs.declared.fault.Fault.TheVariants as why;
 ghost use Rattle.std.specs.Option.{option_and_then};
 ghost use Rattle.opc_board.specs.Facts.{console_at};
 ghost use Rattle.opc_board.specs.Texts.{text_or};
 ghost use Rattle.opc_state.specs.Asked.{Answers};
+ghost use Rattle.opc_state.specs.Facts.{IsKeyed};
 ghost use Rattle.opc_state.specs.PolicyFile.{rows_of};
 ghost use Rattle.opc_state.specs.State.{State};
 ghost use Rattle.opc_state.specs.Changes.{IsKept};
@@ -70,13 +71,14 @@ fn console_of(request: &Request) -> Option<ConsoleName>
     }
 }
 
-// The row of the console that a request names.
+// The row of the console that a request names. Where it names one, the state is in the order of its keys.
 fn console_on<T: Tables>(
     tables: &mut T,
     request: &Request,
 ) -> Result<Option<ConsoleRow>, StoreFault>
     ensures kept { IsKept T.is_sure T.represents T.may_leave tables.old tables.new }
     ensures console { Answers (T.is_sure tables.new) (T.represents tables.old) result (λ s console. console ≡ option_and_then (console_at s.board) (console_of (input_of request.now))) }
+    ensures keyed { Answers (T.is_sure tables.new) (T.represents tables.old) result (λ s _. IfSome (console_of (input_of request.now)) (λ _. IsKeyed s)) }
 {
     match console_of(request) {
         Some(name) => tables.console(&name),
@@ -199,22 +201,16 @@ fn outcome_on<T: Tables>(
     request: &Request,
 ) -> Decided
     ensures kept { IsKept T.is_sure T.represents T.may_leave tables.old tables.new }
-    ensures outcome { Answers (T.is_sure tables.new) (T.represents tables.old) result (λ s o. console ≡ option_and_then (console_at s.board) (console_of (input_of request.now)) → IsOutcome s (outcome_of s (input_of request.now)) o) }
+    ensures outcome { Answers (T.is_sure tables.new) (T.represents tables.old) result (λ s o. console ≡ option_and_then (console_at s.board) (console_of (input_of request.now)) → IfSome (console_of (input_of request.now)) (λ _. IsKeyed s) → IsOutcome s (outcome_of s (input_of request.now)) o) }
 {
     match request {
         Request::Command { text, .. } => command_on(tables, alloc, console, text.as_str()),
-        Request::Admin { console, op } => admin_on(tables, alloc, console, op),
-        Request::ListProfiles { console, class } => profiles_on(tables, alloc, console, *class),
-        Request::ListAccount {
-            console,
-            from,
-            count,
-        } => account_on(tables, alloc, console, *from, *count),
-        Request::Import {
-            console,
-            batch,
-            rows,
-        } => import_on(tables, alloc, console, *batch, rows),
+        Request::Admin { op, .. } => admin_on(tables, alloc, console, op),
+        Request::ListProfiles { class, .. } => profiles_on(tables, alloc, console, *class),
+        Request::ListAccount { from, count, .. } => {
+            account_on(tables, alloc, console, *from, *count)
+        }
+        Request::Import { batch, rows, .. } => import_on(tables, alloc, console, *batch, rows),
         Request::Event(event) => event_on(tables, alloc, event),
     }
 }

@@ -1,6 +1,7 @@
 //! What an import comes to: loads, and no change.
 ghost use Rattle.std.specs.Prelude.{◌≡◌, ◌∷◌, ◌++◌, [], IfOk, OnOk, None, codes, string_bytes};
 ghost use Rattle.std.specs.Fmt.{decimal};
+ghost use Rattle.opc_board.specs.Facts.{Name, console_at};
 ghost use Rattle.opc_board.specs.Texts.{columns};
 ghost use Rattle.opc_state.specs.declared.change.Edit.TheVariants.{PutBatch};
 ghost use Rattle.opc_state.specs.Asked.{Answers};
@@ -13,10 +14,10 @@ ghost use Rattle.opc_machine.specs.Rights.{is_special};
 
 use crate::same::same_rows;
 use opc_board::line::{Item, Line};
+use opc_board::rows::ConsoleRow;
 use opc_board::text::KeptText;
 use opc_bootstrap::bootstrap::founding_on;
 use opc_machine::outcome::{Decided, Deed, denied};
-use opc_names::name::ConsoleName;
 use opc_policy::fault::Fault;
 use opc_policy::row::Row;
 use opc_policy::source::StoreFault;
@@ -121,17 +122,17 @@ fn is_special(user: &Option<User>) -> bool
     }
 }
 
-/// What an import comes to: who asks is SPECIAL (E50), and then the number is asked for (E56), and only for a new
-/// number what is in the way of the rows (E52, E53, E41).
+/// What an import comes to that is asked at a console, whose row is loaded: who asks is SPECIAL (E50), and then the
+/// number is asked for (E56), and only for a new number what is in the way of the rows (E52, E53, E41).
 pub fn import_on<T: Tables>(
     tables: &mut T,
     alloc: Global,
-    console: &ConsoleName,
+    console: Option<ConsoleRow>,
     batch: u32,
     rows: &Rows<Row>,
 ) -> Decided
     ensures kept { IsKept T.is_sure T.represents T.may_leave tables.old tables.new }
-    ensures outcome { Answers (T.is_sure tables.new) (T.represents tables.old) result (λ s o. IsOutcome s (import_outcome s console.now batch rows.now) o) }
+    ensures outcome { Answers (T.is_sure tables.new) (T.represents tables.old) result (λ s o. (name : Name) → console ≡ console_at s.board name → IsOutcome s (import_outcome s name batch rows.now) o) }
 {
     let asking = match asking_on(tables, alloc, console)? {
         Ok(asking) => asking,

@@ -1,6 +1,7 @@
 //! Listings of the account.
 ghost use Rattle.std.specs.Prelude.{◌≡◌, ◌∷◌, [], IfOk, map, string_bytes};
 ghost use Rattle.std.specs.Fmt.{decimal};
+ghost use Rattle.opc_board.specs.Facts.{Name, console_at};
 ghost use Rattle.opc_board.specs.Texts.{columns};
 ghost use Rattle.opc_state.specs.Asked.{Answers};
 ghost use Rattle.opc_state.specs.Changes.{IsKept};
@@ -10,9 +11,9 @@ ghost use Rattle.opc_machine.specs.Listings.{account_line, account_outcome};
 
 use crate::told::told;
 use opc_board::line::{Item, Line};
+use opc_board::rows::ConsoleRow;
 use opc_board::text::KeptText;
 use opc_machine::outcome::{Decided, denied};
-use opc_names::name::ConsoleName;
 use opc_policy::fault::Fault;
 use opc_policy::source::StoreFault;
 use opc_rows::Rows;
@@ -65,17 +66,17 @@ fn lines_on<T: Tables>(
     account_lines(alloc, rows.as_slice())
 }
 
-/// What a listing of the account comes to: its rows from a number on, as many as asked for at most, where SPECIAL or
-/// AUDITOR asks (else E50).
+/// What a listing of the account comes to that is asked at a console, whose row is loaded: its rows from a number on, as
+/// many as asked for at most, where SPECIAL or AUDITOR asks (else E50).
 pub fn account_on<T: Tables>(
     tables: &mut T,
     alloc: Global,
-    console: &ConsoleName,
+    console: Option<ConsoleRow>,
     from: u64,
     count: u32,
 ) -> Decided
     ensures kept { IsKept T.is_sure T.represents T.may_leave tables.old tables.new }
-    ensures outcome { Answers (T.is_sure tables.new) (T.represents tables.old) result (λ s o. IsOutcome s (account_outcome s console.now from count) o) }
+    ensures outcome { Answers (T.is_sure tables.new) (T.represents tables.old) result (λ s o. (name : Name) → console ≡ console_at s.board name → IsOutcome s (account_outcome s name from count) o) }
 {
     let asking = match asking_on(tables, alloc, console)? {
         Ok(asking) => asking,

@@ -1,5 +1,6 @@
 //! Listings of profiles.
 ghost use Rattle.std.specs.Prelude.{◌≡◌, ◌∷◌, ◌||◌, [], IfOk, Some, codes, filter, map, string_bytes};
+ghost use Rattle.opc_board.specs.Facts.{Name, console_at};
 ghost use Rattle.opc_board.specs.Texts.{columns};
 ghost use Rattle.opc_names.specs.Spellings.{level_text};
 ghost use Rattle.opc_policy.specs.Deciding.{of_class};
@@ -19,7 +20,7 @@ use opc_board::text::KeptText;
 use opc_machine::outcome::Decided;
 use opc_names::class::Class;
 use opc_names::level::Level;
-use opc_names::name::{ConsoleName, GroupName, UserId};
+use opc_names::name::{GroupName, UserId};
 use opc_policy::profile::Profile;
 use opc_policy::source::StoreFault;
 use opc_policy::user::User;
@@ -165,15 +166,16 @@ fn lines_on<T: Tables>(
     }
 }
 
-/// What a listing of the profiles of a class comes to: those that may be shown at the console, in their order.
+/// What a listing of the profiles of a class comes to that is asked at a console, whose row is loaded: those that may be
+/// shown there, in their order.
 pub fn profiles_on<T: Tables>(
     tables: &mut T,
     alloc: Global,
-    console: &ConsoleName,
+    console: Option<ConsoleRow>,
     class: Class,
 ) -> Decided
     ensures kept { IsKept T.is_sure T.represents T.may_leave tables.old tables.new }
-    ensures outcome { Answers (T.is_sure tables.new) (T.represents tables.old) result (λ s o. IsOutcome s (profiles_outcome s console.now class) o) }
+    ensures outcome { Answers (T.is_sure tables.new) (T.represents tables.old) result (λ s o. (name : Name) → console ≡ console_at s.board name → IsOutcome s (profiles_outcome s name class) o) }
 {
     let asking = match asking_on(tables, alloc, console)? {
         Ok(asking) => asking,

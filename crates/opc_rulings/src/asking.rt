@@ -1,10 +1,10 @@
 //! The console that asks, and who acts there.
 ghost use Rattle.std.specs.Prelude.{◌≡◌, ◌&&◌, IfOk, Some};
 ghost use Rattle.std.specs.Option.{is_none};
-ghost use Rattle.opc_board.specs.Facts.{console_at};
+ghost use Rattle.opc_board.specs.Facts.{Name, console_at};
 ghost use Rattle.opc_state.specs.Asked.{Answers};
 ghost use Rattle.opc_state.specs.Changes.{IsKept};
-ghost use Rattle.opc_state.specs.Facts.{IsKeyed};
+ghost use Rattle.opc_state.specs.State.{State};
 ghost use Rattle.opc_machine.specs.Rights.{is_owner, is_special, sees_all};
 ghost use Rattle.opc_machine.specs.Rulings.{is_required, is_revoked};
 ghost use Rattle.opc_rulings.specs.Asking.{IsAsking, IsConsoleFor};
@@ -12,7 +12,6 @@ ghost use Rattle.opc_rulings.specs.Asking.{IsAsking, IsConsoleFor};
 use crate::ruling::acting_on;
 use opc_board::rows::ConsoleRow;
 use opc_machine::outcome::Denial;
-use opc_names::name::ConsoleName;
 use opc_policy::fault::Fault;
 use opc_policy::mode::Mode;
 use opc_policy::profile::Profile;
@@ -29,29 +28,24 @@ pub struct Asking {
     pub user: Option<User>,
 }
 
-/// The console of a name: it has to be there (E10), and online (E11).
-pub fn console_for<T: Tables>(
-    tables: &mut T,
-    name: &ConsoleName,
-) -> Result<Result<ConsoleRow, Denial>, StoreFault>
-    ensures kept { IsKept T.is_sure T.represents T.may_leave tables.old tables.new }
-    ensures console { Answers (T.is_sure tables.new) (T.represents tables.old) result (λ s console. IsConsoleFor s name.now console) }
-    ensures row { Answers (T.is_sure tables.new) (T.represents tables.old) result (λ s console. IfOk console (λ c. console_at s.board c.name ≡ Some c)) }
-    ensures keyed { Answers (T.is_sure tables.new) (T.represents tables.old) result (λ s _. IsKeyed s) }
+/// The console of a name, whose row is loaded: it has to be there (E10), and online (E11).
+pub fn console_for(console: Option<ConsoleRow>) -> Result<ConsoleRow, Denial>
+    ensures console { (s : State) → (name : Name) → console ≡ console_at s.board name → IsConsoleFor s name result }
+    ensures row { IfOk result (λ row. console ≡ Some row) }
 {
-    let Some(console) = tables.console(name)? else {
-        return Ok(Err(Denial {
+    let Some(row) = console else {
+        return Err(Denial {
             fault: Fault::NoConsole,
             rule: None,
-        }));
+        });
     };
-    if !console.online {
-        return Ok(Err(Denial {
+    if !row.online {
+        return Err(Denial {
             fault: Fault::ConsoleOffline,
             rule: None,
-        }));
+        });
     }
-    Ok(Ok(console))
+    Ok(row)
 }
 
 // Whether nobody is on where somebody has to be.
@@ -73,18 +67,17 @@ fn is_revoked(user: &Option<User>) -> bool
     }
 }
 
-/// The console that asks and who acts there. It has to be there and online; somebody has to be on where its mode is
-/// REQUIRED (E12), and whoever acts may not be revoked (E13).
+/// The console that asks, whose row is loaded, and who acts there. It has to be there and online; somebody has to be on
+/// where its mode is REQUIRED (E12), and whoever acts may not be revoked (E13).
 pub fn asking_on<T: Tables>(
     tables: &mut T,
     alloc: Global,
-    name: &ConsoleName,
+    console: Option<ConsoleRow>,
 ) -> Result<Result<Asking, Denial>, StoreFault>
     ensures kept { IsKept T.is_sure T.represents T.may_leave tables.old tables.new }
-    ensures asking { Answers (T.is_sure tables.new) (T.represents tables.old) result (λ s asking. IsAsking s name.now asking) }
-    ensures keyed { Answers (T.is_sure tables.new) (T.represents tables.old) result (λ s _. IsKeyed s) }
+    ensures asking { Answers (T.is_sure tables.new) (T.represents tables.old) result (λ s asking. (name : Name) → console ≡ console_at s.board name → IsAsking s name asking) }
 {
-    let console = match console_for(tables, name)? {
+    let console = match console_for(console) {
         Ok(console) => console,
         Err(denial) => return Ok(Err(denial)),
     };

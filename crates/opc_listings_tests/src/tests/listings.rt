@@ -6,6 +6,7 @@ use opc_names::class::Class;
 use opc_names::name::{ConsoleName, UserId};
 use opc_policy::fault::Fault;
 use opc_policy::user::User;
+use opc_state::tables::Tables;
 use std::test::Fail;
 
 const ALL: &str =
@@ -34,8 +35,8 @@ fn profiles_are_listed(rt: HostRuntime) -> Result<(), Fail> {
         ("ANNA", false, false, "C2", ""),
     ] {
         let mut tables = room(id, special, auditor, false)?;
-        let console = ConsoleName::read(console)?;
-        let decided = profiles_on(&mut tables, rt.alloc(), &console, Class::Opercmds)?;
+        let console = tables.console(&ConsoleName::read(console)?)?;
+        let decided = profiles_on(&mut tables, rt.alloc(), console, Class::Opercmds)?;
         let mut told = String::new(rt.alloc());
         if let Ok(deed) = decided {
             for line in deed.lines.as_slice() {
@@ -52,8 +53,8 @@ fn profiles_are_listed(rt: HostRuntime) -> Result<(), Fail> {
 #[test]
 fn the_account_is_listed(rt: HostRuntime) -> Result<(), Fail> {
     let mut tables = room("AUDIT", false, true, false)?;
-    let console = ConsoleName::read("C1")?;
-    let decided = account_on(&mut tables, rt.alloc(), &console, 2, 1)?;
+    let console = tables.console(&ConsoleName::read("C1")?)?;
+    let decided = account_on(&mut tables, rt.alloc(), console, 2, 1)?;
     let mut told = String::new(rt.alloc());
     if let Ok(deed) = decided {
         for line in deed.lines.as_slice() {
@@ -67,15 +68,16 @@ fn the_account_is_listed(rt: HostRuntime) -> Result<(), Fail> {
 
 #[test]
 fn listings_are_refused(rt: HostRuntime) -> Result<(), Fail> {
-    let console = ConsoleName::read("C1")?;
     let mut tables = room("CARL", false, false, false)?;
-    let refused = account_on(&mut tables, rt.alloc(), &console, 1, 10)?;
+    let console = tables.console(&ConsoleName::read("C1")?)?;
+    let refused = account_on(&mut tables, rt.alloc(), console, 1, 10)?;
     assert_eq!(rt;
         refused.err().map(|denial| denial.fault),
         Some(Fault::NotSpecial)
     );
     let mut tables = room("OLD", true, true, true)?;
-    let refused = profiles_on(&mut tables, rt.alloc(), &console, Class::Opercmds)?;
+    let console = tables.console(&ConsoleName::read("C1")?)?;
+    let refused = profiles_on(&mut tables, rt.alloc(), console, Class::Opercmds)?;
     assert_eq!(rt;
         refused.err().map(|denial| denial.fault),
         Some(Fault::Revoked)

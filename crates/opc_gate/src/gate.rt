@@ -9,6 +9,7 @@ ghost use Rattle.opc_state.specs.Facts.{IsKeyed};
 ghost use Rattle.opc_state.specs.PolicyFile.{rows_of};
 ghost use Rattle.opc_state.specs.State.{State};
 ghost use Rattle.opc_state.specs.Changes.{IsKept};
+ghost use Rattle.opc_cache.specs.Cache.{IsRight};
 ghost use Rattle.opc_bootstrap.specs.RowEdits.{HaveNothingNew, IsBootstrap};
 ghost use Rattle.opc_machine.specs.Bootstrap.{bootstrapped};
 ghost use Rattle.opc_machine.specs.Inputs.{Input, console_of, input_of};
@@ -284,10 +285,12 @@ impl<T: Tables> Gate<Cached<T>> {
         }
     }
 
-    /// How many names are cached, 256 at most.
+    /// How many names are cached, 256 at most. Each has the pattern that decides it in every state that the gate represents,
+    /// or none where none does.
     pub fn cached(&self) -> u32
         ensures count { result ≡ length self.now.recent }
         ensures most { result ≤ 256 }
+        ensures right { (s : State) → ⟦<Cached<T> as Tables>⟧.represents self.now s → IsRight s.policy self.now.recent }
     {
         self.tables.cached()
     }

@@ -5,6 +5,7 @@ ghost use Rattle.std.specs.Option.{option_copied};
 ghost use Rattle.sqlite.specs.Held.{state};
 ghost use Rattle.sqlite.specs.State.{HasCleanDisk};
 ghost use Rattle.opc_statements.specs.Steps.{Stays, Looks};
+ghost use Rattle.opc_policy.specs.Deciding.{of_class};
 ghost use Rattle.opc_policy.specs.Profiles.{with_permission};
 ghost use Rattle.opc_state.specs.Changes.{with_profiles};
 ghost use Rattle.opc_state.specs.Loads.{access_list, has_entry, level_for};
@@ -14,6 +15,7 @@ ghost use Rattle.opc_stored.specs.Contents.{Contents};
 ghost use Rattle.opc_stored.specs.Made.{IsMade};
 ghost use Rattle.opc_stored.specs.Represented.{entry_row, or_empty};
 ghost use Rattle.opc_stored.specs.State.{IsNamed, IsAccessList};
+ghost use Rattle.opc_policy_tables.specs.Lists.{HaveLists};
 ghost use Rattle.sqlite.specs.Order.{column};
 ghost use Rattle.sqlite.specs.declared.types.Value.TheVariants.{Text};
 ghost use Rattle.opc_names.specs.declared.class.Class.{Class as TheClass};
@@ -222,6 +224,23 @@ pub fn entries_on<S: Alter>(
         params![class.text(), pattern.text(), most],
     )?;
     entries_in(alloc, rows.as_slice())
+}
+
+/// The rows of the access lists of a class, in the order of their patterns.
+pub(crate) fn entry_rows_on<S: Alter>(
+    conn: &mut Connection<S>,
+    class: Class,
+) -> Result<Vec<Row>, StoreFault>
+    requires { conn.old.in_transaction ≡ false }
+    ensures mode { conn.new.in_transaction ≡ false }
+    ensures looks { Looks S.Store conn.old conn.new result }
+    ensures found { Finds S.Store conn.old conn.new result (λ s v. HaveLists v.items (of_class class s.policy.profiles)) }
+{
+    read(
+        conn,
+        "SELECT class, pattern, id, console, level FROM entries WHERE class = ?1 ORDER BY pattern, id, console",
+        params![class.text()],
+    )
 }
 
 /// The level of its entry for an id, at one console or, where none is given, at every console.

@@ -1,21 +1,16 @@
 //! The access lists of many profiles, out of the rows of one query.
 ghost use Rattle.std.specs.Prelude.{◌≡◌, ◌≤◌, List, IfOk, filter, length, map, take_while, false, true};
 ghost use Rattle.std.specs.List.Sorted.{IsPartitionPoint, IsPartitionedBy};
-ghost use Rattle.opc_statements.specs.Steps.{Looks};
-ghost use Rattle.opc_policy.specs.Deciding.{of_class};
 ghost use Rattle.opc_policy.specs.declared.profile.Profile.{Profile as TheProfile};
 ghost use Rattle.opc_policy_tables.specs.Lists.{AreByPattern, HasList, HaveLists, is_before, is_of, pattern_in};
-ghost use Rattle.opc_stored.specs.Asked.{Finds};
 ghost use Rattle.opc_stored.specs.Represented.{profile_row};
 
 use crate::entries::entries_in;
 use crate::profiles::profile_in;
-use opc_names::class::Class;
 use opc_policy::profile::Profile;
 use opc_policy::source::StoreFault;
-use opc_stored::queries::read;
+use sqlite::Row;
 use sqlite::types::ValueRef;
-use sqlite::{Alter, Connection, Row, params};
 use std::alloc::Global;
 
 // The pattern of the profile that an entry is of.
@@ -89,21 +84,4 @@ pub(crate) fn whole_in(
         profiles.push(whole_of(alloc, row, entries)?)?;
     }
     Ok(profiles)
-}
-
-/// The rows of the access lists of a class, in the order of their patterns.
-pub(crate) fn entry_rows_on<S: Alter>(
-    conn: &mut Connection<S>,
-    class: Class,
-) -> Result<Vec<Row>, StoreFault>
-    requires { conn.old.in_transaction ≡ false }
-    ensures mode { conn.new.in_transaction ≡ false }
-    ensures looks { Looks S.Store conn.old conn.new result }
-    ensures found { Finds S.Store conn.old conn.new result (λ s v. HaveLists v.items (of_class class s.policy.profiles)) }
-{
-    read(
-        conn,
-        "SELECT class, pattern, id, console, level FROM entries WHERE class = ?1 ORDER BY pattern, id, console",
-        params![class.text()],
-    )
 }

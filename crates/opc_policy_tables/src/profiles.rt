@@ -23,9 +23,9 @@ ghost use Rattle.opc_names.specs.Spellings.{class_text};
 ghost use Rattle.opc_names.specs.declared.class.Class.{Class as TheClass};
 ghost use Rattle.opc_policy.specs.declared.profile.Profile.{Profile as TheProfile};
 
-use crate::entries::{access_list_on, insert_entries};
+use crate::entries::{access_list_on, entry_rows_on, insert_entries};
 use crate::levels::{level_in, rank_of};
-use crate::lists::{entry_rows_on, whole_in};
+use crate::lists::whole_in;
 use crate::there::is_there_on;
 use opc_names::class::Class;
 use opc_names::laws::keys_order_patterns;

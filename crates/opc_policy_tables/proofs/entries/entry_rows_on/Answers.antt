@@ -1,7 +1,7 @@
 use Rattle.std.proofs.lemmas.Result.{IfOk-weaker}
 use Rattle.opc_statements.proofs.Asked.{never_writes}
 use Rattle.opc_policy_tables.proofs.ListLoads.{lists_asked, lists_told}
-use Rattle.opc_policy_tables.proofs.lists.entry_rows_on.Goals as goal
+use Rattle.opc_policy_tables.proofs.entries.entry_rows_on.Goals as goal
 
 pub read-requires-clause-quiet : goal.read-requires-clause-quiet
 read-requires-clause-quiet g c = never_writes lists_asked

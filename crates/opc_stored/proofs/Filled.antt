@@ -1,5 +1,5 @@
 -- What the statements do that fill new tables.
-use Rattle.std.proofs.Common.{◌≡◌, ℕ, List, [], ◌∷◌, drop, codes, Bool, Ok, refl, ap₂}
+use Rattle.std.proofs.Common.{◌≡◌, ℕ, List, [], ◌∷◌, drop, Bool, Ok, refl, ap₂}
 use Rattle.sqlite.specs.declared.types.Value.{Value}
 use Rattle.sqlite.specs.declared.types.Value.TheVariants.{Null}
 use Rattle.sqlite.specs.Term.{Term, lit, col}
@@ -15,20 +15,12 @@ use Rattle.opc_statements.proofs.Steps.{cast_null, cast_int}
 use Rattle.opc_statements.proofs.Written.{adds}
 use Rattle.opc_stored.specs.Tables.{the_schema}
 use Rattle.opc_stored.specs.Made.{IsMade}
+use Rattle.opc_stored.specs.Making.{insert_version, insert_class, insert_halted}
 use Rattle.opc_stored.specs.Contents.{Contents}
 use Rattle.opc_names.specs.declared.class.Class.{Class}
 use Rattle.opc_stored.specs.Placed.{meta_at, classes_at, board_at}
 use Rattle.opc_stored.specs.Represented.{class_row, version_row, halted_row}
 use Rattle.opc_stored.proofs.OtherTables.{with_meta, with_classes, with_board}
-
-abbrev pub insert_version : List ℕ
-insert_version = codes "INSERT INTO meta VALUES (?1)"
-
-abbrev pub insert_class : List ℕ
-insert_class = codes "INSERT INTO classes VALUES (?1, ?2)"
-
-abbrev pub insert_halted : List ℕ
-insert_halted = codes "INSERT INTO board VALUES (?1)"
 
 abbrev one : List Term
 one = col 0 0 ∷ []

@@ -2,6 +2,7 @@ pub mod Tables
 pub mod Contents
 pub mod Placed
 pub mod Made
+pub mod Making
 pub mod State
 pub mod Represented
 pub mod Changes

@@ -1,9 +1,15 @@
-use Rattle.std.proofs.Common.{arith}
+use Rattle.std.proofs.Common.{◌++◌, arith}
 use Rattle.std.proofs.lemmas.Result.{on_ok_weaker}
 use Rattle.sqlite.specs.Held.{state}
 use Rattle.sqlite.specs.State.{HasCleanDisk}
-use Rattle.opc_stored.proofs.Made.{makes_lasting, all_made}
+use Rattle.opc_stored.specs.Making.{lasting, last, indexes}
+use Rattle.opc_stored.proofs.Made.{makes_lasting, all_made, ran_then}
 use Rattle.opc_stored.proofs.making.create_tables.Goals as goal
+
+pub returns-clause-ran : goal.returns-clause-ran
+returns-clause-ran g c clean =
+    let early : HasCleanDisk (state g.S.Store c.run_all.new.tx.conn.now) = omega (arith, c.create_last_tables.ensures.stays.survives.clean) in
+    on_ok_weaker c.create_last_tables.result (λ ran. ran_then g.S.Store lasting (last ++ indexes) c.args.tx.now.conn.now c.run_all.new.tx.conn.now c.create_last_tables.new.tx.conn.now (c.in_ok-run_all.ensures.ran early) ran) (c.create_last_tables.ensures.ran clean)
 
 pub returns-clause-made : goal.returns-clause-made
 returns-clause-made g c clean =

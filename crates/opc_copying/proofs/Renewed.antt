@@ -19,11 +19,12 @@ use Rattle.opc_statements.proofs.Queries.{selecting, alone}
 use Rattle.opc_statements.proofs.Written.{takes, takes_numbers}
 use Rattle.opc_stored.specs.Contents.{Contents}
 use Rattle.opc_stored.specs.Made.{IsMade}
+use Rattle.opc_stored.specs.Making.{insert_version}
 use Rattle.opc_stored.specs.Placed.{meta_at, batches_at}
 use Rattle.opc_stored.specs.Represented.{Represents, version_row}
 use Rattle.opc_stored.specs.State.{IsOrdered}
 use Rattle.opc_stored.specs.Tables.{the_schema}
-use Rattle.opc_stored.proofs.Filled.{adds_version, insert_version}
+use Rattle.opc_stored.proofs.Filled.{adds_version}
 use Rattle.opc_stored.proofs.OtherTables.{with_meta, with_batches as spares_batches}
 use Rattle.opc_old_tables.specs.Tables.{Older}
 use Rattle.opc_old_tables.specs.Old.{IsOldState, old_batch_row, old_batch_values}

@@ -1,5 +1,5 @@
 -- What an opening makes of tables of an older version.
-use Rattle.std.proofs.Common.{◌≡◌, ◌∙◌, ◌≤◌, ◌<◌, ℕ, zero, suc, Ok, Err, Result, IfOk, IfErr, IsTrue, refl, sym, subst, arith, inl, inr}
+use Rattle.std.proofs.Common.{◌≡◌, ◌∙◌, ◌≤◌, ◌<◌, ℕ, zero, suc, Ok, Err, Result, IfOk, IfErr, IsTrue, IsFalse, refl, sym, subst, arith, inl, inr}
 use Rattle.sqlite_trees.specs.declared.store.Store.{Ghosts}
 use Rattle.sqlite.specs.Effect.{Database}
 use Rattle.sqlite.specs.Held.{Held, state}
@@ -8,6 +8,7 @@ use Rattle.sqlite.specs.declared.error.Error.{Error}
 use Rattle.sqlite.proofs.StateLemmas.{survives_then, survives_weaker}
 use Rattle.opc_state.specs.State.{State}
 use Rattle.opc_statements.specs.Steps.{Looks}
+use Rattle.opc_stored.specs.Making.{AreMadeOver}
 use Rattle.opc_stored.specs.Ours.{NamesVersion, has_our_name}
 use Rattle.opc_stored.specs.Represented.{AreTablesOf, Represents}
 use Rattle.opc_stored.proofs.Opened.{found_again}
@@ -29,6 +30,10 @@ older_never v older is = elim older [ inl one ↦ absurd cc | inr two ↦ absurd
 pub never_older : {A : Type 0} (version : Older) (v : ℕ) → v ≡ 3 → v ≡ version_number version → A
 never_older First v is named = absurd cc
 never_older Second v is named = absurd cc
+
+any_ok : {X Y : Type 0} (r : Result X Y) (P : X → Type 0) → ((x : X) → P x) → IfOk r P
+any_ok (Ok x) P f = f x
+any_ok (Err y) P f = tt
 
 both_ok : {X Y : Type 0} (r : Result X Y) (P R Q : X → Type 0) → ((x : X) → P x → R x → Q x) → IfOk r P → IfOk r R → IfOk r Q
 both_ok (Ok x) P R Q f p q = f x p q
@@ -61,6 +66,9 @@ module _ {S : Type 0} (g : Ghosts S) (version : ℕ) (old asked : Held S) (live 
         → IfErr r (λ e. HasCleanDisk (state g (conn e)) → IsTrue (state g old).is_open → IsTrue (state g (conn e)).is_open → (state g (conn e)).now ≡ (state g old).now)
     unharmed = both_err r (λ e. Leaves (conn e)) _ _ (λ e left same clean was_open is_open. let first = early (conn e) left clean in same clean is_open ∙ looks.same first (looks.opened first))
 
+    pub unnamed : IsTrue (has_our_name (state g old).now.schema) → IfOk r (λ store. HasCleanDisk (state g store) → IsFalse (has_our_name (state g old).now.schema) → AreMadeOver g old (state g store).now.trees)
+    unnamed named = any_ok r (λ store. HasCleanDisk (state g store) → IsFalse (has_our_name (state g old).now.schema) → AreMadeOver g old (state g store).now.trees) (λ store clean none. absurd cc)
+
     module _ (older : IsOlder version) (names : HasCleanDisk (state g asked) → NamesVersion version (state g old) (state g asked)) where
       was_older : HasCleanDisk (state g asked) → WasOlder g (state g old)
       was_older clean = (asked, version, names clean, older)
@@ -82,17 +90,17 @@ module _ {S : Type 0} (g : Ghosts S) (version : ℕ) (old asked : Held S) (live 
           both_err r (λ e. Leaves (conn e)) (λ e. IsNoVersion (fault e)) (λ e. HasCleanDisk (state g (conn e)) → IsTrue (has_our_name (state g old).now.schema) → IsRefused g (fault e) (state g old) (state g (conn e)))
           (λ e left told clean named. elim told [ inl memory ↦ inr (inr (inl memory)) | inr store ↦ inr (inr (inr (store, was_older (early (conn e) left clean)))) ])
 
-      crashes : IsTrue (has_our_name (state g old).now.schema) → (new : Held S) → Leaves new → Survives (state g old) (state g new) (MayLeave g (state g old))
+      crashes : IsTrue (has_our_name (state g old).now.schema) → (new : Held S) → Leaves new → Survives (state g old) (state g new) (MayLeave g old)
       crashes named new left =
-          survives_then (state g old) (state g asked) (state g new) (λ _. ⊥) (λ db. (v : Older) → (s : State) → RepresentsOld v (state g asked).now s → AreTablesOf db s) (MayLeave g (state g old)) (λ _ db none. absurd none)
+          survives_then (state g old) (state g asked) (state g new) (λ _. ⊥) (λ db. (v : Older) → (s : State) → RepresentsOld v (state g asked).now s → AreTablesOf db s) (MayLeave g old) (λ _ db none. absurd none)
           (λ clean db h. let first = early new left clean in inr (named, was_older first, λ v s are. h v s (begun first v s are))) looks.survives left
 
-      pub crash : IsTrue (has_our_name (state g old).now.schema) → IfOk r Leaves → IfOk r (λ store. Survives (state g old) (state g store) (MayLeave g (state g old)))
+      pub crash : IsTrue (has_our_name (state g old).now.schema) → IfOk r Leaves → IfOk r (λ store. Survives (state g old) (state g store) (MayLeave g old))
       crash named left =
-          both_ok r Leaves Leaves (λ store. Survives (state g old) (state g store) (MayLeave g (state g old))) (λ store it _. crashes named store it) left left
+          both_ok r Leaves Leaves (λ store. Survives (state g old) (state g store) (MayLeave g old)) (λ store it _. crashes named store it) left left
 
       pub crash_at_fault : IsTrue (has_our_name (state g old).now.schema) → IfErr r (λ e. Leaves (conn e)) → IfErr r (λ e. IsNoVersion (fault e))
-          → IfErr r (λ e. Survives (state g old) (state g (conn e)) (λ db. IsNoVersion (fault e) × MayLeave g (state g old) db))
+          → IfErr r (λ e. Survives (state g old) (state g (conn e)) (λ db. IsNoVersion (fault e) × MayLeave g old db))
       crash_at_fault named =
-          both_err r (λ e. Leaves (conn e)) (λ e. IsNoVersion (fault e)) (λ e. Survives (state g old) (state g (conn e)) (λ db. IsNoVersion (fault e) × MayLeave g (state g old) db))
-          (λ e left told. survives_weaker (state g old) (state g (conn e)) (MayLeave g (state g old)) (λ db. IsNoVersion (fault e) × MayLeave g (state g old) db) (λ _ db h. (told, h)) (crashes named (conn e) left))
+          both_err r (λ e. Leaves (conn e)) (λ e. IsNoVersion (fault e)) (λ e. Survives (state g old) (state g (conn e)) (λ db. IsNoVersion (fault e) × MayLeave g old db))
+          (λ e left told. survives_weaker (state g old) (state g (conn e)) (MayLeave g old) (λ db. IsNoVersion (fault e) × MayLeave g old db) (λ _ db h. (told, h)) (crashes named (conn e) left))

@@ -14,12 +14,16 @@ use Rattle.sqlite.specs.declared.file.Leftover.{Leftover}
 use Rattle.sqlite.specs.declared.error.Error.{Error}
 use Rattle.sqlite.specs.declared.error.Error.TheVariants.{SqlInputError, SqliteFailure}
 use Rattle.sqlite.specs.declared.error.ErrorCode.TheVariants.{CannotOpen, DatabaseBusy, OutOfMemory}
+use Rattle.opc_policy.specs.declared.source.StoreFault.{StoreFault}
+use Rattle.opc_policy.specs.declared.source.StoreFault.TheVariants as store_fault
 use Rattle.opc_store.specs.declared.opening.OpenFault.{OpenFault}
 use Rattle.opc_store.specs.declared.opening.OpenFault.TheVariants as fault
 use Rattle.opc_state.specs.State.{State as TheState, empty}
 use Rattle.opc_statements.specs.Shapes.{no_schema}
 use Rattle.opc_old_tables.specs.Old.{AreOldTablesOf}
 use Rattle.opc_old_tables.specs.Tables.{Older}
+use Rattle.opc_stored.specs.Changes.{fault_of}
+use Rattle.opc_stored.specs.Making.{AreMadeOver}
 use Rattle.opc_stored.specs.Represented.{AreTablesOf}
 use Rattle.opc_stored.specs.Ours.{has_our_name, NamesVersion, version_query}
 
@@ -27,16 +31,18 @@ use Rattle.opc_stored.specs.Ours.{has_our_name, NamesVersion, version_query}
 abbrev pub new_files : Image
 new_files = record { log = []; db = [] }
 
--- A meta that cannot be asked, since it has no such column or is not there, names none.
-abbrev pub unasked : Error → OpenFault
-unasked (SqlInputError error) = fault.NotOurs 0
-unasked (SqliteFailure OutOfMemory) = fault.NoMemory
-unasked _ = fault.Store
+abbrev pub of_store : StoreFault → OpenFault
+of_store store_fault.NoMemory = fault.NoMemory
+of_store store_fault.Store = fault.Store
 
 -- out of memory is told apart from every other cause
 abbrev pub open_fault : Error → OpenFault
-open_fault (SqliteFailure OutOfMemory) = fault.NoMemory
-open_fault _ = fault.Store
+open_fault error = of_store (fault_of error)
+
+-- A meta that cannot be asked, since it has no such column or is not there, names none.
+abbrev pub unasked : Error → OpenFault
+unasked (SqlInputError error) = fault.NotOurs 0
+unasked error = open_fault error
 
 -- the versions before this one
 abbrev pub IsOlder : ℕ → Type 0
@@ -61,12 +67,25 @@ IsRefused g told old new =
 abbrev pub IsNoVersion : OpenFault → Type 0
 IsNoVersion told = (told ≡ fault.NoMemory) ⊎ (told ≡ fault.Store)
 
--- What a crash may leave of an opening, besides what it might have left before: where no name is ours and nothing is defined, the tables of
--- the empty state; where the tables were older, those of the same state in this version.
-abbrev pub MayLeave : {S : Type 0} → Ghosts S → State → Trees → Type 0
+-- What a crash may leave of an opening, besides what it might have left before: where no name is ours, the tables beside what was there, and
+-- those of the empty state where nothing was defined; where the tables were older, those of the same state in this version.
+abbrev pub MayLeave : {S : Type 0} → Ghosts S → Held S → Trees → Type 0
 MayLeave g old db =
-    (IsFalse (has_our_name old.now.schema) × (old.now.schema ≡ no_schema → AreTablesOf db empty))
-    ⊎ (IsTrue (has_our_name old.now.schema) × WasOlder g old × ((version : Older) (s : TheState) → AreOldTablesOf version old.now.trees s → AreTablesOf db s))
+    (IsFalse (has_our_name old.schema) × AreMadeOver g old db × (old.schema ≡ no_schema → AreTablesOf db empty))
+    ⊎ (IsTrue (has_our_name old.schema) × WasOlder g (state g old) × ((version : Older) (s : TheState) → AreOldTablesOf version (state g old).now.trees s → AreTablesOf db s))
+
+-- What the files held was opened, and a store adopted it.
+pub record Adopts {S : Type 0} (g : Ghosts S) (image : Image) (opened adopted : Held S) : Type 0 where
+  pub opens : Opens (state g opened) × IsLive (state g opened)
+  pub found : FindsIn image (state g opened)
+  -- with a name of ours it named a version that is known
+  pub known : IsTrue (has_our_name opened.schema) → IsKnown g (state g opened) (state g adopted)
+  -- without one it got the tables
+  pub made : IsFalse (has_our_name opened.schema) → AreMadeOver g opened (state g adopted).now.trees
+
+-- A store stands over what files held.
+abbrev pub IsAdopted : {D : Type 0} {g : disk.Ghosts D} → Image → Held (FileStore D g) → Type 0
+IsAdopted {D = D} {g = g} image store = (opened : Held (FileStore D g)) × Adopts over_files image opened store
 
 -- The files were not opened: the system refused them or is out of memory, and nothing is left; or `left` is what an opening that
 -- meets this error leaves of `files`.
@@ -85,7 +104,7 @@ pub record FailsToAdopt {S : Type 0} (g : Ghosts S) (image : Image) (told : Open
   pub refused : HasCleanDisk (state g left) → IsTrue (has_our_name (state g opened).now.schema) → IsRefused g told (state g opened) (state g left)
   pub unharmed : HasCleanDisk (state g left) → IsTrue (state g left).is_open → (state g left).now ≡ (state g opened).now
   -- where a version is told, a crash leaves what it would have left before the question
-  pub survives : Survives (state g opened) (state g left) (λ db. IsNoVersion told × MayLeave g (state g opened) db)
+  pub survives : Survives (state g opened) (state g left) (λ db. IsNoVersion told × MayLeave g opened db)
 
 -- An opening at a path fails since the files are not opened, or since what they held is not adopted.
 abbrev pub FailsAtPath : {D : Type 0} {g : disk.Ghosts D} → (Bool → D → Type 0) → Image → Result (Held (FileStore D g)) OpenFault → Type 0

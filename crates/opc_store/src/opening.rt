@@ -12,21 +12,21 @@ ghost use Rattle.sqlite.specs.WalReads.{AreClean};
 ghost use Rattle.sqlite.specs.State.{HasCleanDisk, Survives};
 ghost use Rattle.opc_statements.specs.Shapes.{no_schema};
 ghost use Rattle.opc_state.specs.State.{empty};
+ghost use Rattle.opc_stored.specs.Making.{AreMadeOver};
 ghost use Rattle.opc_stored.specs.Represented.{Represents, AreTablesOf};
 ghost use Rattle.opc_stored.specs.Ours.{has_our_name};
 ghost use Rattle.opc_old_tables.specs.Old.{AreOldTablesOf, RepresentsOld};
-ghost use Rattle.opc_store.specs.Opening.{new_files, open_fault, unasked, IsKnown, IsNoVersion, IsRefused, MayLeave, FailsAtPath};
+ghost use Rattle.opc_store.specs.Opening.{new_files, open_fault, unasked, IsKnown, IsAdopted, IsNoVersion, IsRefused, MayLeave, FailsAtPath};
 ghost use Rattle.opc_store.specs.declared.opening.OpenFault.TheVariants as TheFault;
 
 use crate::store::Store;
 use opc_copying::copy::copy_on;
 use opc_policy::source::StoreFault;
+use opc_stored::faults::fault;
 use opc_stored::making::make_tables;
 use opc_stored::names::has_our_name;
 use opc_stored::version::version_on;
-use sqlite::{
-    Alter, Connection, Error, ErrorCode, FileFrom, FileStore, Files, Options, Start, Wary,
-};
+use sqlite::{Alter, Connection, Error, FileFrom, FileStore, Files, Options, Start, Wary};
 use sqlite_disk::Disk;
 use std::alloc::Global;
 use thiserror::Error;
@@ -46,24 +46,25 @@ pub enum OpenFault {
     NotOurs(u64),
 }
 
-fn open_fault(error: Error) -> OpenFault
-    ensures exact { result ≡ open_fault error }
-    ensures either { (result ≡ TheFault.NoMemory) ⊎ (result ≡ TheFault.Store) }
-{
-    match error {
-        Error::SqliteFailure(ErrorCode::OutOfMemory) => OpenFault::NoMemory,
-        _ => OpenFault::Store,
+impl From<StoreFault> for OpenFault {
+    ghost use Rattle.std.specs.Prelude.{◌≡◌};
+    ghost use Rattle.opc_store.specs.Opening.{of_store};
+
+    ghost from_gives = { λ fault told. told ≡ of_store fault };
+
+    fn from(fault: StoreFault) -> Self {
+        match fault {
+            StoreFault::NoMemory => OpenFault::NoMemory,
+            StoreFault::Store => OpenFault::Store,
+        }
     }
 }
 
-// Why older tables are not copied.
-fn copy_fault(fault: StoreFault) -> OpenFault
-    ensures { IsNoVersion result }
+fn open_fault(error: Error) -> OpenFault
+    ensures exact { result ≡ open_fault error }
+    ensures no_version { IsNoVersion result }
 {
-    match fault {
-        StoreFault::NoMemory => OpenFault::NoMemory,
-        StoreFault::Store => OpenFault::Store,
-    }
+    OpenFault::from(fault(error))
 }
 
 // A meta that cannot be asked for its version is somebody else's.
@@ -72,8 +73,7 @@ fn version_fault(error: Error) -> OpenFault
 {
     match error {
         Error::SqlInputError(_) => OpenFault::NotOurs(0),
-        Error::SqliteFailure(ErrorCode::OutOfMemory) => OpenFault::NoMemory,
-        _ => OpenFault::Store,
+        error => open_fault(error),
     }
 }
 
@@ -91,7 +91,7 @@ impl<S: Alter> Store<S> {
     {
         match copy_on(&mut conn) {
             Ok(()) => Ok(Store { conn }),
-            Err(fault) => Err((copy_fault(fault), conn)),
+            Err(fault) => Err((OpenFault::from(fault), conn)),
         }
     }
 
@@ -105,10 +105,11 @@ impl<S: Alter> Store<S> {
         ensures ours { IfOk result (λ store. HasCleanDisk (state S.Store store) → IsTrue (has_our_name conn.schema) → IsKnown S.Store (state S.Store conn) (state S.Store store)) }
         ensures refused { IfErr result (λ e. HasCleanDisk (state S.Store e.1) → IsTrue (has_our_name conn.schema) → IsRefused S.Store e.0 (state S.Store conn) (state S.Store e.1)) }
         ensures unmade { IfErr result (λ e. IsFalse (has_our_name conn.schema) → (e.0 ≡ TheFault.NoMemory) ⊎ (e.0 ≡ TheFault.Store)) }
+        ensures unnamed { IfOk result (λ store. HasCleanDisk (state S.Store store) → IsFalse (has_our_name conn.schema) → AreMadeOver S.Store conn (state S.Store store).now.trees) }
         ensures made { IfOk result (λ store. HasCleanDisk (state S.Store store) → (state S.Store conn).now.schema ≡ no_schema → Represents (state S.Store store).now empty) }
         ensures unharmed { IfErr result (λ e. HasCleanDisk (state S.Store e.1) → IsTrue (state S.Store conn).is_open → IsTrue (state S.Store e.1).is_open → (state S.Store e.1).now ≡ (state S.Store conn).now) }
-        ensures crash { IfOk result (λ store. Survives (state S.Store conn) (state S.Store store) (MayLeave S.Store (state S.Store conn))) }
-        ensures crash_at_fault { IfErr result (λ e. Survives (state S.Store conn) (state S.Store e.1) (λ db. IsNoVersion e.0 × MayLeave S.Store (state S.Store conn) db)) }
+        ensures crash { IfOk result (λ store. Survives (state S.Store conn) (state S.Store store) (MayLeave S.Store conn)) }
+        ensures crash_at_fault { IfErr result (λ e. Survives (state S.Store conn) (state S.Store e.1) (λ db. IsNoVersion e.0 × MayLeave S.Store conn db)) }
         ensures outside { IfErr result (λ e. e.1.in_transaction ≡ false) }
         ensures settled { IfOk result (λ store. HasCleanDisk (state S.Store store) → (db : Trees) → (state S.Store store).may_leave db → db ≡ (state S.Store store).now.trees) }
     {
@@ -140,6 +141,7 @@ impl<S: Start> Store<FileStore<FileFrom<S>>> {
         ensures copied { IfOk result (λ store. HasCleanDisk (file_state store) → (db : Trees) → HoldsDatabase (image_at S.Start) db → (version : _) → (s : _) → AreOldTablesOf version db s → Represents (file_state store).now s) }
         ensures made { IfOk result (λ store. HasCleanDisk (file_state store) → (trees : Trees) × AreFoundIn (image_at S.Start) trees × (Lists (trees catalog_tree) no_schema → Represents (file_state store).now empty)) }
         ensures settled { IfOk result (λ store. HasCleanDisk (file_state store) → (db : Trees) → (file_state store).may_leave db → db ≡ (file_state store).now.trees) }
+        ensures adopted { IfOk result (λ store. HasCleanDisk (file_state store) → IsAdopted (image_at S.Start) store) }
         ensures failed { FailsAtPath IsFresh (image_at S.Start) result }
     {
         let conn = match Connection::open_from(rt, path, false, start) {
@@ -162,6 +164,7 @@ impl Store<FileStore<FileFrom<Wary>>> {
         ensures copied { IfOk result (λ store. HasCleanDisk (file_state store) → (db : Trees) → HoldsDatabase new_files db → (version : _) → (s : _) → AreOldTablesOf version db s → Represents (file_state store).now s) }
         ensures made { IfOk result (λ store. HasCleanDisk (file_state store) → (trees : Trees) × AreFoundIn new_files trees × (Lists (trees catalog_tree) no_schema → Represents (file_state store).now empty)) }
         ensures settled { IfOk result (λ store. HasCleanDisk (file_state store) → (db : Trees) → (file_state store).may_leave db → db ≡ (file_state store).now.trees) }
+        ensures adopted { IfOk result (λ store. HasCleanDisk (file_state store) → IsAdopted new_files store) }
         ensures failed { FailsAtPath IsFresh new_files result }
     {
         Store::open_at(rt, path, Wary)
@@ -174,10 +177,7 @@ impl<D: Disk + Drop> Store<FileStore<D>> {
         ensures copied { IfOk result (λ files. AreClean D.Disk files.log files.db → IsCopied self files) }
         ensures usable { IfOk result (λ files. IsTrue (D.Disk.is_usable files.log) × IsTrue (D.Disk.is_usable files.db)) }
     {
-        match self.into_connection().close_files() {
-            Ok(files) => Ok(files),
-            Err(error) => Err(error),
-        }
+        self.into_connection().close_files()
     }
 
     /// Closes the store and opens its files again: they represent the state that was committed last.

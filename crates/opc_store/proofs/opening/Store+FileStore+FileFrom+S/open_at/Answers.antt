@@ -34,6 +34,17 @@ returns-in-Ok-open_files g c = record {
         λ bare. c.in-Ok-open_files.ensures.made clean (ap (λ (d : Database). d.schema) opened.0.clean ∙ lists_once (found.trees catalog_tree) found.schema no_schema (opened.1 opened.0.is_open).1.lists bare),
       );
   settled = c.in-Ok-open_files.ensures.settled;
+  adopted = λ clean.
+      let conn = c.in-Ok.conn in
+      let early : HasCleanDisk (file_state conn) = omega (arith, c.in-Ok-open_files.ensures.crash.clean) in (
+        conn,
+        record {
+          opens = c.in-Ok.ensures.opened early;
+          found = c.in-Ok.ensures.found early;
+          known = c.in-Ok-open_files.ensures.ours clean;
+          made = c.in-Ok-open_files.ensures.unnamed clean;
+        },
+      );
   failed = tt;
 }
 

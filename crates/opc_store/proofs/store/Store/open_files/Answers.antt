@@ -7,7 +7,7 @@ use Rattle.opc_stored.specs.Represented.{Represents}
 use Rattle.opc_stored.proofs.Opened.{found_again, named}
 use Rattle.opc_old_tables.proofs.Found.{found_old, old_named}
 use Rattle.opc_old_tables.proofs.VersionLoads.{names_own}
-use Rattle.opc_store.proofs.Older.{never_older, older_between, copied, unharmed, found, known, refused, crash, crash_at_fault}
+use Rattle.opc_store.proofs.Older.{never_older, older_between, copied, unharmed, unnamed, found, known, refused, crash, crash_at_fault}
 use Rattle.opc_store.proofs.store.Store.open_files.Goals as goal
 
 pub returns-in-Ok-clause-found : goal.returns-in-Ok-clause-found
@@ -32,10 +32,13 @@ returns-in-Ok-eq3-clause-found g c clean is_open s alone =
     let looks = c.in-Ok-eq3.ensures.looks in
     subst (λ (d : Database). Represents d s) (sym (looks.same clean (looks.opened clean))) again
 
+pub returns-in-Ok-clause-unnamed : goal.returns-in-Ok-clause-unnamed
+returns-in-Ok-clause-unnamed g c clean none = c.in-Ok.ensures.ran clean
+
 pub returns-in-Ok-clause-crash : goal.returns-in-Ok-clause-crash
 returns-in-Ok-clause-crash g c =
     let no : has_our_name c.args.conn.schema ≡ false = search rules in
-    survives_weaker (state g.S.Store c.args.conn) (state g.S.Store c.make_tables.new.conn) _ _ (λ _ db h. inl (no, h)) c.make_tables.ensures.survives
+    survives_weaker (state g.S.Store c.args.conn) (state g.S.Store c.make_tables.new.conn) _ _ (λ _ db h. inl (no, h.0, h.1)) c.make_tables.ensures.survives
 
 pub returns-in-Ok-clause-settled : goal.returns-in-Ok-clause-settled
 returns-in-Ok-clause-settled g c clean db leaves =
@@ -51,7 +54,7 @@ returns-in-Ok-eq3-clause-settled g c clean db leaves =
 pub returns-in-Err-clause-crash_at_fault : goal.returns-in-Err-clause-crash_at_fault
 returns-in-Err-clause-crash_at_fault g c =
     let no : has_our_name c.args.conn.schema ≡ false = search rules in
-    survives_weaker (state g.S.Store c.args.conn) (state g.S.Store c.make_tables.new.conn) _ _ (λ _ db h. (c.open_fault.ensures.either, inl (no, h))) c.make_tables.ensures.survives
+    survives_weaker (state g.S.Store c.args.conn) (state g.S.Store c.make_tables.new.conn) _ _ (λ _ db h. (c.open_fault.ensures.no_version, inl (no, h.0, h.1))) c.make_tables.ensures.survives
 
 pub returns-in-Ok-eq3-clause-copied : goal.returns-in-Ok-eq3-clause-copied
 returns-in-Ok-eq3-clause-copied g c clean is_open version s alone =
@@ -72,6 +75,9 @@ returns-in-Ok-eq1-clause-refused g c = refused g.S.Store c.in-Ok-eq1.field-0 c.a
 
 pub returns-in-Ok-eq1-clause-unharmed : goal.returns-in-Ok-eq1-clause-unharmed
 returns-in-Ok-eq1-clause-unharmed g c = unharmed g.S.Store c.in-Ok-eq1.field-0 c.args.conn c.version_on.new.conn c.schema.ensures.live c.in-Ok-eq1.ensures.looks c.copied.result (λ e. e.0) (λ e. e.1) c.copied.ensures.crash_at_fault c.copied.ensures.unharmed
+
+pub returns-in-Ok-eq1-clause-unnamed : goal.returns-in-Ok-eq1-clause-unnamed
+returns-in-Ok-eq1-clause-unnamed g c = unnamed g.S.Store c.in-Ok-eq1.field-0 c.args.conn c.version_on.new.conn c.schema.ensures.live c.in-Ok-eq1.ensures.looks c.copied.result (λ e. e.0) (λ e. e.1) (search rules)
 
 pub returns-in-Ok-eq1-clause-crash : goal.returns-in-Ok-eq1-clause-crash
 returns-in-Ok-eq1-clause-crash g c = crash g.S.Store c.in-Ok-eq1.field-0 c.args.conn c.version_on.new.conn c.schema.ensures.live c.in-Ok-eq1.ensures.looks c.copied.result (λ e. e.0) (λ e. e.1) (older_between c.in-Ok-eq1.field-0 (search rules) (search rules)) c.in-Ok-eq1.ensures.names (search rules) c.copied.ensures.crash

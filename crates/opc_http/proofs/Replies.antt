@@ -1,7 +1,13 @@
 -- What is told of the reply to what is asked.
-use Rattle.std.proofs.Common.{◌≡◌, ℕ, true, false, List, Option, Result, Ok, Err, IfErr, IfOk, rules}
+use Rattle.std.proofs.Common.{◌≡◌, ℕ, true, false, List, Option, Result, Ok, Err, IfErr, IfOk, refl, rules}
+use Rattle.std.specs.Prelude.{Bool, if◌then◌else◌}
+use Rattle.opc_machine.specs.declared.request.Request.{Request}
+use Rattle.opc_http_head.specs.declared.refusal.Refusal.{Refusal}
+use Rattle.opc_http_requests.specs.Faults as faults
+use Rattle.opc_http_requests.specs.declared.fault.ReadingFault.{ReadingFault}
+use Rattle.opc_http_requests.specs.declared.fault.ReadingFault.TheVariants as reading
 use Rattle.opc_state.specs.State.{State}
-use Rattle.opc_http.specs.Exchange.{IsCutOff, IsFaulty, IsServed, IsTold, Replies, Reply}
+use Rattle.opc_http.specs.Exchange.{IsCutOff, IsFaulty, IsServed, IsTold, Replies, Reply, is_read}
 use Rattle.opc_http.specs.declared.exchange.LinkFault.{LinkFault}
 use Rattle.opc_http.specs.declared.exchange.LinkFault.TheVariants as fault
 use Rattle.opc_http.specs.declared.exchange.Served.{Served}
@@ -29,3 +35,14 @@ module _ {T K : Type 0} (is_sure : T → Type 0) (represents may_leave : T → S
       → IfErr res (IsFaulty is_sure represents may_leave held left before after old new moment)
   faulty reply replies (Ok done) cut = tt
   faulty reply replies (Err why) cut = cut_off reply replies why cut
+
+-- a reply that is cut off is not told as a failed read
+pub not_read : {K : Type 0} (held : K → Option (List ℕ)) (reply : Reply) (before after : K) (res : Result Served LinkFault) → IfErr res (IsCutOff held reply before after) → is_read res ≡ false
+not_read held reply before after (Ok done) cut = refl
+not_read held reply before after (Err fault.Read) cut = absurd cut
+not_read held reply before after (Err (fault.Write handled)) cut = refl
+not_read held reply before after (Err (fault.NoMemory handled)) cut = refl
+
+-- no read failed where what was read is refused
+pub refused_read : (fault : ReadingFault) (why : Refusal) → fault ≡ reading.Refused why → (old new : Bool) → new ≡ (if faults.is_read {A = Request} (Err fault) then true else old) → new ≡ old
+refused_read fault why is old new h = rw is at h

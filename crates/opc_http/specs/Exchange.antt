@@ -28,6 +28,13 @@ abbrev pub reply_status : Reply → ℕ
 reply_status (Ok answer) = status_of answer
 reply_status (Err refusal) = refusal_status refusal
 
+-- the reader failed
+abbrev pub is_read : Result Served LinkFault → Bool
+is_read (Ok served) = false
+is_read (Err fault.Read) = true
+is_read (Err (fault.Write handled)) = false
+is_read (Err (fault.NoMemory handled)) = false
+
 -- the writer failed
 abbrev pub is_write : Result Served LinkFault → Bool
 is_write (Ok served) = false

@@ -1,10 +1,10 @@
 //! One exchange.
-ghost use Rattle.std.specs.Prelude.{◌≡◌, IfErr, IfOk, IfSome, OnErr, OnOk, Ok, Err, is_err, if◌then◌else◌, true};
+ghost use Rattle.std.specs.Prelude.{◌≡◌, [], IfErr, IfOk, IfSome, OnErr, OnOk, Ok, Err, is_err, if◌then◌else◌, true};
 ghost use Rattle.std.specs.Io.KnownBytes.{Appends};
-ghost use Rattle.opc_http_link.specs.Reads.{TakesAtMost};
+ghost use Rattle.opc_http_link.specs.Reads.{ReadsOnly, TakesAtMost};
 ghost use Rattle.opc_http_link.specs.Writes.{AppendsPrefix};
-ghost use Rattle.opc_http_requests.specs.Asked.{StopsAtEnd};
-ghost use Rattle.opc_http.specs.Exchange.{IsCutOff, IsFaulty, IsServed, IsTold, is_write};
+ghost use Rattle.opc_http_requests.specs.Asked.{MayRead, StopsAtEnd};
+ghost use Rattle.opc_http.specs.Exchange.{IsCutOff, IsFaulty, IsServed, IsTold, is_read, is_write};
 
 use opc_gate::gate::Gate;
 use opc_http_head::refusal::Refusal;
@@ -85,7 +85,8 @@ fn tell_refusal<K: Sink>(
 }
 
 /// Reads one request, of 73,728 bytes at most, lets the gate handle it, and writes its response, which is built whole
-/// before its first byte is written. What is no request is refused, and the gate is not asked.
+/// before its first byte is written. What is no request is refused, and the gate is not asked. It reads on only where the
+/// head or its body is not there yet, and a read that fails ends it: that is told, and nothing is answered.
 pub fn exchange<T: Tables, S: Source, K: Sink>(
     alloc: Global,
     routes: &Routes,
@@ -99,7 +100,8 @@ pub fn exchange<T: Tables, S: Source, K: Sink>(
     ensures sure { T.is_sure gate.new → T.is_sure gate.old }
     ensures stops { IfSome (S.left source.old) (λ all. StopsAtEnd all (S.left source.new)) }
     ensures most { TakesAtMost 73728 (S.left source.old) (S.left source.new) }
-    ensures read { IfErr result (λ fault. fault ≡ LinkFault.Read → S.has_failed source.new ≡ true) }
+    ensures reads { ReadsOnly S.left S.gives MayRead source.old [] source.new }
+    ensures read { S.has_failed source.new ≡ (if is_read result then true else S.has_failed source.old) }
     ensures write { K.has_failed sink.new ≡ (if is_write result then true else K.has_failed sink.old) }
 {
     match read_request(alloc, routes, source) {

@@ -1,9 +1,9 @@
 //! The head of a request, read from a source.
-ghost use Rattle.std.specs.Prelude.{◌≡◌, ◌≤◌, [], length, IfErr, IfOk, IfSome, OnOk, MatchOption, vec_len, true};
+ghost use Rattle.std.specs.Prelude.{◌≡◌, ◌≤◌, [], length, IfOk, IfSome, OnOk, MatchOption, if◌then◌else◌, vec_len, true};
 ghost use Rattle.std.specs.Io.KnownBytes.{Consumes};
 ghost use Rattle.httparse.specs.Spans.{IsRequestWithin};
-ghost use Rattle.opc_http_link.specs.Reads.{TakesAtMost};
-ghost use Rattle.opc_http_head.specs.Head.{FoundHead, NoHead, Starts, StartsWithin};
+ghost use Rattle.opc_http_link.specs.Reads.{ReadsInto, TakesAtMost, is_read};
+ghost use Rattle.opc_http_head.specs.Head.{FoundHead, MayLook, NoHead, Starts, StartsWithin};
 
 use httparse::Status;
 use httparse::spans::{HeaderSpan, RequestSpans, parse_request};
@@ -33,7 +33,9 @@ fn start_of(buf: &[u8], headers: &mut [HeaderSpan]) -> Start
     }
 }
 
-/// Reads until the head of a request is there, in at most `HEAD_LIMIT` bytes; `None` where there is none.
+/// Reads until the head of a request is there, in at most `HEAD_LIMIT` bytes; `None` where there is none. It reads on only
+/// where what it read is no whole head and may become one. A read takes a block, so the last one may bring up to 1,023
+/// bytes of what follows the head.
 pub fn read_head<S: Source>(
     source: &mut S,
     buf: &mut Vec<u8>,
@@ -44,8 +46,10 @@ pub fn read_head<S: Source>(
     ensures taken { OnOk result (Consumes (S.left source.old) (S.left source.new) buf.new.items) }
     ensures few { OnOk result (vec_len buf.new ≤ 8192) }
     ensures most { TakesAtMost 8192 (S.left source.old) (S.left source.new) }
-    ensures fault { IfErr result (λ fault. fault ≡ ReadFault.Read → S.has_failed source.new ≡ true) }
+    ensures reads { ReadsInto S.left S.gives MayLook source.old [] source.new buf.new.items result }
+    ensures failed { S.has_failed source.new ≡ (if is_read result then true else S.has_failed source.old) }
     ensures within { IfOk result (λ found. IfSome found (IsRequestWithin buf.new.items headers.new)) }
+    ensures found { IfOk result (λ found. IfSome found (FoundHead buf.new.items buf.new.items headers.new)) }
     ensures head { IfOk result (λ found. IfSome (S.left source.old) (λ all.
         MatchOption found (NoHead all) (FoundHead all buf.new.items headers.new))) }
 {

@@ -1,4 +1,6 @@
 //! Readers and writers of the standard library, watched.
+ghost use Rattle.std.specs.Io.KnownBytes.{Consumes};
+
 use crate::sink::Sink;
 use crate::source::Source;
 use std::io;
@@ -27,6 +29,8 @@ impl<S> Watched<S> {
 }
 
 impl<R: Read> Source for Watched<R> {
+    ghost gives = { λ w given v. Consumes (R.remaining w.inner) (R.remaining v.inner) given };
+
     ghost left = { λ w. R.remaining w.inner };
 
     ghost has_failed = { λ w. w.failed };

@@ -1,5 +1,5 @@
 -- What the bytes of a connection ask for, step by step.
-use Rattle.std.proofs.Common.{◌≡◌, ◌∙◌, ◌≤◌, ◌+◌, ◌-◌, ◌++◌, ℕ, List, refl, sym, ap, subst, arith, length, length-append, take, drop, map, max, Some, None, Ok, Err, inl, inr}
+use Rattle.std.proofs.Common.{◌≡◌, ◌∙◌, ◌≤◌, ◌+◌, ◌-◌, ◌++◌, ℕ, List, refl, sym, ap, arith, length, length-append, take, drop, map, max, Some, None, Ok, Err, inl, inr}
 use Rattle.std.specs.Prelude.{IfErr, IfSome, MatchOption, Option, Result}
 use Rattle.std.specs.Io.KnownBytes.{Consumes}
 use Rattle.httparse.specs.Grammar.{RequestHead, print_request}
@@ -16,7 +16,7 @@ use Rattle.opc_http_head.specs.declared.refusal.AskFault.{AskFault}
 use Rattle.opc_http_head.specs.declared.refusal.AskFault.TheVariants as asking
 use Rattle.opc_http_head.specs.declared.refusal.Refusal.{Refusal}
 use Rattle.opc_http_head.specs.declared.refusal.Refusal.TheVariants.{BadRequest}
-use Rattle.opc_http_requests.specs.Asked.{Asks, AsksOnly, StopsAtEnd, request_length}
+use Rattle.opc_http_requests.specs.Asked.{Asks, AsksOnly}
 use Rattle.opc_http_requests.specs.Faults.{IfRefused, by_asking}
 use Rattle.opc_http_requests.specs.Paths.{path_in}
 use Rattle.opc_http_requests.specs.Plans.{plan_of}
@@ -26,7 +26,7 @@ use Rattle.opc_http_requests.specs.declared.fault.ReadingFault.TheVariants as re
 use Rattle.opc_http_requests.specs.declared.plan.Plan.{Plan}
 
 -- the same bytes have one head
-one-head : (all : List ℕ) (a b : RequestHead) → HasHead all a → HasHead all b → a ≡ b
+pub one-head : (all : List ℕ) (a b : RequestHead) → HasHead all a → HasHead all b → a ≡ b
 one-head all a b h k = (request_unique (take 8192 all) a b h.rest k.rest h.reads k.reads).0
 
 -- and ask for one thing
@@ -49,7 +49,7 @@ asks-headless (Some all) h = asks-only all (Err BadRequest) (inl (h, refl))
 abbrev pub spans_plan : List ℕ → List HeaderSpan → RequestSpans → Result Plan Refusal
 spans_plan buf headers spans = plan_of (span_bytes buf spans.method) (span_bytes buf spans.path) (map (header_bytes buf) (take spans.headers headers))
 
-head-plan : (all buf : List ℕ) (headers : List HeaderSpan) (spans : RequestSpans) (f : FoundHead all buf headers spans)
+pub head-plan : (all buf : List ℕ) (headers : List HeaderSpan) (spans : RequestSpans) (f : FoundHead all buf headers spans)
     → spans_plan buf headers spans ≡ plan_of f.head.method f.head.target (map name_and_value f.head.fields)
 head-plan all buf headers spans f = rw (f.parts.method, f.parts.path, f.parts.fields) refl
 
@@ -86,32 +86,12 @@ asks-planned (Some all) (Some left) buf headers spans plan r c f e p =
 takes-fewer : (few most : ℕ) (before after : Option (List ℕ)) → few ≤ most → TakesAtMost few before after → TakesAtMost most before after
 takes-fewer few most before after low t = record { taken = t.taken; consumes = t.consumes; few = let h = t.few in omega (arith, h, low) }
 
--- only the head was looked for
-pub stops-early : (known after : Option (List ℕ)) → TakesAtMost 8192 known after → IfSome known (λ all. StopsAtEnd all after)
-stops-early None after t = tt
-stops-early (Some all) after t = record { headless = λ _. t; headed = λ head _. takes-fewer 8192 (max 8192 (request_length head)) (Some all) after (omega arith) t }
-
 -- the bytes that were there, and then those of the body
 takes-both : (end filled : ℕ) (before mid after : Option (List ℕ)) (bytes : List ℕ) → Consumes before mid bytes → length bytes ≡ filled → filled ≤ 8192 → TakesAtMost (end - filled) mid after → TakesAtMost (max 8192 end) before after
 takes-both end filled before mid after bytes c is low t = record {
   taken = bytes ++ t.taken;
   consumes = consumes-more before mid after bytes t.taken c t.consumes;
   few = let h = t.few in omega (arith, h, is, low, length-append bytes t.taken);
-}
-
--- the body of the head was read
-pub stops-planned : (known mid after : Option (List ℕ)) (buf : List ℕ) (headers : List HeaderSpan) (spans : RequestSpans) (plan : Plan) (filled : ℕ)
-    → Consumes known mid buf → length buf ≡ filled → filled ≤ 8192 → IfSome known (λ all. FoundHead all buf headers spans) → spans_plan buf headers spans ≡ Ok plan
-    → TakesAtMost (spans.len + plan.length - filled) mid after → IfSome known (λ all. StopsAtEnd all after)
-stops-planned None mid after buf headers spans plan filled c is low f e t = tt
-stops-planned (Some all) mid after buf headers spans plan filled c is low f e t = record {
-  headless = λ none. absurd (none f.head f.has);
-  headed = λ head has.
-      let one : f.head ≡ head = one-head all f.head head f.has has in
-      let planned_is = sym (head-plan all buf headers spans f) ∙ e in
-      let long : spans.len + plan.length ≡ request_length f.head = rw (planned_is, f.parts.len) refl in
-      let both : TakesAtMost (max 8192 (spans.len + plan.length)) (Some all) after = takes-both (spans.len + plan.length) filled (Some all) mid after buf c is low t in
-      subst (λ (h : RequestHead). TakesAtMost (max 8192 (request_length h)) (Some all) after) one (rw long at both);
 }
 
 -- in all

@@ -1,13 +1,14 @@
 -- A body, read after what is already in the buffer.
 use Rattle.std.proofs.Common.{◌≡◌, ◌∙◌, ◌≤◌, ◌<◌, ◌+◌, ◌-◌, ◌++◌, [], ℕ, List, ◌∷◌, true, false, nat_le, refl, sym, ap, subst, arith, length, drop, length-append, append_assoc, Some, None, Ok, Err}
-use Rattle.std.specs.Prelude.{IfSome, Option, slice_range}
+use Rattle.std.specs.Prelude.{IfSome, Option, Result, slice_range}
 use Rattle.std.specs.Io.KnownBytes.{Consumes}
 use Rattle.std.proofs.lemmas.Bool.Decides.{nat_tests}
 use Rattle.std.proofs.lemmas.List.{append-nil, drop-append-le, length-drop, take-append-le}
-use Rattle.opc_http_link.specs.Reads.{ReadsMore, TakesAtMost}
-use Rattle.opc_http_link.proofs.Reading.{consumes-more, consumes-none, takes-behind}
+use Rattle.opc_http_link.specs.Reads.{Reads, ReadsMore, ReadsOnce, TakesAtMost}
+use Rattle.opc_http_link.specs.declared.source.ReadFault.{ReadFault}
+use Rattle.opc_http_link.proofs.Reading.{consumes-more, consumes-none, one-read-more, takes-behind}
 use Rattle.opc_http_head.specs.declared.refusal.Refusal.TheVariants.{BadRequest}
-use Rattle.opc_http_requests.specs.Bodies.{ReadsTo}
+use Rattle.opc_http_requests.specs.Bodies.{MayFill, ReadsTo}
 use Rattle.opc_http_requests.specs.Requests.{body_in}
 
 -- what was read so far, of a body that ends at a place in the buffer
@@ -56,6 +57,15 @@ takes-failed end first filled before mid after old buf was is so more =
     let left : end - filled ≡ (end - first) - length so.moved = omega (arith, long, was, is) in
     let few : length so.moved ≤ end - first = let h = so.few in omega (arith, h, was) in
     takes-behind (end - first) (length so.moved) before mid after so.moved so.consumes few refl (rw left at more)
+
+-- one read more
+pub filled : {S : Type 0} (left : S → Option (List ℕ)) (gives : S → List ℕ → S → Type 0) (end : ℕ) (first mid last : S) (start buf new bytes : List ℕ) (most : ℕ) (result : Result ℕ ReadFault)
+    → Reads left gives (MayFill end) first start mid buf → length buf < end → length buf + most ≤ end → most ≤ 1024
+    → (once : ReadsOnce left gives most mid last buf new result) → bytes ≡ buf ++ once.given → Reads left gives (MayFill end) first start last bytes
+filled left gives end first mid last start buf new bytes most result reads short room block once is =
+    let few = once.few in
+    let may : MayFill end buf (length once.given) = record { short = short; within = omega (arith, few, room); block = omega (arith, few, block) } in
+    one-read-more left gives (MayFill end) first mid last start buf once.given bytes reads may once.is is
 
 -- all the bytes are those that are in the buffer, and what is left
 all-bytes : (old moved new left rest : List ℕ) → new ≡ old ++ moved → left ≡ moved ++ rest → old ++ left ≡ new ++ rest

@@ -1,5 +1,6 @@
 pub mod Asking
 pub mod BodyReads
 pub mod Lengths
+pub mod MadeReads
 pub mod Parts
 pub mod Texts

@@ -1,12 +1,13 @@
 -- What the bytes of a connection ask for, and how many of them are read.
-use Rattle.std.specs.Prelude.{◌≡◌, ◌+◌, ◌⊎◌, ℕ, List, drop, length, map, max, Option, Some, Result, Ok, Err}
+use Rattle.std.specs.Prelude.{◌≡◌, ◌+◌, ◌⊎◌, ℕ, List, drop, length, map, max, min, Option, Some, Result, Ok, Err}
 use Rattle.httparse.specs.Grammar.{RequestHead, print_request}
 use Rattle.httparse.specs.Spans.{name_and_value}
 use Rattle.opc_machine.specs.declared.request.Request.{Request}
 use Rattle.opc_http_link.specs.Reads.{TakesAtMost}
-use Rattle.opc_http_head.specs.Head.{HasHead, NoHead}
+use Rattle.opc_http_head.specs.Head.{HasHead, MayLook, NoHead}
 use Rattle.opc_http_head.specs.declared.refusal.Refusal.{Refusal}
 use Rattle.opc_http_head.specs.declared.refusal.Refusal.TheVariants.{BadRequest}
+use Rattle.opc_http_requests.specs.Bodies.{MayFill}
 use Rattle.opc_http_requests.specs.Plans.{plan_of}
 use Rattle.opc_http_requests.specs.Requests.{request_of}
 use Rattle.opc_http_requests.specs.declared.plan.Plan.{Plan}
@@ -35,7 +36,22 @@ body_part (Err why) = 0
 abbrev pub request_length : RequestHead → ℕ
 request_length head = length (print_request head) + body_part (plan_of head.method head.target (map name_and_value head.fields))
 
--- No read goes past the end of the body, but for the reads that look for the head.
+-- A read of the body may be made where its head is there and it is not, and ends with it.
+pub record MayReadBody (before : List ℕ) (count : ℕ) : Type 0 where
+  pub head : RequestHead
+  pub has : HasHead before head
+  pub body : MayFill (request_length head) before count
+
+-- when a read may be made, by the bytes before it and how many it gives: to look for the head, or for the body
+abbrev pub MayRead : List ℕ → ℕ → Type 0
+MayRead before count = MayLook before count ⊎ MayReadBody before count
+
+-- how many bytes are read at most to find a head: the last read is made before its last byte is there, and gives 1,024
+-- at most
+abbrev pub looked_through : RequestHead → ℕ
+looked_through head = min 8192 (length (print_request head) + 1023)
+
+-- No read goes past the end of the body, but for the last one of those that look for the head.
 pub record StopsAtEnd (all : List ℕ) (after : Option (List ℕ)) : Type 0 where
   pub headless : NoHead all → TakesAtMost 8192 (Some all) after
-  pub headed : (head : RequestHead) → HasHead all head → TakesAtMost (max 8192 (request_length head)) (Some all) after
+  pub headed : (head : RequestHead) → HasHead all head → TakesAtMost (max (looked_through head) (request_length head)) (Some all) after

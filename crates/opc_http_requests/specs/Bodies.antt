@@ -1,5 +1,5 @@
 -- How the body of a request is read.
-use Rattle.std.specs.Prelude.{◌≡◌, ◌≤◌, ◌<◌, ◌++◌, ℕ, Bool, true, false, List, length, Option}
+use Rattle.std.specs.Prelude.{◌≡◌, ◌≤◌, ◌<◌, ◌+◌, ◌++◌, ℕ, Bool, true, false, List, length, Option}
 use Rattle.std.specs.Io.KnownBytes.{Consumes, IsAtEnd}
 
 -- the buffer has so many bytes, or the source is at its end before
@@ -13,3 +13,9 @@ pub record ReadsTo (most : ℕ) (whole : Bool) (before after : Option (List ℕ)
   pub consumes : Consumes before after moved
   pub buffer : new ≡ old ++ moved
   pub is : IsWhole most whole after new
+
+-- A read of what ends at that length may be made before it is there, and ends with it. It gives 1,024 bytes at most.
+pub record MayFill (most : ℕ) (before : List ℕ) (count : ℕ) : Type 0 where
+  pub short : length before < most
+  pub within : length before + count ≤ most
+  pub block : count ≤ 1024

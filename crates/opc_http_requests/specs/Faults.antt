@@ -1,5 +1,5 @@
 -- Why no request was read, step by step and as a whole.
-use Rattle.std.specs.Prelude.{⊤}
+use Rattle.std.specs.Prelude.{⊤, Bool, true, false, Result, Ok, Err}
 use Rattle.opc_http_head.specs.declared.refusal.AskFault.{AskFault}
 use Rattle.opc_http_head.specs.declared.refusal.AskFault.TheVariants as asking
 use Rattle.opc_http_head.specs.declared.refusal.Refusal.{Refusal}
@@ -15,6 +15,13 @@ by_asking asking.NoMemory = NoMemory
 abbrev pub by_reading : ReadFault → ReadingFault
 by_reading reading.Read = Read
 by_reading reading.NoMemory = NoMemory
+
+-- the fault is that a read failed
+abbrev pub is_read : {A : Type 0} → Result A ReadingFault → Bool
+is_read (Ok a) = false
+is_read (Err (Refused refusal)) = false
+is_read (Err Read) = true
+is_read (Err NoMemory) = false
 
 -- what holds of the refusal, where the fault is one
 abbrev pub IfRefused : ReadingFault → (Refusal → Type 0) → Type 0

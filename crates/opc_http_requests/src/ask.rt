@@ -1,10 +1,11 @@
 //! A whole request, read from a source.
-ghost use Rattle.std.specs.Prelude.{◌≡◌, ◌≤◌, ◌+◌, ◌-◌, ◌++◌, Err, IfErr, IfOk, IfSome, MatchResult, Ok, drop, true, vec_len};
+ghost use Rattle.std.specs.Prelude.{◌≡◌, ◌≤◌, ◌+◌, ◌-◌, ◌++◌, [], Err, IfErr, IfOk, IfSome, MatchResult, Ok, drop, if◌then◌else◌, true, vec_len};
 ghost use Rattle.httparse.specs.Spans.{IsWithin, span_bytes};
-ghost use Rattle.opc_http_link.specs.Reads.{TakesAtMost};
+ghost use Rattle.opc_http_link.specs.Reads.{ReadsOnly, TakesAtMost};
 ghost use Rattle.opc_http_head.specs.Refusals.{Refuses};
-ghost use Rattle.opc_http_requests.specs.Asked.{AsksOnly, StopsAtEnd};
-ghost use Rattle.opc_http_requests.specs.Faults.{IfRefused};
+ghost use Rattle.opc_http_requests.specs.Asked.{AsksOnly, MayRead, StopsAtEnd};
+ghost use Rattle.opc_http_requests.specs.Bodies.{MayFill};
+ghost use Rattle.opc_http_requests.specs.Faults.{IfRefused, is_read};
 ghost use Rattle.opc_http_requests.specs.Requests.{planned, request_at, request_by};
 
 use crate::body::read_to;
@@ -106,7 +107,8 @@ fn read_planned<S: Source>(
     ensures refused { IfErr result (λ fault. IfRefused fault (λ why. IfSome (S.left source.old) (λ left.
         planned (span_bytes buf.old.items spans.now.path) (drop spans.now.len (buf.old.items ++ left)) plan ≡ Err why))) }
     ensures most { TakesAtMost (spans.now.len + plan.length - vec_len buf.old) (S.left source.old) (S.left source.new) }
-    ensures fault { IfErr result (λ fault. fault ≡ ReadingFault.Read → S.has_failed source.new ≡ true) }
+    ensures reads { ReadsOnly S.left S.gives (MayFill (spans.now.len + plan.length)) source.old buf.old.items source.new }
+    ensures failed { S.has_failed source.new ≡ (if is_read result then true else S.has_failed source.old) }
 {
     let end = spans.len + plan.length as usize;
     if !read_to(source, buf, end)? {
@@ -117,9 +119,11 @@ fn read_planned<S: Source>(
     Ok(request)
 }
 
-/// Reads a request, or finds the first refusal. A request is answered by nothing but the bytes of its head and its body;
-/// no read goes past the end of the body, but for those that look for the head. After a refusal by the head no more is
-/// read. Where memory is refused or a read fails, the source has given some of its bytes and no request is known.
+/// Reads a request, or finds the first refusal. A request is answered by nothing but the bytes of its head and its body.
+/// It reads on only where what it read is no whole head and may become one, or has its head and not yet its body. Each
+/// read takes 1,024 bytes at most and none goes past the end of the body, but for the last that looks for the head.
+/// After a refusal by the head no more is read. Where memory is refused or a read fails, the source has given some of its
+/// bytes and no request is known.
 pub fn read_request<S: Source>(
     alloc: Global,
     routes: &Routes,
@@ -129,7 +133,8 @@ pub fn read_request<S: Source>(
     ensures refused { IfErr result (λ fault. IfRefused fault (λ why. IfSome (S.left source.old) (λ all. AsksOnly all (Err why)))) }
     ensures stops { IfSome (S.left source.old) (λ all. StopsAtEnd all (S.left source.new)) }
     ensures most { TakesAtMost 73728 (S.left source.old) (S.left source.new) }
-    ensures fault { IfErr result (λ fault. fault ≡ ReadingFault.Read → S.has_failed source.new ≡ true) }
+    ensures reads { ReadsOnly S.left S.gives MayRead source.old [] source.new }
+    ensures failed { S.has_failed source.new ≡ (if is_read result then true else S.has_failed source.old) }
 {
     let mut buf = Vec::new(alloc);
     let mut headers = [EMPTY_HEADER_SPAN; MOST_FIELDS];

@@ -1,7 +1,7 @@
 //! The body of a request, read from a source.
-ghost use Rattle.std.specs.Prelude.{◌≡◌, ◌≤◌, ◌<◌, ◌-◌, IfErr, IfOk, false, true, vec_len};
-ghost use Rattle.opc_http_link.specs.Reads.{TakesAtMost};
-ghost use Rattle.opc_http_requests.specs.Bodies.{ReadsTo};
+ghost use Rattle.std.specs.Prelude.{◌≡◌, ◌≤◌, ◌<◌, ◌-◌, IfOk, if◌then◌else◌, false, true, vec_len};
+ghost use Rattle.opc_http_link.specs.Reads.{ReadsInto, TakesAtMost, is_read};
+ghost use Rattle.opc_http_requests.specs.Bodies.{MayFill, ReadsTo};
 
 use opc_http_link::source::{ReadFault, Source, read_more};
 
@@ -13,7 +13,8 @@ pub(crate) fn read_to<S: Source>(
 ) -> Result<bool, ReadFault>
     ensures reads { IfOk result (λ whole. ReadsTo length whole (S.left source.old) (S.left source.new) buf.old.items buf.new.items) }
     ensures most { TakesAtMost (length - vec_len buf.old) (S.left source.old) (S.left source.new) }
-    ensures fault { IfErr result (λ fault. fault ≡ ReadFault.Read → S.has_failed source.new ≡ true) }
+    ensures blocks { ReadsInto S.left S.gives (MayFill length) source.old buf.old.items source.new buf.new.items result }
+    ensures failed { S.has_failed source.new ≡ (if is_read result then true else S.has_failed source.old) }
 {
     while buf.len() < length {
         if read_more(source, buf, length)? == 0 {

@@ -1,7 +1,7 @@
 use Rattle.std.proofs.Common.{Ok, Err, refl, subst}
 use Rattle.opc_http_requests.specs.Faults.{IfRefused}
 use Rattle.opc_http.specs.Exchange.{IsAsked}
-use Rattle.opc_http.proofs.Replies.{faulty, served}
+use Rattle.opc_http.proofs.Replies.{faulty, not_read, refused_read, served}
 use Rattle.opc_http.proofs.exchange.exchange.Goals as goal
 
 pub returns-in-Ok-clause-served : goal.returns-in-Ok-clause-served
@@ -15,3 +15,11 @@ returns-in-Ok-clause-fault g c =
 pub returns-in-Err-Refused-clause-fault : goal.returns-in-Err-Refused-clause-fault
 returns-in-Err-Refused-clause-fault g c =
     faulty _ _ _ _ _ _ _ _ _ _ (Err c.in-Err-Refused.refusal) (subst (λ fault. IfRefused fault (λ why. IsAsked (g.S.Source.left c.args.source.now) (Err why))) c.in-Err-Refused.field-0-is c.in-Err-Refused.ensures.refused, refl) c.tell_refusal.result c.tell_refusal.ensures.cut_off
+
+pub returns-in-Ok-clause-read : goal.returns-in-Ok-clause-read
+returns-in-Ok-clause-read g c = rw (not_read g.K.Sink.held (Ok c.handle.result) _ _ c.tell_answer.result c.tell_answer.ensures.cut_off) c.in-Ok.ensures.failed
+
+pub returns-in-Err-Refused-clause-read : goal.returns-in-Err-Refused-clause-read
+returns-in-Err-Refused-clause-read g c =
+    rw (not_read g.K.Sink.held (Err c.in-Err-Refused.refusal) _ _ c.tell_refusal.result c.tell_refusal.ensures.cut_off)
+    (refused_read c.in-Err-Refused.field-0 c.in-Err-Refused.refusal c.in-Err-Refused.field-0-is _ _ c.in-Err-Refused.ensures.failed)

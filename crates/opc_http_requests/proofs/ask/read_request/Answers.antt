@@ -5,7 +5,8 @@ use Rattle.httparse.specs.Spans.{span_bytes}
 use Rattle.opc_http_head.specs.Head.{FoundHead, NoHead}
 use Rattle.opc_http_requests.specs.Asked.{AsksOnly}
 use Rattle.opc_http_requests.specs.Requests.{planned}
-use Rattle.opc_http_requests.proofs.Asking.{asks-headless, asks-planned, asks-refused, fault-weaker, none-found, plan-is, some-found, stops-planned, takes-whole}
+use Rattle.opc_http_requests.proofs.Asking.{asks-headless, asks-planned, asks-refused, fault-weaker, none-found, plan-is, some-found, takes-whole}
+use Rattle.opc_http_requests.proofs.MadeReads.{body-only, looked-only, stops}
 use Rattle.opc_http_requests.proofs.ask.read_request.Goals as goal
 
 pub returns-in_default-clause-refused : goal.returns-in_default-clause-refused
@@ -61,21 +62,41 @@ returns-clause-refused g c =
     (λ why. IfSome known (λ all. AsksOnly all (Err why)))
     (λ why failed. asks-planned known mid buf headers spans c.in_ok-plan.plan (Err why) c.in_ok-spans.ensures.taken head plan failed) c.read_planned.ensures.refused
 
-pub returns-clause-stops : goal.returns-clause-stops
-returns-clause-stops g c =
-    let known = g.S.Source.left c.args.source.now in
-    let mid = g.S.Source.left c.read_head.new.source in
+pub returns-in_err-spans-clause-reads : goal.returns-in_err-spans-clause-reads
+returns-in_err-spans-clause-reads g c = looked-only g.S.Source.left g.S.Source.gives _ _ _ _ c.read_head.ensures.reads
+
+pub returns-in_err-spans-clause-stops : goal.returns-in_err-spans-clause-stops
+returns-in_err-spans-clause-stops g c = stops g.S.Source.left g.S.Source.gives _ _ (returns-in_err-spans-clause-reads g c)
+
+pub returns-in_default-clause-reads : goal.returns-in_default-clause-reads
+returns-in_default-clause-reads g c = looked-only g.S.Source.left g.S.Source.gives _ _ _ _ c.in_ok-spans.ensures.reads
+
+pub returns-in_default-clause-stops : goal.returns-in_default-clause-stops
+returns-in_default-clause-stops g c = stops g.S.Source.left g.S.Source.gives _ _ (returns-in_default-clause-reads g c)
+
+pub returns-in_err-plan-clause-reads : goal.returns-in_err-plan-clause-reads
+returns-in_err-plan-clause-reads g c = looked-only g.S.Source.left g.S.Source.gives _ _ _ _ c.in_ok-spans.ensures.reads
+
+pub returns-in_err-plan-clause-stops : goal.returns-in_err-plan-clause-stops
+returns-in_err-plan-clause-stops g c = stops g.S.Source.left g.S.Source.gives _ _ (returns-in_err-plan-clause-reads g c)
+
+pub returns-clause-reads : goal.returns-clause-reads
+returns-clause-reads g c =
+    let left = g.S.Source.left in
+    let gives = g.S.Source.gives in
     let buf = c.read_head.new.buf.items in
     let headers = c.read_head.new.headers in
     let spans = c.in-Some.spans in
-    let head = some-found known c.in_ok-spans.field-0 spans NoHead (λ all. FoundHead all buf headers) c.in-Some.is c.in_ok-spans.ensures.head in
+    let looked = c.in_ok-spans.ensures.reads in
+    let found = rw c.in-Some.is at c.in_ok-spans.ensures.found in
     let method : c.of.result.now ≡ span_bytes buf spans.method = c.of.ensures ∙ ap (λ (t : List ℕ). slice_range t spans.method.start spans.method.end) c.as_slice.ensures.value in
     let target : c.of-2.result.now ≡ span_bytes buf spans.path = c.of-2.ensures ∙ ap (λ (t : List ℕ). slice_range t spans.path.start spans.path.end) c.as_slice-2.ensures.value in
     let firsts = take spans.headers headers in
     let plan = plan-is buf headers spans c.of.result.now c.of-2.result.now c.as_slice-3.result.now firsts (Ok c.in_ok-plan.plan) method target c.as_slice-3.ensures.value refl c.in_ok-plan.ensures.plan in
-    let after = g.S.Source.left c.read_planned.new.source in
-    let is : length buf ≡ vec_len c.read_head.new.buf = omega (arith, c.read_head.new.buf.ok.0) in
-    stops-planned known mid after buf headers spans c.in_ok-plan.plan (vec_len c.read_head.new.buf) c.in_ok-spans.ensures.taken is c.in_ok-spans.ensures.few head plan c.read_planned.ensures.most
+    body-only left gives c.args.source.now c.read_head.new.source c.read_planned.new.source buf looked.bytes headers spans c.in_ok-plan.plan looked.reads looked.buffer found plan c.read_planned.ensures.reads
+
+pub returns-clause-stops : goal.returns-clause-stops
+returns-clause-stops g c = stops g.S.Source.left g.S.Source.gives c.args.source.now c.read_planned.new.source (returns-clause-reads g c)
 
 pub returns-clause-most : goal.returns-clause-most
 returns-clause-most g c =

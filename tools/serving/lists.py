@@ -1,5 +1,5 @@
 """Random lists of requests: a service whose cache goes on answers as services do that begin each request with an empty one."""
-import random, shutil
+import random, shutil, tempfile
 
 from . import clients, requests, stored
 from .rows import timeless
@@ -9,6 +9,10 @@ LISTS, LENGTH = 8, 40
 TEXTS = ("C PAYROLL", "C BACKUP", "C X1", "D A,L", "D C", "V 0A80,OFFLINE", "V 0A80,ONLINE", "LOGON ANNA,ABC", "LOGON BERT,ABC", "LOGOFF")
 PATTERNS = ("MVS.CANCEL.JOB.*", "MVS.CANCEL.JOB.PAY*", "MVS.CANCEL.JOB.PAYROLL", "MVS.CANCEL.**", "MVS.VARY.DEV", "MVS.**", "**")
 LEVELS = ("NONE", "READ", "UPDATE", "ALTER")
+# more jobs than the names that the cache keeps, 256, and patterns of some of them
+JOBS = [f"X{number}" for number in range(300)]
+WIDE = ("MVS.CANCEL.JOB.X1*", "MVS.CANCEL.JOB.X2*", "MVS.CANCEL.JOB.*", "MVS.CANCEL.JOB.X25")
+ROUNDS, AGAIN = 2, 40
 
 
 def any_request(chance, batch):
@@ -28,8 +32,33 @@ def any_request(chance, batch):
     return chance.choices(kinds, weights=[12, 3, 1, 3, 2, 1, 1, 1, 1])[0]()
 
 
+def begun():
+    return [requests.logon("C2", "SECADM"), requests.logon("C1", "BERT")]
+
+
 def any_list(chance):
-    return [requests.logon("C2", "SECADM"), requests.logon("C1", "BERT"), *(any_request(chance, at + 1) for at in range(LENGTH))]
+    return [*begun(), *(any_request(chance, at + 1) for at in range(LENGTH))]
+
+
+def any_change(chance):
+    """A pattern of some jobs defined or deleted, which empties the cache."""
+    pattern = chance.choice(WIDE)
+    return chance.choice((requests.delete("C2", pattern, None), requests.define("C2", pattern, None, uacc=chance.choice(LEVELS))))
+
+
+def long_list(chance):
+    """Changes, and then every job, so that the cache is filled and forgets names, and some of them again; and last
+    changes between commands."""
+    def cancel(job):
+        return requests.command("C1", f"C {job}", None)
+
+    steps = begun()
+    for _ in range(ROUNDS):
+        steps += [any_change(chance) for _ in range(4)]
+        steps += [cancel(job) for job in [*chance.sample(JOBS, len(JOBS)), *chance.choices(JOBS, k=AGAIN)]]
+    for job in chance.sample(JOBS, AGAIN):
+        steps += [any_change(chance), cancel(job)] if chance.random() < 0.3 else [cancel(job)]
+    return steps
 
 
 def together(file, steps):
@@ -43,16 +72,25 @@ def apart(file, steps):
     return [response for it in steps for response in together(file, [it])]
 
 
+def compared(tally, title, room, base, steps):
+    """The responses to these requests, which are the same both ways, with what they leave."""
+    found = []
+    for way in (together, apart):
+        file = f"{tempfile.mkdtemp(dir=room)}/db"
+        shutil.copy(base, file)
+        found.append((way(file, steps), stored.whole(file)))
+    (cached, left), (uncached, left_apart) = found
+    for at, (one, other) in enumerate(zip(cached, uncached), 1):
+        tally.equal(f"{title}, request {at}: {steps[at - 1].path} {steps[at - 1].body}", one, other)
+    tally.equal(f"{title}: what it leaves", left, left_apart)
+    return cached
+
+
 def lists(tally, room, base):
     for seed in range(LISTS):
-        steps, found = any_list(random.Random(seed)), []
-        for way in (together, apart):
-            file = f"{room}/{way.__name__}{seed}"
-            shutil.copy(base, file)
-            found.append((way(file, steps), stored.whole(file)))
-        (cached, left), (uncached, left_apart) = found
-        for at, (one, other) in enumerate(zip(cached, uncached), 1):
-            tally.equal(f"random list {seed}, request {at}: {steps[at - 1].path} {steps[at - 1].body}", one, other)
-        tally.equal(f"random list {seed}: what it leaves", left, left_apart)
-        done = sum(b'"status":"done"' in it for it in cached)
-        tally.wants(f"random list {seed}: some are done and some refused", LENGTH // 5 < done < LENGTH - LENGTH // 10, done)
+        title = f"random list {seed}"
+        done = sum(b'"status":"done"' in it for it in compared(tally, title, room, base, any_list(random.Random(seed))))
+        tally.wants(f"{title}: some are done and some refused", LENGTH // 5 < done < LENGTH - LENGTH // 10, done)
+    answers = compared(tally, "a list of many names", room, base, long_list(random.Random(LISTS)))
+    denied = sum(b"DeniedProfile" in it for it in answers)
+    tally.wants("a list of many names: some are denied and some not", len(answers) // 10 < denied < len(answers) - len(answers) // 10, denied)

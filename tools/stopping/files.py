@@ -3,6 +3,9 @@ import contextlib, os, sqlite3, subprocess
 
 from places import POLICY, built
 
+# what a run says that a call of this kind was refused
+WANT = {"alloc": "E90 NoMemory\n", "read": "E91 Store\n", "write": "E91 Store\n", "sync": "E91 Store\n"}
+
 
 def run(words, data, faults=None):
     """The status of one run, and what it prints and says."""

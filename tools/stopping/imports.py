@@ -12,7 +12,6 @@ ROWS += [f"permit,OPERCMDS,MVS.START.STC.P{at}.*,DAY{at},UPDATE,,," for at in ra
 ROWS += ["class,CONSOLE,,,INACTIVE,,,", 'console,,C4,,"SYS,IO",,OPTIONAL,', "console,,C1,,MASTER,,OPTIONAL,"]
 # rows that are good up to the last one
 REFUSED = [*ROWS, "connect,,ANNA,LATE,,,,"]
-WANT = ("E90 NoMemory\n", "E91 Store\n")
 
 
 def policy_file(rows):
@@ -55,7 +54,7 @@ class Import:
         status, output, errors = self.answer
         return ran[0] == status or output != "" and ran[1] == output or errors != "" and ran[2].startswith(errors)
 
-    def is_told(self, kind, ran):
+    def is_told(self, call, kind, ran):
         """Whether the run ended as the one without a fault, was stopped, or told what it wanted and nothing else."""
         status, output, errors = self.answer
         if not output.startswith(ran[1]):
@@ -63,13 +62,13 @@ class Import:
         if kind == "stop":
             return ran[0] == 77 and errors.startswith(ran[2])
         if ran[0] == 3:
-            return ran[2].removeprefix(errors).startswith(WANT)
+            return ran[2].removeprefix(errors).startswith(files.WANT[call])
         # where the write of the fault itself is refused, the status alone tells it
         return ran == self.answer or ran == (status, output, "")
 
-    def is_right(self, kind, ran, file):
+    def is_right(self, call, kind, ran, file):
         held = held_in(file)
-        if not self.is_told(kind, ran) or held not in ([self.after] if self.is_answered(ran) else [self.before, self.after]):
+        if not self.is_told(call, kind, ran) or held not in ([self.after] if self.is_answered(ran) else [self.before, self.after]):
             return False
         again = self.run(file, None)
         if self.before == self.after:

@@ -3,7 +3,7 @@ import shutil, tempfile
 
 import older
 from . import files
-from .imports import ROWS, WANT, policy_file
+from .imports import ROWS, policy_file
 
 LINES = ["1 * JOBIN BACKUP JOB\n", "2 * ATTACH 0A80\n", "3 C2 LOGON SECADM,ABC\n", "4 C1 FORCE BACKUP\n"]
 
@@ -28,9 +28,11 @@ class Older:
     def run(self, file, faults):
         return files.run(["export", "--db", file], "", faults)
 
-    def is_right(self, kind, ran, file):
+    def is_right(self, call, kind, ran, file):
         status, output, errors = self.answer
-        told = ran == self.answer or ran[0] == (77 if kind == "stop" else 3) and output.startswith(ran[1]) and (ran[2] == "" or ran[2].startswith(WANT))
+        stopped = kind == "stop" and ran[0] == 77 and ran[2] == ""
+        wants = kind == "fail" and ran[0] == 3 and ran[2].startswith(files.WANT[call])
+        told = ran == self.answer or (stopped or wants) and output.startswith(ran[1])
         return told and files.tables(file) == self.after and self.run(file, None) == self.answer
 
 

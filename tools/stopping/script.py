@@ -63,14 +63,21 @@ class Script:
             self.known[moments] = (answers(output), files.tables(file))
         return self.known[moments]
 
-    def is_right(self, kind, ran, file):
+    def is_ended(self, call, kind, ran, given_up):
+        """Whether the run was stopped, or ended by its answers, or told what it wanted where no answer says that."""
+        status, _, errors = ran
+        if kind == "stop":
+            return status == 77
+        return status in (1, 3) and (status == 1 or given_up or errors.startswith(files.WANT[call]))
+
+    def is_right(self, call, kind, ran, file):
         status, output, _ = ran
         held, printed = files.tables(file), answers(output)
         given_up = {moment for moment, text in printed if text.endswith(" E90 NoMemory -\n") or text.endswith(" E91 Store -\n")}
         kept = tuple(moment for moment, _ in printed if moment not in given_up)
         if [(moment, text) for moment, text in printed if moment not in given_up] != self.after(kept)[0]:
             return False
-        if status not in ((77,) if kind == "stop" else (1, 3)):
+        if not self.is_ended(call, kind, ran, given_up):
             return False
         # one more request may be there as a whole: one that was given up, or that was not answered any more
         unanswered = MOMENTS[len(printed): len(printed) + 1] if status in (3, 77) else []

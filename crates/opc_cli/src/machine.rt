@@ -1,5 +1,6 @@
 //! The machine that the program runs on: a process of the system, its files, and the tables in them.
 use crate::database::reason_at;
+use opc_http_link::watched::Watched;
 use opc_policy::fault::Fault;
 use opc_program::failure::{Failure, Paths, Place};
 use opc_program::import::{Import, export_on, import_on};
@@ -81,7 +82,8 @@ impl Process {
         output: &mut W,
     ) -> Result<Status, Failure> {
         let tables = self.new_tables()?;
-        run_on(&self.rt, tables, paths.policy, input, output).0
+        let mut output = Watched::new(output);
+        run_on(&self.rt, tables, paths.policy, input, &mut output).0
     }
 
     fn run_in_file<R: Read, W: Write, E: Write>(
@@ -93,7 +95,8 @@ impl Process {
         errors: &mut E,
     ) -> Result<Status, Failure> {
         let tables = self.open_tables(path)?;
-        let (end, tables) = run_on(&self.rt, tables, paths.policy, input, output);
+        let mut output = Watched::new(output);
+        let (end, tables) = run_on(&self.rt, tables, paths.policy, input, &mut output);
         closed(end, tables, paths, errors)
     }
 
@@ -107,7 +110,15 @@ impl Process {
     ) -> Result<Status, Failure> {
         let tables = self.open_tables(import.path)?;
         let moment = self.moment()?;
-        let (end, tables) = import_on(self.rt.alloc(), tables, moment, import, input, output);
+        let mut output = Watched::new(output);
+        let (end, tables) = import_on(
+            self.rt.alloc(),
+            tables,
+            moment,
+            import,
+            input,
+            &mut output,
+        );
         closed(end, tables, paths, errors)
     }
 
@@ -119,7 +130,8 @@ impl Process {
         errors: &mut E,
     ) -> Result<Status, Failure> {
         let tables = self.open_tables(path)?;
-        let (end, tables) = export_on(self.rt.alloc(), tables, output);
+        let mut output = Watched::new(output);
+        let (end, tables) = export_on(self.rt.alloc(), tables, &mut output);
         closed(end, tables, paths, errors)
     }
 

@@ -97,10 +97,10 @@ impl Room {
         if let Err(fault) = self.gate.bootstrap(alloc, rows.as_slice()) {
             return given_up(fault);
         }
-        let mut printed = Vec::new(alloc);
+        let mut printed = Watched::new(Vec::new(alloc));
         match run_script(&mut self.gate, alloc, self.beginning.as_str(), &mut printed) {
             Ok(Status::Failed) => bail!(GIVEN_UP),
-            Ok(_) => Ok(String::from_utf8(printed)?),
+            Ok(_) => Ok(String::from_utf8(printed.inner)?),
             Err(fault) => bail!("no beginning: {fault}"),
         }
     }

@@ -1,6 +1,6 @@
 -- What the program makes of what it wrote.
-use Rattle.std.proofs.Common.{Result, Ok, Err}
-use Rattle.std.specs.Prelude.{IsErr, IsOk, MatchResult}
+use Rattle.std.proofs.Common.{◌≡◌, Bool, true, if◌then◌else◌, Result, Ok, Err}
+use Rattle.std.specs.Prelude.{IsErr, IsOk, MatchResult, is_err}
 use Rattle.opc_script.specs.declared.status.Status.{Status}
 use Rattle.opc_program.specs.declared.failure.Failure.{Failure}
 
@@ -11,3 +11,11 @@ as_written whole cut (Ok a) (Ok status) same h = h
 as_written whole cut (Ok a) (Err failure) same h = cc
 as_written whole cut (Err e) (Ok status) same h = cc
 as_written whole cut (Err e) (Err failure) same h = h
+
+-- it fails exactly where a write did
+pub as_failed : {A E : Type 0} (wrote : Result A E) (end : Result Status Failure) → MatchResult wrote (λ _. IsOk end) (λ _. IsErr end)
+    → (before after : Bool) → after ≡ (if is_err wrote then true else before) → after ≡ (if is_err end then true else before)
+as_failed (Ok a) (Ok status) same before after h = h
+as_failed (Ok a) (Err failure) same before after h = cc
+as_failed (Err e) (Ok status) same before after h = cc
+as_failed (Err e) (Err failure) same before after h = h

@@ -1,5 +1,5 @@
 -- What is run over tables with a cache, said of the tables alone.
-use Rattle.std.proofs.Common.{◌⊎◌, inl, inr, ℕ, List, Option, Some, None, Result, Ok, Err, IfSome, MatchOption, ap, take, ◌+◌}
+use Rattle.std.proofs.Common.{◌⊎◌, inl, inr, ℕ, Bool, List, Option, Some, None, Result, Ok, Err, MatchOption, ap}
 use Rattle.opc_state.specs.State.{State}
 use Rattle.opc_machine.specs.declared.request.Request.{Request}
 use Rattle.opc_machine.specs.declared.request.Answer.{Answer}
@@ -7,9 +7,9 @@ use Rattle.opc_gate.specs.Handling.{IsRun}
 use Rattle.opc_script.specs.declared.script.ScriptFault.{ScriptFault}
 use Rattle.opc_script.specs.declared.status.Status.{Status}
 use Rattle.opc_script.specs.Running.{IsAnswered, IsCut, IsNotBegun, IsScriptRun, IsWhole}
-use Rattle.opc_script.specs.Scripts.{bad_line, requests_in, script_limit}
+use Rattle.opc_script.specs.Scripts.{bad_line, requests_in}
 use Rattle.opc_program.specs.declared.failure.Failure.{Failure}
-use Rattle.opc_program.specs.Runs.{IsAnsweredInput, IsRunOfBytes}
+use Rattle.opc_program.specs.Runs.{IsAnsweredInput, IsInputRun, IsNothingRun, IsRunOfBytes}
 
 -- `tables` are those below the cache. What both represent in the end the tables represent, and what the tables represent
 -- at first both do.
@@ -76,10 +76,20 @@ module _ {T C : Type 0} (tables : C → T) (is_sure : T → Type 0) (represents 
       → IsRunOfBytes is_sure represents may_leave (tables old) (tables new) text before written ran
   bytes text before written ran = map_either (λ w. (w.0, answered text before written ran w.1)) (λ w. (w.0, ap tables w.1, w.2))
 
-  if_some : {X : Type 0} {P Q : X → Type 0} (o : Option X) → ((x : X) → P x → Q x) → IfSome o P → IfSome o Q
-  if_some (Some x) f p = f x p
-  if_some None f p = tt
+  module _ {K : Type 0} (held : K → Option (List ℕ)) (has_failed : K → Bool) (left : Option (List ℕ)) (before written : K) (end : Result Status Failure) where
+    nothing : IsNothingRun sure kept leaves held has_failed old new before written end → IsNothingRun is_sure represents may_leave held has_failed (tables old) (tables new) before written end
+    nothing w = record { unread = w.unread; same = ap tables w.same; silent = w.silent }
 
-  pub answered_input : (input before written : Option (List ℕ)) (end : Result Status Failure) → IsAnsweredInput sure kept leaves old new input before written end
-      → IsAnsweredInput is_sure represents may_leave (tables old) (tables new) input before written end
-  answered_input input before written end = if_some input (λ all. map_either (λ w. (w.0, ap tables w.1, w.2)) (λ w. (w.0, bytes (take (script_limit + 1) all) before written w.0 w.1, w.2)))
+    input : IsInputRun sure kept leaves held has_failed old new left before written end → IsInputRun is_sure represents may_leave held has_failed (tables old) (tables new) left before written end
+    input w = record {
+      script = w.script;
+      are = w.are;
+      ran = w.ran;
+      run = bytes w.script (held before) (held written) w.ran w.run;
+      failed = w.failed;
+      ends = w.ends;
+    }
+
+    pub answered_input : IsAnsweredInput sure kept leaves held has_failed old new left before written end
+        → IsAnsweredInput is_sure represents may_leave held has_failed (tables old) (tables new) left before written end
+    answered_input = map_either nothing input

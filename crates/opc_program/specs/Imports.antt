@@ -1,5 +1,5 @@
 -- What `import` does with a policy file on its input, and what `export` writes.
-use Rattle.std.specs.Prelude.{◌≡◌, ◌≢◌, ◌⊎◌, ℕ, List, Option, Some, None, Result, Ok, Err, IfErr, IfOk, IsErrAnd, MatchResult, OnErr, OnOk}
+use Rattle.std.specs.Prelude.{◌≡◌, ◌≢◌, ◌⊎◌, ℕ, Bool, true, List, Option, Some, None, Result, Ok, Err, IfErr, IfOk, IsErr, IsErrAnd, MatchResult, OnErr, OnOk, if◌then◌else◌, is_err}
 use Rattle.std.specs.Io.KnownBytes.{Appends}
 use Rattle.std.specs.List.{flat_map}
 use Rattle.opc_policy.specs.declared.fault.Fault.TheVariants.{NoMemory, Store}
@@ -35,10 +35,15 @@ IsEnded end = MatchResult end (λ status. status ≡ Done) (λ failure. IsFailur
 abbrev pub IsWritten : List ℕ → (before written : Option (List ℕ)) → Result Status Failure → Type 0
 IsWritten text before written end = MatchResult end (λ _. Appends before written text) (λ _. AppendsPrefix before written text)
 
+-- It failed exactly where a write did.
+abbrev pub FailsAsWritten : {K : Type 0} → (K → Bool) → (before written : K) → Result Status Failure → Type 0
+FailsAsWritten has_failed before written end = has_failed written ≡ (if is_err end then true else has_failed before)
+
 -- An answer is told: what is done by its lines, and what is refused by its fault, of which nothing is printed.
-abbrev pub IsTold : Answer → (before written : Option (List ℕ)) → Result Status Failure → Type 0
-IsTold (answer.Done lines rule) before written end = IsEnded end × IsWritten (lines_text lines) before written end
-IsTold (answer.Refused fault rule) before written end = IsErrAnd end (λ failure. failure.fault ≡ fault) × (written ≡ before)
+abbrev pub IsTold : {K : Type 0} → (K → Option (List ℕ)) → (K → Bool) → Answer → (before written : K) → Result Status Failure → Type 0
+IsTold held has_failed (answer.Done lines rule) before written end =
+    IsEnded end × IsWritten (lines_text lines) (held before) (held written) end × FailsAsWritten has_failed before written end
+IsTold held has_failed (answer.Refused fault rule) before written end = IsErrAnd end (λ failure. failure.fault ≡ fault) × (written ≡ before)
 
 -- the text of the policy file of a state
 abbrev pub exported : State → List ℕ
@@ -59,7 +64,11 @@ module _ {T : Type 0} (is_sure : T → Type 0) (represents may_leave : T → Sta
     pub taken : is_sure new → (s : State) → represents old s → IsTakenOver s rows
     pub ends : IfOk end (λ status. status ≡ Done)
 
-  module _ (before written : Option (List ℕ)) where
+  -- What a reader had left was taken as a first policy, or not. It may be that no rows were read, and nothing was done.
+  abbrev pub IsPolicyTaken : Option (List ℕ) → Type 0
+  IsPolicyTaken left = (IsErrAnd end (λ failure. IsUnread left failure.fault) × (new ≡ old)) ⊎ ((rows : List Row) × AreRead left rows × IsFirstPolicy rows)
+
+  module _ {K : Type 0} (held : K → Option (List ℕ)) (has_failed : K → Bool) (before written : K) where
     -- Nothing was handled: there was no memory, the input failed, or it is no policy file.
     pub record IsNotBegun (left : Option (List ℕ)) : Type 0 where
       pub unread : IsErrAnd end (λ failure. IsUnread left failure.fault)
@@ -70,7 +79,7 @@ module _ {T : Type 0} (is_sure : T → Type 0) (represents may_leave : T → Sta
     pub record IsOneStep (moment : ℕ) (r : Input) : Type 0 where
       pub answer : Answer
       pub handled : is_sure new → (s : State) → represents old s → IsHandled represents may_leave old new s moment r answer
-      pub told : IsTold answer before written end
+      pub told : IsTold held has_failed answer before written end
 
     -- The rows are a batch with this number at the console that is named; where none is, they are a first policy, and
     -- nothing is printed.
@@ -82,7 +91,8 @@ module _ {T : Type 0} (is_sure : T → Type 0) (represents may_leave : T → Sta
     abbrev pub IsImport : Option (List ℕ) → ℕ → Import → Type 0
     IsImport left moment import = IsNotBegun left ⊎ ((rows : List Row) × AreRead left rows × AreTaken moment import.batch import.console rows)
 
-    -- Where the tables are sure, the policy file of their state was written.
+    -- Where the tables are sure, the policy file of their state was written. Where it is not begun, nothing was printed.
     pub record IsExport : Type 0 where
       pub ends : IsEnded end
-      pub text : is_sure new → (s : State) → represents old s → IsWritten (exported s) before written end
+      pub text : is_sure new → (s : State) → represents old s → IsWritten (exported s) (held before) (held written) end
+      pub output : (IsErr end × (written ≡ before)) ⊎ FailsAsWritten has_failed before written end

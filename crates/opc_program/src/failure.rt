@@ -1,5 +1,5 @@
 //! What made the program fail, and how that is told.
-ghost use Rattle.std.specs.Prelude.{◌≡◌};
+ghost use Rattle.std.specs.Prelude.{◌≡◌, Some};
 ghost use Rattle.std.specs.IoError.{error_kind};
 ghost use Rattle.opc_program.specs.Statuses.{IsFailure, fault_of_kind, status_of};
 
@@ -83,6 +83,7 @@ impl Failure {
     /// A read, a write or an opening that failed there.
     pub fn at(place: Place, error: io::Error) -> Self
         ensures fault { result.fault ≡ fault_of_kind (error_kind error) }
+        ensures cause { result.cause ≡ Some (place, Reason.System error) }
         ensures failure { IsFailure result.fault }
     {
         Failure {

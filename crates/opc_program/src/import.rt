@@ -12,6 +12,7 @@ use crate::printing::{print_text, tell_answer};
 use clap::ArgMatches;
 use opc_gate::gate::Gate;
 use opc_gate::request::Request;
+use opc_http_link::sink::Sink;
 use opc_import::write::write_policy;
 use opc_names::name::ConsoleName;
 use opc_policy::fault::Fault;
@@ -20,7 +21,7 @@ use opc_rows::Rows;
 use opc_script::status::Status;
 use opc_state::tables::Tables;
 use std::alloc::{AllocError, Global};
-use std::io::{Read, Write};
+use std::io::Read;
 
 /// What is imported: a batch with a number at a console or, where none is named, a first policy.
 #[derive(Clone, Copy)]
@@ -57,32 +58,32 @@ impl<'a> Import<'a> {
 }
 
 /// Puts the policy file on the input into these tables, at a moment, and hands them back.
-pub fn import_on<T: Tables, R: Read, W: Write>(
+pub fn import_on<T: Tables, R: Read, K: Sink>(
     alloc: Global,
     tables: T,
     moment: u64,
     import: &Import<'_>,
     input: &mut R,
-    output: &mut W,
+    output: &mut K,
 ) -> (Result<Status, Failure>, T)
     ensures sure { T.is_sure result.1 → T.is_sure tables }
-    ensures imports { IsImport T.is_sure T.represents T.may_leave tables result.1 result.0 (W.contents output.old) (W.contents output.new) (R.remaining input.old) moment import.now }
+    ensures imports { IsImport T.is_sure T.represents T.may_leave tables result.1 result.0 K.held K.has_failed output.old output.new (R.remaining input.old) moment import.now }
 {
     let mut gate = Gate::over(tables);
     let end = import_over(alloc, &mut gate, moment, import, input, output);
     (end, gate.into_tables())
 }
 
-fn import_over<T: Tables, R: Read, W: Write>(
+fn import_over<T: Tables, R: Read, K: Sink>(
     alloc: Global,
     gate: &mut Gate<T>,
     moment: u64,
     import: &Import<'_>,
     input: &mut R,
-    output: &mut W,
+    output: &mut K,
 ) -> Result<Status, Failure>
     ensures sure { T.is_sure gate.new → T.is_sure gate.old }
-    ensures imports { IsImport T.is_sure T.represents T.may_leave gate.old gate.new result (W.contents output.old) (W.contents output.new) (R.remaining input.old) moment import.now }
+    ensures imports { IsImport T.is_sure T.represents T.may_leave gate.old gate.new result K.held K.has_failed output.old output.new (R.remaining input.old) moment import.now }
 {
     let rows = read_rows(alloc, Place::Input, input)?;
     let Some(console) = import.console else {
@@ -97,7 +98,11 @@ fn import_over<T: Tables, R: Read, W: Write>(
 }
 
 /// Takes the rows of a first policy.
-fn take_first<T: Tables>(alloc: Global, gate: &mut Gate<T>, rows: &[Row]) -> Result<Status, Failure>
+pub(crate) fn take_first<T: Tables>(
+    alloc: Global,
+    gate: &mut Gate<T>,
+    rows: &[Row],
+) -> Result<Status, Failure>
     ensures sure { T.is_sure gate.new → T.is_sure gate.old }
     ensures takes { IsFirstPolicy T.is_sure T.represents T.may_leave gate.old gate.new result rows.now }
 {
@@ -108,15 +113,15 @@ fn take_first<T: Tables>(alloc: Global, gate: &mut Gate<T>, rows: &[Row]) -> Res
 }
 
 /// Has one request handled, and tells its answer.
-fn handle_alone<T: Tables, W: Write>(
+fn handle_alone<T: Tables, K: Sink>(
     alloc: Global,
     gate: &mut Gate<T>,
     moment: u64,
     request: &Request,
-    output: &mut W,
+    output: &mut K,
 ) -> Result<Status, Failure>
     ensures sure { T.is_sure gate.new → T.is_sure gate.old }
-    ensures handles { IsOneStep T.is_sure T.represents T.may_leave gate.old gate.new result (W.contents output.old) (W.contents output.new) moment (input_of request.now) }
+    ensures handles { IsOneStep T.is_sure T.represents T.may_leave gate.old gate.new result K.held K.has_failed output.old output.new moment (input_of request.now) }
 {
     let answer = gate.handle(alloc, moment, request);
     tell_answer(&answer, output)
@@ -143,28 +148,28 @@ fn copied(alloc: Global, rows: &[Row]) -> Result<Rows<Row>, AllocError>
 }
 
 /// Writes the policy of these tables as a policy file, and hands them back.
-pub fn export_on<T: Tables, W: Write>(
+pub fn export_on<T: Tables, K: Sink>(
     alloc: Global,
     tables: T,
-    output: &mut W,
+    output: &mut K,
 ) -> (Result<Status, Failure>, T)
     ensures sure { T.is_sure result.1 → T.is_sure tables }
     ensures kept { IsKept T.is_sure T.represents T.may_leave tables result.1 }
-    ensures exports { IsExport T.is_sure T.represents T.may_leave tables result.1 result.0 (W.contents output.old) (W.contents output.new) }
+    ensures exports { IsExport T.is_sure T.represents T.may_leave tables result.1 result.0 K.held K.has_failed output.old output.new }
 {
     let mut gate = Gate::over(tables);
     let end = export_over(alloc, &mut gate, output);
     (end, gate.into_tables())
 }
 
-fn export_over<T: Tables, W: Write>(
+fn export_over<T: Tables, K: Sink>(
     alloc: Global,
     gate: &mut Gate<T>,
-    output: &mut W,
+    output: &mut K,
 ) -> Result<Status, Failure>
     ensures sure { T.is_sure gate.new → T.is_sure gate.old }
     ensures kept { IsKept T.is_sure T.represents T.may_leave gate.old gate.new }
-    ensures exports { IsExport T.is_sure T.represents T.may_leave gate.old gate.new result (W.contents output.old) (W.contents output.new) }
+    ensures exports { IsExport T.is_sure T.represents T.may_leave gate.old gate.new result K.held K.has_failed output.old output.new }
 {
     let rows = match gate.export(alloc) {
         Ok(rows) => rows,

@@ -1,11 +1,15 @@
 //! `opcmds run`: commands and events, over tables in memory or in a file.
-ghost use Rattle.std.specs.Prelude.{◌≡◌, None, Ok};
-ghost use Rattle.opc_program.specs.Runs.{IsAnsweredInput, IsRunOfBytes, status_of_end, status_of_run};
+ghost use Rattle.std.specs.Prelude.{◌≡◌, None, if◌then◌else◌, true};
+ghost use Rattle.opc_script.specs.Refusals.{is_cut_by_output};
+ghost use Rattle.opc_program.specs.Imports.{IsPolicyTaken};
+ghost use Rattle.opc_program.specs.Runs.{IsAnsweredInput, IsEndOf, IsNamedPolicyTaken, IsProgramRun, IsRunOfBytes, status_of_end};
 
 use crate::failure::{Failure, Paths, Place};
+use crate::import::take_first;
 use crate::policy_file::read_rows;
 use crate::streams::read_up_to;
 use opc_gate::gate::Gate;
+use opc_http_link::sink::Sink;
 use opc_policy::fault::Fault;
 use opc_script::run::{run_script, tell_bad_line};
 use opc_script::script::{SCRIPT_LIMIT, ScriptFault};
@@ -26,71 +30,84 @@ pub fn told<E: Write>(end: Result<Status, Failure>, paths: &Paths<'_>, errors: &
     }
 }
 
-/// Takes the first policy, if one is named, and runs the script on the input over these tables, which it hands back.
-pub fn run_on<H: AllocGlobal + Files, T: Tables, R: Read, W: Write>(
+/// Takes the first policy, if one is named, and then runs the script on the input over these tables, which it hands back.
+pub fn run_on<H: AllocGlobal + Files, T: Tables, R: Read, K: Sink>(
     rt: &H,
     tables: T,
     policy: Option<&str>,
     input: &mut R,
-    output: &mut W,
+    output: &mut K,
 ) -> (Result<Status, Failure>, T)
     ensures sure { T.is_sure result.1 → T.is_sure tables }
-    ensures runs { policy.entry ≡ None → IsAnsweredInput T.is_sure T.represents T.may_leave tables result.1 (R.remaining input.old) (W.contents output.old) (W.contents output.new) result.0 }
+    ensures runs { IsProgramRun T.is_sure T.represents T.may_leave K.held K.has_failed tables result.1 policy.entry (R.remaining input.old) output.old output.new result.0 }
 {
-    let mut gate = match Gate::new(rt.alloc(), tables) {
-        Ok(gate) => gate,
-        Err((fault, tables)) => return (Err(Failure::from(fault)), tables),
-    };
-    let end = run_over(rt, &mut gate, policy, input, output);
-    (end, gate.into_store())
-}
-
-fn run_over<H: AllocGlobal + Files, T: Tables, R: Read, W: Write>(
-    rt: &H,
-    gate: &mut Gate<T>,
-    policy: Option<&str>,
-    input: &mut R,
-    output: &mut W,
-) -> Result<Status, Failure>
-    ensures sure { T.is_sure gate.new → T.is_sure gate.old }
-    ensures runs { policy.entry ≡ None → IsAnsweredInput T.is_sure T.represents T.may_leave gate.old gate.new (R.remaining input.old) (W.contents output.old) (W.contents output.new) result }
-{
-    take_policy(rt, gate, policy)?;
-    answer_script(rt.alloc(), gate, input, output)
+    let (taken, tables) = take_policy(rt, tables, policy);
+    match taken {
+        Ok(_) => run_cached(rt.alloc(), tables, input, output),
+        Err(failure) => (Err(failure), tables),
+    }
 }
 
 /// Takes the first policy, from a file if one is named.
 fn take_policy<H: AllocGlobal + Files, T: Tables>(
     rt: &H,
-    gate: &mut Gate<T>,
+    tables: T,
     policy: Option<&str>,
-) -> Result<(), Failure>
-    ensures sure { T.is_sure gate.new → T.is_sure gate.old }
-    ensures none { policy.entry ≡ None → (result ≡ Ok tt) × (gate.new ≡ gate.old) }
+) -> (Result<Status, Failure>, T)
+    ensures sure { T.is_sure result.1 → T.is_sure tables }
+    ensures takes { IsNamedPolicyTaken T.is_sure T.represents T.may_leave tables result.1 policy.entry result.0 }
 {
     let Some(path) = policy else {
-        return Ok(());
+        return (Ok(Status::Done), tables);
     };
+    let mut gate = Gate::over(tables);
+    let end = take_file(rt, &mut gate, path);
+    (end, gate.into_tables())
+}
+
+fn take_file<H: AllocGlobal + Files, T: Tables>(
+    rt: &H,
+    gate: &mut Gate<T>,
+    path: &str,
+) -> Result<Status, Failure>
+    ensures sure { T.is_sure gate.new → T.is_sure gate.old }
+    ensures takes { IsPolicyTaken T.is_sure T.represents T.may_leave gate.old gate.new result None }
+{
     let mut file = match File::open(rt, path) {
         Ok(file) => file,
         Err(error) => return Err(Failure::at(Place::PolicyFile, error)),
     };
     let rows = read_rows(rt.alloc(), Place::PolicyFile, &mut file)?;
-    match gate.bootstrap(rt.alloc(), &rows) {
-        Ok(()) => Ok(()),
-        Err(fault) => Err(Failure::of_gate(fault)),
-    }
+    take_first(rt.alloc(), gate, &rows)
+}
+
+/// Runs the script on the input over these tables, with a cache of which profile decides, and hands them back.
+fn run_cached<T: Tables, R: Read, K: Sink>(
+    alloc: Global,
+    tables: T,
+    input: &mut R,
+    output: &mut K,
+) -> (Result<Status, Failure>, T)
+    ensures sure { T.is_sure result.1 → T.is_sure tables }
+    ensures runs { IsAnsweredInput T.is_sure T.represents T.may_leave K.held K.has_failed tables result.1 (R.remaining input.old) output.old output.new result.0 }
+{
+    let mut gate = match Gate::new(alloc, tables) {
+        Ok(gate) => gate,
+        Err((fault, tables)) => return (Err(Failure::from(fault)), tables),
+    };
+    let end = answer_script(alloc, &mut gate, input, output);
+    (end, gate.into_store())
 }
 
 /// Runs the script on the input. One that is not UTF-8 is a bad line, as one that is too long.
-fn answer_script<T: Tables, R: Read, W: Write>(
+fn answer_script<T: Tables, R: Read, K: Sink>(
     alloc: Global,
     gate: &mut Gate<T>,
     input: &mut R,
-    output: &mut W,
+    output: &mut K,
 ) -> Result<Status, Failure>
     ensures sure { T.is_sure gate.new → T.is_sure gate.old }
-    ensures runs { IsAnsweredInput T.is_sure T.represents T.may_leave gate.old gate.new (R.remaining input.old) (W.contents output.old) (W.contents output.new) result }
+    ensures runs { IsAnsweredInput T.is_sure T.represents T.may_leave K.held K.has_failed gate.old gate.new (R.remaining input.old) output.old output.new result }
 {
     let bytes = match read_up_to(alloc, input, SCRIPT_LIMIT) {
         Ok(bytes) => bytes,
@@ -99,14 +116,15 @@ fn answer_script<T: Tables, R: Read, W: Write>(
     ended(run_bytes(alloc, gate, &bytes, output))
 }
 
-fn run_bytes<T: Tables, W: Write>(
+fn run_bytes<T: Tables, K: Sink>(
     alloc: Global,
     gate: &mut Gate<T>,
     bytes: &[u8],
-    output: &mut W,
+    output: &mut K,
 ) -> Result<Status, ScriptFault>
     ensures sure { T.is_sure gate.new → T.is_sure gate.old }
-    ensures runs { IsRunOfBytes T.is_sure T.represents T.may_leave gate.old gate.new bytes.now (W.contents output.old) (W.contents output.new) result }
+    ensures runs { IsRunOfBytes T.is_sure T.represents T.may_leave gate.old gate.new bytes.now (K.held output.old) (K.held output.new) result }
+    ensures failed { K.has_failed output.new ≡ (if is_cut_by_output result then true else K.has_failed output.old) }
 {
     match str::from_utf8(bytes) {
         Ok(script) => run_script(gate, alloc, script, output),
@@ -115,9 +133,8 @@ fn run_bytes<T: Tables, W: Write>(
 }
 
 /// What the program makes of a script's run: that a line is bad was told on the output.
-#[tactic(auto, using(crate::proofs::Faults::streams_fail))]
 fn ended(ran: Result<Status, ScriptFault>) -> Result<Status, Failure>
-    ensures { status_of_end result ≡ status_of_run ran }
+    ensures { IsEndOf ran result }
 {
     match ran {
         Ok(status) => Ok(status),

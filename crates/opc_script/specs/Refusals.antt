@@ -1,5 +1,5 @@
--- Why a script is not run.
-use Rattle.std.specs.Prelude.{◌≡◌, ℕ, true, List, Some}
+-- Why a script is not run, or not to its end.
+use Rattle.std.specs.Prelude.{◌≡◌, ℕ, Bool, true, false, List, Some, Result, Ok, Err}
 use Rattle.opc_script.specs.declared.script.ScriptFault.{ScriptFault}
 use Rattle.opc_script.specs.declared.script.ScriptFault.TheVariants.{BadLine, NoMemory, Output}
 use Rattle.opc_script.specs.Scripts.{bad_line, is_bad}
@@ -15,3 +15,14 @@ abbrev pub IsUnread : List ℕ → ScriptFault → Type 0
 IsUnread script (BadLine number) = bad_line script ≡ Some number
 IsUnread script NoMemory = Unit {0}
 IsUnread script (Output error) = ⊥
+
+-- the output failed
+abbrev pub is_output : ScriptFault → Bool
+is_output (BadLine number) = false
+is_output NoMemory = false
+is_output (Output error) = true
+
+-- it ended because the output failed
+abbrev pub is_cut_by_output : {A : Type 0} → Result A ScriptFault → Bool
+is_cut_by_output (Ok value) = false
+is_cut_by_output (Err fault) = is_output fault

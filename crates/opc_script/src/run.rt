@@ -1,6 +1,7 @@
 //! `opcmds run`: a script's requests, handled one after another.
-ghost use Rattle.std.specs.Prelude.{◌≡◌, IfSome, MatchResult, None};
+ghost use Rattle.std.specs.Prelude.{◌≡◌, IfSome, MatchResult, None, if◌then◌else◌, true};
 ghost use Rattle.std.specs.Io.KnownBytes.{Appends};
+ghost use Rattle.opc_script.specs.Refusals.{is_cut_by_output, is_output};
 ghost use Rattle.opc_script.specs.Running.{IsBadLineTold, IsBadRun, IsCutOff, IsScriptRun};
 ghost use Rattle.opc_script.specs.Scripts.{bad_line, requests_in};
 ghost use Rattle.opc_script.specs.Transcripts.{bad_line_text};
@@ -10,12 +11,13 @@ use crate::script::{ScriptFault, requests_in};
 use crate::status::Status;
 use crate::transcript::bad_line_text;
 use opc_gate::gate::Gate;
+use opc_http_link::sink::Sink;
 use opc_state::tables::Tables;
 use std::alloc::Global;
-use std::io::Write;
 
-fn write_bad_line<W: Write>(alloc: Global, number: usize, output: &mut W) -> Result<(), ScriptFault>
-    ensures { MatchResult result (λ _. Appends (W.contents output.old) (W.contents output.new) (bad_line_text number)) (λ fault. IsCutOff fault (W.contents output.old) (W.contents output.new) (bad_line_text number)) }
+fn write_bad_line<K: Sink>(alloc: Global, number: usize, output: &mut K) -> Result<(), ScriptFault>
+    ensures text { MatchResult result (λ _. Appends (K.held output.old) (K.held output.new) (bad_line_text number)) (λ fault. IsCutOff fault (K.held output.old) (K.held output.new) (bad_line_text number)) }
+    ensures failed { K.has_failed output.new ≡ (if is_cut_by_output result then true else K.has_failed output.old) }
 {
     let text = bad_line_text(alloc, number)?;
     write_text(output, text.as_str())?;
@@ -23,8 +25,9 @@ fn write_bad_line<W: Write>(alloc: Global, number: usize, output: &mut W) -> Res
 }
 
 /// Writes which line is bad, and answers the fault that ends the run: that line, or why it could not be told.
-pub fn tell_bad_line<W: Write>(alloc: Global, number: usize, output: &mut W) -> ScriptFault
-    ensures { IsBadLineTold number (W.contents output.old) (W.contents output.new) result }
+pub fn tell_bad_line<K: Sink>(alloc: Global, number: usize, output: &mut K) -> ScriptFault
+    ensures told { IsBadLineTold number (K.held output.old) (K.held output.new) result }
+    ensures failed { K.has_failed output.new ≡ (if is_output result then true else K.has_failed output.old) }
 {
     match write_bad_line(alloc, number, output) {
         Ok(()) => ScriptFault::BadLine(number),
@@ -35,17 +38,18 @@ pub fn tell_bad_line<W: Write>(alloc: Global, number: usize, output: &mut W) -> 
 /// Runs a script over a gate, and answers what the answers come to. What is written is the transcript of the access
 /// machine's answers. Where a line is bad or the script has more than 1,048,576 bytes, that is written, and nothing is
 /// run. Where the output fails or memory is refused for an answer's text, the run ends with that request: it is handled,
-/// and so are those before it, whose answers are written. A crash leaves what it might have left before, or a state that
-/// one of the handled requests makes, in whole.
-pub fn run_script<T: Tables, W: Write>(
+/// and so are those before it, whose answers are written. That the output failed is told exactly where a write to it failed.
+/// A crash leaves what it might have left before, or a state that one of the handled requests makes, in whole.
+pub fn run_script<T: Tables, K: Sink>(
     gate: &mut Gate<T>,
     alloc: Global,
     script: &str,
-    output: &mut W,
+    output: &mut K,
 ) -> Result<Status, ScriptFault>
     ensures sure { T.is_sure gate.new → T.is_sure gate.old }
-    ensures bad { IfSome (bad_line script.now) (λ number. (gate.new ≡ gate.old) × IsBadRun number (W.contents output.old) (W.contents output.new) result) }
-    ensures runs { bad_line script.now ≡ None → IsScriptRun T.is_sure T.represents T.may_leave gate.old gate.new (requests_in script.now) (W.contents output.old) (W.contents output.new) result }
+    ensures bad { IfSome (bad_line script.now) (λ number. (gate.new ≡ gate.old) × IsBadRun number (K.held output.old) (K.held output.new) result) }
+    ensures runs { bad_line script.now ≡ None → IsScriptRun T.is_sure T.represents T.may_leave gate.old gate.new (requests_in script.now) (K.held output.old) (K.held output.new) result }
+    ensures failed { K.has_failed output.new ≡ (if is_cut_by_output result then true else K.has_failed output.old) }
 {
     let requests = match requests_in(alloc, script) {
         Ok(requests) => requests,

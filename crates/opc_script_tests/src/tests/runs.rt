@@ -1,6 +1,7 @@
 //! What is printed over tables that fail, and to writers that fail.
 use super::failing_tables::FailingTables;
 use opc_gate::gate::Gate;
+use opc_http_link::watched::Watched;
 use opc_script::run::run_script;
 use opc_script::script::ScriptFault;
 use opc_script::status::Status;
@@ -44,13 +45,14 @@ fn each_request_is_answered(rt: HostRuntime) -> Result<(), Fail> {
         ("", "", Status::Done),
         ("   \n \r\n\n", "", Status::Done),
     ] {
-        let mut output = Vec::with_capacity(rt.alloc(), 100)?;
+        let mut output = Watched::new(Vec::with_capacity(rt.alloc(), 100)?);
         let mut gate = Gate::over(FailingTables);
         match run_script(&mut gate, rt.alloc(), script, &mut output) {
             Ok(status) => assert_eq!(rt; status, wanted),
             Err(fault) => return Err(end_of(&rt, fault)),
         }
-        assert_eq!(rt; output.as_slice(), printed.as_bytes());
+        assert_eq!(rt; output.inner.as_slice(), printed.as_bytes());
+        assert!(rt; !output.failed);
     }
     Ok(())
 }
@@ -71,14 +73,15 @@ fn a_bad_line_is_told_and_nothing_is_run(rt: HostRuntime) -> Result<(), Fail> {
         ("1 C1 D U\n   \n\n1\n", "BAD LINE 4\n", 4),
         (long.as_str(), "BAD LINE 0\n", 0),
     ] {
-        let mut output = Vec::with_capacity(rt.alloc(), 100)?;
+        let mut output = Watched::new(Vec::with_capacity(rt.alloc(), 100)?);
         let mut gate = Gate::over(FailingTables);
         match run_script(&mut gate, rt.alloc(), script, &mut output) {
             Err(ScriptFault::BadLine(number)) => assert_eq!(rt; number, line),
             Err(fault) => return Err(end_of(&rt, fault)),
             Ok(_) => assert!(rt; false),
         }
-        assert_eq!(rt; output.as_slice(), printed.as_bytes());
+        assert_eq!(rt; output.inner.as_slice(), printed.as_bytes());
+        assert!(rt; !output.failed);
     }
     Ok(())
 }
@@ -86,7 +89,7 @@ fn a_bad_line_is_told_and_nothing_is_run(rt: HostRuntime) -> Result<(), Fail> {
 /// What is printed ends where the writer does, and its error is handed on.
 fn stops_at(rt: &(impl AllocGlobal + Abort), room: usize, fails: bool) -> Result<(), Fail> {
     let bytes = Vec::with_capacity(rt.alloc(), PRINTED.len())?;
-    let mut output = Narrow { bytes, room, fails };
+    let mut output = Watched::new(Narrow { bytes, room, fails });
     let mut gate = Gate::over(FailingTables);
     match run_script(&mut gate, rt.alloc(), SCRIPT, &mut output) {
         Err(ScriptFault::Output(error)) if fails => {
@@ -96,8 +99,9 @@ fn stops_at(rt: &(impl AllocGlobal + Abort), room: usize, fails: bool) -> Result
         Err(fault) => return Err(end_of(rt, fault)),
         Ok(_) => assert!(rt; false),
     }
-    assert_eq!(rt; output.bytes.len(), room);
-    assert!(rt; PRINTED.as_bytes().starts_with(output.bytes.as_slice()));
+    assert!(rt; output.failed);
+    assert_eq!(rt; output.inner.bytes.len(), room);
+    assert!(rt; PRINTED.as_bytes().starts_with(output.inner.bytes.as_slice()));
     Ok(())
 }
 

@@ -111,14 +111,7 @@ impl Process {
         let tables = self.open_tables(import.path)?;
         let moment = self.moment()?;
         let mut output = Watched::new(output);
-        let (end, tables) = import_on(
-            self.rt.alloc(),
-            tables,
-            moment,
-            import,
-            input,
-            &mut output,
-        );
+        let (end, tables) = import_on(self.rt.alloc(), tables, moment, import, input, &mut output);
         closed(end, tables, paths, errors)
     }
 

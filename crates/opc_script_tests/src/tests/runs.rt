@@ -101,7 +101,11 @@ fn stops_at(rt: &(impl AllocGlobal + Abort), room: usize, fails: bool) -> Result
     }
     assert!(rt; output.failed);
     assert_eq!(rt; output.inner.bytes.len(), room);
-    assert!(rt; PRINTED.as_bytes().starts_with(output.inner.bytes.as_slice()));
+    assert!(rt;
+        PRINTED
+            .as_bytes()
+            .starts_with(output.inner.bytes.as_slice())
+    );
     Ok(())
 }
 

@@ -21,7 +21,6 @@
 //! characters, `\x` and two digits for a byte, and `\[COUNT TEXT]` for a text so many times.
 #![tactic(auto)]
 
-pub mod link;
 mod message;
 mod room;
 mod trials;

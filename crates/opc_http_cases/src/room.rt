@@ -1,8 +1,9 @@
 //! A gate, what it begins with, and exchanges with it.
-use crate::link::{FailingReader, FailingWriter};
 use crate::trials;
 use anyhow::{Context, Result, bail};
 use opc_cache::cached::Cached;
+use opc_failing::reader::FailingReader;
+use opc_failing::writer::FailingWriter;
 use opc_gate::gate::Gate;
 use opc_http::exchange::{LinkFault, Served, exchange};
 use opc_http_head::routes::Routes;
@@ -41,6 +42,15 @@ pub struct Room {
 pub struct Outcome {
     pub told: String,
     pub written: Vec<u8>,
+}
+
+impl Outcome {
+    pub fn of(alloc: Global, outcome: Result<Served, LinkFault>, written: Vec<u8>) -> Result<Self> {
+        Ok(Outcome {
+            told: told_of(alloc, outcome)?,
+            written,
+        })
+    }
 }
 
 fn empty_gate(alloc: Global) -> Result<Gate<Cached<InMemory>>> {
@@ -124,14 +134,14 @@ impl Room {
         }
     }
 
-    /// One exchange with the gate.
-    pub fn exchange(
+    /// One exchange with the gate: what it tells of itself, and the bytes that were written.
+    pub fn tried(
         &mut self,
         alloc: Global,
         moment: u64,
         reader: FailingReader<'_>,
         writer: FailingWriter,
-    ) -> Result<Outcome> {
+    ) -> Result<(Result<Served, LinkFault>, Vec<u8>)> {
         let mut source = Watched::new(reader);
         let mut sink = Watched::new(writer);
         let outcome = exchange(
@@ -146,10 +156,19 @@ impl Room {
         if writer.lacks_memory {
             bail!("out of memory");
         }
-        Ok(Outcome {
-            told: told_of(alloc, outcome)?,
-            written: writer.bytes,
-        })
+        Ok((outcome, writer.bytes))
+    }
+
+    /// One exchange with the gate, in words. Where memory is refused it is an error.
+    pub fn exchange(
+        &mut self,
+        alloc: Global,
+        moment: u64,
+        reader: FailingReader<'_>,
+        writer: FailingWriter,
+    ) -> Result<Outcome> {
+        let (outcome, written) = self.tried(alloc, moment, reader, writer)?;
+        Outcome::of(alloc, outcome, written)
     }
 }
 

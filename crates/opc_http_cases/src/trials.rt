@@ -1,8 +1,10 @@
 //! Exchanges that succeed, that are cut off, and whose reader or writer fails.
-use crate::link::{FailingReader, FailingWriter};
 use crate::message::bytes_of;
 use crate::room::{GIVEN_UP, Outcome, Room};
 use anyhow::{Result, bail};
+use opc_failing::reader::FailingReader;
+use opc_failing::writer::FailingWriter;
+use opc_http::exchange::LinkFault;
 use std::alloc::Global;
 use std::str;
 
@@ -27,20 +29,8 @@ fn is_way(word: &str) -> bool {
     matches!(word, "CUT" | "DRIP" | "READS" | "WRITES")
 }
 
-fn one_byte_a_read(bytes: &[u8], reads: usize) -> FailingReader<'_> {
-    FailingReader {
-        left: bytes,
-        piece: 1,
-        reads,
-    }
-}
-
 fn never_failing(bytes: &[u8]) -> FailingReader<'_> {
-    FailingReader {
-        left: bytes,
-        piece: usize::MAX,
-        reads: usize::MAX,
-    }
+    FailingReader::new(bytes, usize::MAX, usize::MAX)
 }
 
 fn one_byte_a_write(alloc: Global, writes: usize) -> FailingWriter {
@@ -60,7 +50,7 @@ fn served(alloc: Global, outcome: &Outcome) -> Result<String> {
 }
 
 fn drip(alloc: Global, room: &mut Room, moment: u64, bytes: &[u8]) -> Result<String> {
-    let reader = one_byte_a_read(bytes, usize::MAX);
+    let reader = FailingReader::by_bytes(bytes, usize::MAX);
     let writer = one_byte_a_write(alloc, usize::MAX);
     served(alloc, &room.exchange(alloc, moment, reader, writer)?)
 }
@@ -87,7 +77,7 @@ fn cut(alloc: Global, room: &mut Room, moment: u64, bytes: &[u8]) -> Result<Stri
 fn failing_reads(alloc: Global, room: &mut Room, moment: u64, bytes: &[u8]) -> Result<String> {
     let mut spans = Spans::after(String::new(alloc));
     for reads in 0..bytes.len() + 1 {
-        let reader = one_byte_a_read(bytes, reads);
+        let reader = FailingReader::by_bytes(bytes, reads);
         let writer = one_byte_a_write(alloc, usize::MAX);
         let outcome = room.exchange(alloc, moment, reader, writer)?;
         let response = if outcome.written.is_empty() {
@@ -104,6 +94,28 @@ fn failing_reads(alloc: Global, room: &mut Room, moment: u64, bytes: &[u8]) -> R
     spans.ended(alloc)
 }
 
+/// An exchange whose writer may fail, after which the account has so many rows, unless the request is given up. Where
+/// memory is refused for the response, nothing is written, and the request stays done.
+fn written_to(
+    alloc: Global,
+    room: &mut Room,
+    moment: u64,
+    bytes: &[u8],
+    writer: FailingWriter,
+    rows: usize,
+) -> Result<Outcome> {
+    let (outcome, written) = room.tried(alloc, moment, never_failing(bytes), writer)?;
+    if matches!(outcome, Err(LinkFault::NoMemory { handled: true })) {
+        if !written.is_empty() {
+            bail!("a part of a response that was not built");
+        }
+        if room.account_length(alloc)? != rows {
+            bail!("a request that did not stay done");
+        }
+    }
+    Outcome::of(alloc, outcome, written)
+}
+
 fn failing_writes(alloc: Global, room: &mut Room, moment: u64, bytes: &[u8]) -> Result<String> {
     let before = room.account_length(alloc)?;
     let whole = asked(alloc, room, moment, bytes)?;
@@ -111,7 +123,8 @@ fn failing_writes(alloc: Global, room: &mut Room, moment: u64, bytes: &[u8]) -> 
     let mut spans = Spans::after(served(alloc, &whole)?);
     for writes in 0..whole.written.len() + 1 {
         let writer = one_byte_a_write(alloc, writes);
-        let outcome = room.exchange(alloc, moment, never_failing(bytes), writer)?;
+        let after = rows_after(before, rows, writes.saturating_add(2));
+        let outcome = written_to(alloc, room, moment, bytes, writer, after)?;
         let response = if outcome.written.as_slice() == &whole.written.as_slice()[..writes] {
             "a byte of the response for each write"
         } else {
@@ -120,11 +133,11 @@ fn failing_writes(alloc: Global, room: &mut Room, moment: u64, bytes: &[u8]) -> 
         let told = format!(in alloc; "{}, {response}", outcome.told)?;
         spans.add(alloc, writes, told)?;
     }
-    let full = FailingWriter::new(alloc, 0, usize::MAX);
-    let outcome = room.exchange(alloc, moment, never_failing(bytes), full)?;
     // Each exchange brings the same number of rows, unless it is given up.
-    let exchanges = whole.written.len().saturating_add(3);
-    if room.account_length(alloc)?.checked_sub(before) != rows.checked_mul(exchanges) {
+    let after = rows_after(before, rows, whole.written.len().saturating_add(3));
+    let full = FailingWriter::new(alloc, 0, usize::MAX);
+    let outcome = written_to(alloc, room, moment, bytes, full, after)?;
+    if room.account_length(alloc)? != after {
         bail!(GIVEN_UP);
     }
     let told = spans.ended(alloc)?;
@@ -132,6 +145,11 @@ fn failing_writes(alloc: Global, room: &mut Room, moment: u64, bytes: &[u8]) -> 
         "{told}taking nothing: {}\nrows for each: {rows}\n",
         outcome.told
     )?)
+}
+
+/// How many rows the account has after so many exchanges that bring as many each.
+fn rows_after(before: usize, rows: usize, exchanges: usize) -> usize {
+    before.saturating_add(rows.saturating_mul(exchanges))
 }
 
 /// What is told of trials one after another; those that came out alike are told together.

@@ -2,6 +2,5 @@
 mod asked;
 mod cut;
 mod heads;
-mod narrow;
 mod reading;
 mod refusals;

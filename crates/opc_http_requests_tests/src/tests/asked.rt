@@ -1,6 +1,6 @@
 //! One request of each route, and the values of its path.
-use super::narrow::Narrow;
 use super::reading::{asked, get, post};
+use opc_failing::reader::FailingReader;
 use std::process::Abort;
 use std::test::Fail;
 
@@ -17,7 +17,8 @@ fn expect(rt: &(impl AllocGlobal + Abort), text: &str, wanted: &str) -> Result<(
         Ok(line) => assert_eq!(rt; line.as_str(), wanted),
         Err(_) => assert!(rt; false),
     }
-    match asked(rt.alloc(), Narrow::new(text.as_bytes(), None))? {
+    let by_bytes = FailingReader::by_bytes(text.as_bytes(), usize::MAX);
+    match asked(rt.alloc(), by_bytes)? {
         Ok(line) => assert_eq!(rt; line.as_str(), wanted),
         Err(_) => assert!(rt; false),
     }

@@ -1,6 +1,6 @@
 //! Requests that are cut off, readers that fail, and lengths at their limits.
-use super::narrow::Narrow;
 use super::reading::asked;
+use opc_failing::reader::FailingReader;
 use opc_http_head::refusal::Refusal;
 use opc_http_head::routes::Routes;
 use opc_http_link::watched::Watched;
@@ -29,13 +29,14 @@ fn a_cut_request_is_refused_wherever_it_is_cut(rt: HostRuntime) -> Result<(), Fa
 #[test]
 fn a_read_that_fails_ends_it(rt: HostRuntime) -> Result<(), Fail> {
     for at in 0..COMMAND.len() {
-        match asked(rt.alloc(), Narrow::new(COMMAND, Some(at)))? {
+        match asked(rt.alloc(), FailingReader::by_bytes(COMMAND, at))? {
             Ok(_) => assert!(rt; false),
             Err(fault) => assert_eq!(rt; fault, ReadingFault::Read),
         }
     }
     // Nothing is read after the end of the body.
-    match asked(rt.alloc(), Narrow::new(COMMAND, Some(COMMAND.len())))? {
+    let whole = FailingReader::by_bytes(COMMAND, COMMAND.len());
+    match asked(rt.alloc(), whole)? {
         Ok(line) => assert_eq!(rt; line.as_str(), "command C1 D U"),
         Err(_) => assert!(rt; false),
     }
@@ -54,11 +55,13 @@ fn taken(alloc: Global, length: usize) -> Result<(usize, Option<ReadingFault>), 
     let Ok(routes) = Routes::new(alloc) else {
         return Err(AllocError);
     };
-    let mut source = Watched::new(Narrow::new(text.as_bytes(), None));
-    match read_request(alloc, &routes, &mut source) {
-        Ok(_) => Ok((source.inner.taken, None)),
+    let mut source = Watched::new(FailingReader::by_bytes(text.as_bytes(), usize::MAX));
+    let read = read_request(alloc, &routes, &mut source);
+    let count = text.len().saturating_sub(source.inner.left.len());
+    match read {
+        Ok(_) => Ok((count, None)),
         Err(ReadingFault::NoMemory) => Err(AllocError),
-        Err(fault) => Ok((source.inner.taken, Some(fault))),
+        Err(fault) => Ok((count, Some(fault))),
     }
 }
 

@@ -1,6 +1,6 @@
 //! What is refused, and by which refusal first.
-use super::narrow::Narrow;
 use super::reading::{asked, get, post};
+use opc_failing::reader::FailingReader;
 use opc_http_head::refusal::{Method, Refusal};
 use opc_http_requests::fault::ReadingFault;
 use opc_policy::fault::Why;
@@ -15,7 +15,7 @@ fn expect(rt: &(impl AllocGlobal + Abort), text: &[u8], wanted: Refusal) -> Resu
         Ok(_) => assert!(rt; false),
         Err(fault) => assert_eq!(rt; fault, ReadingFault::Refused(wanted)),
     }
-    match asked(rt.alloc(), Narrow::new(text, None))? {
+    match asked(rt.alloc(), FailingReader::by_bytes(text, usize::MAX))? {
         Ok(_) => assert!(rt; false),
         Err(fault) => assert_eq!(rt; fault, ReadingFault::Refused(wanted)),
     }

@@ -1,35 +1,14 @@
-//! Readers and writers that fail.
+//! A writer that fails.
+ghost use Rattle.std.specs.Prelude.{◌≡◌};
+
 use std::alloc::Global;
 use std::io;
-use std::io::{ErrorKind, Read, Write};
-
-/// A reader that gives its bytes in pieces, and fails after so many reads.
-#[derive(Drop)]
-pub struct FailingReader<'a> {
-    pub left: &'a [u8],
-    /// The most bytes that one read gives.
-    pub piece: usize,
-    /// How many reads do not fail.
-    pub reads: usize,
-}
-
-impl Read for FailingReader<'_> {
-    fn read(&mut self, buf: &mut [u8]) -> io::Result<usize> {
-        if self.reads == 0 {
-            return Err(io::Error::from(ErrorKind::BrokenPipe));
-        }
-        self.reads -= 1;
-        let count = self.piece.min(self.left.len()).min(buf.len());
-        let (given, left) = self.left.split_at(count);
-        buf[..count].copy_from_slice(given);
-        self.left = left;
-        Ok(count)
-    }
-}
+use std::io::{ErrorKind, Write};
 
 /// A writer that takes its bytes in pieces, and fails after so many writes.
 #[derive(Drop)]
 pub struct FailingWriter {
+    /// The bytes that it took.
     pub bytes: Vec<u8>,
     /// The most bytes that one write takes.
     pub piece: usize,
@@ -41,7 +20,10 @@ pub struct FailingWriter {
 
 impl FailingWriter {
     /// A writer that has no bytes yet.
-    pub fn new(alloc: Global, piece: usize, writes: usize) -> Self {
+    pub fn new(alloc: Global, piece: usize, writes: usize) -> Self
+        ensures piece { result.piece ≡ piece }
+        ensures writes { result.writes ≡ writes }
+    {
         FailingWriter {
             bytes: Vec::new(alloc),
             piece,

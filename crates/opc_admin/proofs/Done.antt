@@ -1,9 +1,9 @@
 -- What one edit makes of a state, or none, as the outcome of an operation.
 use Rattle.std.proofs.Common.{◌≡◌, Bool, true, false, not, ◌&&◌, [], None, Result, Ok, Err, IfOk, refl, sym, ap, subst, ◌∙◌}
 use Rattle.std.proofs.Common.{Vec, Global}
-use Rattle.opc_policy.specs.declared.fault.Fault.{Fault}
+use Rattle.opc_terms.specs.declared.fault.Fault.{Fault}
 use Rattle.opc_policy.specs.declared.policy.Policy.{Policy}
-use Rattle.opc_policy.specs.declared.source.StoreFault.{StoreFault}
+use Rattle.opc_terms.specs.declared.store_fault.StoreFault.{StoreFault}
 use Rattle.opc_state.specs.declared.change.Edit.{Edit}
 use Rattle.opc_state.specs.Changes.{all_edited, edited}
 use Rattle.opc_state.specs.Facts.{IsKeyed}

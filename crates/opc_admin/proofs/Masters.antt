@@ -6,8 +6,8 @@ use Rattle.std.specs.List.{find, list_any}
 use Rattle.std.specs.Ordering.{is_lt, match_ordering, ordering_reverse}
 use Rattle.std.specs.Str.{bytes_eq}
 use Rattle.opc_names.specs.declared.auth.Auth.{Auth}
-use Rattle.opc_policy.specs.declared.fault.Fault.TheVariants.{LastMaster}
-use Rattle.opc_policy.specs.declared.mode.Mode.{Mode}
+use Rattle.opc_terms.specs.declared.fault.Fault.TheVariants.{LastMaster}
+use Rattle.opc_terms.specs.declared.mode.Mode.{Mode}
 use Rattle.opc_rows.specs.Ordered.{Ascends, put}
 use Rattle.opc_rows.proofs.Filtered.{any_changed, any_split, passes}
 use Rattle.opc_rows.proofs.Orders.{all_found, ascends_filter}
@@ -26,7 +26,7 @@ use Rattle.opc_state.specs.Members.{console_cmp}
 use Rattle.opc_state.specs.State.{State}
 use Rattle.opc_state.proofs.SameRows.{auth_of, console_total, first, mode_of, name_itself, rest}
 use Rattle.opc_names.specs.Spellings.{auth_text}
-use Rattle.opc_policy.specs.Modes.{mode_text}
+use Rattle.opc_terms.specs.Modes.{mode_text}
 use Rattle.opc_rulings.proofs.Named.{found_by_name}
 use Rattle.opc_machine.specs.declared.operation.Operation.TheVariants as operation
 use Rattle.opc_machine.specs.Administration.{changed}

@@ -13,7 +13,7 @@ use Rattle.opc_names.specs.Spellings.{level_text}
 use Rattle.opc_names.specs.declared.class.Class.{Class}
 use Rattle.opc_names.specs.declared.class.Class.TheVariants.{Console, Opercmds}
 use Rattle.opc_names.specs.declared.level.Level.{Level}
-use Rattle.opc_policy.proofs.MostSpecific.{same_class_is}
+use Rattle.opc_policy.proofs.Classes.{same_class_is}
 use Rattle.opc_policy.specs.declared.entry.Entry.{Entry}
 use Rattle.opc_policy.specs.declared.profile.Profile.{Profile}
 use Rattle.opc_policy.specs.Access.{entry_cmp, entry_level, is_for, with_entry}

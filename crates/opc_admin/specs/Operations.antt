@@ -5,11 +5,11 @@ use Rattle.std.specs.Str.{bytes_eq}
 use Rattle.opc_names.specs.declared.class.Class.{Class}
 use Rattle.opc_names.specs.declared.level.Level.{Level}
 use Rattle.opc_names.specs.Spellings.{auth_text, level_text}
-use Rattle.opc_policy.specs.declared.fault.Fault.{Fault}
+use Rattle.opc_terms.specs.declared.fault.Fault.{Fault}
 use Rattle.opc_policy.specs.declared.policy.Policy.{Policy}
 use Rattle.opc_policy.specs.declared.profile.Profile.{Profile}
 use Rattle.opc_policy.specs.Access.{entry_level}
-use Rattle.opc_policy.specs.Modes.{mode_text}
+use Rattle.opc_terms.specs.Modes.{mode_text}
 use Rattle.opc_policy.specs.Profiles.{profile_of}
 use Rattle.opc_board.specs.declared.rows.ConsoleRow.{ConsoleRow}
 use Rattle.opc_state.specs.declared.change.Edit.{Edit}

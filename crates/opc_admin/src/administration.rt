@@ -23,12 +23,12 @@ use opc_names::name::{Pattern, UserId};
 use opc_policy::connect::Connect;
 use opc_policy::entries::Entries;
 use opc_policy::entry::Entry;
-use opc_policy::fault::Fault;
 use opc_policy::profile::Profile;
-use opc_policy::source::StoreFault;
 use opc_policy::user::User;
 use opc_rulings::asking::{Asking, asking_on, is_owner, is_special};
 use opc_state::tables::Tables;
+use opc_terms::fault::Fault;
+use opc_terms::store_fault::StoreFault;
 use std::alloc::Global;
 
 fn right_fault(op: &Operation) -> Fault

@@ -17,11 +17,11 @@ use opc_board::rows::ConsoleRow;
 use opc_machine::outcome::{Decided, denied, done};
 use opc_names::auth::Auth;
 use opc_names::name::ConsoleName;
-use opc_policy::fault::Fault;
-use opc_policy::mode::Mode;
-use opc_policy::source::StoreFault;
 use opc_state::change::Edit;
 use opc_state::tables::Tables;
+use opc_terms::fault::Fault;
+use opc_terms::mode::Mode;
+use opc_terms::store_fault::StoreFault;
 use std::alloc::Global;
 
 // A new console is online with nobody on.

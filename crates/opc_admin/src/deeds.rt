@@ -1,12 +1,12 @@
 //! What operations answer: a deed by one edit, or the fault of a name.
 ghost use Rattle.std.specs.Prelude.{◌≡◌, ◌∷◌, [], IfOk, None, Ok, Err};
-ghost use Rattle.opc_policy.specs.declared.fault.Fault.TheVariants as why;
+ghost use Rattle.opc_terms.specs.declared.fault.Fault.TheVariants as why;
 ghost use Rattle.opc_admin.specs.Operations.{IsDoneBy};
 
 use opc_machine::outcome::{Decided, denied, done};
 use opc_names::name::{Name, NameKind};
-use opc_policy::fault::{Fault, Subject};
 use opc_state::change::Edit;
+use opc_terms::fault::{Fault, Subject};
 use std::alloc::{AllocError, Global};
 
 /// What has this name is in the way.

@@ -14,11 +14,11 @@ use opc_machine::same::same_user;
 use opc_names::class::Class;
 use opc_names::name::{GroupName, UserId};
 use opc_policy::connect::Connect;
-use opc_policy::fault::{Fault, Subject};
-use opc_policy::source::StoreFault;
 use opc_policy::user::User;
 use opc_state::change::Edit;
 use opc_state::tables::Tables;
+use opc_terms::fault::{Fault, Subject};
+use opc_terms::store_fault::StoreFault;
 use std::alloc::Global;
 
 fn has_name<T: Tables>(tables: &mut T, name: &str) -> Result<bool, StoreFault>

@@ -16,12 +16,13 @@ use opc_machine::same::same_flag;
 use opc_names::class::Class;
 use opc_names::level::Level;
 use opc_names::name::{ConsoleName, Pattern};
-use opc_policy::entry::{Entry, EntryId};
-use opc_policy::fault::{Fault, Subject};
+use opc_policy::entry::Entry;
 use opc_policy::profile::Profile;
-use opc_policy::source::StoreFault;
 use opc_state::change::Edit;
 use opc_state::tables::Tables;
+use opc_terms::entry_id::EntryId;
+use opc_terms::fault::{Fault, Subject};
+use opc_terms::store_fault::StoreFault;
 use std::alloc::Global;
 
 fn is_defined<T: Tables>(

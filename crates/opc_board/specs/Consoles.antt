@@ -1,7 +1,7 @@
 -- What becomes of consoles.
 use Rattle.std.specs.Prelude.{Bool, true, false, not, ◌&&◌, if◌then◌else◌, List, [], ◌∷◌, Option, Some, None}
 use Rattle.opc_names.specs.declared.auth.Auth.{Auth}
-use Rattle.opc_policy.specs.declared.mode.Mode.{Mode}
+use Rattle.opc_terms.specs.declared.mode.Mode.{Mode}
 use Rattle.opc_rows.specs.Ordered.{put, changed}
 use Rattle.opc_board.specs.declared.rows.ConsoleRow.{ConsoleRow}
 use Rattle.opc_board.specs.declared.board.BoardRows.{BoardRows}

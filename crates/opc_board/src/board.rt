@@ -7,8 +7,8 @@ ghost use Rattle.opc_board.specs.Facts.{IsBoard, held_rightly, unit_before, kind
 use crate::rows::{ConsoleRow, DeviceRow, MessageRow, ReplyRow, UnitKind, UnitRow};
 use crate::text::KeptText;
 use opc_names::auth::Auth;
-use opc_policy::unit_kind::UnitKindAt;
 use opc_rows::Rows;
+use opc_terms::unit_kind::UnitKindAt;
 use std::marker::Model;
 
 /// The parts of a board: units, devices, consoles and open replies in order of name or number, and answered replies,

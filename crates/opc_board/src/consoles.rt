@@ -11,7 +11,7 @@ use crate::fault::BoardFault;
 use crate::rows::ConsoleRow;
 use opc_names::auth::Auth;
 use opc_names::name::{ConsoleName, UserId};
-use opc_policy::mode::Mode;
+use opc_terms::mode::Mode;
 use std::alloc::AllocError;
 
 impl ConsoleRow {

@@ -3,8 +3,8 @@ use crate::text::KeptText;
 use opc_names::auth::Auth;
 use opc_names::name::{ConsoleName, Device, UnitName, UserId, Volume};
 use opc_names::reply_id::ReplyId;
-use opc_policy::mode::Mode;
 use opc_rows::Keyed;
+use opc_terms::mode::Mode;
 
 /// What a unit is: a job, a started task of a member, or a user's session.
 #[derive(Clone, Copy, Debug)]

@@ -15,7 +15,7 @@ use Rattle.opc_statements.proofs.Keyed.{Keyed, IsKeyed, AreUnderstood, is_idle, 
 use Rattle.opc_statements.proofs.Steps.{cast_int}
 use Rattle.opc_statements.proofs.Values.{equal_texts, and_true}
 use Rattle.opc_names.specs.declared.auth.Auth.TheVariants.{Info}
-use Rattle.opc_policy.specs.declared.mode.Mode.TheVariants.{Optional}
+use Rattle.opc_terms.specs.declared.mode.Mode.TheVariants.{Optional}
 use Rattle.opc_board.specs.declared.rows.ConsoleRow.{ConsoleRow}
 use Rattle.opc_state.specs.State.{State}
 use Rattle.opc_state.specs.Changes.{with_consoles}

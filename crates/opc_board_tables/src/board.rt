@@ -10,8 +10,8 @@ use crate::devices::devices_on;
 use crate::replies::replies_on;
 use crate::units::units_on;
 use opc_board::board::BoardRows;
-use opc_policy::source::StoreFault;
 use opc_rows::Rows;
+use opc_terms::store_fault::StoreFault;
 use sqlite::{Alter, Connection};
 use std::alloc::Global;
 

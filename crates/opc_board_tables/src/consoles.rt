@@ -11,18 +11,18 @@ ghost use Rattle.opc_board.specs.Facts.{console_at};
 ghost use Rattle.sqlite.specs.Order.{column};
 ghost use Rattle.sqlite.specs.declared.types.Value.TheVariants.{Int, Text};
 ghost use Rattle.opc_names.specs.declared.auth.Auth.{Auth as TheAuth};
-ghost use Rattle.opc_policy.specs.declared.mode.Mode.{Mode as TheMode};
+ghost use Rattle.opc_terms.specs.declared.mode.Mode.{Mode as TheMode};
 
 use opc_board::rows::ConsoleRow;
 use opc_names::auth::Auth;
 use opc_names::name::{ConsoleName, UserId};
-use opc_policy::mode::Mode;
-use opc_policy::source::StoreFault;
 use opc_rows::Rows;
 use opc_statements::{put, run};
 use opc_stored::columns::{Keeps, name_in, name_or_none_in, value_in};
 use opc_stored::faults::unreadable;
 use opc_stored::queries::{member_on, members_on};
+use opc_terms::mode::Mode;
+use opc_terms::store_fault::StoreFault;
 use sqlite::{Alter, Connection, Error, Row, Transaction, params};
 use std::alloc::Global;
 

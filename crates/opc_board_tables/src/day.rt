@@ -5,11 +5,11 @@ ghost use Rattle.opc_state.specs.Changes.{with_halted};
 ghost use Rattle.opc_stored.specs.Asked.{Finds, Makes};
 ghost use Rattle.opc_stored.specs.Represented.{halted_row};
 
-use opc_policy::source::StoreFault;
 use opc_statements::run;
 use opc_stored::columns::value_in;
 use opc_stored::faults::unreadable;
 use opc_stored::queries::read;
+use opc_terms::store_fault::StoreFault;
 use sqlite::{Alter, Connection, Error, Row, Transaction, params};
 
 /// Sets whether the day is halted.

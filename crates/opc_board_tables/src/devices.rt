@@ -11,11 +11,11 @@ ghost use Rattle.opc_stored.specs.Represented.{device_row};
 
 use opc_board::rows::DeviceRow;
 use opc_names::name::{Device, UnitName};
-use opc_policy::source::StoreFault;
 use opc_rows::Rows;
 use opc_statements::{put, run};
 use opc_stored::columns::{Keeps, name_in, name_or_none_in, value_in};
 use opc_stored::queries::{member_on, members_on};
+use opc_terms::store_fault::StoreFault;
 use sqlite::{Alter, Connection, Error, Row, Transaction, params};
 use std::alloc::Global;
 

@@ -9,11 +9,11 @@ ghost use Rattle.opc_stored.specs.Represented.{reply_shown};
 
 use opc_board::rows::ReplyRow;
 use opc_names::reply_id::ReplyId;
-use opc_policy::source::StoreFault;
 use opc_rows::Rows;
 use opc_statements::run;
 use opc_stored::columns::{Keeps, reply_in, reply_number};
 use opc_stored::queries::{member_on, members_on};
+use opc_terms::store_fault::StoreFault;
 use sqlite::{Alter, Connection, Error, Row, Transaction, params};
 use std::alloc::Global;
 

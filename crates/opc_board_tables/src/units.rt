@@ -13,12 +13,12 @@ ghost use Rattle.opc_board.specs.declared.rows.UnitKind.{UnitKind as TheKind};
 
 use opc_board::rows::{UnitKind, UnitRow};
 use opc_names::name::UnitName;
-use opc_policy::source::StoreFault;
 use opc_rows::Rows;
 use opc_statements::{put, run};
 use opc_stored::columns::{Keeps, name_in, name_or_none_in, text_or_none_in, value_in};
 use opc_stored::faults::unreadable;
 use opc_stored::queries::{member_on, members_on};
+use opc_terms::store_fault::StoreFault;
 use sqlite::{Alter, Connection, Error, Row, Transaction, params};
 use std::alloc::Global;
 

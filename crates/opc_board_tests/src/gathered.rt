@@ -6,8 +6,8 @@ use opc_board::text::KeptText;
 use opc_names::auth::Auth;
 use opc_names::name::{ConsoleName, Device, UnitName, UserId};
 use opc_names::reply_id::ReplyId;
-use opc_policy::mode::Mode;
 use opc_rows::Rows;
+use opc_terms::mode::Mode;
 use std::alloc::Global;
 
 // A row that a word tells: its kind, an equals sign, and its parts with commas between them.

@@ -9,9 +9,9 @@ use opc_board::fault::BoardFault;
 use opc_board::line::Line;
 use opc_names::auth::Auth;
 use opc_names::name::ConsoleName;
-use opc_policy::mode::Mode;
 use opc_reader::command::Command;
 use opc_reader::line::read_command;
+use opc_terms::mode::Mode;
 use std::alloc::{AllocError, Global};
 
 // How many rows of each kind came back, where they are no board.

@@ -1,7 +1,7 @@
 //! The first policy.
 ghost use Rattle.std.specs.Prelude.{◌≡◌, ◌≢◌, ◌⊎◌, ◌++◌, List, [], IfErr, IfOk, OnErr, OnOk, MatchOption, Ok, Err, true, false};
 ghost use Rattle.std.specs.List.{cons_option};
-ghost use Rattle.opc_policy.specs.declared.fault.Fault.TheVariants as why;
+ghost use Rattle.opc_terms.specs.declared.fault.Fault.TheVariants as why;
 ghost use Rattle.opc_policy.specs.declared.row.Row.{Row as TheRow};
 ghost use Rattle.opc_board.specs.Sight.{IsInOrder};
 ghost use Rattle.opc_state.specs.Asked.{Answers};
@@ -15,15 +15,15 @@ use opc_board::rows::ConsoleRow;
 use opc_policy::connect::Connect;
 use opc_policy::entries::Entries;
 use opc_policy::entry::Entry;
-use opc_policy::fault::Fault;
 use opc_policy::policy::Policy;
 use opc_policy::profile::Profile;
 use opc_policy::row::Row;
-use opc_policy::source::StoreFault;
 use opc_rows::Rows;
 use opc_state::change::{Change, Edit};
 use opc_state::difference::{copied, difference};
 use opc_state::tables::Tables;
+use opc_terms::fault::Fault;
+use opc_terms::store_fault::StoreFault;
 use std::alloc::{AllocError, Global};
 
 /// What is stored: a policy, and of the board the consoles.

@@ -14,7 +14,7 @@ use Rattle.opc_policy.specs.declared.user.User.{User}
 use Rattle.opc_policy.specs.Access.{entry_cmp, is_for, with_entry}
 use Rattle.opc_policy.specs.Members.{user_cmp}
 use Rattle.opc_policy.specs.Profiles.{is_of, profile_cmp, profile_of}
-use Rattle.opc_policy.proofs.MostSpecific.{same_class_is}
+use Rattle.opc_policy.proofs.Classes.{same_class_is}
 use Rattle.opc_policy.proofs.Placed.{order}
 use Rattle.opc_rows.specs.Ordered.{Ascends}
 use Rattle.opc_rows.proofs.Orders.{all_found, ascends_filter}

@@ -16,10 +16,10 @@ use Rattle.opc_names.specs.declared.class.Class.{Class}
 use Rattle.opc_names.specs.declared.class.Class.TheVariants.{Console, Opercmds}
 use Rattle.opc_policy.specs.declared.profile.Profile.{Profile}
 use Rattle.opc_policy.specs.declared.user.User.{User}
-use Rattle.opc_policy.specs.Deciding.{covering, deciding, first_of, first_with, is_before, of_class}
+use Rattle.opc_decisions.specs.Deciding.{covering, deciding, first_of, first_with}
+use Rattle.opc_policy.specs.Profiles.{class_cmp, is_before, is_of, of_class, pattern_cmp, profile_cmp, profile_of}
 use Rattle.opc_policy.specs.Members.{user_cmp}
-use Rattle.opc_policy.specs.Profiles.{class_cmp, is_of, pattern_cmp, profile_cmp, profile_of}
-use Rattle.opc_policy.proofs.MostSpecific.{same_class_is}
+use Rattle.opc_policy.proofs.Classes.{same_class_is}
 use Rattle.opc_rows.specs.Ordered.{Ascends}
 use Rattle.opc_state.proofs.Replacing.{all_put, put_in_order}
 

@@ -11,8 +11,8 @@ use Rattle.opc_names.specs.Order.{sort_key}
 use Rattle.opc_names.specs.Patterns.{covers_text}
 use Rattle.opc_names.specs.declared.class.Class.{Class}
 use Rattle.opc_policy.specs.declared.profile.Profile.{Profile}
-use Rattle.opc_policy.specs.Deciding.{covering, deciding, first_of, first_with, is_before, of_class}
-use Rattle.opc_policy.specs.Profiles.{class_cmp, pattern_cmp, profile_cmp}
+use Rattle.opc_decisions.specs.Deciding.{covering, deciding, first_of, first_with}
+use Rattle.opc_policy.specs.Profiles.{class_cmp, is_before, of_class, pattern_cmp, profile_cmp}
 use Rattle.opc_rows.specs.Ordered.{Ascends}
 use Rattle.opc_rows.proofs.Orders.{all_found}
 use Rattle.opc_cache.specs.Cache.{Name, pattern_of}

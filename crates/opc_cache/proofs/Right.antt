@@ -13,10 +13,10 @@ use Rattle.opc_names.specs.declared.class.Class.{Class}
 use Rattle.opc_names.specs.declared.class.Class.TheVariants.{Console, Opercmds}
 use Rattle.opc_policy.specs.declared.profile.Profile.{Profile}
 use Rattle.opc_policy.specs.Profiles.{profile_of}
-use Rattle.opc_policy.proofs.MostSpecific.{same_class_is}
+use Rattle.opc_policy.proofs.Classes.{same_class_is}
 use Rattle.opc_policy.specs.declared.policy.Policy.{Policy}
-use Rattle.opc_policy.specs.declared.search.Found.{Found}
-use Rattle.opc_policy.specs.declared.source.StoreFault.{StoreFault}
+use Rattle.opc_decisions.specs.declared.search.Found.{Found}
+use Rattle.opc_terms.specs.declared.store_fault.StoreFault.{StoreFault}
 use Rattle.opc_state.specs.declared.change.Change.{Change}
 use Rattle.opc_state.specs.declared.change.Edit.{Edit}
 use Rattle.opc_state.specs.Changes.{IsKept, all_edited, changed_by}

@@ -2,7 +2,7 @@
 ghost use Rattle.std.specs.Prelude.{◌≡◌, ◌≤◌, [], IfErr, IfOk, OnErr, OnOk, None, length};
 ghost use Rattle.std.specs.List.{list_any};
 ghost use Rattle.std.specs.Option.{option_and_then, option_map};
-ghost use Rattle.opc_policy.specs.declared.fault.Fault.TheVariants as why;
+ghost use Rattle.opc_terms.specs.declared.fault.Fault.TheVariants as why;
 ghost use Rattle.opc_policy.specs.Profiles.{profile_of};
 ghost use Rattle.opc_state.specs.Asked.{Answers};
 ghost use Rattle.opc_state.specs.Changes.{IsKept};
@@ -12,14 +12,14 @@ ghost use Rattle.opc_state.specs.State.{deciding_in};
 ghost use Rattle.opc_cache.specs.Cache.{IsKeptWith, may_redecide, pattern_of, redefines, redefines_alone, remembered};
 
 use crate::recent::Recent;
+use opc_decisions::search::Found;
 use opc_names::class::Class;
 use opc_names::name::{Pattern, Resource};
-use opc_policy::fault::Fault;
 use opc_policy::profile::Profile;
-use opc_policy::search::Found;
-use opc_policy::source::StoreFault;
 use opc_state::change::{Change, Edit};
 use opc_state::tables::Tables;
+use opc_terms::fault::Fault;
+use opc_terms::store_fault::StoreFault;
 use std::alloc::Global;
 
 /// Tables that know which profile decides the names that are asked most often. What they answer is what the tables

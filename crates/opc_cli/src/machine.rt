@@ -1,7 +1,6 @@
 //! The machine that the program runs on: a process of the system, its files, and the tables in them.
 use crate::database::reason_at;
 use opc_http_link::watched::Watched;
-use opc_policy::fault::Fault;
 use opc_program::failure::{Failure, Paths, Place};
 use opc_program::import::{Import, export_on, import_on};
 use opc_program::machine::Machine;
@@ -12,6 +11,7 @@ use opc_script::status::Status;
 use opc_serve::clock::moment;
 use opc_store::opening::OpenFault;
 use opc_store::store::Store;
+use opc_terms::fault::Fault;
 use sqlite::{Error, ErrorCode, FileFrom, FileStore, MemStore, Wary};
 use std::alloc::Global;
 use std::io::{Read, Write};

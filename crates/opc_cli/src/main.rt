@@ -5,10 +5,10 @@ mod database;
 mod machine;
 
 use crate::machine::Process;
-use opc_policy::fault::Fault;
 use opc_program::failure::{Failure, NO_PATHS};
 use opc_program::words::run_words;
 use opc_script::status::Status;
+use opc_terms::fault::Fault;
 use std::io::{ErrorKind, Write};
 use std::process::ExitCode;
 use std::{env, io};

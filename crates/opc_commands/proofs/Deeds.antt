@@ -4,10 +4,10 @@ use Rattle.opc_board.specs.declared.fault.BoardFault.{BoardFault}
 use Rattle.opc_board.specs.declared.line.Line.{Line}
 use Rattle.opc_board.specs.declared.rows.ConsoleRow.{ConsoleRow}
 use Rattle.opc_board.specs.Effect.{effect}
-use Rattle.opc_policy.specs.declared.fault.Fault.{Fault}
-use Rattle.opc_policy.specs.declared.need.Need.{Need}
-use Rattle.opc_policy.specs.declared.rule.Rule.{Rule}
-use Rattle.opc_policy.specs.declared.ruling.Ruling.TheVariants.{Allowed}
+use Rattle.opc_terms.specs.declared.fault.Fault.{Fault}
+use Rattle.opc_terms.specs.declared.need.Need.{Need}
+use Rattle.opc_terms.specs.declared.rule.Rule.{Rule}
+use Rattle.opc_decisions.specs.declared.ruling.Ruling.TheVariants.{Allowed}
 use Rattle.opc_reader.specs.declared.command.Command.{Command}
 use Rattle.opc_state.specs.declared.change.Edit.{Edit}
 use Rattle.opc_state.specs.State.{State}

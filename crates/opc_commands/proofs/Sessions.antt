@@ -1,7 +1,7 @@
 -- A command that needs something is no command of a session.
 use Rattle.std.proofs.Common.{◌≡◌, Some, false, refl, rules}
-use Rattle.opc_policy.specs.declared.need.Need.{Need}
-use Rattle.opc_policy.specs.declared.unit_kind.UnitKindAt.{UnitKindAt}
+use Rattle.opc_terms.specs.declared.need.Need.{Need}
+use Rattle.opc_terms.specs.declared.unit_kind.UnitKindAt.{UnitKindAt}
 use Rattle.opc_reader.specs.declared.command.Command.{Command}
 use Rattle.opc_reader.specs.declared.command.Command.TheVariants as command
 use Rattle.opc_needs.specs.Table.{need}

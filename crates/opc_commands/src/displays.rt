@@ -12,11 +12,11 @@ ghost use Rattle.opc_state.specs.Changes.{IsKept};
 use opc_board::line::{Line, console_lines, device_lines, lines_of, reply_lines, unit_lines};
 use opc_board::rows::ConsoleRow;
 use opc_machine::outcome::{Decided, Deed};
-use opc_policy::rule::Rule;
-use opc_policy::source::StoreFault;
 use opc_reader::command::Command;
 use opc_rulings::ruling::shown_lines;
 use opc_state::tables::Tables;
+use opc_terms::rule::Rule;
+use opc_terms::store_fault::StoreFault;
 use std::alloc::Global;
 
 pub(crate) fn is_display(command: &Command<'_>) -> bool

@@ -17,7 +17,6 @@ use opc_history_tables::answered::add_answered;
 use opc_history_tables::batches::put_batch;
 use opc_history_tables::log::add_log;
 use opc_history_tables::messages::add_message;
-use opc_policy::source::StoreFault;
 use opc_policy_tables::classes::set_active;
 use opc_policy_tables::connects::{put_connect, remove_connect};
 use opc_policy_tables::entries::{put_entry, remove_entry};
@@ -26,6 +25,7 @@ use opc_policy_tables::profiles::{put_profile, remove_profile};
 use opc_policy_tables::users::{put_user, remove_user};
 use opc_state::change::{Change, Edit};
 use opc_stored::faults::fault;
+use opc_terms::store_fault::StoreFault;
 use sqlite::{Alter, Connection, Error, Transaction};
 use std::alloc::Global;
 

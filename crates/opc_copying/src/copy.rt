@@ -10,8 +10,8 @@ use crate::put::put_all;
 use crate::remake::remake;
 use crate::renew::renew;
 use opc_old_tables::puts::{Puts, puts_on};
-use opc_policy::source::StoreFault;
 use opc_stored::faults::fault;
+use opc_terms::store_fault::StoreFault;
 use sqlite::{Alter, Connection, Error};
 
 // One transaction: the tables of this version with all that was read, or nothing.

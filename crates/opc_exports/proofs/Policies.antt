@@ -20,7 +20,7 @@ use Rattle.opc_policy.specs.declared.user.User.{User}
 use Rattle.opc_policy.specs.Access.{entry_cmp, with_entry}
 use Rattle.opc_policy.specs.Members.{connect_cmp, is_group, name_cmp, user_cmp, user_of, with_connect, with_user}
 use Rattle.opc_policy.specs.Profiles.{class_cmp, is_of, profile_cmp, profile_of, with_definition, with_profile}
-use Rattle.opc_policy.proofs.MostSpecific.{same_class_is}
+use Rattle.opc_policy.proofs.Classes.{same_class_is}
 use Rattle.opc_policy.specs.Taken.{after_row, has_group, has_holder, has_user, needing, unless}
 use Rattle.opc_rows.specs.Ordered.{Ascends}
 use Rattle.opc_board.specs.declared.rows.ConsoleRow.{ConsoleRow}

@@ -2,15 +2,15 @@
 use Rattle.std.proofs.Common.{◌≡◌, inl, inr, ℕ, Bool, true, false, not, if◌then◌else◌, List, [], ◌∷◌, Option, Some, None, Result, Ok, Err, filter, map, refl, sym, subst, codes, rules}
 use Rattle.std.specs.Option.{is_none, is_some, option_and_then}
 use Rattle.opc_names.specs.declared.class.Class.{Class}
-use Rattle.opc_policy.specs.declared.fault.Fault.{Fault}
-use Rattle.opc_policy.specs.declared.fault.Fault.TheVariants as fault
-use Rattle.opc_policy.specs.declared.need.Need.{Need}
+use Rattle.opc_terms.specs.declared.fault.Fault.{Fault}
+use Rattle.opc_terms.specs.declared.fault.Fault.TheVariants as fault
+use Rattle.opc_terms.specs.declared.need.Need.{Need}
 use Rattle.opc_policy.specs.declared.policy.Policy.{Policy}
 use Rattle.opc_policy.specs.declared.row.Row.{Row}
 use Rattle.opc_policy.specs.declared.row.Row.TheVariants as rows
-use Rattle.opc_policy.specs.declared.rule.Rule.{Rule}
+use Rattle.opc_terms.specs.declared.rule.Rule.{Rule}
 use Rattle.opc_policy.specs.declared.user.User.{User}
-use Rattle.opc_policy.specs.Deciding.{of_class}
+use Rattle.opc_policy.specs.Profiles.{of_class}
 use Rattle.opc_policy.specs.Members.{user_of}
 use Rattle.opc_policy.specs.Taken.{has_user}
 use Rattle.opc_reader.specs.declared.command.Command.{Command}

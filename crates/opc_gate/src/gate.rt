@@ -1,6 +1,6 @@
 //! The gate.
 ghost use Rattle.std.specs.Prelude.{◌≡◌, ◌≢◌, ◌≤◌, ◌⊎◌, [], IfErr, IfOk, IfSome, OnErr, OnOk, Ok, Err, length, ℕ};
-ghost use Rattle.opc_policy.specs.declared.fault.Fault.TheVariants as why;
+ghost use Rattle.opc_terms.specs.declared.fault.Fault.TheVariants as why;
 ghost use Rattle.std.specs.Option.{option_and_then};
 ghost use Rattle.opc_board.specs.Facts.{console_at};
 ghost use Rattle.opc_board.specs.Texts.{text_or};
@@ -32,14 +32,14 @@ use opc_listings::profiles::profiles_on;
 use opc_machine::outcome::{Decided, Deed, Denial};
 use opc_machine::request::{Answer, Request};
 use opc_names::name::{ConsoleName, Name, NameKind, UserId};
-use opc_policy::fault::Fault;
 use opc_policy::row::Row;
-use opc_policy::rule::Rule;
-use opc_policy::source::StoreFault;
 use opc_rulings::ruling::acting_user_on;
 use opc_state::account::AccountRow;
 use opc_state::change::Change;
 use opc_state::tables::Tables;
+use opc_terms::fault::Fault;
+use opc_terms::rule::Rule;
+use opc_terms::store_fault::StoreFault;
 use std::alloc::{AllocError, Global};
 use std::marker::Model;
 

@@ -7,13 +7,13 @@ ghost use Rattle.opc_state.specs.Loads.{asked_for};
 ghost use Rattle.opc_state.specs.declared.account.AccountRow.{AccountRow as TheRow};
 ghost use Rattle.opc_history_tables.specs.Loads.{account_page, numbered_shown};
 
-use opc_policy::source::StoreFault;
 use opc_rows::Rows;
 use opc_state::account::AccountRow;
 use opc_statements::numbers::last_number;
 use opc_statements::run;
 use opc_stored::columns::{text_in, value_in};
 use opc_stored::queries::read;
+use opc_terms::store_fault::StoreFault;
 use sqlite::{Alter, Connection, Error, ErrorCode, Row, Transaction, params};
 use std::alloc::{AllocError, Global};
 

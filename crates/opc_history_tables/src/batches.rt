@@ -15,13 +15,13 @@ use opc_import::kind::MOST_ROWS;
 use opc_import::read::read_policy;
 use opc_import::write::write_policy;
 use opc_policy::row::Row;
-use opc_policy::source::StoreFault;
 use opc_rows::Rows;
 use opc_state::change::Batch;
 use opc_statements::run;
 use opc_stored::columns::text_in;
 use opc_stored::faults::unreadable;
 use opc_stored::queries::read;
+use opc_terms::store_fault::StoreFault;
 use sqlite::{Alter, Connection, Error, ErrorCode, Transaction, params};
 use std::alloc::{AllocError, Global};
 

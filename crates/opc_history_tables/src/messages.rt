@@ -6,12 +6,12 @@ ghost use Rattle.opc_stored.specs.Asked.{Finds, Makes};
 ghost use Rattle.opc_stored.specs.Represented.{message_shown};
 
 use opc_board::rows::MessageRow;
-use opc_policy::source::StoreFault;
 use opc_rows::Rows;
 use opc_statements::numbers::last_number;
 use opc_statements::run;
 use opc_stored::columns::{Keeps, all_in, name_in, text_in};
 use opc_stored::queries::read;
+use opc_terms::store_fault::StoreFault;
 use sqlite::{Alter, Connection, Error, Row, Transaction, params};
 use std::alloc::Global;
 

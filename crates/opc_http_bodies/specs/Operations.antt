@@ -4,7 +4,7 @@ use Rattle.std.specs.Str.{bytes_eq}
 use Rattle.serde_json.specs.Data.{Data}
 use Rattle.opc_names.specs.Names.{console_rule, group_rule, pattern_rule, user_rule}
 use Rattle.opc_names.specs.Spellings.{auths, classes, levels}
-use Rattle.opc_policy.specs.Modes.{modes}
+use Rattle.opc_terms.specs.Modes.{modes}
 use Rattle.opc_machine.specs.declared.operation.Operation.{Operation}
 use Rattle.opc_machine.specs.declared.operation.Operation.TheVariants as operation
 use Rattle.opc_http_bodies.specs.Keys.{◌>>=◌, digest_at, entry_at, flag_at, has_keys, name_at, spelled_at, text_at, when_at}

@@ -4,7 +4,7 @@ ghost use Rattle.std.specs.Option.{option_map};
 ghost use Rattle.opc_import.specs.Fields.{digest_of};
 ghost use Rattle.opc_names.specs.Names.{pattern_rule};
 ghost use Rattle.opc_names.specs.Spellings.{auths, classes, levels};
-ghost use Rattle.opc_policy.specs.Modes.{modes};
+ghost use Rattle.opc_terms.specs.Modes.{modes};
 ghost use Rattle.serde_json.specs.View.{view};
 ghost use Rattle.opc_http_bodies.specs.Keys.{digest_at, digest_in, entry_at, flag_at, has_keys, members_count, name_at, spelled_at, text_at, when_at};
 
@@ -13,8 +13,8 @@ use opc_names::auth::Auth;
 use opc_names::class::Class;
 use opc_names::level::Level;
 use opc_names::name::{ConsoleName, Name, NameKind};
-use opc_policy::entry::EntryId;
-use opc_policy::mode::Mode;
+use opc_terms::entry_id::EntryId;
+use opc_terms::mode::Mode;
 use serde_json::Value;
 
 fn members_count(value: &Value) -> usize

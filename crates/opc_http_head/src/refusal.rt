@@ -1,5 +1,5 @@
 //! Refusals of what is no request.
-use opc_policy::fault::Why;
+use opc_terms::fault::Why;
 use std::alloc::{AllocError, AllocFailed};
 
 /// A method that some path has.

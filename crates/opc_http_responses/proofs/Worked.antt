@@ -6,9 +6,9 @@ use Rattle.serde_json.proofs.OnLiterals.{serde_json_on_literals}
 use Rattle.opc_board.specs.declared.line.Item.TheVariants.{Plain}
 use Rattle.opc_names.specs.declared.class.Class.TheVariants.{Opercmds}
 use Rattle.opc_names.specs.declared.level.Level.TheVariants as level
-use Rattle.opc_policy.specs.declared.fault.Fault.TheVariants.{DeniedProfile}
-use Rattle.opc_policy.specs.declared.fault.Why.TheVariants as why
-use Rattle.opc_policy.specs.declared.rule.Rule.TheVariants.{Profile}
+use Rattle.opc_terms.specs.declared.fault.Fault.TheVariants.{DeniedProfile}
+use Rattle.opc_terms.specs.declared.fault.Why.TheVariants as why
+use Rattle.opc_terms.specs.declared.rule.Rule.TheVariants.{Profile}
 use Rattle.opc_machine.specs.declared.request.Answer.{Answer}
 use Rattle.opc_machine.specs.declared.request.Answer.TheVariants.{Done, Refused}
 use Rattle.opc_http_head.specs.declared.refusal.Method.TheVariants.{Post}

@@ -4,9 +4,9 @@ use Rattle.serde_json.specs.Data.{Data, Items, array, member, no_members, object
 use Rattle.serde_json.specs.View.{items_of}
 use Rattle.serde_json.specs.Written.{compact_text}
 use Rattle.opc_board.specs.declared.line.Line.{Line}
-use Rattle.opc_policy.specs.Faults.{fault_code, fault_text}
-use Rattle.opc_policy.specs.Rules.{rule_text_or_none}
-use Rattle.opc_policy.specs.declared.fault.Fault.TheVariants.{RowFault}
+use Rattle.opc_terms.specs.Faults.{fault_code, fault_text}
+use Rattle.opc_terms.specs.Rules.{rule_text_or_none}
+use Rattle.opc_terms.specs.declared.fault.Fault.TheVariants.{RowFault}
 use Rattle.opc_machine.specs.declared.request.Answer.{Answer}
 use Rattle.opc_machine.specs.declared.request.Answer.TheVariants.{Done, Refused}
 use Rattle.opc_http_head.specs.declared.refusal.Refusal.{Refusal}

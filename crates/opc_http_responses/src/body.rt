@@ -12,8 +12,8 @@ use http::StatusCode;
 use opc_board::line::Line;
 use opc_http_head::refusal::Refusal;
 use opc_machine::request::Answer;
-use opc_policy::fault::Fault;
-use opc_policy::rule::Rule;
+use opc_terms::fault::Fault;
+use opc_terms::rule::Rule;
 use serde_json::{Value, json};
 use std::alloc::{AllocError, Global};
 

@@ -5,7 +5,7 @@ ghost use Rattle.opc_http_responses.specs.Statuses.{fault_status, phrase, refusa
 use http::StatusCode;
 use opc_http_head::refusal::Refusal;
 use opc_machine::request::Answer;
-use opc_policy::fault::Fault;
+use opc_terms::fault::Fault;
 
 #[tactic(auto, unfolding(crate::specs::Statuses::fault_status))]
 fn fault_status(fault: &Fault) -> StatusCode

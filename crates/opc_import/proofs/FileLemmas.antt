@@ -10,7 +10,7 @@ use Rattle.opc_import.specs.Files.{after_rows, rows_from, rows_of, with_row}
 use Rattle.opc_import.specs.Kinds.{most_rows, row_of}
 use Rattle.opc_import.specs.declared.fault.ImportFault.{ImportFault}
 use Rattle.opc_import.specs.declared.fault.ImportFault.TheVariants as fault
-use Rattle.opc_policy.specs.declared.fault.Why.{Why}
+use Rattle.opc_terms.specs.declared.fault.Why.{Why}
 
 after_rows-nil : (r : Result (List Row) ImportFault) → r ≡ after_rows [] r
 after_rows-nil (Ok rows) = refl

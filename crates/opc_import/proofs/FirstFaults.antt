@@ -4,9 +4,9 @@ use Rattle.std.specs.Prelude.{Option, Some, None, is_some, Result, Ok, Err, leng
 use Rattle.std.specs.Option.{ok_or, option_or}
 use Rattle.opc_names.specs.Names.{console_rule, group_rule, pattern_rule, user_rule}
 use Rattle.opc_names.specs.Spellings.{auths, classes, levels, lookup}
-use Rattle.opc_policy.specs.Modes.{modes}
-use Rattle.opc_policy.specs.declared.fault.Why.{Why}
-use Rattle.opc_policy.specs.declared.fault.Why.TheVariants as why
+use Rattle.opc_terms.specs.Modes.{modes}
+use Rattle.opc_terms.specs.declared.fault.Why.{Why}
+use Rattle.opc_terms.specs.declared.fault.Why.TheVariants as why
 use Rattle.opc_policy.specs.declared.row.Row.{Row}
 use Rattle.opc_policy.specs.declared.row.Row.TheVariants as row
 use Rattle.opc_import.specs.Columns.{Record, columns, field_in, reason, unused}

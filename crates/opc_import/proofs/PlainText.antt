@@ -21,10 +21,10 @@ use Rattle.opc_names.specs.declared.rule.Alphabet.{Alphabet}
 use Rattle.opc_names.specs.declared.rule.Alphabet.TheVariants as alphabet
 use Rattle.opc_names.specs.declared.rule.NameRule.{NameRule}
 use Rattle.opc_names.proofs.Faults.{begin_follows, name_passes, none_of_map}
-use Rattle.opc_policy.specs.Entries.{entry_fault}
-use Rattle.opc_policy.specs.Modes.{mode_text}
-use Rattle.opc_policy.specs.declared.mode.Mode.{Mode}
-use Rattle.opc_policy.specs.declared.mode.Mode.TheVariants as mode
+use Rattle.opc_terms.specs.Entries.{entry_fault}
+use Rattle.opc_terms.specs.Modes.{mode_text}
+use Rattle.opc_terms.specs.declared.mode.Mode.{Mode}
+use Rattle.opc_terms.specs.declared.mode.Mode.TheVariants as mode
 use Rattle.opc_policy.specs.declared.row.Row.{Row}
 use Rattle.opc_policy.specs.declared.row.Row.TheVariants as row
 use Rattle.opc_import.specs.Columns.{Record, column_name, header}

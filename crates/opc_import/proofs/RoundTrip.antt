@@ -25,9 +25,9 @@ use Rattle.opc_names.specs.declared.class.Class.{Class}
 use Rattle.opc_names.specs.declared.class.Class.TheVariants as class
 use Rattle.opc_names.specs.declared.level.Level.{Level}
 use Rattle.opc_names.specs.declared.level.Level.TheVariants as level
-use Rattle.opc_policy.specs.Modes.{mode_text, modes}
-use Rattle.opc_policy.specs.declared.mode.Mode.{Mode}
-use Rattle.opc_policy.specs.declared.mode.Mode.TheVariants as mode
+use Rattle.opc_terms.specs.Modes.{mode_text, modes}
+use Rattle.opc_terms.specs.declared.mode.Mode.{Mode}
+use Rattle.opc_terms.specs.declared.mode.Mode.TheVariants as mode
 use Rattle.opc_policy.specs.declared.row.Row.{Row}
 use Rattle.opc_policy.specs.declared.row.Row.TheVariants as row
 use Rattle.opc_import.specs.Columns.{Record, header}

@@ -9,7 +9,7 @@ use Rattle.std.proofs.lemmas.Bool.Decides.{nat_tests}
 use Rattle.std.specs.Char.{is_ascii}
 use Rattle.opc_names.specs.Names.{name_fault, user_rule}
 use Rattle.opc_names.proofs.Faults.{name_ascii}
-use Rattle.opc_policy.specs.Entries.{entry_fault}
+use Rattle.opc_terms.specs.Entries.{entry_fault}
 
 pub both : (a b : Bool) → (a && b) ≡ true → (a ≡ true) × (b ≡ true)
 both true b h = (refl, h)

@@ -5,8 +5,8 @@ use Rattle.std.specs.Str.{bytes_eq}
 use Rattle.csv.specs.Records.{field_at}
 use Rattle.opc_import.specs.declared.column.Column.{Column}
 use Rattle.opc_import.specs.declared.column.Column.TheVariants as column
-use Rattle.opc_policy.specs.declared.fault.Why.{Why}
-use Rattle.opc_policy.specs.declared.fault.Why.TheVariants as why
+use Rattle.opc_terms.specs.declared.fault.Why.{Why}
+use Rattle.opc_terms.specs.declared.fault.Why.TheVariants as why
 
 -- the fields of a record
 abbrev pub Record : Type 0

@@ -1,6 +1,6 @@
 -- The fault of a request with a bad policy file.
-use Rattle.opc_policy.specs.declared.fault.Fault.{Fault}
-use Rattle.opc_policy.specs.declared.fault.Fault.TheVariants.{RowFault, NoMemory}
+use Rattle.opc_terms.specs.declared.fault.Fault.{Fault}
+use Rattle.opc_terms.specs.declared.fault.Fault.TheVariants.{RowFault, NoMemory}
 use Rattle.opc_import.specs.declared.fault.ImportFault.{ImportFault}
 use Rattle.opc_import.specs.declared.fault.ImportFault.TheVariants as bad_file
 

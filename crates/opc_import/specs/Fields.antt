@@ -6,7 +6,7 @@ use Rattle.hex.specs.Hex.{decode_sized}
 use Rattle.hex.specs.declared.error.FromHexError.{FromHexError}
 use Rattle.opc_names.specs.Names.{console_rule, name_fault}
 use Rattle.opc_names.specs.declared.rule.NameRule.{NameRule}
-use Rattle.opc_policy.specs.Entries.{entry_fault}
+use Rattle.opc_terms.specs.Entries.{entry_fault}
 use Rattle.opc_import.specs.declared.field.UserFlags.{UserFlags}
 
 -- whether a class is active

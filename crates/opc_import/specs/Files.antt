@@ -6,8 +6,8 @@ use Rattle.opc_import.specs.Columns.{Record, width_of}
 use Rattle.opc_import.specs.Kinds.{row_of}
 use Rattle.opc_import.specs.declared.fault.ImportFault.{ImportFault}
 use Rattle.opc_import.specs.declared.fault.ImportFault.TheVariants as fault
-use Rattle.opc_policy.specs.declared.fault.Why.{Why}
-use Rattle.opc_policy.specs.declared.fault.Why.TheVariants as why
+use Rattle.opc_terms.specs.declared.fault.Why.{Why}
+use Rattle.opc_terms.specs.declared.fault.Why.TheVariants as why
 
 -- a row before those that follow it; of two faults the first
 abbrev pub with_row : ℕ → Result Row Why → Result (List Row) ImportFault → Result (List Row) ImportFault

@@ -3,7 +3,7 @@ use Rattle.std.specs.Prelude.{ℕ, List, [], ◌∷◌, length, codes, Option, R
 use Rattle.std.specs.Option.{ok_or}
 use Rattle.opc_names.specs.Names.{console_rule, group_rule, pattern_rule, user_rule}
 use Rattle.opc_names.specs.Spellings.{auths, classes, levels, lookup}
-use Rattle.opc_policy.specs.Modes.{modes}
+use Rattle.opc_terms.specs.Modes.{modes}
 use Rattle.opc_policy.specs.declared.row.Row.{Row}
 use Rattle.opc_policy.specs.declared.row.Row.TheVariants as row
 use Rattle.opc_import.specs.Columns.{Record, field_in, reason, unused}
@@ -12,8 +12,8 @@ use Rattle.opc_import.specs.declared.kind.Kind.{Kind}
 use Rattle.opc_import.specs.declared.kind.Kind.TheVariants as kind
 use Rattle.opc_import.specs.declared.column.Column.{Column}
 use Rattle.opc_import.specs.declared.column.Column.TheVariants as column
-use Rattle.opc_policy.specs.declared.fault.Why.{Why}
-use Rattle.opc_policy.specs.declared.fault.Why.TheVariants as why
+use Rattle.opc_terms.specs.declared.fault.Why.{Why}
+use Rattle.opc_terms.specs.declared.fault.Why.TheVariants as why
 
 -- the second step, if the first gave a value
 infixl 10 ◌>>=◌

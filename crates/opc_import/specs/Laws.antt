@@ -3,9 +3,9 @@ use Rattle.std.specs.Prelude.{◌≡◌, ℕ, Bool, true, List, [], ◌∷◌, l
 use Rattle.std.specs.Option.{option_or}
 use Rattle.opc_names.specs.Names.{console_rule, group_rule, pattern_rule, user_rule}
 use Rattle.opc_names.specs.Spellings.{auths, classes, levels, lookup}
-use Rattle.opc_policy.specs.Modes.{modes}
-use Rattle.opc_policy.specs.declared.fault.Why.{Why}
-use Rattle.opc_policy.specs.declared.fault.Why.TheVariants as why
+use Rattle.opc_terms.specs.Modes.{modes}
+use Rattle.opc_terms.specs.declared.fault.Why.{Why}
+use Rattle.opc_terms.specs.declared.fault.Why.TheVariants as why
 use Rattle.opc_import.specs.Columns.{Record, columns, field_in, reason}
 use Rattle.opc_import.specs.Fields.{activities, digest_of, entry_id_of, name_of, restrictions, user_flags, warnings, when_of}
 use Rattle.opc_import.specs.Kinds.{kinds, most_rows, row_of}

@@ -3,8 +3,8 @@ use Rattle.std.specs.Prelude.{◌≡◌, ◌++◌, ℕ, Bool, true, false, List,
 use Rattle.hex.specs.Hex.{encode_lower}
 use Rattle.opc_names.specs.Names.{console_rule, group_rule, name_fault, pattern_rule, user_rule}
 use Rattle.opc_names.specs.Spellings.{auth_text, class_text, level_text}
-use Rattle.opc_policy.specs.Entries.{entry_fault}
-use Rattle.opc_policy.specs.Modes.{mode_text}
+use Rattle.opc_terms.specs.Entries.{entry_fault}
+use Rattle.opc_terms.specs.Modes.{mode_text}
 use Rattle.opc_policy.specs.declared.row.Row.{Row}
 use Rattle.opc_policy.specs.declared.row.Row.TheVariants as row
 use Rattle.opc_policy.specs.declared.user.User.{User}

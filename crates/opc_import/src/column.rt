@@ -4,7 +4,7 @@ ghost use Rattle.csv.specs.Records.{fields_of};
 ghost use Rattle.opc_import.specs.Columns.{column_name, field_in, has_names, is_header, reason, unused, width_of};
 
 use csv::StringRecord;
-use opc_policy::fault::Why;
+use opc_terms::fault::Why;
 
 /// A column of a policy file.
 #[derive(Clone, Copy)]

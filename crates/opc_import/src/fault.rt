@@ -1,5 +1,5 @@
 //! Why a text is no policy file.
-use opc_policy::fault::{Fault, Why};
+use opc_terms::fault::{Fault, Why};
 use std::alloc::{AllocError, AllocFailed};
 
 /// Why no rows were read: the first bad row, counted from 1, with the header as row 0; or out of memory.

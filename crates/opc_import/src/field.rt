@@ -5,7 +5,7 @@ ghost use Rattle.opc_names.specs.Spellings.{lookup};
 ghost use Rattle.opc_import.specs.Fields.{activities, digest_of, entry_id_of, flags_of, is_lower_digit, name_of, restrictions, user_flags, warnings, when_of};
 
 use opc_names::name::{ConsoleName, Name, NameKind};
-use opc_policy::entry::EntryId;
+use opc_terms::entry_id::EntryId;
 
 /// What a user is.
 #[derive(Clone, Copy)]

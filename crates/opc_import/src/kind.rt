@@ -13,10 +13,10 @@ use csv::StringRecord;
 use opc_names::auth::Auth;
 use opc_names::class::Class;
 use opc_names::level::Level;
-use opc_policy::fault::Why;
-use opc_policy::mode::Mode;
 use opc_policy::row::Row;
 use opc_policy::user::User;
+use opc_terms::fault::Why;
+use opc_terms::mode::Mode;
 
 /// The most rows that a policy file has.
 pub const MOST_ROWS: u32 = 10_000;

@@ -8,8 +8,8 @@ use crate::kind::{MOST_ROWS, row_of};
 use crate::records::Records;
 use csv::StringRecord;
 use opc_names::name::ConsoleName;
-use opc_policy::fault::Why;
 use opc_policy::row::Row;
+use opc_terms::fault::Why;
 use std::alloc::Global;
 
 const BAD_HEADER: ImportFault = ImportFault::Row {

@@ -4,7 +4,7 @@ use anyhow::{Context, Result, bail};
 use opc_import::fault::ImportFault;
 use opc_import::read::read_policy;
 use opc_import::write::write_policy;
-use opc_policy::fault::Fault;
+use opc_terms::fault::Fault;
 use std::alloc::{AllocError, Global};
 
 const HEADER: &str = "kind,class,name,id,value,owner,flags,digest,when,restricted\n";

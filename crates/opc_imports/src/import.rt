@@ -18,14 +18,14 @@ use opc_board::rows::ConsoleRow;
 use opc_board::text::KeptText;
 use opc_bootstrap::bootstrap::founding_on;
 use opc_machine::outcome::{Decided, Deed, denied};
-use opc_policy::fault::Fault;
 use opc_policy::row::Row;
-use opc_policy::source::StoreFault;
 use opc_policy::user::User;
 use opc_rows::Rows;
 use opc_rulings::asking::asking_on;
 use opc_state::change::{Batch, Edit};
 use opc_state::tables::Tables;
+use opc_terms::fault::Fault;
+use opc_terms::store_fault::StoreFault;
 use std::alloc::{AllocError, Global};
 
 fn batch_text(alloc: Global, number: u32, what: &str) -> Result<String, AllocError>

@@ -10,10 +10,10 @@ use opc_names::auth::Auth;
 use opc_names::class::Class;
 use opc_names::level::Level;
 use opc_names::name::{ConsoleName, GroupName, Pattern, UserId};
-use opc_policy::entry::EntryId;
-use opc_policy::mode::Mode;
 use opc_policy::row::Row;
 use opc_policy::user::User;
+use opc_terms::entry_id::EntryId;
+use opc_terms::mode::Mode;
 
 fn same_class(class: Class, other: Class) -> bool
     ensures { result ≡ same_class class other }

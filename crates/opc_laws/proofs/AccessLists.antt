@@ -4,7 +4,7 @@ use Rattle.opc_names.specs.declared.class.Class.TheVariants.{Opercmds}
 use Rattle.opc_names.specs.declared.level.Level.{Level}
 use Rattle.opc_names.specs.declared.level.Level.TheVariants as level
 use Rattle.opc_policy.specs.declared.entry.Entry.{Entry}
-use Rattle.opc_policy.specs.declared.fault.Fault.TheVariants as fault
+use Rattle.opc_terms.specs.declared.fault.Fault.TheVariants as fault
 use Rattle.opc_policy.specs.declared.user.User.{User}
 use Rattle.opc_policy.specs.Held.{held}
 use Rattle.opc_state.specs.State.{State}

@@ -1,8 +1,8 @@
 -- Where a command acts.
 use Rattle.std.proofs.Common.{◌≡◌, inl, inr, Bool, true, false, not, if◌then◌else◌, Option, Some, None, Ok, filter, refl, sym, ap, subst, ◌∙◌, rules, codes}
 use Rattle.std.specs.List.{Contains}
-use Rattle.opc_policy.proofs.MostSpecific.{to_filter, of_filter}
-use Rattle.opc_policy.specs.declared.fault.Fault.TheVariants as fault
+use Rattle.opc_decisions.proofs.MostSpecific.{to_filter, of_filter}
+use Rattle.opc_terms.specs.declared.fault.Fault.TheVariants as fault
 use Rattle.opc_reader.proofs.Exact.{reads_so}
 use Rattle.opc_board.specs.declared.rows.ConsoleRow.{ConsoleRow}
 use Rattle.opc_board.specs.Effect.{effect}

@@ -1,9 +1,9 @@
 -- What is denied is answered.
 use Rattle.std.proofs.Common.{◌≡◌, inl, inr, ℕ, not, List, [], Some, None, Ok, filter, map, sym, ap, subst, ◌∙◌}
-use Rattle.opc_policy.specs.declared.fault.Fault.{Fault}
-use Rattle.opc_policy.specs.declared.fault.Fault.TheVariants as fault
-use Rattle.opc_policy.specs.declared.rule.Rule.{Rule}
-use Rattle.opc_policy.specs.Deciding.{of_class}
+use Rattle.opc_terms.specs.declared.fault.Fault.{Fault}
+use Rattle.opc_terms.specs.declared.fault.Fault.TheVariants as fault
+use Rattle.opc_terms.specs.declared.rule.Rule.{Rule}
+use Rattle.opc_policy.specs.Profiles.{of_class}
 use Rattle.opc_reader.specs.declared.command.Command.{Command}
 use Rattle.opc_reader.specs.declared.command.Command.TheVariants as command
 use Rattle.opc_reader.proofs.Exact.{reads_so}

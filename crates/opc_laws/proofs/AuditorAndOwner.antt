@@ -5,8 +5,8 @@ use Rattle.std.specs.Fmt.{digits}
 use Rattle.opc_names.specs.declared.auth.Auth.TheVariants as auth
 use Rattle.opc_names.specs.declared.class.Class.TheVariants.{Console, Opercmds}
 use Rattle.opc_names.specs.declared.level.Level.TheVariants as level
-use Rattle.opc_policy.specs.declared.fault.Fault.TheVariants as fault
-use Rattle.opc_policy.specs.declared.mode.Mode.TheVariants.{Optional}
+use Rattle.opc_terms.specs.declared.fault.Fault.TheVariants as fault
+use Rattle.opc_terms.specs.declared.mode.Mode.TheVariants.{Optional}
 use Rattle.opc_policy.specs.Held.{held}
 use Rattle.opc_state.specs.State.{State, empty}
 use Rattle.opc_machine.specs.declared.operation.Operation.{Operation}

@@ -4,12 +4,12 @@ use Rattle.std.specs.List.{Contains}
 use Rattle.std.proofs.lemmas.List.{get_or-map, length-map}
 use Rattle.std.proofs.lemmas.List.Elements.{All-map, All-weaker, All-contains, All-contains_itself}
 use Rattle.opc_names.specs.declared.class.Class.{Class}
-use Rattle.opc_policy.proofs.MostSpecific.{to_filter, of_filter}
-use Rattle.opc_policy.specs.declared.fault.Fault.{Fault}
-use Rattle.opc_policy.specs.declared.fault.Fault.TheVariants.{BatchChanged, NotSpecial}
+use Rattle.opc_decisions.proofs.MostSpecific.{to_filter, of_filter}
+use Rattle.opc_terms.specs.declared.fault.Fault.{Fault}
+use Rattle.opc_terms.specs.declared.fault.Fault.TheVariants.{BatchChanged, NotSpecial}
 use Rattle.opc_policy.specs.declared.row.Row.{Row}
-use Rattle.opc_policy.specs.declared.rule.Rule.{Rule}
-use Rattle.opc_policy.specs.Deciding.{of_class}
+use Rattle.opc_terms.specs.declared.rule.Rule.{Rule}
+use Rattle.opc_policy.specs.Profiles.{of_class}
 use Rattle.opc_board.specs.declared.line.Line.{Line}
 use Rattle.opc_board.specs.declared.rows.ConsoleRow.{ConsoleRow}
 use Rattle.opc_board.specs.Facts.{console_at}

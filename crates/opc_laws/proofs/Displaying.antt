@@ -3,10 +3,10 @@ use Rattle.std.proofs.Common.{◌≡◌, ℕ, zero, suc, arith, true, List, Opti
 use Rattle.std.specs.List.{Contains}
 use Rattle.opc_names.specs.declared.group.Group.TheVariants.{Info}
 use Rattle.opc_names.specs.declared.level.Level.TheVariants.{Read}
-use Rattle.opc_policy.specs.declared.need.Need.{Need}
-use Rattle.opc_policy.specs.declared.rule.Rule.{Rule}
-use Rattle.opc_policy.specs.declared.ruling.Ruling.{Ruling}
-use Rattle.opc_policy.specs.declared.ruling.Ruling.TheVariants.{Allowed, Denied}
+use Rattle.opc_terms.specs.declared.need.Need.{Need}
+use Rattle.opc_terms.specs.declared.rule.Rule.{Rule}
+use Rattle.opc_decisions.specs.declared.ruling.Ruling.{Ruling}
+use Rattle.opc_decisions.specs.declared.ruling.Ruling.TheVariants.{Allowed, Denied}
 use Rattle.opc_reader.specs.declared.command.Command.TheVariants as command
 use Rattle.opc_needs.specs.Table.{qualified}
 use Rattle.opc_board.specs.declared.line.Item.{Item}

@@ -1,7 +1,7 @@
 -- What is in the way of an operation of administration.
 use Rattle.std.proofs.Common.{◌≡◌, inl, inr, ℕ, Bool, true, false, not, ◌&&◌, ◌||◌, if◌then◌else◌, is_some, List, [], ◌∷◌, Option, Some, None, Result, Ok, Err, refl, rules, ap, ◌∙◌}
-use Rattle.opc_policy.specs.declared.fault.Fault.{Fault}
-use Rattle.opc_policy.specs.declared.fault.Fault.TheVariants.{Exists, InUse, LastMaster, Missing}
+use Rattle.opc_terms.specs.declared.fault.Fault.{Fault}
+use Rattle.opc_terms.specs.declared.fault.Fault.TheVariants.{Exists, InUse, LastMaster, Missing}
 use Rattle.opc_policy.specs.declared.policy.Policy.{Policy}
 use Rattle.opc_policy.specs.Profiles.{profile_of}
 use Rattle.opc_policy.specs.Taken.{has_group, has_holder, has_user, needing, unless}

@@ -3,14 +3,14 @@ use Rattle.std.proofs.Common.{◌≡◌, inl, inr, ℕ, Bool, true, false, not, 
 use Rattle.std.specs.Option.{is_none}
 use Rattle.std.proofs.lemmas.Bool.{false≢true}
 use Rattle.opc_names.specs.declared.class.Class.{Class}
-use Rattle.opc_policy.specs.declared.fault.Fault.{Fault}
-use Rattle.opc_policy.specs.declared.fault.Fault.TheVariants as fault
-use Rattle.opc_policy.specs.declared.need.Need.{Need}
+use Rattle.opc_terms.specs.declared.fault.Fault.{Fault}
+use Rattle.opc_terms.specs.declared.fault.Fault.TheVariants as fault
+use Rattle.opc_terms.specs.declared.need.Need.{Need}
 use Rattle.opc_policy.specs.declared.policy.Policy.{Policy}
 use Rattle.opc_policy.specs.declared.row.Row.{Row}
-use Rattle.opc_policy.specs.declared.rule.Rule.{Rule}
-use Rattle.opc_policy.specs.declared.rule.Rule.TheVariants as rule
-use Rattle.opc_policy.specs.Deciding.{of_class}
+use Rattle.opc_terms.specs.declared.rule.Rule.{Rule}
+use Rattle.opc_terms.specs.declared.rule.Rule.TheVariants as rule
+use Rattle.opc_policy.specs.Profiles.{of_class}
 use Rattle.opc_reader.specs.declared.command.Command.{Command}
 use Rattle.opc_reader.specs.declared.command.Command.TheVariants as command
 use Rattle.opc_board.specs.declared.board.BoardRows.{BoardRows}

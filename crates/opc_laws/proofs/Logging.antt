@@ -1,10 +1,10 @@
 -- Where users are logged on and off.
 use Rattle.std.proofs.Common.{◌≡◌, inl, inr, ℕ, true, false, List, [], Option, Some, None, Ok, refl, sym, ap, subst, ◌∙◌, rules, codes}
 use Rattle.std.specs.Option.{is_none, is_some}
-use Rattle.opc_policy.specs.declared.fault.Fault.TheVariants as fault
-use Rattle.opc_policy.specs.declared.rule.Rule.{Rule}
-use Rattle.opc_policy.specs.declared.ruling.Ruling.{Ruling}
-use Rattle.opc_policy.specs.declared.ruling.Ruling.TheVariants.{Allowed, Denied}
+use Rattle.opc_terms.specs.declared.fault.Fault.TheVariants as fault
+use Rattle.opc_terms.specs.declared.rule.Rule.{Rule}
+use Rattle.opc_decisions.specs.declared.ruling.Ruling.{Ruling}
+use Rattle.opc_decisions.specs.declared.ruling.Ruling.TheVariants.{Allowed, Denied}
 use Rattle.opc_reader.specs.declared.command.Command.{Command}
 use Rattle.opc_reader.specs.declared.command.Command.TheVariants as command
 use Rattle.opc_reader.proofs.Exact.{reads_so}

@@ -6,19 +6,19 @@ use Rattle.opc_names.specs.declared.auth.Auth.{Auth}
 use Rattle.opc_names.specs.declared.class.Class.TheVariants.{Opercmds, Console}
 use Rattle.opc_names.specs.declared.level.Level.{Level}
 use Rattle.opc_names.specs.declared.level.Level.TheVariants.{Read}
-use Rattle.opc_policy.specs.declared.fault.Fault.{Fault}
-use Rattle.opc_policy.specs.declared.fault.Fault.TheVariants as fault
-use Rattle.opc_policy.specs.declared.need.Need.{Need}
+use Rattle.opc_terms.specs.declared.fault.Fault.{Fault}
+use Rattle.opc_terms.specs.declared.fault.Fault.TheVariants as fault
+use Rattle.opc_terms.specs.declared.need.Need.{Need}
 use Rattle.opc_policy.specs.declared.profile.Profile.{Profile}
-use Rattle.opc_policy.specs.declared.rule.Rule.{Rule}
-use Rattle.opc_policy.specs.declared.rule.Rule.TheVariants as rule
-use Rattle.opc_policy.specs.declared.ruling.Ruling.{Ruling}
-use Rattle.opc_policy.specs.declared.ruling.Ruling.TheVariants.{Allowed, Denied}
+use Rattle.opc_terms.specs.declared.rule.Rule.{Rule}
+use Rattle.opc_terms.specs.declared.rule.Rule.TheVariants as rule
+use Rattle.opc_decisions.specs.declared.ruling.Ruling.{Ruling}
+use Rattle.opc_decisions.specs.declared.ruling.Ruling.TheVariants.{Allowed, Denied}
 use Rattle.opc_policy.specs.declared.user.User.{User}
-use Rattle.opc_policy.specs.declared.verdict.Verdict.TheVariants as verdicts
+use Rattle.opc_decisions.specs.declared.verdict.Verdict.TheVariants as verdicts
 use Rattle.opc_policy.specs.Held.{held}
 use Rattle.opc_policy.specs.Members.{groups_of}
-use Rattle.opc_policy.specs.Rulings.{verdict, verdict_rule, profile_rule, by_verdict, console_ruling, ruling as policy_ruling}
+use Rattle.opc_decisions.specs.Rulings.{verdict, verdict_rule, profile_rule, by_verdict, console_ruling, ruling as policy_ruling}
 use Rattle.opc_policy.specs.Taken.{is_active}
 use Rattle.opc_reader.specs.declared.command.Command.{Command}
 use Rattle.opc_reader.specs.declared.command.Command.TheVariants as command

@@ -8,8 +8,7 @@ use Rattle.std.proofs.lemmas.List.Kept.{AllPairs-cons}
 use Rattle.opc_names.specs.declared.class.Class.{Class}
 use Rattle.opc_names.specs.declared.class.Class.TheVariants.{Console, Opercmds}
 use Rattle.opc_policy.specs.declared.profile.Profile.{Profile}
-use Rattle.opc_policy.specs.Deciding.{AreMostSpecificFirst, is_before}
-use Rattle.opc_policy.specs.Profiles.{class_cmp, pattern_cmp, profile_cmp}
+use Rattle.opc_policy.specs.Profiles.{AreMostSpecificFirst, class_cmp, is_before, pattern_cmp, profile_cmp}
 use Rattle.opc_rows.proofs.Orders.{all_weaker}
 use Rattle.opc_rows.specs.Ordered.{Ascends}
 use Rattle.opc_laws.specs.ChangingLaws.{MoreSpecificProfilesComeFirst}

@@ -8,20 +8,21 @@ use Rattle.opc_names.specs.declared.class.Class.TheVariants.{Console, Opercmds}
 use Rattle.opc_names.specs.declared.level.Level.{Level}
 use Rattle.opc_names.specs.declared.level.Level.TheVariants.{Read}
 use Rattle.opc_names.specs.Patterns.{covers_text}
-use Rattle.opc_policy.proofs.MostSpecific.{same_class_is}
-use Rattle.opc_policy.specs.declared.mode.Mode.{Mode}
-use Rattle.opc_policy.specs.declared.mode.Mode.TheVariants.{Auto, Optional, Required}
-use Rattle.opc_policy.specs.declared.need.Need.{Need}
+use Rattle.opc_policy.proofs.Classes.{same_class_is}
+use Rattle.opc_terms.specs.declared.mode.Mode.{Mode}
+use Rattle.opc_terms.specs.declared.mode.Mode.TheVariants.{Auto, Optional, Required}
+use Rattle.opc_terms.specs.declared.need.Need.{Need}
 use Rattle.opc_policy.specs.declared.profile.Profile.{Profile}
-use Rattle.opc_policy.specs.declared.rule.Rule.{Rule}
-use Rattle.opc_policy.specs.declared.rule.Rule.TheVariants as rule
-use Rattle.opc_policy.specs.declared.ruling.Ruling.{Ruling}
-use Rattle.opc_policy.specs.declared.ruling.Ruling.TheVariants.{Allowed, Denied}
+use Rattle.opc_terms.specs.declared.rule.Rule.{Rule}
+use Rattle.opc_terms.specs.declared.rule.Rule.TheVariants as rule
+use Rattle.opc_decisions.specs.declared.ruling.Ruling.{Ruling}
+use Rattle.opc_decisions.specs.declared.ruling.Ruling.TheVariants.{Allowed, Denied}
 use Rattle.opc_policy.specs.declared.user.User.{User}
-use Rattle.opc_policy.specs.declared.verdict.Verdict.TheVariants as verdicts
-use Rattle.opc_policy.specs.Deciding.{covering, deciding, first_of, first_with, is_before, of_class}
+use Rattle.opc_decisions.specs.declared.verdict.Verdict.TheVariants as verdicts
+use Rattle.opc_decisions.specs.Deciding.{covering, deciding, first_of, first_with}
+use Rattle.opc_policy.specs.Profiles.{is_before, of_class}
 use Rattle.opc_policy.specs.Members.{groups_of}
-use Rattle.opc_policy.specs.Rulings.{by_verdict, console_ruling, verdict, verdict_rule}
+use Rattle.opc_decisions.specs.Rulings.{by_verdict, console_ruling, verdict, verdict_rule}
 use Rattle.opc_policy.specs.Taken.{is_active}
 use Rattle.opc_rows.proofs.Orders.{all_filter}
 use Rattle.opc_board.specs.declared.rows.ConsoleRow.{ConsoleRow}

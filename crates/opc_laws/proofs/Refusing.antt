@@ -1,10 +1,10 @@
 -- Which fault is answered.
 use Rattle.std.proofs.Common.{◌≡◌, inl, inr, ℕ, Bool, true, false, not, if◌then◌else◌, List, [], ◌∷◌, Option, Some, None, Ok, Err, filter, map, refl, rules, sym, ap, ◌∙◌, codes}
 use Rattle.std.specs.Option.{is_none}
-use Rattle.opc_policy.specs.declared.fault.Fault.{Fault}
-use Rattle.opc_policy.specs.declared.fault.Fault.TheVariants as fault
+use Rattle.opc_terms.specs.declared.fault.Fault.{Fault}
+use Rattle.opc_terms.specs.declared.fault.Fault.TheVariants as fault
 use Rattle.opc_policy.specs.declared.row.Row.{Row}
-use Rattle.opc_policy.specs.Deciding.{of_class}
+use Rattle.opc_policy.specs.Profiles.{of_class}
 use Rattle.opc_reader.specs.declared.command.Command.TheVariants as command
 use Rattle.opc_reader.proofs.Exact.{fault_so}
 use Rattle.opc_board.specs.declared.rows.ConsoleRow.{ConsoleRow}

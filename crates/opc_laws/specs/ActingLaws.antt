@@ -1,11 +1,11 @@
 -- For whom consoles act, to those who sit at them.
 use Rattle.std.specs.Prelude.{◌≡◌, ◌⊎◌, ℕ, true, false, List, Option, Some, None, codes}
-use Rattle.opc_policy.specs.declared.mode.Mode.TheVariants.{Optional, Auto, Required}
-use Rattle.opc_policy.specs.declared.need.Need.{Need}
+use Rattle.opc_terms.specs.declared.mode.Mode.TheVariants.{Optional, Auto, Required}
+use Rattle.opc_terms.specs.declared.need.Need.{Need}
 use Rattle.opc_policy.specs.declared.profile.Profile.{Profile}
-use Rattle.opc_policy.specs.declared.rule.Rule.{Rule}
+use Rattle.opc_terms.specs.declared.rule.Rule.{Rule}
 use Rattle.opc_policy.specs.Members.{user_of}
-use Rattle.opc_policy.specs.Rulings.{console_ruling}
+use Rattle.opc_decisions.specs.Rulings.{console_ruling}
 use Rattle.opc_policy.specs.Taken.{has_user}
 use Rattle.opc_board.specs.declared.line.Line.{Line}
 use Rattle.opc_board.specs.declared.rows.ConsoleRow.{ConsoleRow}

@@ -2,8 +2,8 @@
 use Rattle.std.specs.Prelude.{◌≡◌, ◌↔◌, ℕ, true, List, Option, Some, Contains, codes, filter, map}
 use Rattle.opc_names.specs.declared.group.Group.TheVariants.{Info}
 use Rattle.opc_names.specs.declared.level.Level.TheVariants.{Read}
-use Rattle.opc_policy.specs.declared.rule.Rule.{Rule}
-use Rattle.opc_policy.specs.declared.ruling.Ruling.TheVariants.{Allowed}
+use Rattle.opc_terms.specs.declared.rule.Rule.{Rule}
+use Rattle.opc_decisions.specs.declared.ruling.Ruling.TheVariants.{Allowed}
 use Rattle.opc_reader.specs.declared.command.Command.TheVariants as command
 use Rattle.opc_reader.specs.declared.command.Operand.{Operand}
 use Rattle.opc_needs.specs.Table.{qualified}

@@ -1,8 +1,8 @@
 -- What a request leaves as it is, to those who keep account.
 use Rattle.std.specs.Prelude.{◌≡◌, ◌⊎◌, ℕ, true, List, [], ◌∷◌, ◌++◌, Option, Some, None, Ok, Err, codes}
-use Rattle.opc_policy.specs.declared.rule.Rule.{Rule}
-use Rattle.opc_policy.specs.declared.rule.Rule.TheVariants as rule
-use Rattle.opc_policy.specs.Rules.{rule_text_or_none}
+use Rattle.opc_terms.specs.declared.rule.Rule.{Rule}
+use Rattle.opc_terms.specs.declared.rule.Rule.TheVariants as rule
+use Rattle.opc_terms.specs.Rules.{rule_text_or_none}
 use Rattle.opc_board.specs.declared.event.Event.{Event}
 use Rattle.opc_board.specs.declared.fault.BoardFault.{BoardFault}
 use Rattle.opc_board.specs.declared.line.Line.{Line}

@@ -5,13 +5,13 @@ use Rattle.opc_names.specs.declared.class.Class.TheVariants.{Console, Opercmds}
 use Rattle.opc_names.specs.declared.level.Level.{Level}
 use Rattle.opc_names.specs.declared.level.Level.TheVariants.{Read}
 use Rattle.opc_names.specs.Authority.{enters, includes}
-use Rattle.opc_policy.specs.declared.mode.Mode.TheVariants.{Required}
-use Rattle.opc_policy.specs.declared.need.Need.{Need}
+use Rattle.opc_terms.specs.declared.mode.Mode.TheVariants.{Required}
+use Rattle.opc_terms.specs.declared.need.Need.{Need}
 use Rattle.opc_policy.specs.declared.profile.Profile.{Profile}
-use Rattle.opc_policy.specs.declared.rule.Rule.{Rule}
-use Rattle.opc_policy.specs.declared.rule.Rule.TheVariants as rule
-use Rattle.opc_policy.specs.declared.ruling.Ruling.{Ruling}
-use Rattle.opc_policy.specs.declared.ruling.Ruling.TheVariants.{Allowed, Denied}
+use Rattle.opc_terms.specs.declared.rule.Rule.{Rule}
+use Rattle.opc_terms.specs.declared.rule.Rule.TheVariants as rule
+use Rattle.opc_decisions.specs.declared.ruling.Ruling.{Ruling}
+use Rattle.opc_decisions.specs.declared.ruling.Ruling.TheVariants.{Allowed, Denied}
 use Rattle.opc_policy.specs.declared.user.User.{User}
 use Rattle.opc_policy.specs.Held.{held}
 use Rattle.opc_policy.specs.Members.{groups_of}

@@ -1,10 +1,10 @@
 -- Which profiles are listed.
 use Rattle.std.proofs.Common.{◌≡◌, ◌<◌, ℕ, zero, suc, Bool, true, false, not, ◌||◌, List, [], ◌∷◌, Option, Some, None, Ok, filter, length, if◌then◌else◌, map, take, refl, rules, sym, ap, ◌∙◌, arith}
 use Rattle.opc_names.specs.declared.class.Class.{Class}
-use Rattle.opc_policy.specs.declared.fault.Fault.TheVariants.{NotSpecial}
+use Rattle.opc_terms.specs.declared.fault.Fault.TheVariants.{NotSpecial}
 use Rattle.opc_policy.specs.declared.profile.Profile.{Profile}
 use Rattle.opc_policy.specs.declared.user.User.{User}
-use Rattle.opc_policy.specs.Deciding.{of_class}
+use Rattle.opc_policy.specs.Profiles.{of_class}
 use Rattle.opc_policy.specs.Members.{groups_of}
 use Rattle.opc_board.specs.declared.line.Line.{Line}
 use Rattle.opc_board.specs.declared.rows.ConsoleRow.{ConsoleRow}

@@ -14,12 +14,12 @@ use opc_board::line::{Item, Line};
 use opc_board::rows::ConsoleRow;
 use opc_board::text::KeptText;
 use opc_machine::outcome::{Decided, denied};
-use opc_policy::fault::Fault;
-use opc_policy::source::StoreFault;
 use opc_rows::Rows;
 use opc_rulings::asking::{asking_on, sees_all};
 use opc_state::account::AccountRow;
 use opc_state::tables::Tables;
+use opc_terms::fault::Fault;
+use opc_terms::store_fault::StoreFault;
 use std::alloc::{AllocError, Global};
 
 fn account_text(alloc: Global, number: u64, row: &AccountRow) -> Result<String, AllocError>

@@ -3,7 +3,7 @@ ghost use Rattle.std.specs.Prelude.{◌≡◌, ◌∷◌, ◌||◌, [], IfOk, So
 ghost use Rattle.opc_board.specs.Facts.{Name, console_at};
 ghost use Rattle.opc_board.specs.Texts.{columns};
 ghost use Rattle.opc_names.specs.Spellings.{level_text};
-ghost use Rattle.opc_policy.specs.Deciding.{of_class};
+ghost use Rattle.opc_policy.specs.Profiles.{of_class};
 ghost use Rattle.opc_policy.specs.Members.{groups_of};
 ghost use Rattle.opc_state.specs.Asked.{Answers};
 ghost use Rattle.opc_state.specs.Changes.{IsKept};
@@ -22,11 +22,11 @@ use opc_names::class::Class;
 use opc_names::level::Level;
 use opc_names::name::{GroupName, UserId};
 use opc_policy::profile::Profile;
-use opc_policy::source::StoreFault;
 use opc_policy::user::User;
 use opc_rows::Rows;
 use opc_rulings::asking::{Asking, asking_on, sees_all};
 use opc_state::tables::Tables;
+use opc_terms::store_fault::StoreFault;
 use std::alloc::{AllocError, Global};
 
 fn warned_text(alloc: Global, pattern: &str, uacc: &str, owner: &str) -> Result<String, AllocError>

@@ -1,7 +1,7 @@
 -- The first policy of a gate, in whose tables no user is stored.
 use Rattle.std.specs.Prelude.{◌&&◌, Bool, true, false, not, if◌then◌else◌, List, [], ◌∷◌, Result, Ok, Err}
-use Rattle.opc_policy.specs.declared.fault.Fault.{Fault}
-use Rattle.opc_policy.specs.declared.fault.Fault.TheVariants.{NotEmpty, LastMaster}
+use Rattle.opc_terms.specs.declared.fault.Fault.{Fault}
+use Rattle.opc_terms.specs.declared.fault.Fault.TheVariants.{NotEmpty, LastMaster}
 use Rattle.opc_policy.specs.declared.policy.Policy.{Policy}
 use Rattle.opc_policy.specs.declared.row.Row.{Row}
 use Rattle.opc_policy.specs.declared.row.Row.TheVariants as rows

@@ -3,15 +3,15 @@ use Rattle.std.specs.Prelude.{Bool, true, false, not, ℕ, List, [], Option, Som
 use Rattle.std.specs.Option.{is_none, option_and_then}
 use Rattle.std.specs.Str.{bytes_eq}
 use Rattle.sha2.specs.Sha256.{sha256}
-use Rattle.opc_policy.specs.declared.fault.Fault.{Fault}
-use Rattle.opc_policy.specs.declared.fault.Fault.TheVariants as fault
-use Rattle.opc_policy.specs.declared.need.Need.{Need}
-use Rattle.opc_policy.specs.declared.rule.Rule.{Rule}
-use Rattle.opc_policy.specs.declared.rule.Rule.TheVariants as rule
-use Rattle.opc_policy.specs.declared.ruling.Ruling.{Ruling}
-use Rattle.opc_policy.specs.declared.ruling.Ruling.TheVariants.{Allowed, Denied}
-use Rattle.opc_policy.specs.declared.unit_kind.UnitKindAt.{UnitKindAt}
-use Rattle.opc_policy.specs.declared.unit_kind.UnitKindAt.TheVariants.{Absent}
+use Rattle.opc_terms.specs.declared.fault.Fault.{Fault}
+use Rattle.opc_terms.specs.declared.fault.Fault.TheVariants as fault
+use Rattle.opc_terms.specs.declared.need.Need.{Need}
+use Rattle.opc_terms.specs.declared.rule.Rule.{Rule}
+use Rattle.opc_terms.specs.declared.rule.Rule.TheVariants as rule
+use Rattle.opc_decisions.specs.declared.ruling.Ruling.{Ruling}
+use Rattle.opc_decisions.specs.declared.ruling.Ruling.TheVariants.{Allowed, Denied}
+use Rattle.opc_terms.specs.declared.unit_kind.UnitKindAt.{UnitKindAt}
+use Rattle.opc_terms.specs.declared.unit_kind.UnitKindAt.TheVariants.{Absent}
 use Rattle.opc_policy.specs.declared.user.User.{User}
 use Rattle.opc_policy.specs.Members.{user_of}
 use Rattle.opc_reader.specs.declared.command.Command.{Command}

@@ -1,11 +1,11 @@
 -- The access machine: one step for each request, of whatever kind.
 use Rattle.std.specs.Prelude.{◌≡◌, ◌⊎◌, ℕ, Bool, false, if◌then◌else◌, List, [], ◌∷◌, ◌++◌, Option, Some, None, Ok, Err, codes}
 use Rattle.std.specs.Option.{option_and_then}
-use Rattle.opc_policy.specs.declared.fault.Fault.TheVariants as fault
-use Rattle.opc_policy.specs.declared.rule.Rule.{Rule}
-use Rattle.opc_policy.specs.declared.rule.Rule.TheVariants as rule
-use Rattle.opc_policy.specs.Faults.{fault_code}
-use Rattle.opc_policy.specs.Rules.{rule_text_or_none}
+use Rattle.opc_terms.specs.declared.fault.Fault.TheVariants as fault
+use Rattle.opc_terms.specs.declared.rule.Rule.{Rule}
+use Rattle.opc_terms.specs.declared.rule.Rule.TheVariants as rule
+use Rattle.opc_terms.specs.Faults.{fault_code}
+use Rattle.opc_terms.specs.Rules.{rule_text_or_none}
 use Rattle.opc_board.specs.Facts.{console_at}
 use Rattle.opc_board.specs.Texts.{text_or}
 use Rattle.opc_state.specs.declared.account.AccountRow.{AccountRow}

@@ -1,7 +1,7 @@
 -- What a request comes to: what it does and why it may, or why it is refused.
 use Rattle.std.specs.Prelude.{Bool, true, false, List, Option, Some, None, Result, Ok, Err}
-use Rattle.opc_policy.specs.declared.fault.Fault.{Fault}
-use Rattle.opc_policy.specs.declared.rule.Rule.{Rule}
+use Rattle.opc_terms.specs.declared.fault.Fault.{Fault}
+use Rattle.opc_terms.specs.declared.rule.Rule.{Rule}
 use Rattle.opc_board.specs.declared.line.Line.{Line}
 use Rattle.opc_state.specs.State.{State}
 

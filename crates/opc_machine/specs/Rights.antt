@@ -3,11 +3,11 @@ use Rattle.std.specs.Prelude.{ℕ, Bool, false, ◌||◌, List, Option, Some, No
 use Rattle.std.specs.Str.{bytes_eq}
 use Rattle.opc_names.specs.Authority.{includes}
 use Rattle.opc_names.specs.declared.level.Level.TheVariants.{Read}
-use Rattle.opc_policy.specs.declared.fault.Fault.{Fault}
-use Rattle.opc_policy.specs.declared.fault.Fault.TheVariants.{NotSpecial, NotOwner}
+use Rattle.opc_terms.specs.declared.fault.Fault.{Fault}
+use Rattle.opc_terms.specs.declared.fault.Fault.TheVariants.{NotSpecial, NotOwner}
 use Rattle.opc_policy.specs.declared.policy.Policy.{Policy}
 use Rattle.opc_policy.specs.declared.profile.Profile.{Profile}
-use Rattle.opc_policy.specs.declared.rule.Rule.{Rule}
+use Rattle.opc_terms.specs.declared.rule.Rule.{Rule}
 use Rattle.opc_policy.specs.declared.user.User.{User}
 use Rattle.opc_policy.specs.Held.{held}
 use Rattle.opc_policy.specs.Members.{groups_of}

@@ -4,16 +4,16 @@ use Rattle.std.specs.Option.{is_none, option_and_then, option_or}
 use Rattle.opc_names.specs.declared.class.Class.TheVariants.{Opercmds, Console}
 use Rattle.opc_names.specs.declared.group.Group.TheVariants.{Info}
 use Rattle.opc_names.specs.declared.level.Level.TheVariants.{Read}
-use Rattle.opc_policy.specs.declared.mode.Mode.{Mode}
-use Rattle.opc_policy.specs.declared.mode.Mode.TheVariants.{Required, Optional, Auto}
-use Rattle.opc_policy.specs.declared.need.Need.{Need}
-use Rattle.opc_policy.specs.declared.rule.Rule.{Rule}
-use Rattle.opc_policy.specs.declared.rule.Rule.TheVariants as rule
-use Rattle.opc_policy.specs.declared.ruling.Ruling.{Ruling}
-use Rattle.opc_policy.specs.declared.ruling.Ruling.TheVariants.{Allowed, Denied}
+use Rattle.opc_terms.specs.declared.mode.Mode.{Mode}
+use Rattle.opc_terms.specs.declared.mode.Mode.TheVariants.{Required, Optional, Auto}
+use Rattle.opc_terms.specs.declared.need.Need.{Need}
+use Rattle.opc_terms.specs.declared.rule.Rule.{Rule}
+use Rattle.opc_terms.specs.declared.rule.Rule.TheVariants as rule
+use Rattle.opc_decisions.specs.declared.ruling.Ruling.{Ruling}
+use Rattle.opc_decisions.specs.declared.ruling.Ruling.TheVariants.{Allowed, Denied}
 use Rattle.opc_policy.specs.declared.user.User.{User}
 use Rattle.opc_policy.specs.Members.{user_of, groups_of}
-use Rattle.opc_policy.specs.Rulings.{verdict, verdict_rule, by_verdict, ruling as policy_ruling}
+use Rattle.opc_decisions.specs.Rulings.{verdict, verdict_rule, by_verdict, ruling as policy_ruling}
 use Rattle.opc_policy.specs.Taken.{has_user, is_active}
 use Rattle.opc_needs.specs.Table.{qualified}
 use Rattle.opc_board.specs.declared.line.Item.{Item}

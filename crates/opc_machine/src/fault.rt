@@ -3,8 +3,8 @@ ghost use Rattle.std.specs.Prelude.{◌≡◌};
 ghost use Rattle.opc_machine.specs.Faults.{line_fault, board_fault};
 
 use opc_board::fault::BoardFault;
-use opc_policy::fault::Fault;
 use opc_reader::line::ReadFault;
+use opc_terms::fault::Fault;
 
 /// The fault of a command line that is not read.
 pub fn of_line(fault: ReadFault) -> Fault

@@ -3,8 +3,8 @@ use opc_names::auth::Auth;
 use opc_names::class::Class;
 use opc_names::level::Level;
 use opc_names::name::{ConsoleName, GroupName, Pattern, UserId};
-use opc_policy::entry::EntryId;
-use opc_policy::mode::Mode;
+use opc_terms::entry_id::EntryId;
+use opc_terms::mode::Mode;
 
 /// What is done to users, groups and connects; to profiles and their access lists; to classes and consoles (RACF guide:
 /// the commands of these names).

@@ -2,11 +2,11 @@
 ghost use Rattle.std.specs.Prelude.{◌≡◌, []};
 
 use opc_board::line::Line;
-use opc_policy::fault::Fault;
-use opc_policy::rule::Rule;
-use opc_policy::source::StoreFault;
 use opc_rows::Rows;
 use opc_state::change::Edit;
+use opc_terms::fault::Fault;
+use opc_terms::rule::Rule;
+use opc_terms::store_fault::StoreFault;
 use std::alloc::Global;
 
 /// What is done, and why it may be: the edits that it makes, and the lines of the answer.

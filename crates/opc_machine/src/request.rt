@@ -5,10 +5,10 @@ use opc_board::line::Line;
 use opc_board::text::KeptText;
 use opc_names::class::Class;
 use opc_names::name::ConsoleName;
-use opc_policy::fault::Fault;
 use opc_policy::row::Row;
-use opc_policy::rule::Rule;
 use opc_rows::Rows;
+use opc_terms::fault::Fault;
+use opc_terms::rule::Rule;
 
 /// What is asked of the gate.
 #[derive(Drop)]

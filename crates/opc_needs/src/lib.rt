@@ -10,9 +10,9 @@ ghost use Rattle.opc_names.specs.declared.level.Level.TheVariants.{Read, Update}
 use opc_names::group::Group::{self, Cons, Info, Io, Master, Sys};
 use opc_names::level::Level::{self, Control, Read, Update};
 use opc_names::name::{Resource, UnitName};
-use opc_policy::need::Need;
-use opc_policy::unit_kind::UnitKindAt;
 use opc_reader::command::Command;
+use opc_terms::need::Need;
+use opc_terms::unit_kind::UnitKindAt;
 
 fn needs(group: Group, level: Level, resource: Resource) -> Option<Need>
     ensures { result ≡ needs group level resource }

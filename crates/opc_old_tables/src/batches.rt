@@ -7,10 +7,10 @@ ghost use Rattle.opc_statements.specs.Steps.{Looks};
 ghost use Rattle.opc_old_tables.specs.Read.{AreSaid, FindsOld, batch_puts, batch_shown};
 
 use opc_history_tables::batches::rows_in;
-use opc_policy::source::StoreFault;
 use opc_state::change::{Batch, Edit};
 use opc_stored::columns::{text_in, value_in};
 use opc_stored::queries::read;
+use opc_terms::store_fault::StoreFault;
 use sqlite::{Alter, Connection, Row};
 use std::alloc::Global;
 

@@ -8,8 +8,8 @@ use crate::batches::batches_on;
 use crate::connects::connects_on;
 use crate::profiles::profiles_on;
 use crate::users::users_on;
-use opc_policy::source::StoreFault;
 use opc_state::change::Edit;
+use opc_terms::store_fault::StoreFault;
 use sqlite::{Alter, Connection};
 
 /// Puts of the users, the connects, the profiles with their access lists, and the kept batches. Each part refers to those

@@ -16,7 +16,7 @@ use Rattle.opc_names.specs.Order.{sort_key}
 use Rattle.opc_names.specs.contracts.class.ClassOrd.TheImpl.{ghosts}
 use Rattle.opc_names.specs.declared.class.Class.{Class}
 use Rattle.opc_names.specs.declared.class.Class.TheVariants.{Console, Opercmds}
-use Rattle.opc_policy.specs.Deciding.{AreProfiles, AreMostSpecificFirst, is_before}
+use Rattle.opc_policy.specs.Profiles.{AreProfiles, AreMostSpecificFirst, is_before}
 use Rattle.opc_policy.specs.Stored.{IsAtItsKey, AreByKey}
 use Rattle.opc_policy.specs.declared.profile.Profile.{Profile}
 use Rattle.opc_policy.proofs.ProfilesByKey.{key_cmp}

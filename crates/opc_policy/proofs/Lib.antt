@@ -1,14 +1,8 @@
-pub mod ByHeads
-pub mod Counts
-pub mod Decided
-pub mod FirstCovering
+pub mod Classes
 pub mod Highest
-pub mod InOrder
 pub mod KeyOrder
 pub mod ListedGroups
 pub mod Maps
-pub mod MostSpecific
-pub mod OneMore
 pub mod Placed
 pub mod ProfilesByKey
 pub mod UsersById

@@ -1,19 +1,30 @@
 -- The profiles of a policy, in their order.
-use Rattle.std.specs.Prelude.{ℕ, Bool, ◌&&◌, List, Option, find}
+use Rattle.std.specs.Prelude.{◌≡◌, ◌≢◌, ℕ, Bool, true, ◌&&◌, List, Option, find, filter, All}
 use Rattle.std.specs.BTreeSet.{replace_key}
 use Rattle.std.specs.Cmp.Lexicographic.{slice_cmp}
+use Rattle.std.specs.List.{AllPairs}
 use Rattle.std.specs.Option.{option_map_or}
-use Rattle.std.specs.Ordering.{nat_cmp, ordering_then}
+use Rattle.std.specs.Ordering.{nat_cmp, is_lt, ordering_then}
 use Rattle.std.specs.Str.{bytes_eq}
 use Rattle.std.specs.declared.cmp.Ordering.{Ordering}
 use Rattle.std.specs.declared.cmp.Ordering.TheVariants.{Less, Equal, Greater}
 use Rattle.opc_names.specs.Authority.{same_class}
+use Rattle.opc_names.specs.Names.{IsPattern}
 use Rattle.opc_names.specs.Order.{sort_key}
 use Rattle.opc_names.specs.declared.class.Class.{Class}
 use Rattle.opc_names.specs.declared.class.Class.TheVariants.{Console, Opercmds}
 use Rattle.opc_policy.specs.declared.entry.Entry.{Entry}
 use Rattle.opc_policy.specs.declared.profile.Profile.{Profile}
 use Rattle.opc_policy.specs.Access.{with_entry}
+
+-- The profiles of a policy: their patterns are patterns, and no two have one class and one pattern.
+pub record AreProfiles (profiles : List Profile) : Type 0 where
+  pub patterns : All (λ (p : Profile). IsPattern p.pattern) profiles
+  pub distinct : AllPairs (λ (p q : Profile). p.class ≡ q.class → p.pattern ≢ q.pattern) profiles
+
+-- the profiles of a class
+abbrev pub of_class : Class → List Profile → List Profile
+of_class class profiles = filter (λ (p : Profile). same_class p.class class) profiles
 
 -- CONSOLE before OPERCMDS
 abbrev pub class_cmp : Class → Class → Ordering
@@ -51,3 +62,11 @@ with_definition profile profiles =
 abbrev pub with_permission : Class → List ℕ → Entry → List Profile → List Profile
 with_permission class pattern entry profiles =
     option_map_or (λ (p : Profile). with_profile (record p { entries = with_entry entry p.entries }) profiles) (profile_of profiles class pattern) profiles
+
+-- whether one profile comes before another, by their sort keys
+abbrev pub is_before : Profile → Profile → Bool
+is_before p q = is_lt (slice_cmp nat_cmp (sort_key p.pattern) (sort_key q.pattern))
+
+-- of two profiles of one class the earlier in a list comes before
+abbrev pub AreMostSpecificFirst : List Profile → Type 0
+AreMostSpecificFirst profiles = AllPairs (λ (p q : Profile). p.class ≡ q.class → is_before p q ≡ true) profiles

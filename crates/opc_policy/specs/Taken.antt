@@ -3,8 +3,8 @@ use Rattle.std.specs.Prelude.{ℕ, Bool, ◌||◌, List, [], Result, Ok, Err, if
 use Rattle.std.specs.Str.{bytes_eq}
 use Rattle.opc_names.specs.declared.class.Class.{Class}
 use Rattle.opc_names.specs.declared.class.Class.TheVariants.{Console, Opercmds}
-use Rattle.opc_policy.specs.declared.fault.Fault.{Fault}
-use Rattle.opc_policy.specs.declared.fault.Fault.TheVariants.{Exists, Missing}
+use Rattle.opc_terms.specs.declared.fault.Fault.{Fault}
+use Rattle.opc_terms.specs.declared.fault.Fault.TheVariants.{Exists, Missing}
 use Rattle.opc_policy.specs.declared.policy.ActiveClasses.{ActiveClasses}
 use Rattle.opc_policy.specs.declared.policy.Policy.{Policy}
 use Rattle.opc_policy.specs.declared.profile.Profile.{Profile}

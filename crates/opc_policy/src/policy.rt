@@ -1,11 +1,10 @@
 //! A policy, and what the rows of a written one make of it.
 ghost use Rattle.std.specs.Prelude.{◌≡◌, ◌≢◌, OnOk, OnErr, IfErr, IsOk, Ok, Err};
-ghost use Rattle.opc_policy.specs.declared.fault.Fault.{Fault as TheFault};
+ghost use Rattle.opc_terms.specs.declared.fault.Fault.{Fault as TheFault};
 
 use crate::connect::{Connect, Connects};
 use crate::entries::Entries;
-use crate::entry::{Entry, EntryId};
-use crate::fault::{Fault, Subject};
+use crate::entry::Entry;
 use crate::groups::Groups;
 use crate::profile::Profile;
 use crate::profiles::Profiles;
@@ -14,6 +13,8 @@ use crate::user::User;
 use crate::users::Users;
 use opc_names::class::Class;
 use opc_names::name::{GroupName, Pattern};
+use opc_terms::entry_id::EntryId;
+use opc_terms::fault::{Fault, Subject};
 use std::alloc::Global;
 
 /// Which classes are active (RACF guide: SETROPTS CLASSACT).
@@ -72,7 +73,7 @@ impl Drop for Policy {
 impl Policy {
     ghost use Rattle.std.specs.Prelude.{[], false};
     ghost use Rattle.opc_policy.specs.Taken.{after_row, after_definition, has_holder};
-    ghost use Rattle.opc_policy.specs.declared.fault.Fault.TheVariants.{NoMemory};
+    ghost use Rattle.opc_terms.specs.declared.fault.Fault.TheVariants.{NoMemory};
     ghost use Rattle.opc_policy.specs.declared.row.Row.TheVariants as rows;
 
     /// A policy with nothing in it, and no class active.

@@ -27,7 +27,7 @@ impl Profile {
     ghost use Rattle.opc_policy.specs.Held.{universal_level, conditional_level, held};
 
     /// Whether it is a profile of a class.
-    pub(crate) fn is_of(&self, class: Class) -> bool
+    pub fn is_of(&self, class: Class) -> bool
         ensures { result ≡ same_class self.now.class class }
     {
         match (self.class, class) {

@@ -2,8 +2,7 @@
 ghost use Rattle.std.specs.Prelude.{◌≡◌, ◌<◌, ◌^◌, [], IfOk, OnOk, OnErr, is_some, length, true, Some, None};
 ghost use Rattle.std.specs.Option.{option_copied};
 ghost use Rattle.opc_names.specs.Order.{sort_key};
-ghost use Rattle.opc_policy.specs.Deciding.{AreProfiles, AreMostSpecificFirst};
-ghost use Rattle.opc_policy.specs.Profiles.{profile_of, with_profile, with_definition, with_permission};
+ghost use Rattle.opc_policy.specs.Profiles.{AreProfiles, AreMostSpecificFirst, profile_of, with_profile, with_definition, with_permission};
 
 use crate::entry::Entry;
 use crate::profile::Profile;

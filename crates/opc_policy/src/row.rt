@@ -1,11 +1,11 @@
 //! Rows of a written policy.
-use crate::entry::EntryId;
-use crate::mode::Mode;
 use crate::user::User;
 use opc_names::auth::Auth;
 use opc_names::class::Class;
 use opc_names::level::Level;
 use opc_names::name::{ConsoleName, GroupName, Pattern, UserId};
+use opc_terms::entry_id::EntryId;
+use opc_terms::mode::Mode;
 
 /// One row of a written policy, of the kinds in the order in which a policy is written.
 #[derive(Clone, Copy, PartialEq, Eq)]

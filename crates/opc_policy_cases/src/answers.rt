@@ -3,14 +3,15 @@ use crate::faults::fault_of;
 use crate::levels::compared;
 use crate::words::Words;
 use anyhow::{Context, Result, bail};
+use opc_decisions::explained::explain;
+use opc_decisions::plain::deciding_by_pairs;
+use opc_decisions::policy_source::{first_of_class, profiles_of_class};
+use opc_decisions::search::search;
 use opc_import::read::read_policy;
-use opc_policy::entry::EntryId;
-use opc_policy::explained::explain;
-use opc_policy::fault::Fault;
-use opc_policy::plain::deciding_by_pairs;
 use opc_policy::policy::Policy;
 use opc_policy::profile::Profile;
-use opc_policy::search::search;
+use opc_terms::entry_id::EntryId;
+use opc_terms::fault::Fault;
 use std::alloc::{AllocError, Global};
 
 const HEADER: &str = "kind,class,name,id,value,owner,flags,digest,when,restricted";
@@ -101,8 +102,8 @@ fn in_one_line(alloc: Global, text: &str) -> Result<String, AllocError> {
 fn searched(alloc: Global, policy: &mut Policy, words: &Words<'_>) -> Result<String> {
     let (class, resource) = (words.class(0)?, words.resource(1)?);
     let found = search(policy, class, &resource)?;
-    let first = policy.first(class, &resource)?;
-    let profiles = policy.all(alloc, class)?;
+    let first = first_of_class(policy, class, &resource)?;
+    let profiles = profiles_of_class(alloc, policy, class)?;
     let by_pairs = deciding_by_pairs(profiles.as_slice(), class, &resource);
     Ok(format!(in alloc;
         "{} RANGES {} ROWS {}; {} ROWS {}; {}",

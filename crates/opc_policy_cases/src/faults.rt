@@ -1,7 +1,7 @@
 //! Faults by their codes: those that no script or policy of the repository's examples ends in.
 use anyhow::{Result, bail};
 use opc_names::name::UserId;
-use opc_policy::fault::{Fault, Subject};
+use opc_terms::fault::{Fault, Subject};
 
 pub fn fault_of(code: &str) -> Result<Fault> {
     Ok(match code {

@@ -34,8 +34,7 @@ use Rattle.opc_names.specs.Authority.{same_class}
 use Rattle.opc_names.specs.Spellings.{class_text}
 use Rattle.opc_policy.specs.declared.entry.Entry.{Entry}
 use Rattle.opc_policy.specs.declared.profile.Profile.{Profile}
-use Rattle.opc_policy.specs.Deciding.{of_class}
-use Rattle.opc_policy.specs.Profiles.{profile_of}
+use Rattle.opc_policy.specs.Profiles.{of_class, profile_of}
 use Rattle.opc_state.specs.State.{State}
 use Rattle.opc_stored.specs.Placed.{entries_at}
 use Rattle.opc_stored.specs.Represented.{Represents, entry_row, entry_rows, or_empty}

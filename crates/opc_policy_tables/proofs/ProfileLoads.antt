@@ -27,8 +27,7 @@ use Rattle.opc_names.specs.Authority.{same_class}
 use Rattle.opc_names.specs.Order.{sort_key}
 use Rattle.opc_names.specs.Spellings.{class_text}
 use Rattle.opc_policy.specs.declared.profile.Profile.{Profile}
-use Rattle.opc_policy.specs.Deciding.{of_class}
-use Rattle.opc_policy.specs.Profiles.{class_cmp, pattern_cmp, profile_cmp, profile_of, is_of}
+use Rattle.opc_policy.specs.Profiles.{of_class, class_cmp, pattern_cmp, profile_cmp, profile_of, is_of}
 use Rattle.opc_state.specs.State.{State}
 use Rattle.opc_stored.specs.State.{IsOrdered}
 use Rattle.opc_stored.specs.Placed.{profiles_at}

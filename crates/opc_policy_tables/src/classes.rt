@@ -8,11 +8,11 @@ ghost use Rattle.opc_stored.specs.Represented.{class_row};
 
 use opc_names::class::Class;
 use opc_policy::policy::ActiveClasses;
-use opc_policy::source::StoreFault;
 use opc_statements::run;
 use opc_stored::columns::value_in;
 use opc_stored::faults::unreadable;
 use opc_stored::queries::read;
+use opc_terms::store_fault::StoreFault;
 use sqlite::{Alter, Connection, Error, Row, Transaction, params};
 
 /// Sets whether a class is active.

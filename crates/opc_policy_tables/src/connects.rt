@@ -14,11 +14,11 @@ ghost use Rattle.opc_stored.specs.Represented.{connect_row};
 use crate::there::is_there_on;
 use opc_names::name::{GroupName, UserId};
 use opc_policy::connect::Connect;
-use opc_policy::source::StoreFault;
 use opc_rows::Rows;
 use opc_statements::{put, run};
 use opc_stored::columns::{Keeps, all_in, name_in};
 use opc_stored::queries::read;
+use opc_terms::store_fault::StoreFault;
 use sqlite::{Alter, Connection, Error, Row, Transaction, params};
 use std::alloc::Global;
 

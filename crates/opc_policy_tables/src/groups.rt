@@ -10,11 +10,11 @@ ghost use Rattle.opc_stored.specs.Represented.{group_row};
 
 use crate::there::is_there_on;
 use opc_names::name::GroupName;
-use opc_policy::source::StoreFault;
 use opc_rows::Rows;
 use opc_statements::{put, run};
 use opc_stored::columns::{Keeps, all_in, name_in};
 use opc_stored::queries::read;
+use opc_terms::store_fault::StoreFault;
 use sqlite::{Alter, Connection, Error, Row, Transaction, params};
 use std::alloc::Global;
 

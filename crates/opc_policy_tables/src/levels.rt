@@ -6,9 +6,9 @@ ghost use Rattle.sqlite.specs.declared.types.Value.TheVariants.{Int};
 ghost use Rattle.opc_names.specs.declared.level.Level.{Level as TheLevel};
 
 use opc_names::level::Level;
-use opc_policy::source::StoreFault;
 use opc_stored::columns::value_in;
 use opc_stored::faults::unreadable;
+use opc_terms::store_fault::StoreFault;
 use sqlite::Row;
 
 pub(crate) fn rank_of(level: Level) -> u32

@@ -8,7 +8,7 @@ ghost use Rattle.opc_stored.specs.Represented.{profile_row};
 use crate::entries::entries_in;
 use crate::profiles::profile_in;
 use opc_policy::profile::Profile;
-use opc_policy::source::StoreFault;
+use opc_terms::store_fault::StoreFault;
 use sqlite::Row;
 use sqlite::types::ValueRef;
 use std::alloc::Global;

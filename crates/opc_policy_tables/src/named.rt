@@ -8,7 +8,7 @@ use crate::connects::has_connect_on;
 use crate::entries::has_entry_on;
 use crate::profiles::has_owner_on;
 use opc_names::name::UserId;
-use opc_policy::source::StoreFault;
+use opc_terms::store_fault::StoreFault;
 use sqlite::{Alter, Connection};
 
 /// Whether a connect, an owner or an access list names this user. Of each one row is read at most, by a key.

@@ -6,8 +6,8 @@ ghost use Rattle.sqlite.specs.State.{HasCleanDisk, Shown};
 ghost use Rattle.sqlite.specs.Values.{bound};
 ghost use Rattle.opc_statements.specs.Steps.{Looks, NeverWrites};
 
-use opc_policy::source::StoreFault;
 use opc_stored::queries::read;
+use opc_terms::store_fault::StoreFault;
 use sqlite::types::ValueRef;
 use sqlite::{Alter, Connection};
 

@@ -14,13 +14,13 @@ ghost use Rattle.opc_stored.specs.Represented.{or_null, user_row};
 
 use crate::there::is_there_on;
 use opc_names::name::UserId;
-use opc_policy::source::StoreFault;
 use opc_policy::user::User;
 use opc_rows::Rows;
 use opc_statements::{put, run};
 use opc_stored::columns::{Keeps, all_in, name_in, value_in};
 use opc_stored::faults::unreadable;
 use opc_stored::queries::read;
+use opc_terms::store_fault::StoreFault;
 use sqlite::{Alter, Connection, Error, Row, Transaction, params};
 use std::alloc::Global;
 

@@ -2,7 +2,7 @@
 use Rattle.std.proofs.Common.{◌≡◌, ◌≤◌, ◌<◌, ◌+◌, ◌⊎◌, ℕ, List, Option, Some, None, IfSome, inl, inr, length, take, subst, ◌∙◌, refl, arith}
 use Rattle.std.specs.Prelude.{IsUtf8}
 use Rattle.std.proofs.lemmas.List.{length-take, take_all}
-use Rattle.opc_policy.specs.declared.fault.Fault.{Fault}
+use Rattle.opc_terms.specs.declared.fault.Fault.{Fault}
 use Rattle.opc_policy.specs.declared.row.Row.{Row}
 use Rattle.opc_program.specs.PolicyFiles.{AreRead, IsBadFile, IsNoPolicyFile, IsNoText, IsPolicyFile, IsRefused, IsUnread, policy_limit}
 use Rattle.opc_program.specs.Statuses.{IsFailure}

@@ -2,7 +2,7 @@
 use Rattle.std.specs.Prelude.{◌≡◌, ◌≢◌, ◌⊎◌, ℕ, Bool, true, List, Option, Some, None, Result, Ok, Err, IfErr, IfOk, IsErr, IsErrAnd, MatchResult, OnErr, OnOk, if◌then◌else◌, is_err}
 use Rattle.std.specs.Io.KnownBytes.{Appends}
 use Rattle.std.specs.List.{flat_map}
-use Rattle.opc_policy.specs.declared.fault.Fault.TheVariants.{NoMemory, Store}
+use Rattle.opc_terms.specs.declared.fault.Fault.TheVariants.{NoMemory, Store}
 use Rattle.opc_policy.specs.declared.row.Row.{Row}
 use Rattle.opc_board.specs.declared.line.Line.{Line}
 use Rattle.opc_import.specs.Lines.{policy_text}

@@ -1,8 +1,8 @@
 -- Policy files, as the bytes of a reader.
 use Rattle.std.specs.Prelude.{◌≡◌, ◌≤◌, ◌<◌, ◌⊎◌, ℕ, List, Option, Ok, Err, IfSome, IsUtf8, length}
-use Rattle.opc_policy.specs.declared.fault.Fault.{Fault}
-use Rattle.opc_policy.specs.declared.fault.Fault.TheVariants.{RowFault}
-use Rattle.opc_policy.specs.declared.fault.Why.TheVariants.{Header}
+use Rattle.opc_terms.specs.declared.fault.Fault.{Fault}
+use Rattle.opc_terms.specs.declared.fault.Fault.TheVariants.{RowFault}
+use Rattle.opc_terms.specs.declared.fault.Why.TheVariants.{Header}
 use Rattle.opc_policy.specs.declared.row.Row.{Row}
 use Rattle.opc_import.specs.declared.fault.ImportFault.{ImportFault}
 use Rattle.opc_import.specs.Faults.{as_fault}

@@ -2,7 +2,7 @@
 use Rattle.std.specs.Prelude.{◌≡◌, ◌⊎◌, ◌+◌, ℕ, Bool, true, List, Option, Some, None, Result, Ok, Err, IfSome, IsErrAnd, IsUtf8, MatchResult, if◌then◌else◌, take}
 use Rattle.std.specs.IoError.{error_kind}
 use Rattle.std.specs.declared.io.Error.{Error}
-use Rattle.opc_policy.specs.declared.fault.Fault.TheVariants as fault
+use Rattle.opc_terms.specs.declared.fault.Fault.TheVariants as fault
 use Rattle.opc_state.specs.State.{State}
 use Rattle.opc_script.specs.declared.script.ScriptFault.{ScriptFault}
 use Rattle.opc_script.specs.declared.script.ScriptFault.TheVariants.{BadLine, NoMemory, Output}

@@ -2,8 +2,8 @@
 use Rattle.std.specs.Prelude.{◌≡◌, ◌⊎◌}
 use Rattle.std.specs.declared.io.ErrorKind.{ErrorKind}
 use Rattle.std.specs.declared.io.ErrorKind.TheVariants.{OutOfMemory}
-use Rattle.opc_policy.specs.declared.fault.Fault.{Fault}
-use Rattle.opc_policy.specs.declared.fault.Fault.TheVariants.{RowFault, NoMemory, Store, NotOurs}
+use Rattle.opc_terms.specs.declared.fault.Fault.{Fault}
+use Rattle.opc_terms.specs.declared.fault.Fault.TheVariants.{RowFault, NoMemory, Store, NotOurs}
 use Rattle.opc_script.specs.declared.status.Status.{Status}
 use Rattle.opc_script.specs.declared.status.Status.TheVariants.{BadInput, Failed, Refused}
 

@@ -3,7 +3,7 @@ use arrayvec::ArrayString;
 use csv::{ReaderBuilder, StringRecord};
 use opc_import::column::Column;
 use opc_import::kind::Kind;
-use opc_policy::fault::Why;
+use opc_terms::fault::Why;
 use std::alloc::Global;
 use std::fmt;
 use std::fmt::{Display, Formatter};

@@ -3,14 +3,14 @@ use crate::failure::{Failure, NO_PATHS, Place};
 use crate::policy_file::read_rows;
 use crate::words::unread;
 use clap::ArgMatches;
+use opc_decisions::explained::{Explained, explain};
+use opc_decisions::verdict::Verdict;
 use opc_names::class::Class;
 use opc_names::level::Level;
 use opc_names::name::{ConsoleName, Resource, UserId};
-use opc_policy::explained::{Explained, explain};
-use opc_policy::fault::Fault;
 use opc_policy::policy::Policy;
-use opc_policy::verdict::Verdict;
 use opc_script::status::Status;
+use opc_terms::fault::Fault;
 use std::alloc::Global;
 use std::io::{Read, Write};
 

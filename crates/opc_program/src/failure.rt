@@ -5,8 +5,8 @@ ghost use Rattle.opc_program.specs.Statuses.{IsFailure, fault_of_kind, status_of
 
 use crate::reason::Reason;
 use arrayvec::ArrayString;
-use opc_policy::fault::Fault;
 use opc_script::status::Status;
+use opc_terms::fault::Fault;
 use std::fmt::{Display, Formatter, Write as _};
 use std::io::{ErrorKind, Write};
 use std::{fmt, io};

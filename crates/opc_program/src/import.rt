@@ -15,11 +15,11 @@ use opc_gate::request::Request;
 use opc_http_link::sink::Sink;
 use opc_import::write::write_policy;
 use opc_names::name::ConsoleName;
-use opc_policy::fault::Fault;
 use opc_policy::row::Row;
 use opc_rows::Rows;
 use opc_script::status::Status;
 use opc_state::tables::Tables;
+use opc_terms::fault::Fault;
 use std::alloc::{AllocError, Global};
 use std::io::Read;
 

@@ -6,8 +6,8 @@ use crate::serve::Serve;
 use crate::{explain, run};
 use clap::error::ErrorKind;
 use clap::{Arg, ArgAction, ArgMatches, Command, Error};
-use opc_policy::fault::Fault;
 use opc_script::status::Status;
+use opc_terms::fault::Fault;
 use std::alloc::{AllocError, Global};
 use std::io::{Read, Write};
 

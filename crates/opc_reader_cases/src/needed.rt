@@ -2,10 +2,10 @@
 use anyhow::Result;
 use opc_names::name::UnitName;
 use opc_needs::need;
-use opc_policy::need::Need;
-use opc_policy::unit_kind::UnitKindAt;
 use opc_reader::command::Command;
 use opc_reader::line::read_command;
+use opc_terms::need::Need;
+use opc_terms::unit_kind::UnitKindAt;
 use std::alloc::Global;
 
 /// What a command needs, whatever the unit that it names is, or for each kind of unit.

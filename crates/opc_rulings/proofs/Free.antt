@@ -1,7 +1,7 @@
 -- Lines that need no ruling are shown.
 use Rattle.std.proofs.Common.{◌≡◌, ◌&&◌, Bool, true, false, List, [], ◌∷◌, Option, Some, None, filter, is_none, ap, refl}
 use Rattle.std.specs.List.{list_all}
-use Rattle.opc_policy.specs.declared.need.Need.{Need}
+use Rattle.opc_terms.specs.declared.need.Need.{Need}
 use Rattle.opc_board.specs.declared.rows.ConsoleRow.{ConsoleRow}
 use Rattle.opc_board.specs.declared.line.Line.{Line}
 use Rattle.opc_state.specs.State.{State}

@@ -4,13 +4,13 @@ use Rattle.std.specs.Option.{option_map_or}
 use Rattle.opc_names.specs.declared.class.Class.{Class}
 use Rattle.opc_names.specs.declared.level.Level.{Level}
 use Rattle.opc_policy.specs.declared.profile.Profile.{Profile}
-use Rattle.opc_policy.specs.declared.ruling.Ruling.{Ruling}
+use Rattle.opc_decisions.specs.declared.ruling.Ruling.{Ruling}
 use Rattle.opc_policy.specs.declared.user.User.{User}
 use Rattle.opc_policy.specs.Held.{held}
 use Rattle.opc_policy.specs.Members.{groups_of}
 use Rattle.opc_policy.specs.Profiles.{profile_of}
-use Rattle.opc_policy.specs.Rulings.{by_verdict, ruling_at, verdict, verdict_rule}
-use Rattle.opc_policy.proofs.Decided.{ruling_by_verdict}
+use Rattle.opc_decisions.specs.Rulings.{by_verdict, ruling_at, verdict, verdict_rule}
+use Rattle.opc_decisions.proofs.Decided.{ruling_by_verdict}
 use Rattle.opc_state.specs.Facts.{IsKeyed}
 use Rattle.opc_state.specs.Loads.{bare}
 use Rattle.opc_state.specs.State.{State, deciding_in}

@@ -3,10 +3,10 @@ use Rattle.std.specs.Prelude.{Bool, true, false, List, ℕ, Option, Some, None}
 use Rattle.opc_names.specs.declared.level.Level.{Level}
 use Rattle.opc_policy.specs.Held.{held}
 use Rattle.opc_policy.specs.Members.{groups_of}
-use Rattle.opc_policy.specs.Rulings.{profile_ruling}
+use Rattle.opc_decisions.specs.Rulings.{profile_ruling}
 use Rattle.opc_policy.specs.declared.policy.Policy.{Policy}
 use Rattle.opc_policy.specs.declared.profile.Profile.{Profile}
-use Rattle.opc_policy.specs.declared.ruling.Ruling.{Ruling}
+use Rattle.opc_decisions.specs.declared.ruling.Ruling.{Ruling}
 use Rattle.opc_policy.specs.declared.user.User.{User}
 use Rattle.opc_state.specs.Loads.{access_list}
 

@@ -12,13 +12,13 @@ ghost use Rattle.opc_rulings.specs.Asking.{IsAsking, IsConsoleFor};
 use crate::ruling::acting_on;
 use opc_board::rows::ConsoleRow;
 use opc_machine::outcome::Denial;
-use opc_policy::fault::Fault;
-use opc_policy::mode::Mode;
 use opc_policy::profile::Profile;
-use opc_policy::rule::Rule;
-use opc_policy::source::StoreFault;
 use opc_policy::user::User;
 use opc_state::tables::Tables;
+use opc_terms::fault::Fault;
+use opc_terms::mode::Mode;
+use opc_terms::rule::Rule;
+use opc_terms::store_fault::StoreFault;
 use std::alloc::Global;
 
 /// A console that may ask, and who acts there, if anybody does.

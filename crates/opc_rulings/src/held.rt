@@ -12,11 +12,12 @@ ghost use Rattle.opc_rulings.specs.Held.{held_in, with_list};
 use opc_names::level::Level;
 use opc_names::name::{ConsoleName, GroupName, UserId};
 use opc_policy::entries::{Entries, Sources, higher};
-use opc_policy::entry::{Entry, EntryId};
+use opc_policy::entry::Entry;
 use opc_policy::profile::Profile;
-use opc_policy::source::StoreFault;
 use opc_policy::user::User;
 use opc_state::tables::Tables;
+use opc_terms::entry_id::EntryId;
+use opc_terms::store_fault::StoreFault;
 use std::alloc::Global;
 
 /// How many entries, and how many groups, are loaded at first: more than most access lists have.

@@ -5,7 +5,7 @@ ghost use Rattle.std.specs.Option.{option_and_then};
 ghost use Rattle.opc_names.specs.Names.{is_plain, is_resource};
 ghost use Rattle.opc_names.specs.declared.class.Class.TheVariants.{Opercmds};
 ghost use Rattle.opc_policy.specs.Members.{groups_of, user_of};
-ghost use Rattle.opc_policy.specs.Rulings.{ruling as policy_ruling};
+ghost use Rattle.opc_decisions.specs.Rulings.{ruling as policy_ruling};
 ghost use Rattle.opc_state.specs.Asked.{Answers};
 ghost use Rattle.opc_state.specs.State.{deciding_in};
 ghost use Rattle.opc_state.specs.Changes.{IsKept};
@@ -16,18 +16,18 @@ ghost use Rattle.opc_machine.specs.Rulings.{acting, acting_user, is_auto, is_req
 use crate::held::level_on;
 use opc_board::line::{Item, Line};
 use opc_board::rows::ConsoleRow;
+use opc_decisions::ruling::{Ruling, console_ruling, ruling_at};
 use opc_names::class::Class;
 use opc_names::group::Group;
 use opc_names::level::Level;
 use opc_names::name::{ConsoleName, Name, NameKind, Resource, UserId};
-use opc_policy::mode::Mode;
-use opc_policy::need::Need;
-use opc_policy::rule::Rule;
-use opc_policy::ruling::{Ruling, console_ruling};
-use opc_policy::source::StoreFault;
 use opc_policy::user::User;
 use opc_rows::Rows;
 use opc_state::tables::Tables;
+use opc_terms::mode::Mode;
+use opc_terms::need::Need;
+use opc_terms::rule::Rule;
+use opc_terms::store_fault::StoreFault;
 use std::alloc::{AllocError, Global};
 
 fn is_required(mode: Mode) -> bool
@@ -67,7 +67,7 @@ fn profile_ruling_on<T: Tables>(
         return Ok(None);
     };
     let held = level_on(tables, alloc, &profile, user, console)?;
-    Ok(Some(profile.ruling_at(held, needed)))
+    Ok(Some(ruling_at(&profile, held, needed)))
 }
 
 // By the profile that decides for a user where the class is active, else by the authority of the console.

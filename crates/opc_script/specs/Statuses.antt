@@ -1,7 +1,7 @@
 -- Statuses: what the answers of a run come to, and their numbers.
 use Rattle.std.specs.Prelude.{ℕ, Bool, true, false, if◌then◌else◌, List}
 use Rattle.std.specs.List.{list_any}
-use Rattle.opc_policy.specs.declared.fault.Fault.TheVariants as fault
+use Rattle.opc_terms.specs.declared.fault.Fault.TheVariants as fault
 use Rattle.opc_machine.specs.declared.request.Answer.{Answer}
 use Rattle.opc_machine.specs.declared.request.Answer.TheVariants as answer
 use Rattle.opc_script.specs.declared.status.Status.{Status}

@@ -4,8 +4,8 @@ use Rattle.std.specs.Fmt.{decimal}
 use Rattle.std.specs.List.{flat_map}
 use Rattle.opc_board.specs.declared.line.Line.{Line}
 use Rattle.opc_board.specs.Texts.{columns}
-use Rattle.opc_policy.specs.Faults.{fault_code, fault_text}
-use Rattle.opc_policy.specs.Rules.{rule_text_or_none}
+use Rattle.opc_terms.specs.Faults.{fault_code, fault_text}
+use Rattle.opc_terms.specs.Rules.{rule_text_or_none}
 use Rattle.opc_machine.specs.declared.request.Request.{Request}
 use Rattle.opc_machine.specs.declared.request.Answer.{Answer}
 use Rattle.opc_machine.specs.declared.request.Answer.TheVariants.{Done, Refused}

@@ -4,7 +4,7 @@ ghost use Rattle.opc_machine.specs.declared.request.Answer.{Answer as TheAnswer}
 ghost use Rattle.opc_script.specs.Statuses.{number_of, status_of};
 
 use opc_gate::request::Answer;
-use opc_policy::fault::Fault;
+use opc_terms::fault::Fault;
 
 /// What a run or a question came to.
 #[derive(Clone, Copy, Debug, PartialEq, Eq)]

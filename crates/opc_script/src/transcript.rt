@@ -5,8 +5,8 @@ ghost use Rattle.opc_script.specs.Transcripts.{answer_text, bad_line_text};
 
 use opc_board::line::Line;
 use opc_gate::request::Answer;
-use opc_policy::fault::Fault;
-use opc_policy::rule::Rule;
+use opc_terms::fault::Fault;
+use opc_terms::rule::Rule;
 use std::alloc::{AllocError, Global};
 use std::fmt::Write;
 

@@ -11,10 +11,10 @@ use Rattle.opc_statements.specs.Taken.{taken_for}
 use Rattle.opc_names.specs.Order.{sort_key}
 use Rattle.opc_names.specs.Names.{IsPattern}
 use Rattle.opc_policy.specs.declared.profile.Profile.{Profile}
-use Rattle.opc_policy.specs.Deciding.{AreProfiles, AreMostSpecificFirst, deciding}
-use Rattle.opc_policy.specs.Examined.{read_until}
-use Rattle.opc_policy.specs.Profiles.{class_cmp, pattern_cmp, profile_cmp}
-use Rattle.opc_policy.proofs.FirstCovering.{AreBefore, NoneCovers, found_first, read_first, none_found}
+use Rattle.opc_policy.specs.Profiles.{AreProfiles, AreMostSpecificFirst, class_cmp, pattern_cmp, profile_cmp}
+use Rattle.opc_decisions.specs.Deciding.{deciding}
+use Rattle.opc_decisions.specs.Examined.{read_until}
+use Rattle.opc_decisions.proofs.FirstCovering.{AreBefore, NoneCovers, found_first, read_first, none_found}
 use Rattle.opc_state.specs.State.{State}
 use Rattle.opc_search.specs.Search.{covers}
 use Rattle.opc_stored.specs.State.{IsOrdered}

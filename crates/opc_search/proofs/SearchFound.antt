@@ -6,10 +6,10 @@ use Rattle.opc_statements.proofs.Parts.{found_one}
 use Rattle.opc_names.specs.declared.class.Class.{Class}
 use Rattle.opc_policy.specs.declared.entry.Entry.{Entry}
 use Rattle.opc_policy.specs.declared.profile.Profile.{Profile}
-use Rattle.opc_policy.specs.Deciding.{deciding}
-use Rattle.opc_policy.specs.Examined.{examined, head_length, is_chosen, read_until}
+use Rattle.opc_decisions.specs.Deciding.{deciding}
+use Rattle.opc_decisions.specs.Examined.{examined, head_length, is_chosen, read_until}
 use Rattle.opc_policy.specs.Profiles.{profile_of}
-use Rattle.opc_policy.proofs.FirstCovering.{chosen_order}
+use Rattle.opc_decisions.proofs.FirstCovering.{chosen_order}
 use Rattle.opc_state.specs.Loads.{bare}
 use Rattle.opc_state.specs.State.{State}
 use Rattle.opc_search.specs.Search.{covers}

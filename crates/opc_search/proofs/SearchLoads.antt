@@ -27,10 +27,9 @@ use Rattle.opc_names.specs.declared.class.Class.TheVariants.{Console, Opercmds}
 use Rattle.opc_names.specs.Authority.{same_class}
 use Rattle.opc_names.specs.Spellings.{class_text}
 use Rattle.opc_policy.specs.declared.profile.Profile.{Profile}
-use Rattle.opc_policy.specs.Deciding.{of_class}
-use Rattle.opc_policy.specs.Examined.{head_of, with_head, is_chosen}
-use Rattle.opc_policy.specs.Profiles.{profile_cmp}
-use Rattle.opc_policy.proofs.FirstCovering.{filter_both}
+use Rattle.opc_policy.specs.Profiles.{of_class, profile_cmp}
+use Rattle.opc_decisions.specs.Examined.{head_of, with_head, is_chosen}
+use Rattle.opc_decisions.proofs.FirstCovering.{filter_both}
 use Rattle.opc_policy_tables.proofs.ProfileLoads.{by_class, by_class_asked, class_is, class_params, class_told, in_class, profiles_rise}
 use Rattle.opc_state.specs.State.{State}
 use Rattle.opc_search.specs.declared.search.TheConstants.{BY_HEAD}

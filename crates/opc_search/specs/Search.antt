@@ -7,7 +7,7 @@ use Rattle.sqlite.specs.State.{Begins, Shown}
 use Rattle.opc_names.specs.declared.class.Class.{Class}
 use Rattle.opc_names.specs.Patterns.{covers_text}
 use Rattle.opc_policy.specs.declared.profile.Profile.{Profile}
-use Rattle.opc_policy.specs.Examined.{is_chosen}
+use Rattle.opc_decisions.specs.Examined.{is_chosen}
 use Rattle.opc_state.specs.State.{State}
 use Rattle.opc_stored.specs.Represented.{Represents, profile_row}
 

@@ -12,9 +12,9 @@ use opc_board::board::BoardRows;
 use opc_board::rows::{ConsoleRow, DeviceRow};
 use opc_names::name::{ConsoleName, Device, UnitName};
 use opc_names::reply_id::ReplyId;
-use opc_policy::source::StoreFault;
 use opc_rows::{Keyed, Rows};
 use opc_state::tables::Tables;
+use opc_terms::store_fault::StoreFault;
 
 // Adds the row of a key, if there is one, to rows that may have it already. Rows out of order are refused.
 fn add<R: Keyed + Drop>(rows: &mut Rows<R>, key: &R::Key, row: Option<R>) -> Result<(), StoreFault>

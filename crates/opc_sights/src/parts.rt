@@ -11,8 +11,8 @@ use crate::part::{see_console, see_device, see_unit};
 use opc_board::board::BoardRows;
 use opc_board::replies::session_of;
 use opc_names::name::{ConsoleName, Device, UnitName, UserId};
-use opc_policy::source::StoreFault;
 use opc_state::tables::Tables;
+use opc_terms::store_fault::StoreFault;
 use std::alloc::Global;
 
 /// Sees a unit and the devices that it has.

@@ -2,9 +2,8 @@
 ghost use Rattle.std.specs.Prelude.{◌≡◌, ◌⊎◌, map, take, OnOk, OnErr};
 ghost use Rattle.std.specs.Option.{option_copied, option_map};
 ghost use Rattle.opc_board.specs.Facts.{console_at, device_at, reply_at, unit_at};
-ghost use Rattle.opc_policy.specs.Deciding.{of_class};
+ghost use Rattle.opc_policy.specs.Profiles.{of_class, profile_of};
 ghost use Rattle.opc_policy.specs.Members.{user_of, groups_of};
-ghost use Rattle.opc_policy.specs.Profiles.{profile_of};
 ghost use Rattle.opc_policy.specs.Taken.{has_group, has_user, is_active};
 ghost use Rattle.opc_state.specs.Asked.{Answers};
 ghost use Rattle.opc_state.specs.Facts.{IsKeyed};
@@ -16,19 +15,19 @@ ghost use Rattle.opc_state.specs.Changes.{IsKept, changed_by};
 use crate::account::AccountRow;
 use crate::change::Change;
 use opc_board::rows::{ConsoleRow, DeviceRow, ReplyRow, UnitRow};
+use opc_decisions::search::Found;
 use opc_names::class::Class;
 use opc_names::level::Level;
 use opc_names::name::{ConsoleName, Device, GroupName, Pattern, Resource, UnitName, UserId};
 use opc_names::reply_id::ReplyId;
 use opc_policy::entries::Entries;
-use opc_policy::entry::EntryId;
 use opc_policy::policy::Policy;
 use opc_policy::profile::Profile;
 use opc_policy::row::Row;
-use opc_policy::search::Found;
-use opc_policy::source::StoreFault;
 use opc_policy::user::User;
 use opc_rows::Rows;
+use opc_terms::entry_id::EntryId;
+use opc_terms::store_fault::StoreFault;
 use std::alloc::Global;
 
 /// Tables that keep a state: loads by key, none of which reads the histories, and one commit.

@@ -14,8 +14,8 @@ use Rattle.sqlite.specs.declared.file.Leftover.{Leftover}
 use Rattle.sqlite.specs.declared.error.Error.{Error}
 use Rattle.sqlite.specs.declared.error.Error.TheVariants.{SqlInputError, SqliteFailure}
 use Rattle.sqlite.specs.declared.error.ErrorCode.TheVariants.{CannotOpen, DatabaseBusy, OutOfMemory}
-use Rattle.opc_policy.specs.declared.source.StoreFault.{StoreFault}
-use Rattle.opc_policy.specs.declared.source.StoreFault.TheVariants as store_fault
+use Rattle.opc_terms.specs.declared.store_fault.StoreFault.{StoreFault}
+use Rattle.opc_terms.specs.declared.store_fault.StoreFault.TheVariants as store_fault
 use Rattle.opc_store.specs.declared.opening.OpenFault.{OpenFault}
 use Rattle.opc_store.specs.declared.opening.OpenFault.TheVariants as fault
 use Rattle.opc_state.specs.State.{State as TheState, empty}

@@ -21,11 +21,11 @@ ghost use Rattle.opc_store.specs.declared.opening.OpenFault.TheVariants as TheFa
 
 use crate::store::Store;
 use opc_copying::copy::copy_on;
-use opc_policy::source::StoreFault;
 use opc_stored::faults::fault;
 use opc_stored::making::make_tables;
 use opc_stored::names::has_our_name;
 use opc_stored::version::version_on;
+use opc_terms::store_fault::StoreFault;
 use sqlite::{Alter, Connection, Error, FileFrom, FileStore, Files, Options, Start, Wary};
 use sqlite_disk::Disk;
 use std::alloc::Global;

@@ -11,7 +11,7 @@ use opc_history_tables::answered::answered_on;
 use opc_history_tables::log::log_on;
 use opc_history_tables::messages::messages_on;
 use opc_policy::row::Row;
-use opc_policy::source::StoreFault;
+use opc_terms::store_fault::StoreFault;
 use opc_whole_policy::rows::policy_rows_on;
 use sqlite::{Alter, Connection};
 use std::alloc::Global;

@@ -14,11 +14,11 @@ mod strange;
 ghost use Rattle.std.specs.Prelude.{◌≡◌, false};
 
 use opc_board::text::KeptText;
-use opc_policy::source::StoreFault;
 use opc_state::account::AccountRow;
 use opc_state::change::{Change, Edit};
 use opc_state::tables::Tables;
 use opc_store::store::Store;
+use opc_terms::store_fault::StoreFault;
 use sqlite::{Alter, Connection, MemStore, Row};
 use std::alloc::Global;
 use std::fmt::{Debug, Write};

@@ -22,8 +22,8 @@ use Rattle.opc_names.specs.Authority.{same_class, level_rank}
 use Rattle.opc_names.specs.Spellings.{class_text}
 use Rattle.opc_policy.specs.declared.connect.Connect.{Connect}
 use Rattle.opc_policy.specs.declared.entry.Entry.{Entry}
-use Rattle.opc_policy.specs.declared.mode.Mode.{Mode}
-use Rattle.opc_policy.specs.declared.mode.Mode.TheVariants.{Optional, Required, Auto}
+use Rattle.opc_terms.specs.declared.mode.Mode.{Mode}
+use Rattle.opc_terms.specs.declared.mode.Mode.TheVariants.{Optional, Required, Auto}
 use Rattle.opc_policy.specs.declared.policy.ActiveClasses.{ActiveClasses}
 use Rattle.opc_policy.specs.declared.profile.Profile.{Profile}
 use Rattle.opc_policy.specs.declared.row.Row.{Row as PolicyRow}

@@ -3,8 +3,8 @@ use Rattle.sqlite.specs.Effect.{Database}
 use Rattle.sqlite.specs.declared.error.Error.{Error}
 use Rattle.sqlite.specs.declared.error.Error.TheVariants.{SqliteFailure}
 use Rattle.sqlite.specs.declared.error.ErrorCode.TheVariants.{OutOfMemory}
-use Rattle.opc_policy.specs.declared.source.StoreFault.{StoreFault}
-use Rattle.opc_policy.specs.declared.source.StoreFault.TheVariants as fault
+use Rattle.opc_terms.specs.declared.store_fault.StoreFault.{StoreFault}
+use Rattle.opc_terms.specs.declared.store_fault.StoreFault.TheVariants as fault
 use Rattle.opc_state.specs.State.{State}
 use Rattle.opc_stored.specs.Represented.{Represents}
 

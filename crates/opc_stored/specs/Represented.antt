@@ -19,8 +19,8 @@ use Rattle.opc_policy.specs.declared.user.User.{User}
 use Rattle.opc_policy.specs.declared.connect.Connect.{Connect}
 use Rattle.opc_policy.specs.declared.entry.Entry.{Entry}
 use Rattle.opc_policy.specs.declared.profile.Profile.{Profile}
-use Rattle.opc_policy.specs.declared.mode.Mode.{Mode}
-use Rattle.opc_policy.specs.declared.mode.Mode.TheVariants.{Optional, Required, Auto}
+use Rattle.opc_terms.specs.declared.mode.Mode.{Mode}
+use Rattle.opc_terms.specs.declared.mode.Mode.TheVariants.{Optional, Required, Auto}
 use Rattle.opc_board.specs.declared.rows.UnitKind.{UnitKind}
 use Rattle.opc_board.specs.declared.rows.UnitKind.TheVariants.{Job, Stc, Tsu}
 use Rattle.opc_board.specs.declared.rows.UnitRow.{UnitRow}

@@ -2,7 +2,7 @@
 ghost use Rattle.std.specs.Prelude.{◌≡◌};
 ghost use Rattle.opc_stored.specs.Changes.{fault_of};
 
-use opc_policy::source::StoreFault;
+use opc_terms::store_fault::StoreFault;
 use sqlite::{Error, ErrorCode};
 
 /// Out of memory is told apart from every other cause.

@@ -9,8 +9,8 @@ ghost use Rattle.opc_stored.specs.Asked.{Tells};
 
 use crate::columns::{Keeps, all_in};
 use crate::faults::fault;
-use opc_policy::source::StoreFault;
 use opc_rows::Rows;
+use opc_terms::store_fault::StoreFault;
 use sqlite::types::ValueRef;
 use sqlite::{Alter, Connection, Row};
 use std::alloc::Global;

@@ -8,7 +8,6 @@ use opc_names::name::GroupName;
 use opc_policy::connect::Connect;
 use opc_policy::policy::ActiveClasses;
 use opc_policy::profile::Profile;
-use opc_policy::source::StoreFault;
 use opc_policy::user::User;
 use opc_policy_tables::classes::actives_on;
 use opc_policy_tables::connects::connects_on;
@@ -16,6 +15,7 @@ use opc_policy_tables::groups::groups_on;
 use opc_policy_tables::profiles::profiles_on;
 use opc_policy_tables::users::users_on;
 use opc_rows::Rows;
+use opc_terms::store_fault::StoreFault;
 use sqlite::{Alter, Connection};
 use std::alloc::Global;
 

@@ -13,9 +13,9 @@ use opc_policy::groups::Groups;
 use opc_policy::policy::Policy;
 use opc_policy::profile::Profile;
 use opc_policy::profiles::Profiles;
-use opc_policy::source::StoreFault;
 use opc_policy::user::User;
 use opc_policy::users::Users;
+use opc_terms::store_fault::StoreFault;
 use sqlite::{Alter, Connection};
 use std::alloc::{AllocError, Global};
 

@@ -15,8 +15,8 @@ use opc_policy::connect::Connect;
 use opc_policy::entry::Entry;
 use opc_policy::profile::Profile;
 use opc_policy::row::Row;
-use opc_policy::source::StoreFault;
 use opc_policy::user::User;
+use opc_terms::store_fault::StoreFault;
 use sqlite::{Alter, Connection};
 use std::alloc::{AllocError, Global};
 

@@ -3,7 +3,7 @@ use super::reading::{asked, get, post};
 use opc_failing::reader::FailingReader;
 use opc_http_head::refusal::{Method, Refusal};
 use opc_http_requests::fault::ReadingFault;
-use opc_policy::fault::Why;
+use opc_terms::fault::Why;
 use std::process::Abort;
 use std::test::Fail;
 

@@ -4,9 +4,9 @@ use opc_listings::account::account_on;
 use opc_listings::profiles::profiles_on;
 use opc_names::class::Class;
 use opc_names::name::{ConsoleName, UserId};
-use opc_policy::fault::Fault;
 use opc_policy::user::User;
 use opc_state::tables::Tables;
+use opc_terms::fault::Fault;
 use std::test::Fail;
 
 const ALL: &str =

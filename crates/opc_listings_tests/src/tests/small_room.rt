@@ -3,24 +3,25 @@ ghost use Rattle.opc_state.specs.State.{State};
 
 use opc_board::rows::{ConsoleRow, DeviceRow, ReplyRow, UnitRow};
 use opc_board::text::KeptText;
+use opc_decisions::search::Found;
 use opc_names::auth::Auth;
 use opc_names::class::Class;
 use opc_names::level::Level;
 use opc_names::name::{ConsoleName, Device, GroupName, Pattern, Resource, UnitName, UserId};
 use opc_names::reply_id::ReplyId;
 use opc_policy::entries::Entries;
-use opc_policy::entry::{Entry, EntryId};
-use opc_policy::mode::Mode;
+use opc_policy::entry::Entry;
 use opc_policy::policy::Policy;
 use opc_policy::profile::Profile;
 use opc_policy::row::Row;
-use opc_policy::search::Found;
-use opc_policy::source::StoreFault;
 use opc_policy::user::User;
 use opc_rows::Rows;
 use opc_state::account::AccountRow;
 use opc_state::change::Change;
 use opc_state::tables::Tables;
+use opc_terms::entry_id::EntryId;
+use opc_terms::mode::Mode;
+use opc_terms::store_fault::StoreFault;
 use std::alloc::Global;
 
 /// Nothing is promised of them, since they are never sure. What no listing asks for fails.

@@ -1,6 +1,7 @@
 //! The policy: what was committed is read back by each load.
 use super::{refusal, same, tell};
 use opc_board::rows::ConsoleRow;
+use opc_decisions::explained::{Explained, explain};
 use opc_import::read::read_policy;
 use opc_import::write::write_policy;
 use opc_names::class::Class;
@@ -9,7 +10,6 @@ use opc_names::name::{ConsoleName, Pattern, Resource, UserId};
 use opc_policy::connect::Connect;
 use opc_policy::entries::Entries;
 use opc_policy::entry::Entry;
-use opc_policy::explained::{Explained, explain};
 use opc_policy::policy::Policy;
 use opc_policy::profile::Profile;
 use opc_policy::row::Row;

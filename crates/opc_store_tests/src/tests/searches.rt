@@ -1,11 +1,12 @@
 //! Searches over the tables find and count what searches over the policy in memory do.
 use super::policy::{edits_of, taken, with_base};
 use super::{limited, same, tell};
+use opc_decisions::policy_source::{first_of_class, profiles_of_class};
+use opc_decisions::search::{Found, search};
+use opc_decisions::source::{ProfileSource, Taken};
 use opc_names::class::Class;
 use opc_names::name::Resource;
 use opc_policy::policy::Policy;
-use opc_policy::search::{Found, search};
-use opc_policy::source::{ProfileSource, Taken};
 use opc_state::change::Change;
 use opc_state::tables::Tables;
 use opc_store::store::Store;
@@ -136,10 +137,10 @@ fn tell_in_order(
 fn tell_in_memory(alloc: Global, lines: &mut String, policy: &Policy) -> Result<(), Fail> {
     for name in NAMES {
         let resource = Resource::read(name)?;
-        tell_taken(lines, &policy.first(Class::Opercmds, &resource)?)?;
+        tell_taken(lines, &first_of_class(policy, Class::Opercmds, &resource)?)?;
     }
     for class in [Class::Opercmds, Class::Console] {
-        tell(lines, &policy.all(alloc, class)?)?;
+        tell(lines, &profiles_of_class(alloc, policy, class)?)?;
     }
     Ok(())
 }

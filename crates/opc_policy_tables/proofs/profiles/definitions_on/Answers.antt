@@ -1,6 +1,6 @@
 use Rattle.std.proofs.Common.{◌∙◌}
 use Rattle.opc_statements.proofs.Asked.{never_writes}
-use Rattle.opc_policy.specs.Deciding.{of_class}
+use Rattle.opc_policy.specs.Profiles.{of_class}
 use Rattle.opc_policy_tables.proofs.ProfileLoads.{by_class_asked, class_told}
 use Rattle.opc_policy_tables.proofs.profiles.definitions_on.Goals as goal
 

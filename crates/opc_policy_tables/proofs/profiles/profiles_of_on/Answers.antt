@@ -4,7 +4,7 @@ use Rattle.sqlite.specs.Held.{state}
 use Rattle.sqlite.specs.State.{HasCleanDisk}
 use Rattle.opc_statements.proofs.Asked.{never_writes}
 use Rattle.opc_statements.proofs.Looking.{looked}
-use Rattle.opc_policy.specs.Deciding.{of_class}
+use Rattle.opc_policy.specs.Profiles.{of_class}
 use Rattle.opc_stored.specs.Represented.{Represents}
 use Rattle.opc_policy_tables.proofs.ProfileLoads.{by_class_asked, class_told}
 use Rattle.opc_policy_tables.proofs.profiles.profiles_of_on.Goals as goal

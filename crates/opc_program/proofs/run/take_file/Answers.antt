@@ -1,6 +1,6 @@
 use Rattle.std.proofs.Common.{ℕ, List, Option, None, inl, inr, refl}
 use Rattle.std.proofs.lemmas.Result.{err_from_is_err_and}
-use Rattle.opc_policy.specs.declared.fault.Fault.{Fault}
+use Rattle.opc_terms.specs.declared.fault.Fault.{Fault}
 use Rattle.opc_program.specs.PolicyFiles.{IsUnread}
 use Rattle.opc_program.proofs.run.take_file.Goals as goal
 

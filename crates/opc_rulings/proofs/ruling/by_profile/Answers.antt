@@ -1,7 +1,7 @@
 use Rattle.std.proofs.Common.{Some, true, sym}
 use Rattle.opc_names.specs.declared.class.Class.TheVariants.{Opercmds}
 use Rattle.opc_policy.specs.Members.{groups_of}
-use Rattle.opc_policy.specs.Rulings.{console_ruling}
+use Rattle.opc_decisions.specs.Rulings.{console_ruling}
 use Rattle.opc_state.specs.State.{deciding_in}
 use Rattle.opc_rulings.proofs.Ruled.{ruled}
 use Rattle.opc_rulings.proofs.ruling.by_profile.Goals as goal

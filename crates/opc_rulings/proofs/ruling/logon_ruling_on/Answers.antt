@@ -3,8 +3,8 @@ use Rattle.opc_names.specs.declared.class.Class.TheVariants.{Console}
 use Rattle.opc_names.specs.declared.level.Level.TheVariants.{Read}
 use Rattle.opc_policy.specs.Members.{groups_of}
 use Rattle.opc_policy.specs.Taken.{is_active}
-use Rattle.opc_policy.specs.declared.rule.Rule.TheVariants as rule
-use Rattle.opc_policy.specs.declared.ruling.Ruling.TheVariants.{Allowed}
+use Rattle.opc_terms.specs.declared.rule.Rule.TheVariants as rule
+use Rattle.opc_decisions.specs.declared.ruling.Ruling.TheVariants.{Allowed}
 use Rattle.opc_state.specs.State.{deciding_in}
 use Rattle.opc_rulings.proofs.Ruled.{ruled, unless}
 use Rattle.opc_rulings.proofs.ruling.logon_ruling_on.Goals as goal

@@ -2,7 +2,7 @@ use Rattle.std.proofs.Common.{◌≡◌, ◌++◌, ◌∷◌, [], string_bytes, 
 use Rattle.std.specs.Fmt.{decimal}
 use Rattle.std.specs.List.{flat_map}
 use Rattle.std.specs.Prelude.{codes}
-use Rattle.opc_policy.specs.Rules.{rule_text_or_none}
+use Rattle.opc_terms.specs.Rules.{rule_text_or_none}
 use Rattle.opc_board.specs.Texts.{columns}
 use Rattle.opc_script.specs.Transcripts.{ended, shown_line}
 use Rattle.opc_script.proofs.transcript.done_text.Given as goal

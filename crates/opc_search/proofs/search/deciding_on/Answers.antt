@@ -1,9 +1,10 @@
 use Rattle.std.proofs.Common.{◌≡◌, ◌⊎◌, ◌-◌, ◌+◌, ◌∙◌, Option, true, false, is_some, option_map, length, take, refl, sym, ap, subst, arith}
 use Rattle.sqlite.specs.Effect.{Database}
 use Rattle.opc_policy.specs.declared.profile.Profile.{Profile}
-use Rattle.opc_policy.specs.Deciding.{of_class, deciding}
-use Rattle.opc_policy.specs.Examined.{examined, head_length, with_head}
-use Rattle.opc_policy.proofs.ByHeads.{asked_start, asked_last, asked_next}
+use Rattle.opc_policy.specs.Profiles.{of_class}
+use Rattle.opc_decisions.specs.Deciding.{deciding}
+use Rattle.opc_decisions.specs.Examined.{examined, head_length, with_head}
+use Rattle.opc_decisions.proofs.ByHeads.{asked_start, asked_last, asked_next}
 use Rattle.opc_stored.specs.Represented.{Represents}
 use Rattle.opc_state.specs.Loads.{bare}
 use Rattle.opc_search.proofs.FirstDeciding.{are_profiles}

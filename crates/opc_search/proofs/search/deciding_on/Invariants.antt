@@ -2,8 +2,8 @@ use Rattle.std.proofs.Common.{◌≡◌, ◌≤◌, length, false, Err, Result}
 use Rattle.sqlite.specs.Held.{state}
 use Rattle.sqlite.specs.State.{HasCleanDisk}
 use Rattle.opc_statements.specs.Steps.{Looks}
-use Rattle.opc_policy.specs.Deciding.{of_class}
-use Rattle.opc_policy.proofs.ByHeads.{Asked}
+use Rattle.opc_policy.specs.Profiles.{of_class}
+use Rattle.opc_decisions.proofs.ByHeads.{Asked}
 use Rattle.opc_state.specs.State.{State}
 use Rattle.opc_stored.specs.Represented.{Represents}
 use Rattle.opc_search.proofs.search.deciding_on.Given as goal

@@ -9,7 +9,7 @@ use Rattle.sqlite.proofs.Callers.{given_begin, unchanged_then}
 use Rattle.opc_statements.proofs.Reading.{reads_survive}
 use Rattle.opc_statements.proofs.Streams.{none_taken}
 use Rattle.opc_policy.specs.declared.profile.Profile.{Profile}
-use Rattle.opc_policy.proofs.FirstCovering.{covered_text, uncovered_text}
+use Rattle.opc_decisions.proofs.FirstCovering.{covered_text, uncovered_text}
 use Rattle.opc_stored.specs.Represented.{profile_row}
 use Rattle.opc_stored.specs.Content.{bare}
 use Rattle.opc_search.specs.Search.{covers}

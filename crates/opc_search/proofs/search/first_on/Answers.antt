@@ -6,8 +6,8 @@ use Rattle.sqlite.specs.Effect.{Database}
 use Rattle.opc_statements.proofs.Asked.{never_writes}
 use Rattle.opc_statements.proofs.Looking.{looked}
 use Rattle.opc_policy.specs.declared.profile.Profile.{Profile}
-use Rattle.opc_policy.specs.Deciding.{of_class}
-use Rattle.opc_policy.specs.Examined.{read_until}
+use Rattle.opc_policy.specs.Profiles.{of_class}
+use Rattle.opc_decisions.specs.Examined.{read_until}
 use Rattle.opc_state.specs.State.{State}
 use Rattle.opc_stored.specs.Represented.{Represents}
 use Rattle.opc_search.proofs.SearchFound.{found_none, found_some, whole}

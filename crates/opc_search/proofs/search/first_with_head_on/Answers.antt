@@ -1,8 +1,8 @@
 use Rattle.std.proofs.Common.{◌∙◌, List, Option, Some, length, option_map, sym, ap}
 use Rattle.opc_statements.proofs.Asked.{never_writes}
 use Rattle.opc_policy.specs.declared.profile.Profile.{Profile}
-use Rattle.opc_policy.specs.Deciding.{deciding}
-use Rattle.opc_policy.specs.Examined.{read_until}
+use Rattle.opc_decisions.specs.Deciding.{deciding}
+use Rattle.opc_decisions.specs.Examined.{read_until}
 use Rattle.opc_state.specs.Loads.{bare}
 use Rattle.opc_search.specs.Search.{chosen}
 use Rattle.opc_search.proofs.SearchFound.{asked, decided, on_success}

@@ -62,8 +62,8 @@ put_again {K} cmp total test k (x ∷ xs) order found = go (test x) refl found (
     go : (b : Bool) → test x ≡ b → cond b (Some x) (find test xs) ≡ Some k → (find test xs ≡ Some k → replace_key cmp xs k ≡ xs) → replace_key cmp (x ∷ xs) k ≡ x ∷ xs
     go true e f later =
         let same : x ≡ k = some_is x k f in
-        let tied : cmp k x ≡ Equal = ap (λ y. cmp k y) same ∙ itself (cmp k k) (total.antisymm k k) in
-        ap (λ o. match_ordering o (k ∷ x ∷ xs) (k ∷ xs) (x ∷ replace_key cmp xs k)) tied ∙ ap (λ y. y ∷ xs) (sym same)
+        let compares_equal : cmp k x ≡ Equal = ap (λ y. cmp k y) same ∙ itself (cmp k k) (total.antisymm k k) in
+        ap (λ o. match_ordering o (k ∷ x ∷ xs) (k ∷ xs) (x ∷ replace_key cmp xs k)) compares_equal ∙ ap (λ y. y ∷ xs) (sym same)
     go false e f later =
         let before : is_lt (cmp x k) ≡ true = all_found (λ y. is_lt (cmp x y) ≡ true) test k xs f order.0 in
         let behind : cmp k x ≡ Greater = total.antisymm k x ∙ ap ordering_reverse (is_less (cmp x k) before) in

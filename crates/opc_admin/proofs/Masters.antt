@@ -88,8 +88,8 @@ lost_at row console xs order at =
 
 -- ---- a row in its place
 
-tied : (k c : ConsoleRow) → is c.name k.name ≡ true → console_cmp k c ≡ Equal
-tied k c h = ap (λ n. console_cmp k (record c { name = n })) (is_same_name c.name k.name h) ∙ itself (console_cmp k k) (console_total.antisymm k k)
+compares_equal : (k c : ConsoleRow) → is c.name k.name ≡ true → console_cmp k c ≡ Equal
+compares_equal k c h = ap (λ n. console_cmp k (record c { name = n })) (is_same_name c.name k.name h) ∙ itself (console_cmp k k) (console_total.antisymm k k)
 
 behind : (o : Ordering) → is_lt o ≡ true → ordering_reverse o ≡ Greater
 behind Less h = refl
@@ -104,7 +104,7 @@ put_replaces row console (x ∷ xs) order found = go (is x.name row.name) refl f
     go : (b : Bool) → is x.name row.name ≡ b → cond b (Some x) (find (λ c. is c.name row.name) xs) ≡ Some console
         → (find (λ c. is c.name row.name) xs ≡ Some console → replace_key console_cmp xs row ≡ replaced row xs)
         → match_ordering (console_cmp row x) (row ∷ x ∷ xs) (row ∷ xs) (x ∷ replace_key console_cmp xs row) ≡ cond b (row ∷ xs) (x ∷ replaced row xs)
-    go true e f later = ap (λ o. match_ordering o (row ∷ x ∷ xs) (row ∷ xs) (x ∷ replace_key console_cmp xs row)) (tied row x e)
+    go true e f later = ap (λ o. match_ordering o (row ∷ x ∷ xs) (row ∷ xs) (x ∷ replace_key console_cmp xs row)) (compares_equal row x e)
     go false e f later =
         let before : console_before x console ≡ true = all_found (λ y. console_before x y ≡ true) (λ c. is c.name row.name) console xs f order.0 in
         let same = is_same_name console.name row.name (found_passes (λ (c : ConsoleRow). is c.name row.name) console xs f) in
@@ -148,7 +148,7 @@ any_put q row (x ∷ xs) = go (console_before row x) (any_put q row xs)
 
 put_changes : (s : State) (row : ConsoleRow) → (console_at s.board row.name ≡ Some row → ⊥) → edited (edit.PutConsole row) s ≡ s → ⊥
 put_changes s row other same =
-    other (sym (ap (λ (t : State). console_at t.board row.name) same) ∙ found_put console_cmp (λ (c : ConsoleRow). is c.name row.name) row s.board.consoles (is_itself row.name) (tied row))
+    other (sym (ap (λ (t : State). console_at t.board row.name) same) ∙ found_put console_cmp (λ (c : ConsoleRow). is c.name row.name) row s.board.consoles (is_itself row.name) (compares_equal row))
 
 -- ---- a new console
 

@@ -47,12 +47,12 @@ or_right false b h = h
 user_total : IsTotalOrder user_cmp
 user_total = on_total (λ (u : User). u.id) nat_list_cmp_total
 
-tied : (u v : User) → bytes_eq u.id v.id ≡ true → user_cmp u v ≡ Equal
-tied u v h = is_tie (user_cmp u v) (sym (texts_ties u.id v.id) ∙ h)
+compares_equal : (u v : User) → bytes_eq u.id v.id ≡ true → user_cmp u v ≡ Equal
+compares_equal u v h = is_tie (user_cmp u v) (sym (texts_ties u.id v.id) ∙ h)
 
 user_put_changes : (s : State) (u : User) → (user_of s.policy.users u.id ≡ Some u → ⊥) → edited (edit.PutUser u) s ≡ s → ⊥
 user_put_changes s u other same =
-    other (sym (ap (λ (t : State). user_of t.policy.users u.id) same) ∙ found_put user_cmp (λ (v : User). bytes_eq u.id v.id) u s.policy.users (name_itself u.id) (tied u))
+    other (sym (ap (λ (t : State). user_of t.policy.users u.id) same) ∙ found_put user_cmp (λ (v : User). bytes_eq u.id v.id) u s.policy.users (name_itself u.id) (compares_equal u))
 
 user_put_again : (s : State) (u : User) → IsKeyed s → user_of s.policy.users u.id ≡ Some u → with_user u s.policy.users ≡ s.policy.users
 user_put_again s u order found = put_again user_cmp user_total (λ (v : User). bytes_eq u.id v.id) u s.policy.users order.users found

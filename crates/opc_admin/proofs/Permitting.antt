@@ -58,15 +58,15 @@ entry_total = then_total (on_total (λ (e : Entry). e.id) nat_list_cmp_total) (o
 -- ---- one profile
 
 -- two of one class and pattern tie
-tied : (class : Class) (pattern : List ℕ) (q r : Profile) → is_of class pattern q ≡ true → is_of class pattern r ≡ true → profile_cmp q r ≡ Equal
-tied class pattern q r one other =
+compares_equal : (class : Class) (pattern : List ℕ) (q r : Profile) → is_of class pattern q ≡ true → is_of class pattern r ≡ true → profile_cmp q r ≡ Equal
+compares_equal class pattern q r one other =
     let of_class : r.class ≡ q.class = same_class_is _ _ (first _ _ other) ∙ sym (same_class_is _ _ (first _ _ one)) in
     let of_pattern : r.pattern ≡ q.pattern = names _ _ (rest (same_class r.class class) _ other) ∙ sym (names _ _ (rest (same_class q.class class) _ one)) in
     ap₂ (λ c p. ordering_then (class_cmp q.class c) (pattern_cmp q.pattern p)) of_class of_pattern ∙ itself (profile_cmp q q) (profile_total.antisymm q q)
 
 -- a profile that is put is found
 put_is_found : (class : Class) (pattern : List ℕ) (q : Profile) (ps : List Profile) → is_of class pattern q ≡ true → profile_of (with_profile q ps) class pattern ≡ Some q
-put_is_found class pattern q ps here = found_put profile_cmp (is_of class pattern) q ps here (λ r h. tied class pattern q r here h)
+put_is_found class pattern q ps here = found_put profile_cmp (is_of class pattern) q ps here (λ r h. compares_equal class pattern q r here h)
 
 -- so one that is put where it is other changes the profiles, and one that is put where it is the same does not
 put_differs : (s : State) (class : Class) (pattern : List ℕ) (p q : Profile) → profile_of s.policy.profiles class pattern ≡ Some p → is_of class pattern q ≡ true → with_profile q s.policy.profiles ≡ s.policy.profiles → p ≡ q

@@ -204,7 +204,7 @@ fn alone(alloc: Global, consoles: Rows<ConsoleRow>, halted: bool) -> BoardRows
 }
 
 /// The edits that rows make of what is stored, or why they are refused; writes nothing.
-pub fn founding_on<T: Tables>(
+pub fn row_edits_on<T: Tables>(
     tables: &mut T,
     alloc: Global,
     rows: &[Row],
@@ -231,7 +231,7 @@ fn edits_on<T: Tables>(tables: &mut T, alloc: Global, rows: &[Row]) -> Result<Ve
     if tables.has_users()? {
         return Err(Fault::NotEmpty);
     }
-    founding_on(tables, alloc, rows)
+    row_edits_on(tables, alloc, rows)
 }
 
 // Writes the edits of a first policy, if there are any.

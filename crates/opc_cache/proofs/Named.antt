@@ -94,8 +94,8 @@ put_named new old test (x ∷ xs) same order found = go (test x) found (put_name
         → map name_of (replace_key profile_cmp (x ∷ xs) new) ≡ map name_of (x ∷ xs)
     go true f later =
         let here : x ≡ old = some_is x old f in
-        let tied : profile_cmp new x ≡ Equal = by_name new old x same ∙ ap (λ y. profile_cmp old y) here ∙ itself (profile_cmp old old) (profile_total.antisymm old old) in
-        ap (λ o. map name_of (match_ordering o (new ∷ x ∷ xs) (new ∷ xs) (x ∷ replace_key profile_cmp xs new))) tied
+        let compares_equal : profile_cmp new x ≡ Equal = by_name new old x same ∙ ap (λ y. profile_cmp old y) here ∙ itself (profile_cmp old old) (profile_total.antisymm old old) in
+        ap (λ o. map name_of (match_ordering o (new ∷ x ∷ xs) (new ∷ xs) (x ∷ replace_key profile_cmp xs new))) compares_equal
         ∙ ap (λ n. n ∷ map name_of xs) (same ∙ ap name_of (sym here))
     go false f later =
         let before : is_lt (profile_cmp x old) ≡ true = all_found (λ y. is_lt (profile_cmp x y) ≡ true) test old xs f order.0 in

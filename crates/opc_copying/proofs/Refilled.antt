@@ -18,7 +18,7 @@ use Rattle.opc_statements.specs.Order.{Rises}
 use Rattle.opc_statements.proofs.PutAll.{IsApartFrom, put_all, all_put, none_apart, still_apart}
 use Rattle.opc_statements.proofs.Sets.{inserted_same, replaced_rises}
 use Rattle.opc_statements.proofs.Sorting.{apart_along, no_ties}
-use Rattle.opc_stored.proofs.AccessLists.{is_of_means, tied}
+use Rattle.opc_stored.proofs.AccessLists.{is_of_means, compares_equal}
 use Rattle.opc_stored.proofs.Keys.{user_total, connect_total, profile_total, batch_total, same_connect}
 use Rattle.opc_old_tables.specs.declared.puts.Puts.{Puts}
 use Rattle.opc_old_tables.specs.Old.{IsOldState}
@@ -52,7 +52,7 @@ not_there (q ∷ before) p apart = go (is_of p.class p.pattern q) refl (not_ther
     go : (b : Bool) → is_of p.class p.pattern q ≡ b → profile_of before p.class p.pattern ≡ None → cond b (Some q) (profile_of before p.class p.pattern) ≡ None
     go true is more =
         let both = is_of_means p.class p.pattern q is in
-        let tie : is_eq (profile_cmp q p) ≡ true = ap is_eq (tied q p both.0 both.1) in
+        let tie : is_eq (profile_cmp q p) ≡ true = ap is_eq (compares_equal q p both.0 both.1) in
         let first = apart.0 in
         absurd cc
     go false is more = more

@@ -77,8 +77,8 @@ all_found front (u ∷ back) = (
   subst (λ (us : List User). AllByRecursion (λ (v : User). is_some (user_of us v.id) ≡ true) back) (append_assoc front (u ∷ []) back) (all_found (front ++ u ∷ []) back),
 )
 
-tied : (x q : Profile) → same_class x.class q.class ≡ true → bytes_eq x.pattern q.pattern ≡ true → profile_cmp x q ≡ Equal
-tied x q one other =
+compares_equal : (x q : Profile) → same_class x.class q.class ≡ true → bytes_eq x.pattern q.pattern ≡ true → profile_cmp x q ≡ Equal
+compares_equal x q one other =
     ap₂ (λ c t. ordering_then (class_cmp c q.class) (name_cmp (sort_key t) (sort_key q.pattern))) (same_class_is x.class q.class one) ((bytes_eq-Decides x.pattern q.pattern).0 other)
     ∙ tied_itself profile_total q
 
@@ -89,7 +89,7 @@ not_of x q less = go (same_class x.class q.class) (bytes_eq x.pattern q.pattern)
     go : (a b : Bool) → same_class x.class q.class ≡ a → bytes_eq x.pattern q.pattern ≡ b → (a && b) ≡ false
     go false b one other = refl
     go true false one other = refl
-    go true true one other = sym less ∙ ap is_lt (tied x q one other)
+    go true true one other = sym less ∙ ap is_lt (compares_equal x q one other)
 
 is_its_own : (q : Profile) → is_of q.class q.pattern q ≡ true
 is_its_own q = ap₂ (λ a b. a && b) (own q.class) (itself q.pattern)

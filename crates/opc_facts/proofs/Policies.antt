@@ -86,9 +86,9 @@ some_replaced {K} cmp test k (x ∷ xs) ties = go (cmp k x) refl (some_replaced 
     first true others = refl
     first false others = refl
 
-    tied : (a b : Bool) → b ≡ a → is_some (if a then Some k else find test xs) ≡ (a || is_some (if b then Some x else find test xs))
-    tied true b same = refl
-    tied false b same = sym (ap (λ (t : Bool). is_some (if t then Some x else find test xs)) same)
+    compares_equal : (a b : Bool) → b ≡ a → is_some (if a then Some k else find test xs) ≡ (a || is_some (if b then Some x else find test xs))
+    compares_equal true b same = refl
+    compares_equal false b same = sym (ap (λ (t : Bool). is_some (if t then Some x else find test xs)) same)
 
     behind : (a : Bool) → is_some (find test (replace_key cmp xs k)) ≡ (test k || is_some (find test xs)) → is_some (if a then Some x else find test (replace_key cmp xs k)) ≡ (test k || is_some (if a then Some x else find test xs))
     behind true later = sym (or_true (test k))
@@ -97,7 +97,7 @@ some_replaced {K} cmp test k (x ∷ xs) ties = go (cmp k x) refl (some_replaced 
     go : (o : Ordering) → cmp k x ≡ o → is_some (find test (replace_key cmp xs k)) ≡ (test k || is_some (find test xs))
         → is_some (find test (match_ordering o (k ∷ x ∷ xs) (k ∷ xs) (x ∷ replace_key cmp xs k))) ≡ (test k || is_some (if test x then Some x else find test xs))
     go Less same later = first (test k) (if test x then Some x else find test xs)
-    go Equal same later = tied (test k) (test x) (ties x same)
+    go Equal same later = compares_equal (test k) (test x) (ties x same)
     go Greater same later = behind (test x) later
 
 -- one that is inserted leaves the others

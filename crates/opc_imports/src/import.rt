@@ -16,7 +16,7 @@ use crate::same::same_rows;
 use opc_board::line::{Item, Line};
 use opc_board::rows::ConsoleRow;
 use opc_board::text::KeptText;
-use opc_bootstrap::bootstrap::founding_on;
+use opc_bootstrap::bootstrap::row_edits_on;
 use opc_machine::outcome::{Decided, Deed, denied};
 use opc_policy::row::Row;
 use opc_policy::user::User;
@@ -72,7 +72,7 @@ fn new_batch<T: Tables>(tables: &mut T, alloc: Global, number: u32, rows: &[Row]
     ensures kept { IsKept T.is_sure T.represents T.may_leave tables.old tables.new }
     ensures outcome { Answers (T.is_sure tables.new) (T.represents tables.old) result (λ s o. batch_rows s.batches number ≡ None → IsOutcome s (new_batch s number rows.now) o) }
 {
-    let mut edits = match founding_on(tables, alloc, rows) {
+    let mut edits = match row_edits_on(tables, alloc, rows) {
         Ok(edits) => edits,
         Err(Fault::NoMemory) => return Err(StoreFault::NoMemory),
         Err(Fault::Store) => return Err(StoreFault::Store),

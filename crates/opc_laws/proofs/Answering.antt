@@ -63,8 +63,8 @@ module _ (s : State) (name text : List ℕ) (why : Rule) where
   }
 
 module _ (s : State) (name : List ℕ) (why : Rule) (out : IsShutOut s name why) where
-  shut : console_asking s name ≡ refused (denial_fault why) (Some why)
-  shut =
+  refused_here : console_asking s name ≡ refused (denial_fault why) (Some why)
+  refused_here =
       ap (λ x. x >>= λ d. unless_denied (logon_denial s d) >>= λ _. Ok d) (console_back (console_at s.board name) out.console out.there out.online)
       ∙ ap (λ o. unless_denied o >>= λ _. Ok out.console) out.denied
 
@@ -78,22 +78,22 @@ comes_to s (input.Command name text) why (inr off) = kept_off s name text why of
 comes_to s (input.Admin name o) why out = record {
   fault = denial_fault why;
   named = named s name why out;
-  comes = ap (λ x. x >>= λ c. refuse_if (right_fault o) None (not (may_change s c o)) >>= λ _. or_refused (changed s o) >>= λ new. does new [] None) (shut s name why out);
+  comes = ap (λ x. x >>= λ c. refuse_if (right_fault o) None (not (may_change s c o)) >>= λ _. or_refused (changed s o) >>= λ new. does new [] None) (refused_here s name why out);
 }
 comes_to s (input.ListProfiles name class) why out = record {
   fault = denial_fault why;
   named = named s name why out;
-  comes = ap (λ x. x >>= λ c. does s (map profile_line (filter (profile_shown s c) (of_class class s.policy.profiles))) None) (shut s name why out);
+  comes = ap (λ x. x >>= λ c. does s (map profile_line (filter (profile_shown s c) (of_class class s.policy.profiles))) None) (refused_here s name why out);
 }
 comes_to s (input.ListAccount name from count) why out = record {
   fault = denial_fault why;
   named = named s name why out;
-  comes = ap (λ x. x >>= λ c. refuse_if fault.NotSpecial None (not (account_shown s c)) >>= λ _. does s (map account_line (asked_for from count s.account)) None) (shut s name why out);
+  comes = ap (λ x. x >>= λ c. refuse_if fault.NotSpecial None (not (account_shown s c)) >>= λ _. does s (map account_line (asked_for from count s.account)) None) (refused_here s name why out);
 }
 comes_to s (input.Import name number all) why out = record {
   fault = denial_fault why;
   named = named s name why out;
-  comes = ap (λ x. x >>= λ c. refuse_if fault.NotSpecial None (not (is_special (acting s c))) >>= λ _. batch_outcome s number all (batch_of s.batches number)) (shut s name why out);
+  comes = ap (λ x. x >>= λ c. refuse_if fault.NotSpecial None (not (is_special (acting s c))) >>= λ _. batch_outcome s number all (batch_of s.batches number)) (refused_here s name why out);
 }
 comes_to s (input.Event e) why out = absurd out
 

@@ -13,9 +13,9 @@ use Rattle.opc_rows.proofs.Orders.{all_weaker}
 use Rattle.opc_rows.specs.Ordered.{Ascends}
 use Rattle.opc_laws.specs.ChangingLaws.{MoreSpecificProfilesComeFirst}
 
-tied : (class : Class) → class_cmp class class ≡ Equal
-tied Console = refl
-tied Opercmds = refl
+compares_equal : (class : Class) → class_cmp class class ≡ Equal
+compares_equal Console = refl
+compares_equal Opercmds = refl
 
 abbrev IsFirst : Profile → Profile → Type 0
 IsFirst p q = p.class ≡ q.class → is_before p q ≡ true
@@ -23,7 +23,7 @@ IsFirst p q = p.class ≡ q.class → is_before p q ≡ true
 -- in one class, by their patterns
 by_patterns : (p q : Profile) → is_lt (profile_cmp p q) ≡ true → IsFirst p q
 by_patterns p q h one =
-    let same : class_cmp p.class q.class ≡ Equal = ap (class_cmp p.class) (sym one) ∙ tied p.class in
+    let same : class_cmp p.class q.class ≡ Equal = ap (class_cmp p.class) (sym one) ∙ compares_equal p.class in
     sym (ap (λ o. is_lt (ordering_then o (pattern_cmp p.pattern q.pattern))) same) ∙ h
 
 in_order : (profiles : List Profile) → Ascends (λ (p q : Profile). is_lt (profile_cmp p q)) profiles → AreMostSpecificFirst profiles

@@ -27,7 +27,7 @@ use Rattle.opc_policy.specs.Members.{name_cmp}
 use Rattle.opc_policy.specs.Profiles.{profile_cmp}
 use Rattle.opc_state.specs.State.{State}
 use Rattle.opc_stored.specs.Represented.{definition_row}
-use Rattle.opc_stored.proofs.AccessLists.{tied}
+use Rattle.opc_stored.proofs.AccessLists.{compares_equal}
 use Rattle.opc_stored.proofs.Decoded.{each_found}
 use Rattle.opc_stored.proofs.Keys.{profile_total, same_name}
 use Rattle.opc_old_tables.specs.Tables.{Older, First, Second, old_schema, old_at}
@@ -70,7 +70,7 @@ texts_apart p q apart = go (is_eq (text_order p q)) refl
     go : (b : Bool) → is_eq (text_order p q) ≡ b → b ≡ false
     go true is =
         let both = both_equal _ _ (equal_is _ is) in
-        let tie : is_eq (profile_cmp p q) ≡ true = ap is_eq (tied p q (same_class p.class q.class both.0) (same_name p.pattern q.pattern both.1)) in
+        let tie : is_eq (profile_cmp p q) ≡ true = ap is_eq (compares_equal p q (same_class p.class q.class both.0) (same_name p.pattern q.pattern both.1)) in
         absurd cc
     go false is = refl
 

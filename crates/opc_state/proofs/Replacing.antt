@@ -73,11 +73,11 @@ module _ {R : Type 0} (cmp : R → R → Ordering) (total : IsTotalOrder cmp) (i
   at_put r k (q ∷ rows) = go (cmp r q) refl (at_put r k rows)
     where
       same_key : (b : Bool) → is_at r k ≡ b → cmp r q ≡ Equal → cond b (Some r) (at k rows) ≡ cond b (Some r) (cond (is_at q k) (Some q) (at k rows))
-      same_key true e tied = refl
-      same_key false e tied = rw away refl
+      same_key true e compares_equal = refl
+      same_key false e compares_equal = rw away refl
         where
           away : is_at q k ≡ false
-          away = sym (alike_left q r k (tied_back total r q tied)) ∙ e
+          away = sym (alike_left q r k (tied_back total r q compares_equal)) ∙ e
             where
               alike_left : (x y z : R) → cmp x y ≡ Equal → is_at y z ≡ is_at x z
               alike_left x y z t = ties y z ∙ ap is_eq (sym (total.congr x y z t)) ∙ sym (ties x z)
@@ -174,8 +174,8 @@ module _ {R : Type 0} (cmp : R → R → Ordering) (total : IsTotalOrder cmp) (i
   raised r q (x ∷ rows) less h = (ap is_lt (total.trans r q x less (is_less _ h.0)), raised r q rows less h.1)
 
   levelled : (r q : R) (rows : List R) → cmp r q ≡ Equal → AllByRecursion (λ x. before q x ≡ true) rows → AllByRecursion (λ x. before r x ≡ true) rows
-  levelled r q [] tied h = tt
-  levelled r q (x ∷ rows) tied h = (ap is_lt (total.congr r q x tied) ∙ h.0, levelled r q rows tied h.1)
+  levelled r q [] compares_equal h = tt
+  levelled r q (x ∷ rows) compares_equal h = (ap is_lt (total.congr r q x compares_equal) ∙ h.0, levelled r q rows compares_equal h.1)
 
   pub put_in_order : (r : R) (rows : List R) → Ascends before rows → Ascends before (replace_key cmp rows r)
   put_in_order r [] order = (tt, tt)

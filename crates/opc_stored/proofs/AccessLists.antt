@@ -36,8 +36,8 @@ class_means Console Opercmds h = absurd cc
 class_means Opercmds Console h = absurd cc
 class_means Opercmds Opercmds h = refl
 
-pub tied : (p q : Profile) → p.class ≡ q.class → p.pattern ≡ q.pattern → profile_cmp p q ≡ Equal
-tied p q class pattern =
+pub compares_equal : (p q : Profile) → p.class ≡ q.class → p.pattern ≡ q.pattern → profile_cmp p q ≡ Equal
+compares_equal p q class pattern =
     ap₂ ordering_then (ap (class_cmp p.class) (sym class) ∙ tied_itself class_total p.class) (ap (pattern_cmp p.pattern) (sym pattern) ∙ tied_itself nat_list_cmp_total (sort_key p.pattern))
 
 -- the profiles with a change of the access list of one, if it is there
@@ -49,7 +49,7 @@ module _ (class : Class) (pattern : List ℕ) where
   is_of_means p h = let both = and_parts _ _ h in (class_means p.class class both.0, (bytes_eq-Decides p.pattern pattern).0 both.1)
 
   pub ties : (p q : Profile) → is_of class pattern p ≡ true → is_of class pattern q ≡ true → profile_cmp p q ≡ Equal
-  ties p q h k = let a = is_of_means p h in let b = is_of_means q k in tied p q (a.0 ∙ sym b.0) (a.1 ∙ sym b.1)
+  ties p q h k = let a = is_of_means p h in let b = is_of_means q k in compares_equal p q (a.0 ∙ sym b.0) (a.1 ∙ sym b.1)
 
   abbrev pub Split : List Profile → Profile → Type 0
   Split = Parts profile_cmp (is_of class pattern)
@@ -124,7 +124,7 @@ module _ (class : Class) (pattern : List ℕ) where
       here = is_of_means p it.passes
 
       pub replaced_here : with_profile (keeping p) ps ≡ it.front ++ keeping p ∷ it.back
-      replaced_here = it.replaced (keeping p) (tied (keeping p) p (of_class ∙ sym here.0) (of_pattern ∙ sym here.1))
+      replaced_here = it.replaced (keeping p) (compares_equal (keeping p) p (of_class ∙ sym here.0) (of_pattern ∙ sym here.1))
 
       same_list : entry_rows (keeping p) ≡ entry_rows p
       same_list = ap₂ (λ (c : Class) (t : List ℕ). map (entry_row c t) p.entries) (of_class ∙ sym here.0) (of_pattern ∙ sym here.1)
@@ -193,7 +193,7 @@ module _ (class : Class) (pattern : List ℕ) where
     listing = record p { entries = change p.entries }
 
     pub replaced_list : with_profile listing ps ≡ it.front ++ listing ∷ it.back
-    replaced_list = it.replaced listing (tied listing p refl refl)
+    replaced_list = it.replaced listing (compares_equal listing p refl refl)
 
     pub same_profiles : map profile_row (with_profile listing ps) ≡ map profile_row ps
     same_profiles = ap (map profile_row) replaced_list ∙ (map-append profile_row it.front (listing ∷ it.back) ∙ (sym (map-append profile_row it.front (p ∷ it.back)) ∙ ap (map profile_row) (sym it.whole)))

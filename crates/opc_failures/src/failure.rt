@@ -117,26 +117,33 @@ impl Failure {
     pub fn tell<E: Write>(&self, paths: &Paths<'_>, errors: &mut E) -> Status
         ensures { result ≡ status_of self.now.fault }
     {
-        let mut line = ArrayString::<FAULT_LINE>::new();
-        // The status tells the fault too, where no word can be printed.
-        if writeln!(line, "{} {}", self.fault.code(), self.fault).is_ok() {
-            let _ = errors.write_all(line.as_str().as_bytes());
-        }
+        tell_fault(&self.fault, errors);
         if self.fault != Fault::NoMemory {
             if let Some((place, reason)) = &self.cause {
-                let separator = match reason {
-                    Reason::Row(_) => ", ",
-                    _ => ": ",
-                };
-                let place = NamedPlace {
-                    place: *place,
-                    paths,
-                };
-                let _ = writeln!(errors, "opcmds: {place}{separator}{reason}");
+                tell_cause(*place, reason, paths, errors);
             }
         }
         status_of(&self.fault)
     }
+}
+
+/// Tells a fault, as its code and its text.
+fn tell_fault<E: Write>(fault: &Fault, errors: &mut E) {
+    let mut line = ArrayString::<FAULT_LINE>::new();
+    // The status tells the fault too, where no word can be printed.
+    if writeln!(line, "{} {fault}", fault.code()).is_ok() {
+        let _ = errors.write_all(line.as_str().as_bytes());
+    }
+}
+
+/// Tells what failed and why.
+fn tell_cause<E: Write>(place: Place, reason: &Reason, paths: &Paths<'_>, errors: &mut E) {
+    let separator = match reason {
+        Reason::Row(_) => ", ",
+        _ => ": ",
+    };
+    let place = NamedPlace { place, paths };
+    let _ = writeln!(errors, "opcmds: {place}{separator}{reason}");
 }
 
 /// The status of what was to be done; where it failed, that is told.

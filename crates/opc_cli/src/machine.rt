@@ -1,17 +1,19 @@
 //! The machine that the program runs on: a process of the system, its files, and the tables in them.
 use crate::database::reason_at;
+use opc_failures::failure::{Failure, Paths, Place, told};
+use opc_failures::reason::Reason;
+use opc_failures::status::Status;
 use opc_http_link::watched::Watched;
-use opc_program::failure::{Failure, Paths, Place};
-use opc_program::import::{Import, export_on, import_on};
+use opc_program::import::{export_on, import_on};
 use opc_program::machine::Machine;
-use opc_program::reason::Reason;
-use opc_program::run::{run_on, told};
-use opc_program::serve::{Serve, serve_tables};
-use opc_script::status::Status;
+use opc_program::run::run_on;
+use opc_program::serve::serve_tables;
 use opc_serve::clock::moment;
 use opc_store::opening::OpenFault;
 use opc_store::store::Store;
 use opc_terms::fault::Fault;
+use opc_words::import::Import;
+use opc_words::serve::Serve;
 use sqlite::{Error, ErrorCode, FileFrom, FileStore, MemStore, Wary};
 use std::alloc::Global;
 use std::io::{Read, Write};

@@ -5,9 +5,9 @@ mod database;
 mod machine;
 
 use crate::machine::Process;
-use opc_program::failure::{Failure, NO_PATHS};
-use opc_program::words::run_words;
-use opc_script::status::Status;
+use opc_failures::failure::{Failure, NO_PATHS};
+use opc_failures::status::Status;
+use opc_program::program::run_words;
 use opc_terms::fault::Fault;
 use std::io::{ErrorKind, Write};
 use std::process::ExitCode;

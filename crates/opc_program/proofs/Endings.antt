@@ -1,8 +1,8 @@
 -- What the program makes of what it wrote.
 use Rattle.std.proofs.Common.{◌≡◌, Bool, true, if◌then◌else◌, Result, Ok, Err}
 use Rattle.std.specs.Prelude.{IsErr, IsOk, MatchResult, is_err}
-use Rattle.opc_script.specs.declared.status.Status.{Status}
-use Rattle.opc_program.specs.declared.failure.Failure.{Failure}
+use Rattle.opc_failures.specs.declared.status.Status.{Status}
+use Rattle.opc_failures.specs.declared.failure.Failure.{Failure}
 
 -- it ends well exactly where all was written
 pub as_written : {A E : Type 0} (whole cut : Type 0) (wrote : Result A E) (end : Result Status Failure) → MatchResult wrote (λ _. IsOk end) (λ _. IsErr end)

@@ -2,11 +2,11 @@
 use Rattle.std.proofs.Common.{◌≡◌, ◌<◌, ◌≤◌, ℕ, Result, Ok, Err, ap, arith, subst, sym}
 use Rattle.std.specs.Prelude.{OnErr, OnOk}
 use Rattle.opc_state.specs.State.{State}
-use Rattle.opc_script.specs.declared.status.Status.{Status}
-use Rattle.opc_script.specs.declared.status.Status.TheVariants.{BadInput, Done, Failed, Refused}
 use Rattle.opc_serve.specs.declared.arrivals.ServeFault.{ServeFault}
 use Rattle.opc_serve.specs.Serving.{AreServed, handled_of}
 use Rattle.opc_serve.proofs.Clients.{begins}
+use Rattle.opc_failures.specs.declared.status.Status.{Status}
+use Rattle.opc_failures.specs.declared.status.Status.TheVariants.{BadInput, Done, Failed, Refused}
 use Rattle.opc_program.specs.Services.{IsService, status_of_service}
 use Rattle.opc_program.proofs.Uncached.{run}
 

@@ -4,11 +4,11 @@ use Rattle.opc_state.specs.State.{State}
 use Rattle.opc_machine.specs.declared.request.Request.{Request}
 use Rattle.opc_machine.specs.declared.request.Answer.{Answer}
 use Rattle.opc_gate.specs.Handling.{IsRun}
+use Rattle.opc_failures.specs.declared.status.Status.{Status}
+use Rattle.opc_failures.specs.declared.failure.Failure.{Failure}
 use Rattle.opc_script.specs.declared.script.ScriptFault.{ScriptFault}
-use Rattle.opc_script.specs.declared.status.Status.{Status}
 use Rattle.opc_script.specs.Running.{IsAnswered, IsCut, IsNotBegun, IsScriptRun, IsWhole}
 use Rattle.opc_script.specs.Scripts.{bad_line, requests_in}
-use Rattle.opc_program.specs.declared.failure.Failure.{Failure}
 use Rattle.opc_program.specs.Runs.{IsAnsweredInput, IsInputRun, IsNothingRun, IsRunOfBytes}
 
 -- `tables` are those below the cache. What both represent in the end the tables represent, and what the tables represent

@@ -14,14 +14,14 @@ use Rattle.opc_machine.specs.Bootstrap.{bootstrapped}
 use Rattle.opc_machine.specs.Inputs.{Input, Import as ImportOf}
 use Rattle.opc_gate.specs.Handling.{IsHandled, LeavesAsBefore}
 use Rattle.opc_gate.specs.RowEdits.{HaveNothingNew, IsBootstrap}
-use Rattle.opc_script.specs.declared.status.Status.{Status}
-use Rattle.opc_script.specs.declared.status.Status.TheVariants.{Done}
+use Rattle.opc_failures.specs.declared.status.Status.{Status}
+use Rattle.opc_failures.specs.declared.status.Status.TheVariants.{Done}
+use Rattle.opc_failures.specs.declared.failure.Failure.{Failure}
+use Rattle.opc_failures.specs.Statuses.{IsFailure}
+use Rattle.opc_words.specs.declared.import.Import.{Import}
+use Rattle.opc_policy_files.specs.PolicyFiles.{AreRead, IsUnread}
 use Rattle.opc_script.specs.Running.{AppendsPrefix}
 use Rattle.opc_script.specs.Transcripts.{ended}
-use Rattle.opc_program.specs.declared.failure.Failure.{Failure}
-use Rattle.opc_program.specs.declared.import.Import.{Import}
-use Rattle.opc_program.specs.PolicyFiles.{AreRead, IsUnread}
-use Rattle.opc_program.specs.Statuses.{IsFailure}
 
 -- the lines of an answer, each ended by a line feed
 abbrev pub lines_text : List Line → List ℕ

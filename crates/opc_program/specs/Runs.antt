@@ -1,35 +1,18 @@
 -- What the program does with a script on its input.
 use Rattle.std.specs.Prelude.{◌≡◌, ◌⊎◌, ◌+◌, ℕ, Bool, true, List, Option, Some, None, Result, Ok, Err, IfSome, IsErrAnd, IsUtf8, MatchResult, if◌then◌else◌, take}
-use Rattle.std.specs.IoError.{error_kind}
-use Rattle.std.specs.declared.io.Error.{Error}
 use Rattle.opc_terms.specs.declared.fault.Fault.TheVariants as fault
 use Rattle.opc_state.specs.State.{State}
+use Rattle.opc_failures.specs.declared.failure.Failure.{Failure}
+use Rattle.opc_failures.specs.declared.failure.Place.TheVariants as place
+use Rattle.opc_failures.specs.declared.status.Status.{Status}
+use Rattle.opc_failures.specs.declared.status.Status.TheVariants.{BadInput, Done}
+use Rattle.opc_failures.specs.Statuses.{IsErrorAt, IsInputFailure}
 use Rattle.opc_script.specs.declared.script.ScriptFault.{ScriptFault}
 use Rattle.opc_script.specs.declared.script.ScriptFault.TheVariants.{BadLine, NoMemory, Output}
-use Rattle.opc_script.specs.declared.status.Status.{Status}
-use Rattle.opc_script.specs.declared.status.Status.TheVariants.{BadInput, Done}
 use Rattle.opc_script.specs.Refusals.{is_cut_by_output}
 use Rattle.opc_script.specs.Running.{IsAnswered, IsBadRun}
 use Rattle.opc_script.specs.Scripts.{script_limit}
-use Rattle.opc_program.specs.declared.failure.Failure.{Failure}
-use Rattle.opc_program.specs.declared.failure.Place.{Place}
-use Rattle.opc_program.specs.declared.failure.Place.TheVariants as place
-use Rattle.opc_program.specs.declared.reason.Reason.TheVariants.{System}
 use Rattle.opc_program.specs.Imports.{IsPolicyTaken}
-use Rattle.opc_program.specs.Statuses.{fault_of_kind, status_of}
-
--- the status that the program ends with
-abbrev pub status_of_end : Result Status Failure → Status
-status_of_end (Ok status) = status
-status_of_end (Err failure) = status_of failure.fault
-
--- What a read or a write that failed there with this error is told as.
-abbrev pub IsErrorAt : Place → Error → Failure → Type 0
-IsErrorAt at error failure = (failure.fault ≡ fault_of_kind (error_kind error)) × (failure.cause ≡ Some (at, System error))
-
--- There was no memory, or the input failed.
-abbrev pub IsInputFailure : Failure → Type 0
-IsInputFailure failure = (failure.fault ≡ fault.NoMemory) ⊎ ((error : Error) × IsErrorAt place.Input error failure)
 
 -- What the program makes of a script's run: that a line is bad was told on the output.
 abbrev pub IsEndOf : Result Status ScriptFault → Result Status Failure → Type 0

@@ -1,10 +1,10 @@
 -- What the program makes of a service of many clients.
 use Rattle.std.specs.Prelude.{◌≤◌, ℕ, Result, Ok, Err}
 use Rattle.opc_state.specs.State.{State}
-use Rattle.opc_script.specs.declared.status.Status.{Status}
-use Rattle.opc_script.specs.declared.status.Status.TheVariants.{BadInput, Done, Failed, Refused}
 use Rattle.opc_serve.specs.declared.arrivals.ServeFault.{ServeFault}
 use Rattle.opc_serve.specs.Serving.{AreServed}
+use Rattle.opc_failures.specs.declared.status.Status.{Status}
+use Rattle.opc_failures.specs.declared.status.Status.TheVariants.{BadInput, Done, Failed, Refused}
 
 -- the status of a service
 abbrev pub status_of_service : {A : Type 0} → Result A ServeFault → Status

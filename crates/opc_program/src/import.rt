@@ -3,59 +3,22 @@ ghost use Rattle.std.specs.Prelude.{◌≡◌, IfErr, IfOk};
 ghost use Rattle.opc_state.specs.Changes.{IsKept};
 ghost use Rattle.opc_machine.specs.Inputs.{input_of};
 ghost use Rattle.opc_program.specs.Imports.{IsExport, IsFirstPolicy, IsImport, IsOneStep};
-ghost use Rattle.opc_program.specs.Words.{number_between};
 
-use crate::failure::{Failure, Place};
-use crate::number::number_between;
-use crate::policy_file::read_rows;
 use crate::printing::{print_text, tell_answer};
-use clap::ArgMatches;
+use opc_failures::failure::{Failure, Place};
+use opc_failures::status::Status;
 use opc_gate::gate::Gate;
 use opc_gate::request::Request;
 use opc_http_link::sink::Sink;
 use opc_import::write::write_policy;
-use opc_names::name::ConsoleName;
 use opc_policy::row::Row;
+use opc_policy_files::policy_file::read_rows;
 use opc_rows::Rows;
-use opc_script::status::Status;
 use opc_state::tables::Tables;
 use opc_terms::fault::Fault;
+use opc_words::import::Import;
 use std::alloc::{AllocError, Global};
 use std::io::Read;
-
-/// What is imported: a batch with a number at a console or, where none is named, a first policy.
-#[derive(Clone, Copy)]
-pub struct Import<'a> {
-    pub path: &'a str,
-    pub batch: u32,
-    pub console: Option<ConsoleName>,
-}
-
-/// A batch's number, 1 to 999,999,999.
-fn batch_in(text: &str) -> Option<u32>
-    ensures { result ≡ number_between 1 999_999_999 text.now }
-{
-    match number_between(text, 1, 999_999_999) {
-        Some(number) => Some(number as u32),
-        None => None,
-    }
-}
-
-impl<'a> Import<'a> {
-    /// What these words ask for, or the name of the first one that does not read.
-    pub fn read(chosen: &ArgMatches<'a>) -> Result<Self, &'static str> {
-        let batch = batch_in(chosen.get_str("batch").unwrap_or("")).ok_or("--batch")?;
-        let console = match chosen.get_str("console") {
-            Some(name) => Some(ConsoleName::read(name).map_err(|_| "--console")?),
-            None => None,
-        };
-        Ok(Import {
-            path: chosen.get_str("db").unwrap_or(""),
-            batch,
-            console,
-        })
-    }
-}
 
 /// Puts the policy file on the input into these tables, at a moment, and hands them back.
 pub fn import_on<T: Tables, R: Read, K: Sink>(

@@ -1,8 +1,8 @@
 //! The machine that the program runs on.
-use crate::failure::Paths;
-use crate::import::Import;
-use crate::serve::Serve;
-use opc_script::status::Status;
+use opc_failures::failure::Paths;
+use opc_failures::status::Status;
+use opc_words::import::Import;
+use opc_words::serve::Serve;
 use std::io::{Read, Write};
 
 /// Memory, and tables to run scripts over.

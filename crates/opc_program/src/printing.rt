@@ -5,12 +5,12 @@ ghost use Rattle.opc_script.specs.Running.{AppendsPrefix};
 ghost use Rattle.opc_script.specs.Transcripts.{ended};
 ghost use Rattle.opc_program.specs.Imports.{FailsAsWritten, IsEnded, IsTold, IsWritten, lines_text};
 
-use crate::failure::{Failure, Place};
 use opc_board::line::Line;
+use opc_failures::failure::{Failure, Place};
+use opc_failures::status::Status;
 use opc_gate::request::Answer;
 use opc_http_link::sink::Sink;
 use opc_script::printer::write_text;
-use opc_script::status::Status;
 use std::io;
 
 /// Writes a text and a line feed.

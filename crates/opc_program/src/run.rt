@@ -2,33 +2,23 @@
 ghost use Rattle.std.specs.Prelude.{◌≡◌, None, if◌then◌else◌, true};
 ghost use Rattle.opc_script.specs.Refusals.{is_cut_by_output};
 ghost use Rattle.opc_program.specs.Imports.{IsPolicyTaken};
-ghost use Rattle.opc_program.specs.Runs.{IsAnsweredInput, IsEndOf, IsNamedPolicyTaken, IsProgramRun, IsRunOfBytes, status_of_end};
+ghost use Rattle.opc_program.specs.Runs.{IsAnsweredInput, IsEndOf, IsNamedPolicyTaken, IsProgramRun, IsRunOfBytes};
 
-use crate::failure::{Failure, Paths, Place};
 use crate::import::take_first;
-use crate::policy_file::read_rows;
-use crate::streams::read_up_to;
+use opc_failures::failure::{Failure, Place};
+use opc_failures::status::Status;
 use opc_gate::gate::Gate;
 use opc_http_link::sink::Sink;
+use opc_policy_files::policy_file::read_rows;
+use opc_policy_files::streams::read_up_to;
 use opc_script::run::{run_script, tell_bad_line};
 use opc_script::script::{SCRIPT_LIMIT, ScriptFault};
-use opc_script::status::Status;
 use opc_state::tables::Tables;
 use opc_terms::fault::Fault;
 use std::alloc::Global;
 use std::fs::{File, Files};
-use std::io::{Read, Write};
+use std::io::Read;
 use std::str;
-
-/// The status of what a run came to; where it failed, that is told.
-pub fn told<E: Write>(end: Result<Status, Failure>, paths: &Paths<'_>, errors: &mut E) -> Status
-    ensures { result ≡ status_of_end end }
-{
-    match end {
-        Ok(status) => status,
-        Err(failure) => failure.tell(paths, errors),
-    }
-}
 
 /// Takes the first policy, if one is named, and then runs the script on the input over these tables, which it hands back.
 pub fn run_on<H: AllocGlobal + Files, T: Tables, R: Read, K: Sink>(

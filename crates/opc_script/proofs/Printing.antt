@@ -6,9 +6,9 @@ use Rattle.opc_state.specs.State.{State}
 use Rattle.opc_machine.specs.declared.request.Request.{Request}
 use Rattle.opc_machine.specs.declared.request.Answer.{Answer}
 use Rattle.opc_gate.specs.Listening.{AreHeard, IsEndedRun, IsHeardRun}
+use Rattle.opc_failures.specs.declared.status.Status.{Status}
+use Rattle.opc_failures.specs.declared.status.Status.TheVariants.{Done}
 use Rattle.opc_script.specs.declared.script.ScriptFault.{ScriptFault}
-use Rattle.opc_script.specs.declared.status.Status.{Status}
-use Rattle.opc_script.specs.declared.status.Status.TheVariants.{Done}
 use Rattle.opc_script.specs.Refusals.{is_cut_by_output, is_output}
 use Rattle.opc_script.specs.Running.{IsCut, IsCutOff, IsWhole}
 use Rattle.opc_script.specs.Statuses.{status_of}

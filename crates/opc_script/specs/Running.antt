@@ -5,9 +5,9 @@ use Rattle.opc_state.specs.State.{State}
 use Rattle.opc_machine.specs.declared.request.Request.{Request}
 use Rattle.opc_machine.specs.declared.request.Answer.{Answer}
 use Rattle.opc_gate.specs.Handling.{IsRun}
+use Rattle.opc_failures.specs.declared.status.Status.{Status}
 use Rattle.opc_script.specs.declared.script.ScriptFault.{ScriptFault}
 use Rattle.opc_script.specs.declared.script.ScriptFault.TheVariants.{BadLine, NoMemory, Output}
-use Rattle.opc_script.specs.declared.status.Status.{Status}
 use Rattle.opc_script.specs.Scripts.{bad_line, requests_in}
 use Rattle.opc_script.specs.Statuses.{status_of}
 use Rattle.opc_script.specs.Transcripts.{answer_text, transcript, bad_line_text}

@@ -7,5 +7,5 @@ pub mod line;
 pub mod printer;
 pub mod run;
 pub mod script;
-pub mod status;
+mod status;
 pub mod transcript;

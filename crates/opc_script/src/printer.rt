@@ -8,8 +8,9 @@ ghost use Rattle.opc_script.specs.Statuses.{status_of};
 ghost use Rattle.opc_script.specs.Transcripts.{answer_text};
 
 use crate::script::ScriptFault;
-use crate::status::Status;
+use crate::status::status_after;
 use crate::transcript::answer_text;
+use opc_failures::status::Status;
 use opc_gate::gate::Gate;
 use opc_gate::listener::Listener;
 use opc_gate::request::{Answer, Request};
@@ -74,7 +75,7 @@ impl<K: Sink> Listener for Printer<'_, K> {
     fn hear(&mut self, moment: u64, answer: &Answer) -> Result<(), ScriptFault> {
         let text = answer_text(self.alloc, moment, answer)?;
         write_text(self.output, text.as_str())?;
-        self.status = self.status.after(answer);
+        self.status = status_after(self.status, answer);
         Ok(())
     }
 }

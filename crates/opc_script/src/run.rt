@@ -8,8 +8,8 @@ ghost use Rattle.opc_script.specs.Transcripts.{bad_line_text};
 
 use crate::printer::{Printer, write_text};
 use crate::script::{ScriptFault, requests_in};
-use crate::status::Status;
 use crate::transcript::bad_line_text;
+use opc_failures::status::Status;
 use opc_gate::gate::Gate;
 use opc_http_link::sink::Sink;
 use opc_state::tables::Tables;

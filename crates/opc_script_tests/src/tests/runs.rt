@@ -1,10 +1,10 @@
 //! What is printed over tables that fail, and to writers that fail.
 use super::failing_tables::FailingTables;
+use opc_failures::status::Status;
 use opc_gate::gate::Gate;
 use opc_http_link::watched::Watched;
 use opc_script::run::run_script;
 use opc_script::script::ScriptFault;
-use opc_script::status::Status;
 use std::io;
 use std::io::{ErrorKind, Write};
 use std::process::Abort;

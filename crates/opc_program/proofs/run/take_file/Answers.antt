@@ -1,7 +1,7 @@
 use Rattle.std.proofs.Common.{ℕ, List, Option, None, inl, inr, refl}
 use Rattle.std.proofs.lemmas.Result.{err_from_is_err_and}
 use Rattle.opc_terms.specs.declared.fault.Fault.{Fault}
-use Rattle.opc_program.specs.PolicyFiles.{IsUnread}
+use Rattle.opc_policy_files.specs.PolicyFiles.{IsUnread}
 use Rattle.opc_program.proofs.run.take_file.Goals as goal
 
 -- whatever the file had left

@@ -1,6 +1,6 @@
 use Rattle.std.proofs.Common.{ap}
 use Rattle.std.proofs.lemmas.Result.{err_from_is_err_and}
-use Rattle.opc_program.specs.Statuses.{status_of}
+use Rattle.opc_failures.specs.Statuses.{status_of}
 use Rattle.opc_program.proofs.Services.{not_begun, service}
 use Rattle.opc_program.proofs.serve.serve_over.Goals as goal
 

@@ -1,9 +1,8 @@
 use Rattle.std.proofs.Common.{◌∙◌, ap, subst, sym}
 use Rattle.opc_cache.specs.Cache.{IsCached}
 use Rattle.opc_cache.specs.declared.cached.Cached.{Cached}
-use Rattle.opc_program.specs.Runs.{status_of_end}
+use Rattle.opc_failures.specs.Statuses.{status_of, status_of_end}
 use Rattle.opc_program.specs.Services.{IsService}
-use Rattle.opc_program.specs.Statuses.{status_of}
 use Rattle.opc_program.proofs.Services.{not_begun, uncached}
 use Rattle.opc_program.proofs.serve.serve_tables.Goals as goal
 

@@ -1,0 +1,14 @@
+-- What a failed stream ends the program with.
+use Rattle.std.proofs.Common.{◌≡◌, inl, inr, refl}
+use Rattle.std.specs.declared.io.ErrorKind.{ErrorKind}
+use Rattle.std.specs.declared.io.ErrorKind.TheVariants.{OutOfMemory}
+use Rattle.opc_failures.specs.declared.status.Status.TheVariants.{Failed}
+use Rattle.opc_failures.specs.Statuses.{IsFailure, fault_of_kind, status_of}
+
+pub streams_fail : (kind : ErrorKind) → status_of (fault_of_kind kind) ≡ Failed
+streams_fail OutOfMemory = refl
+streams_fail kind = refl
+
+pub streams_are_failures : (kind : ErrorKind) → IsFailure (fault_of_kind kind)
+streams_are_failures OutOfMemory = inl refl
+streams_are_failures kind = inr refl

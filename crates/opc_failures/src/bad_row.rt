@@ -1,0 +1,194 @@
+//! What is wrong with a row of a policy file, in words.
+use arrayvec::ArrayString;
+use csv::{ReaderBuilder, StringRecord};
+use opc_import::column::Column;
+use opc_import::kind::Kind;
+use opc_terms::fault::Why;
+use std::alloc::Global;
+use std::fmt;
+use std::fmt::{Display, Formatter};
+
+/// The most characters of a field that are shown: as many as the longest name has.
+const SHOWN_CHARACTERS: usize = 39;
+
+/// The most bytes that these have.
+const SHOWN_BYTES: usize = 4 * SHOWN_CHARACTERS;
+
+/// A bad row of a policy file behind its header: which it is, and what is wrong with it first.
+#[derive(Clone, Copy)]
+pub struct BadRow {
+    number: u32,
+    problem: Problem,
+}
+
+#[derive(Clone, Copy)]
+enum Problem {
+    /// The record has this many fields, and the header so many.
+    Columns(usize, usize),
+    Many,
+    /// The field in this column does not fit a row of this kind, if the row has a kind.
+    Field {
+        column: Column,
+        kind: Option<Kind>,
+        start: FieldStart,
+    },
+}
+
+/// What is shown of a field: as much of it as there is room for.
+#[derive(Clone, Copy)]
+struct FieldStart {
+    text: ArrayString<SHOWN_BYTES>,
+    is_whole: bool,
+}
+
+impl FieldStart {
+    fn of(field: &str) -> Self {
+        let mut text = ArrayString::new();
+        for (number, character) in field.chars().enumerate() {
+            if number >= SHOWN_CHARACTERS || text.try_push(character).is_err() {
+                return FieldStart {
+                    text,
+                    is_whole: false,
+                };
+            }
+        }
+        FieldStart {
+            text,
+            is_whole: true,
+        }
+    }
+}
+
+impl Display for FieldStart {
+    fn fmt<W: fmt::Write>(&self, f: &mut Formatter<W>) -> fmt::Result {
+        let rest = if self.is_whole { "" } else { ".." };
+        write!(f, "{:?}{rest}", self.text.as_str())
+    }
+}
+
+impl BadRow {
+    /// The row of this number in the text of a policy file, which is refused for this reason, where it is behind the
+    /// header and there is memory to read it again.
+    pub fn find(alloc: Global, text: &str, number: u32, why: Why) -> Option<Self> {
+        let record = record_at(alloc, text, number)?;
+        let problem = match column_of(why) {
+            Some(column) => Problem::Field {
+                column,
+                kind: kind_of(&record),
+                start: FieldStart::of(field_in(&record, column)),
+            },
+            None if why == Why::Columns => {
+                Problem::Columns(record.len(), record_at(alloc, text, 0)?.len())
+            }
+            None if why == Why::Many => Problem::Many,
+            None => return None,
+        };
+        Some(BadRow { number, problem })
+    }
+}
+
+/// The record of this number, with the header as 0, where there is one and memory to read it.
+fn record_at(alloc: Global, text: &str, number: u32) -> Option<StringRecord> {
+    let mut reader = ReaderBuilder::new()
+        .has_headers(false)
+        .flexible(true)
+        .from_reader(alloc, text.as_bytes());
+    let mut record = StringRecord::new(alloc);
+    for _ in 0..=number {
+        match reader.read_record(&mut record) {
+            Ok(true) => {}
+            Ok(false) | Err(_) => return None,
+        }
+    }
+    Some(record)
+}
+
+fn field_in(record: &StringRecord, column: Column) -> &str {
+    record.get(column as usize).unwrap_or("")
+}
+
+fn kind_of(record: &StringRecord) -> Option<Kind> {
+    let text = field_in(record, Column::Kind);
+    [
+        Kind::Class,
+        Kind::Group,
+        Kind::User,
+        Kind::Connect,
+        Kind::Console,
+        Kind::Profile,
+        Kind::Permit,
+    ]
+    .into_iter()
+    .find(|kind| kind.text() == text)
+}
+
+/// The column whose field is bad, if it is that of one column.
+fn column_of(why: Why) -> Option<Column> {
+    match why {
+        Why::Header | Why::Columns | Why::Many => None,
+        Why::Kind => Some(Column::Kind),
+        Why::Class => Some(Column::Class),
+        Why::Name => Some(Column::Name),
+        Why::Id => Some(Column::Id),
+        Why::Value => Some(Column::Value),
+        Why::Owner => Some(Column::Owner),
+        Why::Flags => Some(Column::Flags),
+        Why::Digest => Some(Column::Digest),
+        Why::When => Some(Column::When),
+        Why::Restricted => Some(Column::Restricted),
+    }
+}
+
+/// What is wrong with a field in this column that does not fit the kind; none where rows of the kind have none there.
+fn misfit(column: Column, kind: Kind) -> Option<&'static str> {
+    match (column, kind) {
+        (Column::Class, Kind::Class | Kind::Profile | Kind::Permit) => {
+            Some("is neither CONSOLE nor OPERCMDS")
+        }
+        (Column::Name, Kind::User | Kind::Connect) => Some("is no user's name"),
+        (Column::Name, Kind::Group) => Some("is no group's name"),
+        (Column::Name, Kind::Console) => Some("is no console's name"),
+        (Column::Name, Kind::Profile | Kind::Permit) => Some("is no profile's pattern"),
+        (Column::Id, Kind::Connect) => Some("is no group's name"),
+        (Column::Id, Kind::Permit) => Some("is neither * nor the name of a user or group"),
+        (Column::Value, Kind::Class) => Some("is neither ACTIVE nor INACTIVE"),
+        (Column::Value, Kind::Console) => Some("is no authority"),
+        (Column::Value, Kind::Profile | Kind::Permit) => Some("is no level"),
+        (Column::Owner, Kind::Profile) => Some("is no user's name"),
+        (Column::Flags, Kind::User) => Some("are not some of S, A and R, in this order"),
+        (Column::Flags, Kind::Console) => Some("are neither OPTIONAL, REQUIRED nor AUTO"),
+        (Column::Flags, Kind::Profile) => Some("are neither empty nor W"),
+        (Column::Digest, Kind::User) => Some("is not 64 of the characters 0 to 9 and a to f"),
+        (Column::When, Kind::Permit) => Some("is no console's name"),
+        (Column::Restricted, Kind::User) => Some("is neither empty nor Y"),
+        _ => None,
+    }
+}
+
+impl Display for BadRow {
+    fn fmt<W: fmt::Write>(&self, f: &mut Formatter<W>) -> fmt::Result {
+        let number = self.number;
+        write!(f, "row {number}: ")?;
+        match &self.problem {
+            Problem::Columns(1, wanted) => write!(f, "it has 1 column and not {wanted}"),
+            Problem::Columns(count, wanted) => {
+                write!(f, "it has {count} columns and not {wanted}")
+            }
+            Problem::Many => f.write_str("there are more than 10,000 rows"),
+            Problem::Field {
+                column,
+                kind,
+                start,
+            } => {
+                let name = column.name();
+                match kind {
+                    None => write!(f, "there is no such {name}: {start}"),
+                    Some(kind) => match misfit(*column, *kind) {
+                        Some(words) => write!(f, "the {name} {words}: {start}"),
+                        None => write!(f, "a {} row has no {name}: {start}", kind.text()),
+                    },
+                }
+            }
+        }
+    }
+}

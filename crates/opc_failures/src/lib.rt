@@ -1,0 +1,7 @@
+//! What makes the program fail, how that is told on standard error, and the status.
+#![tactic(auto)]
+
+pub mod bad_row;
+pub mod failure;
+pub mod reason;
+pub mod status;

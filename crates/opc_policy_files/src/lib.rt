@@ -1,0 +1,6 @@
+//! Policy files of any reader: the rows of one, and what it answers to a question.
+#![tactic(auto)]
+
+pub mod explain;
+pub mod policy_file;
+pub mod streams;

@@ -1,0 +1,8 @@
+//! The words of the command line: what they ask for, or what is wrong with them.
+#![tactic(auto)]
+
+pub mod import;
+mod number;
+pub mod question;
+pub mod serve;
+pub mod words;

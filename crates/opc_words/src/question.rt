@@ -1,0 +1,37 @@
+//! The words of `opcmds explain`.
+use clap::ArgMatches;
+use opc_names::class::Class;
+use opc_names::level::Level;
+use opc_names::name::{ConsoleName, Resource, UserId};
+
+/// What is asked: whether a user holds a level on a resource.
+#[derive(Clone, Copy)]
+pub struct Question {
+    pub user: UserId,
+    pub class: Class,
+    pub resource: Resource,
+    pub console: Option<ConsoleName>,
+    pub level: Level,
+}
+
+impl Question {
+    /// The question of these words, or the name of the first one that does not read.
+    pub fn read(chosen: &ArgMatches<'_>) -> Result<Self, &'static str> {
+        let user = UserId::read(chosen.get_str("user").unwrap_or("")).map_err(|_| "--user")?;
+        let class = Class::read(chosen.get_str("class").unwrap_or("")).ok_or("--class")?;
+        let resource = chosen.get_str("resource").unwrap_or("");
+        let resource = Resource::read(resource).map_err(|_| "--resource")?;
+        let console = match chosen.get_str("console") {
+            Some(name) => Some(ConsoleName::read(name).map_err(|_| "--console")?),
+            None => None,
+        };
+        let level = Level::read(chosen.get_str("level").unwrap_or("")).ok_or("--level")?;
+        Ok(Question {
+            user,
+            class,
+            resource,
+            console,
+            level,
+        })
+    }
+}

@@ -18,7 +18,7 @@ use opc_names::auth::Auth;
 use opc_names::name::{ConsoleName, UserId};
 use opc_rows::Rows;
 use opc_statements::{put, run};
-use opc_stored::columns::{Keeps, name_in, name_or_none_in, value_in};
+use opc_stored::columns::{Keeps, name_in, name_or_none_in, text_at, value_in};
 use opc_stored::faults::unreadable;
 use opc_stored::queries::{member_on, members_on};
 use opc_terms::mode::Mode;
@@ -140,8 +140,7 @@ fn auth_in(row: &Row) -> Result<Auth, StoreFault>
 fn mode_in(row: &Row) -> Result<Mode, StoreFault>
     ensures { (mode : TheMode) → column row.now 2 ≡ Text (mode_letter mode) → IfOk result (λ v. v ≡ mode) }
 {
-    let letter: String = value_in(row, 2)?;
-    match letter.as_str() {
+    match text_at(row, 2)? {
         "O" => Ok(Mode::Optional),
         "R" => Ok(Mode::Required),
         "A" => Ok(Mode::Auto),

@@ -15,7 +15,7 @@ use opc_board::rows::{UnitKind, UnitRow};
 use opc_names::name::UnitName;
 use opc_rows::Rows;
 use opc_statements::{put, run};
-use opc_stored::columns::{Keeps, name_in, name_or_none_in, text_or_none_in, value_in};
+use opc_stored::columns::{Keeps, name_in, name_or_none_in, text_at, text_or_none_in, value_in};
 use opc_stored::faults::unreadable;
 use opc_stored::queries::{member_on, members_on};
 use opc_terms::store_fault::StoreFault;
@@ -106,9 +106,8 @@ fn last_text_of(unit: &UnitRow) -> Option<&str>
 fn kind_in(row: &Row) -> Result<UnitKind, StoreFault>
     ensures { (kind : TheKind) → column row.now 1 ≡ Text (kind_letter kind) → column row.now 2 ≡ text_or_null (kind_member kind) → IfOk result (λ v. v ≡ kind) }
 {
-    let letter: String = value_in(row, 1)?;
     let member = name_or_none_in(row, 2)?;
-    match (letter.as_str(), member) {
+    match (text_at(row, 1)?, member) {
         ("J", None) => Ok(UnitKind::Job),
         ("S", Some(member)) => Ok(UnitKind::Stc { member }),
         ("T", None) => Ok(UnitKind::Tsu),

@@ -28,7 +28,7 @@ use opc_names::name::{ConsoleName, Pattern, UserId};
 use opc_policy::entries::Entries;
 use opc_policy::entry::Entry;
 use opc_statements::{put, run};
-use opc_stored::columns::value_in;
+use opc_stored::columns::text_at;
 use opc_stored::faults::unreadable;
 use opc_stored::queries::read;
 use opc_terms::entry_id::EntryId;
@@ -142,8 +142,7 @@ pub fn remove_entry<S: Alter>(
 fn entry_id_in(row: &Row) -> Result<EntryId, StoreFault>
     ensures { (id : List ℕ) → column row.now 2 ≡ Text id → IfOk result (λ v. v ≡ id) }
 {
-    let text: String = value_in(row, 2)?;
-    match EntryId::read(text.as_str()) {
+    match EntryId::read(text_at(row, 2)?) {
         Ok(id) => Ok(id),
         Err(_) => Err(unreadable()),
     }
@@ -152,11 +151,11 @@ fn entry_id_in(row: &Row) -> Result<EntryId, StoreFault>
 fn console_in(row: &Row) -> Result<Option<ConsoleName>, StoreFault>
     ensures { (when : Option (List ℕ)) → when ≢ Some [] → column row.now 3 ≡ Text (or_empty when) → IfOk result (λ v. v ≡ when) }
 {
-    let text: String = value_in(row, 3)?;
+    let text = text_at(row, 3)?;
     if text.is_empty() {
         return Ok(None);
     }
-    match ConsoleName::read(text.as_str()) {
+    match ConsoleName::read(text) {
         Ok(name) => Ok(Some(name)),
         Err(_) => Err(unreadable()),
     }

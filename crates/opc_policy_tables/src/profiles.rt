@@ -32,7 +32,7 @@ use opc_names::name::{Pattern, UserId};
 use opc_policy::entries::Entries;
 use opc_policy::profile::Profile;
 use opc_statements::run;
-use opc_stored::columns::{name_in, value_in};
+use opc_stored::columns::{name_in, text_at, value_in};
 use opc_stored::faults::unreadable;
 use opc_stored::queries::read;
 use opc_terms::store_fault::StoreFault;
@@ -128,8 +128,7 @@ pub fn remove_profile<S: Alter>(
 fn class_in(row: &Row) -> Result<Class, StoreFault>
     ensures { (class : TheClass) → column row.now 0 ≡ Text (class_text class) → IfOk result (λ v. v ≡ class) }
 {
-    let text: String = value_in(row, 0)?;
-    match text.as_str() {
+    match text_at(row, 0)? {
         "CONSOLE" => Ok(Class::Console),
         "OPERCMDS" => Ok(Class::Opercmds),
         _ => Err(unreadable()),

@@ -1,5 +1,6 @@
 //! Columns of rows, read back.
 ghost use Rattle.std.specs.Prelude.{◌≡◌, ℕ, List, Option, IfOk, map, pos};
+ghost use Rattle.std.specs.Option.{option_copied};
 ghost use Rattle.sqlite.specs.Order.{column};
 ghost use Rattle.sqlite.specs.declared.types.Value.{Value as TheValue};
 ghost use Rattle.sqlite.specs.declared.types.Value.TheVariants.{Int, Text};
@@ -14,8 +15,9 @@ use opc_names::reply_id::ReplyId;
 use opc_rows::Rows;
 use opc_terms::store_fault::StoreFault;
 use sqlite::Row;
-use sqlite::types::FromSql;
+use sqlite::types::{FromSql, ValueRef};
 use std::alloc::Global;
+use std::str;
 
 /// A column of a row, as what it is to be.
 pub fn value_in<V: FromSql>(row: &Row, at: usize) -> Result<V, StoreFault>
@@ -47,6 +49,36 @@ pub fn all_in<M: Drop, T: Keeps<M>>(alloc: Global, rows: &[Row]) -> Result<Rows<
     Ok(members)
 }
 
+fn text_of(bytes: &[u8]) -> Result<&str, StoreFault>
+    ensures { IfOk result (λ text. text.now ≡ bytes.now) }
+{
+    match str::from_utf8(bytes) {
+        Ok(text) => Ok(text),
+        Err(_) => Err(unreadable()),
+    }
+}
+
+/// The text of a column, where it lies in the row.
+pub fn text_at(row: &Row, at: usize) -> Result<&str, StoreFault>
+    ensures { (text : List ℕ) → column row.now at ≡ Text text → IfOk result (λ v. v.now ≡ text) }
+{
+    match row.get_ref(at) {
+        Ok(ValueRef::Text(bytes)) => text_of(bytes),
+        _ => Err(unreadable()),
+    }
+}
+
+// The text of a column, or none where it is missing.
+fn text_or_none_at(row: &Row, at: usize) -> Result<Option<&str>, StoreFault>
+    ensures { (text : Option (List ℕ)) → column row.now at ≡ text_or_null text → IfOk result (λ v. option_copied v ≡ text) }
+{
+    match row.get_ref(at) {
+        Ok(ValueRef::Null) => Ok(None),
+        Ok(ValueRef::Text(bytes)) => Ok(Some(text_of(bytes)?)),
+        _ => Err(unreadable()),
+    }
+}
+
 /// A name of this kind.
 pub fn name_in<K: NameKind<N>, const N: usize>(
     row: &Row,
@@ -54,8 +86,7 @@ pub fn name_in<K: NameKind<N>, const N: usize>(
 ) -> Result<Name<K, N>, StoreFault>
     ensures { (name : List ℕ) → column row.now at ≡ Text name → IfOk result (λ v. v ≡ name) }
 {
-    let text: String = value_in(row, at)?;
-    match Name::read(text.as_str()) {
+    match Name::read(text_at(row, at)?) {
         Ok(name) => Ok(name),
         Err(_) => Err(unreadable()),
     }
@@ -68,9 +99,8 @@ pub fn name_or_none_in<K: NameKind<N>, const N: usize>(
 ) -> Result<Option<Name<K, N>>, StoreFault>
     ensures { (name : Option (List ℕ)) → column row.now at ≡ text_or_null name → IfOk result (λ v. v ≡ name) }
 {
-    let text: Option<String> = value_in(row, at)?;
-    match text {
-        Some(text) => match Name::read(text.as_str()) {
+    match text_or_none_at(row, at)? {
+        Some(text) => match Name::read(text) {
             Ok(name) => Ok(Some(name)),
             Err(_) => Err(unreadable()),
         },

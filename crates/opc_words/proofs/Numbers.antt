@@ -1,5 +1,5 @@
 -- Numbers of digits, as `parse` refuses them.
-use Rattle.std.proofs.Common.{◌≡◌, ◌<◌, ◌≤◌, ◌==◌, ◌&&◌, ◌^◌, ℕ, Bool, if◌then◌else◌, Some, None, Option, inl, inr, true, false, List, [], ◌∷◌, length, nat_le, refl, sym, subst, rules, arith}
+use Rattle.std.proofs.Common.{◌≡◌, ◌<◌, ◌==◌, ◌&&◌, ◌^◌, ℕ, Bool, if◌then◌else◌, Some, None, inl, inr, true, false, List, [], ◌∷◌, length, nat_le, refl, sym, subst, rules, arith}
 use Rattle.std.proofs.lemmas.Bool.{cases_Bool}
 use Rattle.std.proofs.lemmas.Bool.Decides.{nat_tests}
 use Rattle.std.specs.Char.{is_ascii_digit, digit_value}

@@ -10,7 +10,7 @@ from serving.requests import (
 from serving.rows import timeless
 from serving.service import FIRST, Service
 from . import files
-from .imports import WANT, held_in
+from .imports import held_in
 
 NEW = "MVS.START.**"
 DENIED = refused("E51", "NotOwner")
@@ -113,17 +113,17 @@ class Operations:
             self.known[which] = responses, held_in(file)
         return self.known[which]
 
-    def is_told(self, kind, ran):
+    def is_told(self, call, kind, ran):
         """Whether the run ended as it should: stopped; with all requests asked; or with what it wanted, and nothing else."""
         if kind == "stop":
             return (ran.status, ran.errors) == (77, "")
         if ran.status == 0:
             return ran.errors == "" and ran.responses.count(None) <= 1
-        return ran.status == 3 and (ran.errors == "" or ran.errors.startswith(WANT))
+        return ran.status == 3 and (ran.errors == "" or ran.errors.startswith(files.WANT[call]))
 
-    def is_right(self, kind, ran, file):
+    def is_right(self, call, kind, ran, file):
         held, places = held_in(file), range(len(self.steps))
-        if not self.is_told(kind, ran) or any(ran.call not in GIVEN_UP.get(it, (ran.call,)) for it in ran.responses):
+        if not self.is_told(call, kind, ran) or any(ran.call not in GIVEN_UP.get(it, (ran.call,)) for it in ran.responses):
             return False
         handled = [at for at in places if self.is_handled(ran, at)]
         candidates = [handled, *(sorted([*handled, at]) for at in places if at not in handled and self.may_be_there(ran, at, handled))]

@@ -113,7 +113,7 @@ impl Failure {
     }
 
     /// Tells the fault, as its code and its text, and then, in a line of its own, what failed and why. Answers the status.
-    /// Takes no memory, so that its want can be told; where there is none, the first line alone is told.
+    /// Takes no memory, so that it can tell where there is none; then the first line alone is told.
     pub fn tell<E: Write>(&self, paths: &Paths<'_>, errors: &mut E) -> Status
         ensures { result ≡ status_of self.now.fault }
     {

@@ -6,7 +6,7 @@ from places import built
 
 
 class Took(NamedTuple):
-    """Seconds by the clock, and seconds of a processor, which other work on the machine lengthens less; or, where those are
+    """Seconds by the clock, and seconds of a processor, which other work on the computer lengthens less; or, where those are
     counted, instructions, which do not depend on it."""
     clock: float
     processor: float

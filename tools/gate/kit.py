@@ -9,7 +9,7 @@ def rtlib():
     """The kit's own module, which knows crates.txt and the words of each check, as rt and rt plant load it."""
     rt = shutil.which("rt")
     if not rt:
-        sys.exit("rt is not on the path: the gate needs the Rattle kit")
+        sys.exit("rt is not on the path: this tool needs the Rattle kit")
     file = f"{os.path.dirname(os.path.realpath(rt))}/rtlib.py"
     loader = importlib.machinery.SourceFileLoader("rtlib", file)
     made = importlib.util.module_from_spec(importlib.util.spec_from_loader("rtlib", loader))

@@ -47,8 +47,10 @@ static void standing(void) {
 
 static void held(const char *resource, const char *pattern) {
     deciding(resource, pattern);
-    ROWS(ENTRIES, "tti", "OPERCMDS", pattern, 16);
-    ROWS(GROUPS_OF, "ti", "ANNA", 16);
+    struct rows entries = load(&ENTRIES, "tti", "OPERCMDS", pattern, 14);
+    if (entries.count > 1) ROWS(GROUPS_OF, "ti", "ANNA", 14);
+    else if (entries.count) ROWS(IS_CONNECTED, "tt", "ANNA", entries.columns[2].bytes);
+    freed(entries);
 }
 
 static void ruling(const char *resource, const char *pattern) { standing(), held(resource, pattern); }

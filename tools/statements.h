@@ -26,6 +26,7 @@ STATEMENT(VERSION, "SELECT version FROM meta ORDER BY version");
 STATEMENT(CONSOLE, "SELECT name, auth, mode, online, usr, monitor FROM consoles WHERE name = ?1 ORDER BY name");
 STATEMENT(USER, "SELECT id, special, auditor, revoked, digest, restricted FROM usr WHERE id = ?1 ORDER BY id");
 STATEMENT(DEFINITION, "SELECT class, pattern, owner, uacc, warning, skey, head FROM profiles WHERE class = ?1 AND pattern = ?2 ORDER BY class, skey");
+STATEMENT(IS_CONNECTED, "SELECT usr FROM connects WHERE usr = ?1 AND grp = ?2 LIMIT 1");
 STATEMENT(ADD_ACCOUNT, "INSERT INTO account VALUES (NULL, ?1, ?2, ?3, ?4, ?5)");
 STATEMENT(ACCOUNT, "SELECT number, moment, console, usr, code, rule FROM account WHERE number > ?1 ORDER BY number LIMIT ?2");
 

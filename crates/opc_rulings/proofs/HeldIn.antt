@@ -15,7 +15,7 @@ use Rattle.opc_state.specs.Loads.{access_list}
 use Rattle.opc_rulings.specs.Held.{held_in, with_list}
 
 -- what is shorter than was asked for is whole
-whole : {A : Type 0} (xs ys : List A) (most : ℕ) → xs ≡ take most ys → length xs < most → xs ≡ ys
+pub whole : {A : Type 0} (xs ys : List A) (most : ℕ) → xs ≡ take most ys → length xs < most → xs ≡ ys
 whole xs ys most is few =
     let some : length xs ≡ length (take most ys) = ap length is in
     is ∙ take_all most ys (omega (arith, some, few, length-take most ys))
@@ -31,12 +31,12 @@ module _ (p : Policy) (profile : Profile) (user : User) (console : List ℕ) whe
       ap₂ (λ (es : List Entry) (gs : List (List ℕ)). held (listed es) user (Some console) gs) (whole entries _ most list few) (whole groups _ most all fewer)
 
   -- by the whole list and those groups that it has entries for
-  pub by_list : (entries : List Entry) (groups : List (List ℕ)) (most : ℕ) → entries ≡ take most (access_list p profile.class profile.pattern) → length entries < most
+  pub by_list : (entries : List Entry) (groups : List (List ℕ)) → entries ≡ access_list p profile.class profile.pattern
       → groups ≡ listed_groups entries (groups_of p.connects user.id) → held (listed entries) user (Some console) groups ≡ held_in p profile user console
-  by_list entries groups most list few some =
+  by_list entries groups list some =
       ap (λ (gs : List (List ℕ)). held (listed entries) user (Some console) gs) some
       ∙ listed_groups_suffice (listed entries) user (Some console) (groups_of p.connects user.id)
-      ∙ ap (λ (es : List Entry). held (listed es) user (Some console) (groups_of p.connects user.id)) (whole entries _ most list few)
+      ∙ ap (λ (es : List Entry). held (listed es) user (Some console) (groups_of p.connects user.id)) list
 
   -- by all groups
   pub by_groups : (groups : List (List ℕ)) (most : ℕ) (found : Level) → groups ≡ take most (groups_of p.connects user.id) → length groups < most

@@ -23,6 +23,10 @@ use std::alloc::Global;
 /// How many entries, and how many groups, are loaded at first: more than most access lists have.
 const FIRST: u32 = 14;
 
+/// An access list of so many entries at most is asked about by its entries at once: the groups of the user are a query as
+/// well.
+const FEW: usize = 1;
+
 /// The level that a user holds at a console in a profile, whose access list is still in the tables. More and more of the
 /// access list and of the user's groups are loaded, until one of them is whole: it asks for what counts of the other.
 /// So this takes in proportion to the shorter of both.
@@ -59,8 +63,12 @@ fn level_within<T: Tables>(
     ensures level { Answers (T.is_sure tables.new) (T.represents tables.old) result (λ s found. IfSome found (λ level. level ≡ held_in s.policy profile.now user.now console.now)) }
 {
     let entries = tables.entries(alloc, profile.class, &profile.pattern, most)?;
-    let groups = tables.groups_of(alloc, &user.id, most)?;
     let is_whole = entries.as_slice().len() < most as usize;
+    if is_whole && entries.as_slice().len() <= FEW {
+        let level = level_by_entries(tables, alloc, profile, entries, user, console)?;
+        return Ok(Some(level));
+    }
+    let groups = tables.groups_of(alloc, &user.id, most)?;
     let are_all = groups.len() < most as usize;
     match (is_whole, are_all) {
         (true, true) => {
@@ -68,8 +76,7 @@ fn level_within<T: Tables>(
             Ok(Some(level))
         }
         (true, false) => {
-            let groups = listed_groups_of(tables, alloc, user, entries.as_slice())?;
-            let level = level_by_list(profile, entries, user, console, groups.as_slice());
+            let level = level_by_entries(tables, alloc, profile, entries, user, console)?;
             Ok(Some(level))
         }
         (false, true) => {
@@ -78,6 +85,22 @@ fn level_within<T: Tables>(
         }
         (false, false) => Ok(None),
     }
+}
+
+// The level by a whole access list that is loaded: of the user's groups those that have an entry are asked for.
+fn level_by_entries<T: Tables>(
+    tables: &mut T,
+    alloc: Global,
+    profile: &Profile,
+    entries: Entries,
+    user: &User,
+    console: &ConsoleName,
+) -> Result<Level, StoreFault>
+    ensures kept { IsKept T.is_sure T.represents T.may_leave tables.old tables.new }
+    ensures level { Answers (T.is_sure tables.new) (T.represents tables.old) result (λ s level. entries ≡ access_list s.policy profile.now.class profile.now.pattern → level ≡ held_in s.policy profile.now user.now console.now) }
+{
+    let groups = listed_groups_of(tables, alloc, user, entries.as_slice())?;
+    Ok(level_by_list(profile, entries, user, console, groups.as_slice()))
 }
 
 // The level by an access list that is loaded, for a user who is connected to these groups.

@@ -1,0 +1,152 @@
+"""Random command lines and lines of scripts: such as can be done, such as are refused, and such as almost read."""
+from . import reading, world
+from .world import mostly, one_in
+
+
+def quoted(text):
+    return "'" + text.replace("'", "''") + "'"
+
+
+def any_text(chance, is_plain_good=True):
+    text = chance.choice(world.TEXTS)
+    return text if is_plain_good and text.strip() and not one_in(chance, 3) else quoted(text)
+
+
+def any_auth(chance):
+    parts = chance.sample(("SYS", "IO", "CONS"), chance.randint(1, 3))
+    return chance.choice(("MASTER", "ALL", "INFO", "SYS", "IO", "CONS", f"({','.join(parts)})", f"({','.join(parts)})"))
+
+
+def log_on(chance, state):
+    user = mostly(chance, state.policy.users, (*world.USERS, "OPS"))
+    return f"LOGON {user},{chance.choice(list(world.DIGESTS)) if one_in(chance, 8) else world.PASSWORD}"
+
+
+def any_command(chance, state):
+    """A command over what is on the board, or now and then is not."""
+    board, is_careless = state.board, one_in(chance, 6)
+    unit, device = mostly(chance, board.units, world.UNITS, is_careless), mostly(chance, board.devices, world.DEVICES, is_careless)
+    console = mostly(chance, board.consoles, (*world.CONSOLES, "C9"), is_careless)
+    reply = mostly(chance, board.replies, world.REPLIES, is_careless)
+    on = [it.user for it in board.consoles.values() if it.user]
+    tsu = [name for name, it in board.units.items() if it.kind == "TSU"]
+    held = [name for name, it in board.units.items() if not it.cancelable]
+    filled = [number for number, it in board.devices.items() if it.volume]
+    empty = [number for number, it in board.devices.items() if not it.volume]
+    forms = [
+        (3, lambda: "D A,L"), (2, lambda: f"D A,{unit}"), (1, lambda: "D U"), (3, lambda: "D C"), (1, lambda: "D R"),
+        (4, lambda: f"C {unit}"), (2, lambda: f"C U={mostly(chance, tsu, world.UNITS)}"), (2, lambda: f"FORCE {chance.choice((unit, mostly(chance, held, world.UNITS)))}"),
+        (3, lambda: chance.choice((f"S {unit}", f"S {chance.choice(world.MEMBERS)}.{chance.choice(world.UNITS)}"))),
+        (2, lambda: f"P {unit}"), (2, lambda: f"F {unit},{any_text(chance)}"),
+        (2, lambda: f"R {chance.choice((str(reply), f'{reply:02}'))},{any_text(chance)}"),
+        (3, lambda: f"V {device},{chance.choice(('ONLINE', 'OFFLINE'))}"), (2, lambda: f"M {chance.choice((device, mostly(chance, empty, world.DEVICES)))},VOL={chance.choice(world.VOLUMES)}"),
+        (2, lambda: f"U {chance.choice((device, mostly(chance, filled, world.DEVICES)))}"),
+        (3, lambda: f"G {chance.choice((device, mostly(chance, filled, world.DEVICES)))},{mostly(chance, empty, world.DEVICES)}"),
+        (2, lambda: f"V CN({console}),{chance.choice(('ONLINE', 'ONLINE', 'OFFLINE'))}"), (2, lambda: f"V CN({console}),AUTH={any_auth(chance)}"),
+        (1, lambda: f"E CN({console})"), (2, lambda: f"SE {any_text(chance, False)},USER=({mostly(chance, on + tsu, world.USERS + world.UNITS, is_careless)})"),
+        (1, lambda: f"L {any_text(chance, False)}"), (1, lambda: chance.choice(("MN JOBNAMES", "PM JOBNAMES"))), (1, lambda: "Z EOD"),
+        (7, lambda: log_on(chance, state)), (2, lambda: "LOGOFF"),
+    ]
+    return chance.choices([it for _, it in forms], [weight for weight, _ in forms])[0]()
+
+
+def typed(chance, text):
+    """The same command as an operator may type it: verbs in full or short, in any case, with spaces."""
+    verb, space, operand = text.partition(" ")
+    if one_in(chance, 3):
+        verb = chance.choice([spelling for spelling, meant in reading.SPELLED.items() if meant == reading.SPELLED[verb]])
+    if one_in(chance, 4):
+        verb, operand = verb.lower(), operand if "'" in operand else operand.lower()
+    if one_in(chance, 6):
+        verb, space = " " * chance.randint(0, 3) + verb, " " * chance.randint(1, 3) if operand else ""
+    return verb + space + operand + " " * chance.randint(0, 2) * one_in(chance, 6)
+
+
+PIECES = ("'", "''", ",", ",,", "(", ")", " ", "  ", "=", ".", "A", "7", "#", "$", "@", "%", "*", "~", "{", "`", "\t", "é", "\x7f", "\x1f", "𝄞", "L", "CN(", "USER=",
+          "AUTH=", "VOL=", "U=", ",'", "'x", "MASTER", "SYS", "0A80", "00", "U", "JOBNAMES", "\x00", "ß", "ı")
+
+
+def almost(chance, text):
+    """A line that differs from a command in few places."""
+    for _ in range(chance.choice((1, 1, 1, 2, 3))):
+        at = chance.randint(0, len(text))
+        way = chance.randrange(7)
+        if way <= 1:
+            text = text[:at] + chance.choice(PIECES) + text[at:]
+        elif way == 2:
+            text = text[:at] + text[at + chance.randint(1, 3):]
+        elif way == 3:
+            text = text[:at] + chance.choice(PIECES) + text[at + 1:]
+        elif way == 4:
+            text = text[:at]
+        elif way == 5:
+            commas = [place + 1 for place, it in enumerate(text) if it in ",( "]
+            place = chance.choice(commas or [0])
+            text = text[:place] + chance.choice(("'", "", " ", ",", "A", "'A''")) + text[place:]
+        else:
+            text = text + chance.choice(("'", " '", ",", ")", " x", "''", " ", "."))
+    return text
+
+
+def long_line(chance):
+    """A line of about as many characters as a line may have."""
+    most = reading.LONGEST + chance.randint(-1, 2)
+    return chance.choice((
+        "L '" + "x" * (most - 4) + "'", "L '" + "é" * (most - 4) + "'", "F PAY," + "'" * (most - 6), "D U" + " " * (most - 3), " " * most,
+        " " * (most - 3) + "D U", "F X1," + "y" * (most - 5), "R 7,'" + "''" * ((most - 6) // 2) + "'", "X" * most, "é" * 5_000, " " * 5_000,
+        "L '" + "x" * (most - 4) + "é", "\t" * most,
+    ))
+
+
+def any_line(chance, state):
+    """A command line, which reads or does not."""
+    way = chance.randrange(12)
+    if way == 0:
+        return long_line(chance)
+    if way <= 4:
+        return almost(chance, typed(chance, text_command(chance)))
+    text = typed(chance, any_command(chance, state))
+    return text if way <= 6 else almost(chance, text)
+
+
+def text_command(chance):
+    """A command in which a quoted text may stand."""
+    text = any_text(chance)
+    return chance.choice((f"F PAY,{text}", f"R 7,{text}", f"L {text}", f"SE {text},USER=(ANNA)", f"F PAY,'{text}", f"SE '{text},USER=(ANNA)"))
+
+
+def any_event(chance, state):
+    board, is_careless = state.board, one_in(chance, 5)
+    unit, device = mostly(chance, board.units, world.UNITS, is_careless), mostly(chance, board.devices, world.DEVICES, is_careless)
+    kind = chance.choice(("JOB", "JOB", "TSU", f"STC {chance.choice(world.MEMBERS)}"))
+    forms = [
+        (6, lambda: f"JOBIN {chance.choice(world.UNITS)} {kind}" + " NONCANCEL" * one_in(chance, 3)), (1, lambda: f"JOBEND {unit}"),
+        (2, lambda: f"ASK {chance.choice(world.REPLIES):02} {chance.choice(('MOUNT it', ' x ', 'é~', chr(9) + 'a', 'q' + chr(34) + chr(92)))}"),
+        (3, lambda: f"ATTACH {chance.choice(world.DEVICES)}"), (3, lambda: f"ALLOCATE {device} {unit}"), (2, lambda: f"FREE {device}"),
+        (4 if board.halted else 1, lambda: "RESUME"),
+    ]
+    return chance.choices([it for _, it in forms], [weight for weight, _ in forms])[0]()
+
+
+def any_console(chance, state):
+    return chance.choice(sorted(state.board.consoles) or world.CONSOLES) if not one_in(chance, 25) else chance.choice((*world.CONSOLES, "C9", "OPS"))
+
+
+def script_line(chance, moment, state, near_misses=False):
+    """A line of a script, with a moment in up to 13 digits."""
+    digits = str(moment) if not one_in(chance, 30) else str(moment).zfill(13)
+    if not near_misses and one_in(chance, 4):
+        return f"{digits} * {any_event(chance, state)}"
+    if near_misses:
+        return f"{digits} {chance.choice(('C1', 'C2'))} {any_line(chance, state)}"
+    text = any_command(chance, state)
+    text = almost(chance, text) if one_in(chance, 25) else typed(chance, text)
+    return f"{digits} {any_console(chance, state)} {text}"
+
+
+def bad_script_line(chance, line):
+    """A line that almost reads as one of a script."""
+    moment, _, rest = line.partition(" ")
+    return chance.choice((moment, f"{moment} C1", f"{moment} *", f"+{line}", f" {line}", f"{moment}  {rest}", f"0{moment.zfill(13)} {rest}", f"{moment}. {rest}", "   ", "\t",
+                          f"{moment} c1 D U", f"{moment} C D U", f"{moment} * ASK 7 x", f"{moment} * RESUME ", f"{moment} * JOBIN X STC NONCANCEL", f"\ufeff{line}",
+                          f"{moment} * JOBIN X TSU CANCEL", f"{moment} * ASK 07 ", f"{moment} * ALLOCATE  0A80 X", line + "\r", f"{moment} * ASK 07  ", "x", ""))

@@ -33,7 +33,7 @@ def differs(case, room):
 
 def lists_of(step):
     """The lists of a step that can be cut, by their names: lines, requests, rows of a file."""
-    return [name for name, value in vars(step).items() if isinstance(value, list)] + [name for name, value in vars(step).items() if isinstance(value, bytes)]
+    return [name for kind in (list, bytes) for name, value in vars(step).items() if isinstance(value, kind)]
 
 
 def cut(case, room):

@@ -11,6 +11,11 @@ class Event(NamedTuple):
     operands: tuple
 
 
+# what the words after the verb are, where they are always the same
+FORMS = {"JOBEND": [names.is_unit], "ATTACH": [names.is_device], "ALLOCATE": [names.is_device, names.is_unit], "FREE": [names.is_device],
+         "RESUME": []}
+
+
 def read(text):
     """The event that a text is, or none: words with one space between them."""
     verb, space, rest = text.partition(" ")
@@ -20,8 +25,7 @@ def read(text):
         return Event("ASK", (int(number), asked)) if len(number) == 2 and names.is_number(number, 2) and asked else None
     if verb == "JOBIN":
         return read_jobin(words[1:])
-    forms = {"JOBEND": [names.is_unit], "ATTACH": [names.is_device], "ALLOCATE": [names.is_device, names.is_unit], "FREE": [names.is_device], "RESUME": []}
-    if verb in forms and len(words) - 1 == len(forms[verb]) and all(reads(it) for reads, it in zip(forms[verb], words[1:])):
+    if verb in FORMS and len(words) - 1 == len(FORMS[verb]) and all(reads(it) for reads, it in zip(FORMS[verb], words[1:])):
         return Event(verb, tuple(words[1:]))
     return None
 

@@ -35,15 +35,18 @@ def any_command(chance, state):
     empty = [number for number, it in board.devices.items() if not it.volume]
     forms = [
         (3, lambda: "D A,L"), (2, lambda: f"D A,{unit}"), (1, lambda: "D U"), (3, lambda: "D C"), (1, lambda: "D R"),
-        (4, lambda: f"C {unit}"), (2, lambda: f"C U={mostly(chance, tsu, world.UNITS)}"), (2, lambda: f"FORCE {chance.choice((unit, mostly(chance, held, world.UNITS)))}"),
+        (4, lambda: f"C {unit}"), (2, lambda: f"C U={mostly(chance, tsu, world.UNITS)}"),
+        (2, lambda: f"FORCE {chance.choice((unit, mostly(chance, held, world.UNITS), mostly(chance, tsu, world.UNITS)))}"),
         (3, lambda: chance.choice((f"S {unit}", f"S {chance.choice(world.MEMBERS)}.{chance.choice(world.UNITS)}"))),
         (2, lambda: f"P {unit}"), (2, lambda: f"F {unit},{any_text(chance)}"),
         (2, lambda: f"R {chance.choice((str(reply), f'{reply:02}'))},{any_text(chance)}"),
-        (3, lambda: f"V {device},{chance.choice(('ONLINE', 'OFFLINE'))}"), (2, lambda: f"M {chance.choice((device, mostly(chance, empty, world.DEVICES)))},VOL={chance.choice(world.VOLUMES)}"),
+        (3, lambda: f"V {device},{chance.choice(('ONLINE', 'OFFLINE'))}"),
+        (2, lambda: f"M {chance.choice((device, mostly(chance, empty, world.DEVICES)))},VOL={chance.choice(world.VOLUMES)}"),
         (2, lambda: f"U {chance.choice((device, mostly(chance, filled, world.DEVICES)))}"),
         (3, lambda: f"G {chance.choice((device, mostly(chance, filled, world.DEVICES)))},{mostly(chance, empty, world.DEVICES)}"),
         (2, lambda: f"V CN({console}),{chance.choice(('ONLINE', 'ONLINE', 'OFFLINE'))}"), (2, lambda: f"V CN({console}),AUTH={any_auth(chance)}"),
-        (1, lambda: f"E CN({console})"), (2, lambda: f"SE {any_text(chance, False)},USER=({mostly(chance, on + tsu, world.USERS + world.UNITS, is_careless)})"),
+        (1, lambda: f"E CN({console})"),
+        (2, lambda: f"SE {any_text(chance, False)},USER=({mostly(chance, on + tsu, world.USERS + world.UNITS, is_careless)})"),
         (1, lambda: f"L {any_text(chance, False)}"), (1, lambda: chance.choice(("MN JOBNAMES", "PM JOBNAMES"))), (1, lambda: "Z EOD"),
         (7, lambda: log_on(chance, state)), (2, lambda: "LOGOFF"),
     ]
@@ -62,8 +65,8 @@ def typed(chance, text):
     return verb + space + operand + " " * chance.randint(0, 2) * one_in(chance, 6)
 
 
-PIECES = ("'", "''", ",", ",,", "(", ")", " ", "  ", "=", ".", "A", "7", "#", "$", "@", "%", "*", "~", "{", "`", "\t", "é", "\x7f", "\x1f", "𝄞", "L", "CN(", "USER=",
-          "AUTH=", "VOL=", "U=", ",'", "'x", "MASTER", "SYS", "0A80", "00", "U", "JOBNAMES", "\x00", "ß", "ı")
+PIECES = ("'", "''", ",", ",,", "(", ")", " ", "  ", "=", ".", "A", "7", "#", "$", "@", "%", "*", "~", "{", "`", "\t", "é", "\x7f", "\x1f", "𝄞",
+          "L", "CN(", "USER=", "AUTH=", "VOL=", "U=", ",'", "'x", "MASTER", "SYS", "0A80", "00", "U", "JOBNAMES", "\x00", "ß", "ı")
 
 
 def almost(chance, text):
@@ -129,12 +132,25 @@ def any_event(chance, state):
 
 
 def any_console(chance, state):
-    return chance.choice(sorted(state.board.consoles) or world.CONSOLES) if not one_in(chance, 25) else chance.choice((*world.CONSOLES, "C9", "OPS"))
+    """A console that is there; now and then one that is not, or one at which little can be asked."""
+    if one_in(chance, 10):
+        return chance.choice(awkward(state))
+    return chance.choice(sorted(state.board.consoles) or world.CONSOLES)
+
+
+def awkward(state):
+    """A console that is missing, and those that are offline, want a logon, or act for a revoked user."""
+    found = ["C9"]
+    for name, it in sorted(state.board.consoles.items()):
+        user = state.acting(name)
+        if not it.online or (it.mode == "REQUIRED" and it.user is None) or (user and state.policy.users[user].revoked):
+            found.append(name)
+    return found
 
 
 def script_line(chance, moment, state, near_misses=False):
     """A line of a script, with a moment in up to 13 digits."""
-    digits = str(moment) if not one_in(chance, 30) else str(moment).zfill(13)
+    digits = str(moment) if not one_in(chance, 20) else chance.choice((str(moment).zfill(13), str(chance.randrange(10 ** 13)), "0"))
     if not near_misses and one_in(chance, 4):
         return f"{digits} * {any_event(chance, state)}"
     if near_misses:
@@ -147,6 +163,9 @@ def script_line(chance, moment, state, near_misses=False):
 def bad_script_line(chance, line):
     """A line that almost reads as one of a script."""
     moment, _, rest = line.partition(" ")
-    return chance.choice((moment, f"{moment} C1", f"{moment} *", f"+{line}", f" {line}", f"{moment}  {rest}", f"0{moment.zfill(13)} {rest}", f"{moment}. {rest}", "   ", "\t",
-                          f"{moment} c1 D U", f"{moment} C D U", f"{moment} * ASK 7 x", f"{moment} * RESUME ", f"{moment} * JOBIN X STC NONCANCEL", f"\ufeff{line}",
-                          f"{moment} * JOBIN X TSU CANCEL", f"{moment} * ASK 07 ", f"{moment} * ALLOCATE  0A80 X", line + "\r", f"{moment} * ASK 07  ", "x", ""))
+    return chance.choice((
+        moment, f"{moment} C1", f"{moment} *", f"+{line}", f" {line}", f"{moment}  {rest}", f"0{moment.zfill(13)} {rest}", f"{moment}. {rest}", "   ",
+        "\t", "x", "", f"{moment} c1 D U", f"{moment} C D U", f"\ufeff{line}", line + "\r", f"{moment} * ASK 7 x", f"{moment} * ASK 07 ",
+        f"{moment} * ASK 07  ", f"{moment} * RESUME ", f"{moment} * JOBIN L STC NONCANCEL", f"{moment} * JOBIN L TSU CANCEL",
+        f"{moment} * JOBIN L JOB NONCANCEL", f"{moment} * ALLOCATE  0A80 L", f"{moment} * FREE 0a80", f"{moment} * JOBEND",
+    ))

@@ -85,6 +85,14 @@ def written_row(chance, fields, plain=False):
 STRANGE = ("", "X", "9X", "anna", "C", "*", "**", "A..B", "A.B**", "ABCDEFGHI", "A" * 40, "ANNA", "OPERCMDS", "FACILITY", "ACTIVE", "READ", "MASTER",
            "SYS,SYS", "SYS,", "OPTIONAL", "optional", "AUTO", "W", "Y", "SS", "AS", "é", " ", "A" * 64, "a" * 64, "A\nB", 'A"B', "-", "MVS.**")
 
+# Values that a column almost takes, or takes in rows of some kinds alone.
+NEAR = {
+    "kind": ("Class", "users", "", "permit "), "class": ("", "CONSOLE", "OPERCMDS", "console"), "name": ("", "9X", "C", "C1", "A.*", "ANNA "),
+    "id": ("", "*", "9X", "**", "A.B", "OPS"), "value": ("", "READ", "MASTER", "SYS,SYS", "IO,ALL", "ACTIVE", "EXECUTE", "SYS,IO"),
+    "owner": ("", "ANNA", "9X", "*"), "flags": ("", "AS", "SS", "RAS", "s", "W", "AUTO", "OPTIONAL", "SA"),
+    "digest": ("", "A" * 64, "a" * 63, "a" * 65, "g" * 64, "0" * 64), "when": ("", "C", "C1", "*", "9X"), "restricted": ("", "Y", "N", "y", "YY"),
+}
+
 
 def spoiled(chance, lines):
     """These lines with something in one of them that is likely to be bad."""
@@ -99,11 +107,13 @@ def spoiled(chance, lines):
     elif way == 2:
         lines[at] = chance.choice(("", " ", '""', ",", "\u00e9", '"', "#", "\ufeff" + lines[at], lines[at] + "\r", '"' + lines[at]))
     elif way == 3:
-        lines[0] = chance.choice((lines[0].upper(), lines[0] + ",x", lines[0].replace("kind", '"kind"'), lines[0].replace(",", ", "), "", "\ufeff" + lines[0],
-                                  "\ufeff\ufeff" + lines[0], lines[0].replace(",id", ""), ",".join(files.COLUMNS)))
+        header = lines[0]
+        lines[0] = chance.choice((header.upper(), header + ",x", header.replace("kind", '"kind"'), header.replace(",", ", "), "", "\ufeff" + header,
+                                  "\ufeff\ufeff" + header, header.replace(",id", ""), ",".join(files.COLUMNS)))
     elif at > 0 and lines[at].count(",") + 1 == width:
         fields = lines[at].split(",")
-        fields[chance.randrange(width)] = quoted(chance.choice(STRANGE))
+        column = chance.randrange(width)
+        fields[column] = quoted(chance.choice(STRANGE if one_in(chance, 3) else NEAR[files.COLUMNS[column]]))
         lines[at] = ",".join(fields)
     return lines
 
@@ -117,5 +127,5 @@ def joined(chance, lines, plain=False):
     ends = ["\n"] if plain else chance.choice((["\n"], ["\n"], ["\n"], ["\r\n"], ["\r"], ["\n", "\r\n", "\r", "\n\n"]))
     text = "".join(line + chance.choice(ends) for line in lines)
     if not plain and one_in(chance, 6):
-        text = "\ufeff" + text
+        text = "\ufeff" * chance.choice((1, 1, 1, 2)) + text
     return (text[:-1] if one_in(chance, 4) else text).encode()

@@ -108,9 +108,12 @@ def script(chance, state, count, near_misses=False, first=()):
 
 
 def begun(chance, state):
-    """Lines that log some users on."""
-    found = chance.sample(world.CONSOLES, chance.randint(0, 3))
-    return [f"{at} {it} {random_lines.log_on(chance, state)}\n" for at, it in enumerate(found, 1)]
+    """Lines that put a console offline, and log some users on."""
+    lines, free = [], [name for name, it in sorted(state.board.consoles.items()) if it.mode == "OPTIONAL" and names.enters(it.auth, "CONS")]
+    if free and one_in(chance, 2):
+        lines.append(f"{chance.choice(free)} V CN({chance.choice(world.CONSOLES)}),OFFLINE")
+    lines += [f"{it} {random_lines.log_on(chance, state)}" for it in chance.sample(world.CONSOLES, chance.randint(0, 4))]
+    return [f"{at} {it}\n" for at, it in enumerate(lines, 1)]
 
 
 def scripts_of(chance):

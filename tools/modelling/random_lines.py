@@ -124,7 +124,7 @@ def any_event(chance, state):
     kind = chance.choice(("JOB", "JOB", "TSU", f"STC {chance.choice(world.MEMBERS)}"))
     forms = [
         (6, lambda: f"JOBIN {chance.choice(world.UNITS)} {kind}" + " NONCANCEL" * one_in(chance, 3)), (1, lambda: f"JOBEND {unit}"),
-        (2, lambda: f"ASK {chance.choice(world.REPLIES):02} {chance.choice(('MOUNT it', ' x ', 'é~', chr(9) + 'a', 'q' + chr(34) + chr(92)))}"),
+        (2, lambda: f"ASK {chance.choice(world.REPLIES):02} {chance.choice(world.ASKED)}"),
         (3, lambda: f"ATTACH {chance.choice(world.DEVICES)}"), (3, lambda: f"ALLOCATE {device} {unit}"), (2, lambda: f"FREE {device}"),
         (4 if board.halted else 1, lambda: "RESUME"),
     ]

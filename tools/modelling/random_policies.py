@@ -13,6 +13,9 @@ def first_policy(chance):
     rows += [row("connect", name=user, id=group) for user in users for group in groups if one_in(chance, 2)]
     rows += [console_row(chance, it) for it in world.CONSOLES if not one_in(chance, 6)]
     profiles = [profile_row(chance, users) for _ in range(chance.choice((0, 3, 6, 9, 14)))]
+    if one_in(chance, 4):
+        # little but one profile, which denies or warns nearly everybody
+        profiles = profiles[:2] + [row("profile", of="OPERCMDS", name="**", value="NONE", owner="SECADM", flags=chance.choice(("W", "W", "")))]
     rows += profiles
     rows += [permit_row(chance, profiles, users + groups * 3) for _ in range(chance.choice((0, 4, 9, 16))) if profiles]
     return rows
@@ -21,7 +24,7 @@ def first_policy(chance):
 def user_row(chance, name):
     if name == "SECADM" and not one_in(chance, 10):
         return row("user", name=name, flags="S", digest=world.DIGESTS[world.PASSWORD])
-    flags = "S" * one_in(chance, 6) + "A" * one_in(chance, 5) + "R" * one_in(chance, 6)
+    flags = "S" * one_in(chance, 6) + "A" * one_in(chance, 5) + "R" * one_in(chance, 3 if name in world.CONSOLES else 7)
     return row("user", name=name, flags=flags, digest=world.any_digest(chance) or "", restricted="Y" * one_in(chance, 4))
 
 

@@ -33,7 +33,7 @@ def any_operation(chance, state):
     flags = {"special": one_in(chance, 4) or user == "SECADM", "auditor": one_in(chance, 5), "restricted": one_in(chance, 4),
              "digest": world.any_digest(chance)}
     when = chance.choice(sorted(board.consoles) or ["C1"]) if one_in(chance, 3) else None
-    fresh = profile if is_careless else any_fresh_profile(chance, state)
+    fresh = profile if is_careless and one_in(chance, 2) else any_fresh_profile(chance, state)
     operations = [
         (3, "AddUser", {"id": chance.choice((*world.USERS, *world.GROUPS)), **flags}),
         (4, "AltUser", {"id": user, **flags, "revoked": one_in(chance, 4) and user != "SECADM"}),

@@ -12,6 +12,7 @@ DEVICES = ("0A80", "0A81", "FFFF")
 VOLUMES = ("PAY001", "V$")
 REPLIES = (0, 7, 10, 99)
 TEXTS = ("GO", "it's \"me\"", "a, b", "  ", "x=(y)", "~{}`", "")
+ASKED = ("MOUNT it", " x ", "é~", "\ta\x1f\x7f", 'q"\\/', "\x00z", "\u2028\u00a0", "𝄞", "a\rb", "\ufeff")
 AUTHS = ("MASTER", "ALL", "INFO", "SYS", "IO", "CONS", "SYS,IO", "IO,CONS", "SYS,CONS", "SYS,IO,CONS")
 DIGESTS = {word: hashlib.sha256(word.encode()).hexdigest() for word in ("ABC", "A1#$@", "ZZZZZZZZ")}
 PASSWORD = "ABC"

@@ -1,5 +1,5 @@
 """The Rattle kit that `rt` on the path belongs to: its crates, and one run of its prover."""
-import contextlib, functools, importlib.machinery, importlib.util, os, shutil, subprocess, sys, tempfile
+import contextlib, functools, importlib.machinery, importlib.util, os, shutil, subprocess, sys, tempfile, threading
 
 PARTS = ("src", "specs", "proofs")
 
@@ -15,7 +15,42 @@ def rtlib():
     made = importlib.util.module_from_spec(importlib.util.spec_from_loader("rtlib", loader))
     sys.modules["rtlib"] = made
     loader.exec_module(made)
+    made.Crate.stamp = each_once(made.Crate.stamp)
+    made.Crate.below = kept(made.Crate.below)
     return made
+
+
+def each_once(method):
+    """The kit's method, which asks itself of the crates below: of each of them once in a call, and not once for each path of
+    crates.txt, of which the program has over 12,000."""
+    asked = threading.local()
+
+    @functools.wraps(method)
+    def found(crate):
+        if not hasattr(asked, "answers"):
+            asked.answers = {}
+            try:
+                return method(crate)
+            finally:
+                del asked.answers
+        if crate not in asked.answers:
+            asked.answers[crate] = method(crate)
+        return asked.answers[crate]
+
+    return found
+
+
+def kept(method):
+    """A method without arguments that gives a list which never changes, asked once of each crate."""
+    answers = {}
+
+    @functools.wraps(method)
+    def found(crate):
+        if crate not in answers:
+            answers[crate] = method(crate)
+        return list(answers[crate])
+
+    return found
 
 
 def crate_in(top, name):

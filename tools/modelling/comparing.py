@@ -55,16 +55,15 @@ def cut(case, room):
 
 
 def shortened(pieces, fails, end):
-    """These pieces without runs of them, long runs first, that it fails without."""
+    """These pieces without runs of them, long runs first, that it fails without: from the end, since later ones need earlier."""
     size = len(pieces)
     while size >= 1:
-        at = 0
-        while at < len(pieces) and time.monotonic() < end:
-            without = [*pieces[:at], *pieces[at + size:]]
+        at = len(pieces) - size
+        while at > -size and time.monotonic() < end:
+            without = [*pieces[:max(at, 0)], *pieces[at + size:]]
             if fails(without):
                 pieces = without
-            else:
-                at += size
+            at -= size
         size //= 2
     return pieces
 

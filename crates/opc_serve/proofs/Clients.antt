@@ -1,7 +1,7 @@
 -- Clients that are served, one more after some.
 use Rattle.std.proofs.Common.{◌≡◌, inl, inr, ℕ, ◌+◌, ◌<◌, ◌≤◌, List, [], ◌∷◌, ◌++◌, length, take, get_or, Some, None, Ok, Err, true, false, refl, subst, sym, ap, ◌∙◌, arith, length-append, append-nil}
 use Rattle.std.specs.Prelude.{Option, Result, IfOk, IfErr}
-use Rattle.std.specs.List.{All, filter_map}
+use Rattle.std.specs.List.{All}
 use Rattle.std.proofs.Math.Seq.{get_or-append_seam, take-append_seam}
 use Rattle.std.proofs.lemmas.List.{take_all}
 use Rattle.std.proofs.lemmas.List.Elements.{All-nil, All-push, filter_map-append}
@@ -16,7 +16,7 @@ use Rattle.opc_http.specs.declared.exchange.LinkFault.{LinkFault}
 use Rattle.opc_http.specs.declared.exchange.LinkFault.TheVariants as fault
 use Rattle.opc_http.specs.declared.exchange.Served.{Served}
 use Rattle.opc_serve.specs.declared.clock.TheConstants.{LAST_MOMENT}
-use Rattle.opc_serve.specs.Serving.{AreServed, HandlesOne, IsServed, handled_of}
+use Rattle.opc_serve.specs.Serving.{AreServed, IsServed, handled_of}
 
 -- a client without a request is not told among those that had one
 idle_more : (clients : List (Option (ℕ × Request))) → handled_of (clients ++ None ∷ []) ≡ handled_of clients

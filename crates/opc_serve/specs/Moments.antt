@@ -1,9 +1,8 @@
 -- Moments, by the clock.
-use Rattle.std.specs.Prelude.{ℕ, ◌/◌, min, Bool, true, false, Result, Ok, Err, if◌then◌else◌}
+use Rattle.std.specs.Prelude.{ℕ, ◌/◌, min, Bool, true, false}
 use Rattle.std.specs.Duration.{as_nanos}
 use Rattle.std.specs.declared.io.ErrorKind.{ErrorKind}
 use Rattle.std.specs.declared.io.ErrorKind.TheVariants.{InvalidData}
-use Rattle.std.specs.IoError.{error_kind}
 use Rattle.std.specs.declared.time.Duration.{Duration}
 use Rattle.opc_serve.specs.declared.clock.TheConstants.{LAST_MOMENT}
 

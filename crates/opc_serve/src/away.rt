@@ -1,5 +1,5 @@
 //! The end of a response.
-ghost use Rattle.std.specs.Prelude.{◌*◌, ◌≤◌, length};
+ghost use Rattle.std.specs.Prelude.{◌+◌, ◌*◌, ◌≤◌, length};
 ghost use Rattle.opc_http_link.specs.Reads.{TakesAtMost};
 
 use crate::connection::{Connection, Side};
@@ -8,10 +8,13 @@ use opc_http_link::watched::Watched;
 use std::net::Shutdown;
 use std::time::Duration;
 
-/// The most reads of what a peer sent beyond what was asked for, and the most bytes of each.
-const MOST_READS: u32 = 32;
-
+/// The most bytes of each read of what a peer sent beyond what was asked for.
 const CHUNK: usize = 32_768;
+
+/// The most bytes of the first of them, and the most reads after it.
+const LITTLE: usize = 64;
+
+const MORE_READS: u32 = 31;
 
 /// The most seconds that one of them waits.
 const WAIT: u64 = 1;
@@ -28,14 +31,25 @@ fn forget_some<S: Source>(source: &mut S, chunk: &mut [u8]) -> bool
 }
 
 /// Reads on and forgets it, to the end or to the limit.
-fn forget_rest<S: Source>(source: &mut S)
-    ensures { TakesAtMost (MOST_READS * CHUNK) (S.left source.old) (S.left source.new) }
+fn forget_more<S: Source>(source: &mut S)
+    ensures { TakesAtMost (MORE_READS * CHUNK) (S.left source.old) (S.left source.new) }
 {
     let mut chunk = [0u8; CHUNK];
-    for _read in 0..MOST_READS {
+    for _read in 0..MORE_READS {
         if !forget_some(source, &mut chunk) {
             return;
         }
+    }
+}
+
+/// The same from the first read on. Most peers send nothing more, so room for a large read is made only where a small one
+/// was filled in part.
+fn forget_rest<S: Source>(source: &mut S)
+    ensures { TakesAtMost (CHUNK + MORE_READS * CHUNK) (S.left source.old) (S.left source.new) }
+{
+    let mut little = [0u8; LITTLE];
+    if forget_some(source, &mut little) {
+        forget_more(source);
     }
 }
 

@@ -66,8 +66,8 @@ put_again {K} cmp total test k (x ∷ xs) order found = go (test x) refl found (
         ap (λ o. match_ordering o (k ∷ x ∷ xs) (k ∷ xs) (x ∷ replace_key cmp xs k)) compares_equal ∙ ap (λ y. y ∷ xs) (sym same)
     go false e f later =
         let before : is_lt (cmp x k) ≡ true = all_found (λ y. is_lt (cmp x y) ≡ true) test k xs f order.0 in
-        let behind : cmp k x ≡ Greater = total.antisymm k x ∙ ap ordering_reverse (is_less (cmp x k) before) in
-        ap (λ o. match_ordering o (k ∷ x ∷ xs) (k ∷ xs) (x ∷ replace_key cmp xs k)) behind ∙ ap (λ ys. x ∷ ys) (later f)
+        let after : cmp k x ≡ Greater = total.antisymm k x ∙ ap ordering_reverse (is_less (cmp x k) before) in
+        ap (λ o. match_ordering o (k ∷ x ∷ xs) (k ∷ xs) (x ∷ replace_key cmp xs k)) after ∙ ap (λ ys. x ∷ ys) (later f)
 
 -- one that is added is among them
 pub any_added : {K : Type 0} (cmp : K → K → Ordering) (test : K → Bool) (k : K) (xs : List K) → test k ≡ true → ((x : K) → cmp k x ≡ Equal → test x ≡ true) → list_any test (insert_key cmp xs k) ≡ true

@@ -84,17 +84,17 @@ lost_at row console xs order at =
     ∙ left_over (has_other_master row.name xs) (is_master console) (is_master row)
   where
     once : (x y : ConsoleRow) → is x.name row.name ≡ true → console_before x y ≡ true → is y.name row.name ≡ false
-    once x y here behind = apart_names x.name y.name row.name here behind
+    once x y here back = apart_names x.name y.name row.name here back
 
 -- ---- a row in its place
 
 compares_equal : (k c : ConsoleRow) → is c.name k.name ≡ true → console_cmp k c ≡ Equal
 compares_equal k c h = ap (λ n. console_cmp k (record c { name = n })) (is_same_name c.name k.name h) ∙ itself (console_cmp k k) (console_total.antisymm k k)
 
-behind : (o : Ordering) → is_lt o ≡ true → ordering_reverse o ≡ Greater
-behind Less h = refl
-behind Equal h = absurd (search (rules, h))
-behind Greater h = absurd (search (rules, h))
+back : (o : Ordering) → is_lt o ≡ true → ordering_reverse o ≡ Greater
+back Less h = refl
+back Equal h = absurd (search (rules, h))
+back Greater h = absurd (search (rules, h))
 
 -- a row that is put where one of its name is replaces it
 put_replaces : (row console : ConsoleRow) (xs : List ConsoleRow) → Ascends console_before xs → find (λ c. is c.name row.name) xs ≡ Some console → replace_key console_cmp xs row ≡ replaced row xs
@@ -108,7 +108,7 @@ put_replaces row console (x ∷ xs) order found = go (is x.name row.name) refl f
     go false e f later =
         let before : console_before x console ≡ true = all_found (λ y. console_before x y ≡ true) (λ c. is c.name row.name) console xs f order.0 in
         let same = is_same_name console.name row.name (found_passes (λ (c : ConsoleRow). is c.name row.name) console xs f) in
-        let greater : console_cmp row x ≡ Greater = ap (λ n. console_cmp (record row { name = n }) x) (sym same) ∙ console_total.antisymm console x ∙ behind (console_cmp x console) before in
+        let greater : console_cmp row x ≡ Greater = ap (λ n. console_cmp (record row { name = n }) x) (sym same) ∙ console_total.antisymm console x ∙ back (console_cmp x console) before in
         ap (λ o. match_ordering o (row ∷ x ∷ xs) (row ∷ xs) (x ∷ replace_key console_cmp xs row)) greater ∙ ap (λ ys. x ∷ ys) (later f)
 
 -- and one of a new name comes to its place

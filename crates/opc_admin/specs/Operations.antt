@@ -6,6 +6,7 @@ use Rattle.opc_names.specs.declared.class.Class.{Class}
 use Rattle.opc_names.specs.declared.level.Level.{Level}
 use Rattle.opc_names.specs.Spellings.{auth_text, level_text}
 use Rattle.opc_terms.specs.declared.fault.Fault.{Fault}
+use Rattle.opc_terms.specs.declared.store_fault.StoreFault.{StoreFault}
 use Rattle.opc_policy.specs.declared.policy.Policy.{Policy}
 use Rattle.opc_policy.specs.declared.profile.Profile.{Profile}
 use Rattle.opc_policy.specs.Access.{entry_level}
@@ -14,11 +15,15 @@ use Rattle.opc_policy.specs.Profiles.{profile_of}
 use Rattle.opc_board.specs.declared.rows.ConsoleRow.{ConsoleRow}
 use Rattle.opc_state.specs.declared.change.Edit.{Edit}
 use Rattle.opc_state.specs.Difference.{same_flag}
+use Rattle.opc_state.specs.Asked.{Answers}
+use Rattle.opc_state.specs.Facts.{IsKeyed}
 use Rattle.opc_state.specs.State.{State}
 use Rattle.opc_machine.specs.declared.outcome.Deed as found
 use Rattle.opc_machine.specs.declared.outcome.Denial as found_denial
 use Rattle.opc_machine.specs.declared.operation.Operation.{Operation}
 use Rattle.opc_machine.specs.declared.operation.Operation.TheVariants as operation
+use Rattle.opc_machine.specs.Administration.{changed}
+use Rattle.opc_machine.specs.Deeds.{IsOutcome}
 use Rattle.opc_machine.specs.Outcome.{Outcome, ◌>>=◌, does, or_refused, refused}
 
 -- what is done where the policy becomes another one, or is left
@@ -31,6 +36,10 @@ abbrev pub state_outcome : Result State Fault → Outcome
 state_outcome made = do
   new ← or_refused made
   does new [] None
+
+-- Where the tables are sure, and represent a state with each key once, this is what the operation comes to.
+abbrev pub ComesTo : Type 0 → (State → Type 0) → Result (Result found.Deed found_denial.Denial) StoreFault → Operation → Type 0
+ComesTo sure represents result op = Answers sure represents result (λ s o. IsKeyed s → IsOutcome s (state_outcome (changed s op)) o)
 
 -- the operations on a profile and on its access list
 abbrev pub is_of_profiles : Operation → Bool

@@ -5,11 +5,11 @@ ghost use Rattle.opc_policy.specs.Profiles.{profile_of};
 ghost use Rattle.opc_state.specs.Asked.{Answers};
 ghost use Rattle.opc_state.specs.Changes.{IsKept};
 ghost use Rattle.opc_state.specs.Facts.{IsKeyed};
-ghost use Rattle.opc_machine.specs.Administration.{admin_outcome, changed, definition};
+ghost use Rattle.opc_machine.specs.Administration.{admin_outcome, definition};
 ghost use Rattle.opc_machine.specs.Deeds.{IsOutcome};
 ghost use Rattle.opc_machine.specs.Rights.{is_owner, may_change, right_fault};
 ghost use Rattle.opc_machine.specs.Rulings.{acting};
-ghost use Rattle.opc_admin.specs.Operations.{is_of_profiles, state_outcome};
+ghost use Rattle.opc_admin.specs.Operations.{ComesTo, is_of_profiles};
 
 use crate::consoles::define_console;
 use crate::members::{add_group, add_user, alt_user, class_active, connect, del_user, remove};
@@ -130,7 +130,7 @@ fn definition(
 fn profile_changed_on<T: Tables>(tables: &mut T, alloc: Global, op: &Operation) -> Decided
     requires { is_of_profiles op.now ≡ true }
     ensures kept { IsKept T.is_sure T.represents T.may_leave tables.old tables.new }
-    ensures outcome { Answers (T.is_sure tables.new) (T.represents tables.old) result (λ s o. IsKeyed s → IsOutcome s (state_outcome (changed s op.now)) o) }
+    ensures outcome { ComesTo (T.is_sure tables.new) (T.represents tables.old) result op.now }
 {
     match *op {
         Operation::RDefine {
@@ -174,7 +174,7 @@ fn profile_changed_on<T: Tables>(tables: &mut T, alloc: Global, op: &Operation) 
 // What an operation comes to that whoever asks has the right to.
 fn changed_on<T: Tables>(tables: &mut T, alloc: Global, op: &Operation) -> Decided
     ensures kept { IsKept T.is_sure T.represents T.may_leave tables.old tables.new }
-    ensures outcome { Answers (T.is_sure tables.new) (T.represents tables.old) result (λ s o. IsKeyed s → IsOutcome s (state_outcome (changed s op.now)) o) }
+    ensures outcome { ComesTo (T.is_sure tables.new) (T.represents tables.old) result op.now }
 {
     match *op {
         Operation::AddUser {

@@ -8,9 +8,7 @@ ghost use Rattle.opc_state.specs.Asked.{Answers};
 ghost use Rattle.opc_state.specs.Changes.{IsKept};
 ghost use Rattle.opc_state.specs.Facts.{IsKeyed};
 ghost use Rattle.opc_machine.specs.declared.operation.Operation.TheVariants as operation;
-ghost use Rattle.opc_machine.specs.Administration.{changed};
-ghost use Rattle.opc_machine.specs.Deeds.{IsOutcome};
-ghost use Rattle.opc_admin.specs.Operations.{same_setting, state_outcome};
+ghost use Rattle.opc_admin.specs.Operations.{ComesTo, same_setting};
 
 use crate::deeds::done_by;
 use opc_board::rows::ConsoleRow;
@@ -90,8 +88,7 @@ pub(crate) fn define_console<T: Tables>(
     mode: Mode,
 ) -> Decided
     ensures kept { IsKept T.is_sure T.represents T.may_leave tables.old tables.new }
-    ensures outcome { Answers (T.is_sure tables.new) (T.represents tables.old) result (λ s o. IsKeyed s →
-        IsOutcome s (state_outcome (changed s (operation.DefineConsole name auth mode))) o) }
+    ensures outcome { ComesTo (T.is_sure tables.new) (T.represents tables.old) result (operation.DefineConsole name auth mode) }
 {
     let stored = match tables.console(&name)? {
         Some(stored) => stored,

@@ -25,7 +25,7 @@ module _ (seen : Seen) where
       (ap (λ n. has_master (changed (λ c. is c.name n) (λ c. row) consoles)) same ∙ any_changed is_master (λ c. is c.name name) (λ c. row) console_before once console consoles order at)
     where
       once : (x y : ConsoleRow) → is x.name name ≡ true → console_before x y ≡ true → is y.name name ≡ false
-      once x y here behind = apart_names x.name y.name name here behind
+      once x y here after = apart_names x.name y.name name here after
 
   -- a row in place of the one of its name
   console_replaced : (row : ConsoleRow) (b : BoardRows) → IsInOrder b → seen.consoles row.name ≡ true → Agrees seen b (done (with_console row (only seen b))) (done (with_console row b))

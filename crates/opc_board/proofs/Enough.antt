@@ -35,14 +35,14 @@ and_first false b both = absurd (cc)
 
 -- of two rows in order neither has the other's name
 apart : (x y : Name) → earlier x y ≡ true → is x y ≡ false
-apart x y behind = is_mirrored y x (apart_names x y x (is_itself x) behind)
+apart x y after = is_mirrored y x (apart_names x y x (is_itself x) after)
 
 module _ (b : BoardRows) (order : IsInOrder b) where
   devices_found : AllByRecursion (λ d. device_at b d.number ≡ Some d) b.devices
-  devices_found = found_each (λ (x y : DeviceRow). is x.number y.number) device_before (λ d. is_itself d.number) (λ x y behind. apart x.number y.number behind) b.devices order.devices
+  devices_found = found_each (λ (x y : DeviceRow). is x.number y.number) device_before (λ d. is_itself d.number) (λ x y after. apart x.number y.number after) b.devices order.devices
 
   consoles_found : AllByRecursion (λ c. console_at b c.name ≡ Some c) b.consoles
-  consoles_found = found_each (λ (x y : ConsoleRow). is x.name y.name) console_before (λ c. is_itself c.name) (λ x y behind. apart x.name y.name behind) b.consoles order.consoles
+  consoles_found = found_each (λ (x y : ConsoleRow). is x.name y.name) console_before (λ c. is_itself c.name) (λ x y after. apart x.name y.name after) b.consoles order.consoles
 
   leaving_seen : (name : Name) → SeesLeaving (leaving b name) b name
   leaving_seen name =

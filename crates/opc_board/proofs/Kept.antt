@@ -141,11 +141,11 @@ new_console_kept row b absent facts = record {
 
 -- of two consoles in order one at most has the name
 pub apart_names : (x y name : Name) → is x name ≡ true → earlier x y ≡ true → is y name ≡ false
-apart_names x y name here behind =
+apart_names x y name here after =
     elim (is y name) as (λ t. is y name ≡ t → t ≡ false) [
       | true ↦ λ e.
           let same : y ≡ x = is_same_name y name e ∙ sym (is_same_name x name here) in
-          let never : earlier x x ≡ true = subst (λ (n : Name). earlier x n ≡ true) same behind in
+          let never : earlier x x ≡ true = subst (λ (n : Name). earlier x n ≡ true) same after in
           absurd (false≢true (sym (not_earlier x) ∙ never))
       | false ↦ λ e. refl
     ] refl
@@ -153,7 +153,7 @@ apart_names x y name here behind =
 -- the masters that there are with a row in place of the one of its name
 pub masters_with : (row : ConsoleRow) (b : BoardRows) → IsBoard b → has_master (replaced row b.consoles) ≡ list_any (λ c. is_master (cond (is c.name row.name) row c)) b.consoles
 masters_with row b facts =
-    ap has_master (changed_is_map console_before (λ c. is c.name row.name) (λ c. row) (λ x y here behind. apart_names x.name y.name row.name here behind) b.consoles facts.consoles_rise)
+    ap has_master (changed_is_map console_before (λ c. is c.name row.name) (λ c. row) (λ x y here after. apart_names x.name y.name row.name here after) b.consoles facts.consoles_rise)
     ∙ any_of_map is_master (λ c. cond (is c.name row.name) row c) b.consoles
 
 -- replies

@@ -1,5 +1,7 @@
 -- The edits of a first policy, and what it leaves of tables.
-use Rattle.std.specs.Prelude.{◌≡◌, List, [], ◌++◌, Option, Some, None, Ok, filter_map}
+use Rattle.std.specs.Prelude.{◌≡◌, ◌≢◌, List, [], ◌++◌, Option, Some, None, Result, Ok, Err, IfErr, filter_map}
+use Rattle.opc_terms.specs.declared.fault.Fault.{Fault}
+use Rattle.opc_terms.specs.declared.fault.Fault.TheVariants as why
 use Rattle.opc_policy.specs.declared.row.Row.{Row}
 use Rattle.opc_policy.specs.declared.row.Row.TheVariants as rows
 use Rattle.opc_board.specs.declared.board.BoardRows.{BoardRows}
@@ -41,6 +43,10 @@ pub record AreEditsOf (old new : BoardRows) (more : List Row) (edits : List Edit
   pub sound : IsBoard new
   pub becomes : (s : State) (whole : BoardRows) → AreSights old new s whole → all_edited first s ≡ with_board whole s
   pub idle : (s : State) (whole : BoardRows) → AreSights old new s whole → all_edited first s ≡ s → first ≡ []
+
+-- A refusal that is not for memory or the store is the one that the rows meet.
+abbrev pub IsToldWhy : {V : Type 0} → Type 0 → (State → Type 0) → Result V Fault → (State → Result State Fault) → Type 0
+IsToldWhy sure represents result made = sure → (s : State) → represents s → IfErr result (λ f. f ≢ why.NoMemory → f ≢ why.Store → made s ≡ Err f)
 
 -- The bootstrap is done: its state is represented, and once a change is acknowledged a crash leaves it alone.
 pub record IsBootstrap {T : Type 0} (represents may_leave : T → State → Type 0) (new : T) (s : State) (more : List Row) : Type 0 where

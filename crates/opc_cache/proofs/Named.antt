@@ -99,6 +99,6 @@ put_named new old test (x ∷ xs) same order found = go (test x) found (put_name
         ∙ ap (λ n. n ∷ map name_of xs) (same ∙ ap name_of (sym here))
     go false f later =
         let before : is_lt (profile_cmp x old) ≡ true = all_found (λ y. is_lt (profile_cmp x y) ≡ true) test old xs f order.0 in
-        let behind : profile_cmp new x ≡ Greater = by_name new old x same ∙ profile_total.antisymm old x ∙ ap ordering_reverse (is_less (profile_cmp x old) before) in
-        ap (λ o. map name_of (match_ordering o (new ∷ x ∷ xs) (new ∷ xs) (x ∷ replace_key profile_cmp xs new))) behind
+        let after : profile_cmp new x ≡ Greater = by_name new old x same ∙ profile_total.antisymm old x ∙ ap ordering_reverse (is_less (profile_cmp x old) before) in
+        ap (λ o. map name_of (match_ordering o (new ∷ x ∷ xs) (new ∷ xs) (x ∷ replace_key profile_cmp xs new))) after
         ∙ ap (λ ns. name_of x ∷ ns) (later f)

@@ -22,7 +22,7 @@ use opc_terms::fault::Fault;
 use opc_terms::store_fault::StoreFault;
 use std::alloc::Global;
 
-/// Tables that know which profile decides the names that are asked most often. What they answer is what the tables
+/// Tables that know which profile decides the names that were asked most recently. What they answer is what the tables
 /// answer.
 #[derive(Drop)]
 pub struct Cached<T: Tables> {

@@ -1,5 +1,5 @@
 -- What commands and events make of the board, as edits of the state.
-use Rattle.std.specs.Prelude.{◌≡◌, List, [], Some, filter}
+use Rattle.std.specs.Prelude.{◌≡◌, ℕ, List, [], Some, filter}
 use Rattle.opc_reader.specs.declared.command.Command.{Command}
 use Rattle.opc_terms.specs.declared.rule.Rule.{Rule}
 use Rattle.opc_board.specs.declared.board.BoardRows.{BoardRows}
@@ -10,6 +10,7 @@ use Rattle.opc_board.specs.Outcome.{Outcome as BoardOutcome, done_with}
 use Rattle.opc_state.specs.declared.change.Edit.{Edit}
 use Rattle.opc_state.specs.State.{State}
 use Rattle.opc_state.specs.Changes.{all_edited}
+use Rattle.opc_sights.specs.Sighted.{IsConsoleSight}
 use Rattle.opc_machine.specs.Commands.{acted}
 use Rattle.opc_machine.specs.Outcome.{Outcome, ◌>>=◌, does}
 use Rattle.opc_machine.specs.Rulings.{shown}
@@ -20,6 +21,10 @@ pub record IsActed (s : State) (o : BoardOutcome) (edits : List Edit) (lines : L
   pub makes : o ≡ done_with board lines
   pub becomes : all_edited edits s ≡ record s { board = board }
   pub idle : all_edited edits s ≡ s → edits ≡ []
+
+-- There is nothing to write of a logon or a logoff at a console, by what it sees of the board, where the state stays as it is.
+abbrev pub AreNoneWhereSame : List ℕ → BoardRows → List Edit → Type 0
+AreNoneWhereSame console board edits = (s : State) → IsConsoleSight s console board → all_edited edits s ≡ s → edits ≡ []
 
 -- What a command comes to that a rule allows: it acts on the board, and of its lines those are given that may be shown.
 abbrev pub allowed_command : State → ConsoleRow → Command → Rule → Outcome

@@ -8,7 +8,7 @@ ghost use Rattle.opc_reader.specs.Reading.{reading};
 ghost use Rattle.opc_state.specs.Asked.{Answers};
 ghost use Rattle.opc_state.specs.Changes.{IsKept};
 ghost use Rattle.opc_commands.specs.Acted.{allowed_command};
-ghost use Rattle.opc_machine.specs.Commands.{board_command as board_outcome, command_outcome, denial_fault, event_outcome, is_display, is_password, kind_named, known_by, logoff as logoff_outcome, logon_fault, logon as logon_outcome, without_need as needless_outcome, typed as typed_outcome, need_of};
+ghost use Rattle.opc_machine.specs.Commands.{board_command as board_outcome, command_outcome, denial_fault, event_outcome, is_display, is_password, kind_named, known_by, logoff as logoff_outcome, logon_fault, logon as logon_outcome, without_need as no_need_outcome, typed as typed_outcome, need_of};
 ghost use Rattle.opc_machine.specs.Deeds.{IsOutcome};
 ghost use Rattle.opc_machine.specs.Faults.{board_fault};
 ghost use Rattle.opc_machine.specs.Outcome.{does};
@@ -233,7 +233,7 @@ fn without_need<T: Tables>(
     command: &Command<'_>,
 ) -> Decided
     ensures kept { IsKept T.is_sure T.represents T.may_leave tables.old tables.new }
-    ensures outcome { Answers (T.is_sure tables.new) (T.represents tables.old) result (λ s o. console_at s.board console.now.name ≡ Some console.now → IsOutcome s (needless_outcome s console.now command.now) o) }
+    ensures outcome { Answers (T.is_sure tables.new) (T.represents tables.old) result (λ s o. console_at s.board console.now.name ≡ Some console.now → IsOutcome s (no_need_outcome s console.now command.now) o) }
 {
     match command {
         Command::Logon(id, password) => logon(tables, alloc, console, &id.value, &password.value),

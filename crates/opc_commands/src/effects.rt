@@ -7,7 +7,7 @@ ghost use Rattle.opc_board.specs.Facts.{console_at};
 ghost use Rattle.opc_state.specs.State.{State};
 ghost use Rattle.opc_state.specs.Changes.{all_edited};
 ghost use Rattle.opc_sights.specs.Sighted.{IsConsoleSight, IsEventSight, IsSight};
-ghost use Rattle.opc_commands.specs.Acted.{IsActed};
+ghost use Rattle.opc_commands.specs.Acted.{AreNoneWhereSame, IsActed};
 
 use opc_board::board::Board;
 use opc_board::event::Event;
@@ -58,7 +58,7 @@ pub(crate) fn log_on(
     requires there { console_at board console.now.name ≡ Some console.now }
     requires nobody { console.now.user ≡ None }
     ensures becomes { IfOk result (λ edits. (s : State) → IsConsoleSight s console.now.name board → all_edited edits.items s ≡ record s { board = logged_on console.now.name user s.board }) }
-    ensures idle { IfOk result (λ edits. (s : State) → IsConsoleSight s console.now.name board → all_edited edits.items s ≡ s → edits.items ≡ []) }
+    ensures idle { IfOk result (λ edits. AreNoneWhereSame console.now.name board edits.items) }
 {
     sights_suffice();
     let old = copied(alloc, &board)?;
@@ -76,7 +76,7 @@ pub(crate) fn log_off(
     requires there { console_at board console.now.name ≡ Some console.now }
     requires somebody { console.now.user ≢ None }
     ensures becomes { IfOk result (λ edits. (s : State) → IsConsoleSight s console.now.name board → all_edited edits.items s ≡ record s { board = logged_off console.now.name s.board }) }
-    ensures idle { IfOk result (λ edits. (s : State) → IsConsoleSight s console.now.name board → all_edited edits.items s ≡ s → edits.items ≡ []) }
+    ensures idle { IfOk result (λ edits. AreNoneWhereSame console.now.name board edits.items) }
 {
     sights_suffice();
     let old = copied(alloc, &board)?;

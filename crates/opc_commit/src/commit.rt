@@ -5,6 +5,7 @@ ghost use Rattle.sqlite.specs.State.{HasCleanDisk, Survives};
 ghost use Rattle.opc_statements.specs.Steps.{Stays};
 ghost use Rattle.opc_state.specs.Changes.{edited, all_edited, changed_by};
 ghost use Rattle.opc_stored.specs.Asked.{Makes};
+ghost use Rattle.opc_stored.specs.Ending.{IsUndone, IsCommitted};
 ghost use Rattle.opc_stored.specs.Represented.{Represents, AreTablesOf};
 
 use opc_board_tables::consoles::{put_console, remove_console};
@@ -85,8 +86,8 @@ fn transact<S: Alter>(alloc: Global, conn: &mut Connection<S>, change: &Change) 
     requires { conn.old.in_transaction ≡ false }
     ensures mode { conn.new.in_transaction ≡ false }
     ensures done { Makes S.Store conn.old conn.new result (changed_by change.now) }
-    ensures failed { HasCleanDisk (state S.Store conn.new) → IsTrue (state S.Store conn.new).is_open → OnErr result ((state S.Store conn.new).now ≡ (state S.Store conn.old).now) }
-    ensures settled { HasCleanDisk (state S.Store conn.new) → OnOk result (IsTrue (state S.Store conn.new).is_open × ((state S.Store conn.new).committed ≡ (state S.Store conn.new).now)) }
+    ensures failed { IsUndone S.Store conn.old conn.new result }
+    ensures settled { IsCommitted S.Store conn.new result }
     ensures survives { Survives (state S.Store conn.old) (state S.Store conn.new) (λ db. (s : _) → Represents (state S.Store conn.old).now s → AreTablesOf db (changed_by change.now s)) }
 {
     let _settled = conn.is_autocommit();

@@ -1,7 +1,8 @@
 //! The copy as a whole.
-ghost use Rattle.std.specs.Prelude.{◌≡◌, false, OnOk, OnErr, IsTrue};
+ghost use Rattle.std.specs.Prelude.{◌≡◌, false, OnOk};
 ghost use Rattle.sqlite.specs.Held.{state};
 ghost use Rattle.sqlite.specs.State.{HasCleanDisk, Survives};
+ghost use Rattle.opc_stored.specs.Ending.{IsUndone, IsCommitted};
 ghost use Rattle.opc_stored.specs.Represented.{AreTablesOf, Represents};
 ghost use Rattle.opc_old_tables.specs.Old.{RepresentsOld};
 ghost use Rattle.opc_old_tables.specs.Puts.{ArePutsOf};
@@ -19,8 +20,8 @@ fn transact<S: Alter>(conn: &mut Connection<S>, puts: &Puts) -> Result<(), Error
     requires { conn.old.in_transaction ≡ false }
     ensures mode { conn.new.in_transaction ≡ false }
     ensures done { HasCleanDisk (state S.Store conn.new) → OnOk result ((version : _) → (s : _) → RepresentsOld version (state S.Store conn.old).now s → ArePutsOf s puts.now → Represents (state S.Store conn.new).now s) }
-    ensures failed { HasCleanDisk (state S.Store conn.new) → IsTrue (state S.Store conn.new).is_open → OnErr result ((state S.Store conn.new).now ≡ (state S.Store conn.old).now) }
-    ensures settled { HasCleanDisk (state S.Store conn.new) → OnOk result (IsTrue (state S.Store conn.new).is_open × ((state S.Store conn.new).committed ≡ (state S.Store conn.new).now)) }
+    ensures failed { IsUndone S.Store conn.old conn.new result }
+    ensures settled { IsCommitted S.Store conn.new result }
     ensures survives { Survives (state S.Store conn.old) (state S.Store conn.new) (λ db. (version : _) → (s : _) → RepresentsOld version (state S.Store conn.old).now s → ArePutsOf s puts.now → AreTablesOf db s) }
 {
     let _settled = conn.is_autocommit();
@@ -38,8 +39,8 @@ pub fn copy_on<S: Alter>(conn: &mut Connection<S>) -> Result<(), StoreFault>
     requires { conn.old.in_transaction ≡ false }
     ensures mode { conn.new.in_transaction ≡ false }
     ensures done { HasCleanDisk (state S.Store conn.new) → OnOk result ((version : _) → (s : _) → RepresentsOld version (state S.Store conn.old).now s → Represents (state S.Store conn.new).now s) }
-    ensures failed { HasCleanDisk (state S.Store conn.new) → IsTrue (state S.Store conn.new).is_open → OnErr result ((state S.Store conn.new).now ≡ (state S.Store conn.old).now) }
-    ensures settled { HasCleanDisk (state S.Store conn.new) → OnOk result (IsTrue (state S.Store conn.new).is_open × ((state S.Store conn.new).committed ≡ (state S.Store conn.new).now)) }
+    ensures failed { IsUndone S.Store conn.old conn.new result }
+    ensures settled { IsCommitted S.Store conn.new result }
     ensures survives { Survives (state S.Store conn.old) (state S.Store conn.new) (λ db. (version : _) → (s : _) → RepresentsOld version (state S.Store conn.old).now s → AreTablesOf db s) }
 {
     let puts = puts_on(conn)?;

@@ -21,7 +21,7 @@ use Rattle.opc_policy.specs.Profiles.{AreProfiles, of_class}
 use Rattle.opc_decisions.specs.Deciding.{IsBefore, IsDeciding, deciding}
 use Rattle.opc_decisions.specs.Examined.{head_of, head_length, with_head, read_until, is_examined, examined}
 use Rattle.opc_decisions.proofs.MostSpecific.{of_filter, to_filter, deciding_is, class_pattern, one_is_deciding}
-use Rattle.opc_decisions.proofs.Counts.{front_fits, longer, as_long, longer_none, longer_last, longer_more, as_long_all, as_long_more}
+use Rattle.opc_decisions.proofs.Counts.{prefix_fits, longer, as_long, longer_none, longer_last, longer_more, as_long_all, as_long_more}
 
 -- their patterns are patterns
 abbrev pub HavePatterns : List Profile → Type 0
@@ -37,11 +37,11 @@ eq_or_less a k h = grind (arith, eqb_tells a k)
 module _ (profiles : List Profile) (name : List ℕ) (patterns : HavePatterns profiles) where
   head_is : (q : Profile) → Contains profiles q → CoversText q.pattern name → head_of q ≡ take (length (head_of q)) name
   head_is q m c =
-      let front = heads_are_prefixes q.pattern name (patterns q m) c in
-      sym (ap (take (length (head_of q))) front.1 ∙ take_at (head_of q) front.0 (length (head_of q)) refl)
+      let prefix = heads_are_prefixes q.pattern name (patterns q m) c in
+      sym (ap (take (length (head_of q))) prefix.1 ∙ take_at (head_of q) prefix.0 (length (head_of q)) refl)
 
   pub none_longer_start : NoneLonger profiles name (length name)
-  none_longer_start q m c = front_fits (head_of q) name (head_is q m c)
+  none_longer_start q m c = prefix_fits (head_of q) name (head_is q m c)
 
   at_head : (k : ℕ) (q : Profile) → Contains profiles q → CoversText q.pattern name → length (head_of q) ≡ k → Contains (with_head (take k name) profiles) q
   at_head k q m c e = to_filter _ profiles q m ((bytes_eq-Decides (head_of q) (take k name)).1 (rw (← e) (head_is q m c)))

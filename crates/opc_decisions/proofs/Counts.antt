@@ -56,14 +56,14 @@ pub count_none : {X : Type 0} (p : X → Bool) → ((x : X) → p x ≡ false) �
 count_none p h xs = sym (counts p xs) ∙ no_count p h xs
 
 -- a text is a prefix of a name
-pub front_is : (h name : List ℕ) → starts_with nat_eq name h ≡ true → h ≡ take (length h) name
-front_is h name e = (bytes_eq-Decides h (take (length h) name)).0 e
+pub prefix_is : (h name : List ℕ) → starts_with nat_eq name h ≡ true → h ≡ take (length h) name
+prefix_is h name e = (bytes_eq-Decides h (take (length h) name)).0 e
 
-pub front_fits : (h name : List ℕ) → h ≡ take (length h) name → length h ≤ length name
-front_fits h name e = omega (arith, ap length e, length-take (length h) name)
+pub prefix_fits : (h name : List ℕ) → h ≡ take (length h) name → length h ≤ length name
+prefix_fits h name e = omega (arith, ap length e, length-take (length h) name)
 
-front_of_take : (h name : List ℕ) (k : ℕ) → k ≤ length name → h ≡ take k name → (length h ≡ k) × (starts_with nat_eq name h ≡ true)
-front_of_take h name k fits e =
+prefix_of_take : (h name : List ℕ) (k : ℕ) → k ≤ length name → h ≡ take k name → (length h ≡ k) × (starts_with nat_eq name h ≡ true)
+prefix_of_take h name k fits e =
     let l : length h ≡ k = ap length e ∙ length-take-le k name fits in
     (l, (bytes_eq-Decides h (take (length h) name)).1 (rw l e))
 
@@ -71,14 +71,14 @@ one_step : (h name : List ℕ) (k : ℕ) → k ≤ length name → OneOf (starts
 one_step h name k fits = go (starts_with nat_eq name h) (bytes_eq h (take k name)) refl refl
   where
     go : (a b : Bool) → starts_with nat_eq name h ≡ a → bytes_eq h (take k name) ≡ b → OneOf (a && nat_lt k (length h)) b (a && nat_le k (length h))
-    go true true e f = let l = (front_of_take h name k fits ((bytes_eq-Decides h (take k name)).0 f)).0 in inr (inl (grind (arith, nat_tests), refl, grind (arith, nat_tests)))
+    go true true e f = let l = (prefix_of_take h name k fits ((bytes_eq-Decides h (take k name)).0 f)).0 in inr (inl (grind (arith, nat_tests), refl, grind (arith, nat_tests)))
     go true false e f =
-        let other : length h ≡ k → ⊥ = λ l. (let g : h ≡ take k name = rw l at (front_is h name e) in let t = (bytes_eq-Decides h (take k name)).1 g in cc) in
+        let other : length h ≡ k → ⊥ = λ l. (let g : h ≡ take k name = rw l at (prefix_is h name e) in let t = (bytes_eq-Decides h (take k name)).1 g in cc) in
         elim (leb_tells (k + 1) (length h)) [
           | inl m ↦ inl (grind (arith, nat_tests), refl, grind (arith, nat_tests))
           | inr m ↦ inr (inr (grind (arith, nat_tests), refl, grind (arith, nat_tests)))
         ]
-    go false true e f = let t = (front_of_take h name k fits ((bytes_eq-Decides h (take k name)).0 f)).1 in cc
+    go false true e f = let t = (prefix_of_take h name k fits ((bytes_eq-Decides h (take k name)).0 f)).1 in cc
     go false false e f = inr (inr (refl, refl, refl))
 
 longer_or_not : (b : Bool) → OneOf b false (b || false)
@@ -89,10 +89,10 @@ one_last : (h name : List ℕ) (k : ℕ) (b : Bool) → k ≤ length name → On
 one_last h name k b fits = go (starts_with nat_eq name h) (bytes_eq h (take k name)) b refl refl
   where
     go : (a c d : Bool) → starts_with nat_eq name h ≡ a → bytes_eq h (take k name) ≡ c → OneOf (a && nat_lt k (length h)) (c && d) (a && (nat_lt k (length h) || (c && d)))
-    go true true true e f = (let l = (front_of_take h name k fits ((bytes_eq-Decides h (take k name)).0 f)).0 in let m : nat_lt k (length h) ≡ false = grind (arith, nat_tests) in rw m (inr (inl (refl, refl, refl))))
-    go true true false e f = (let l = (front_of_take h name k fits ((bytes_eq-Decides h (take k name)).0 f)).0 in let m : nat_lt k (length h) ≡ false = grind (arith, nat_tests) in rw m (inr (inr (refl, refl, refl))))
+    go true true true e f = (let l = (prefix_of_take h name k fits ((bytes_eq-Decides h (take k name)).0 f)).0 in let m : nat_lt k (length h) ≡ false = grind (arith, nat_tests) in rw m (inr (inl (refl, refl, refl))))
+    go true true false e f = (let l = (prefix_of_take h name k fits ((bytes_eq-Decides h (take k name)).0 f)).0 in let m : nat_lt k (length h) ≡ false = grind (arith, nat_tests) in rw m (inr (inr (refl, refl, refl))))
     go true false d e f = longer_or_not (nat_lt k (length h))
-    go false true d e f = let t = (front_of_take h name k fits ((bytes_eq-Decides h (take k name)).0 f)).1 in cc
+    go false true d e f = let t = (prefix_of_take h name k fits ((bytes_eq-Decides h (take k name)).0 f)).1 in cc
     go false false d e f = inr (inr (refl, refl, refl))
 
 -- how many profiles have a longer head that the name begins with, and how many one at least as long
@@ -115,7 +115,7 @@ pub longer_none : (name : List ℕ) (profiles : List Profile) → longer name (l
 longer_none name profiles = count_none _ (λ p. none (head_of p) (starts_with nat_eq name (head_of p)) refl) profiles
   where
     none : (h : List ℕ) (a : Bool) → starts_with nat_eq name h ≡ a → (a && nat_lt (length name) (length h)) ≡ false
-    none h true e = let l = front_fits h name (front_is h name e) in grind (arith, nat_tests)
+    none h true e = let l = prefix_fits h name (prefix_is h name e) in grind (arith, nat_tests)
     none h false e = refl
 
 and_at_least : (a : Bool) (n : ℕ) → (a && nat_le 0 n) ≡ a

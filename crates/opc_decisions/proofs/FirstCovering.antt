@@ -51,27 +51,27 @@ AreBefore profiles = AllPairs (λ (p q : Profile). is_before p q ≡ true) profi
 abbrev pub NoneCovers : List ℕ → List Profile → Type 0
 NoneCovers resource profiles = All (λ (p : Profile). covers_text p.pattern resource ≡ false) profiles
 
-module _ (resource : List ℕ) (before : List Profile) (d : Profile) (behind : List Profile) (order : AreBefore (before ++ d ∷ behind)) where
-  later : (q : Profile) → Contains behind q → is_before q d ≡ false
-  later q m = ordered.one_way d q (All-contains (λ (p : Profile). is_before d p ≡ true) behind q (related_after (λ (p q : Profile). is_before p q ≡ true) before d behind order) m)
+module _ (resource : List ℕ) (before : List Profile) (d : Profile) (after : List Profile) (order : AreBefore (before ++ d ∷ after)) where
+  later : (q : Profile) → Contains after q → is_before q d ≡ false
+  later q m = ordered.one_way d q (All-contains (λ (p : Profile). is_before d p ≡ true) after q (related_after (λ (p q : Profile). is_before p q ≡ true) before d after order) m)
 
-  stays : (o : Option Profile) → FirstIs (covering resource behind) o → first_with d o ≡ d
+  stays : (o : Option Profile) → FirstIs (covering resource after) o → first_with d o ≡ d
   unfolding FirstIs
   stays None h = refl
-  stays (Some q) h = rw (later q (of_filter (λ (p : Profile). covers_text p.pattern resource) behind q h.0).0) refl
+  stays (Some q) h = rw (later q (of_filter (λ (p : Profile). covers_text p.pattern resource) after q h.0).0) refl
 
-  pub found_first : NoneCovers resource before → covers_text d.pattern resource ≡ true → deciding (before ++ d ∷ behind) resource ≡ Some d
+  pub found_first : NoneCovers resource before → covers_text d.pattern resource ≡ true → deciding (before ++ d ∷ after) resource ≡ Some d
   found_first none covered =
       let covers : Profile → Bool = λ p. covers_text p.pattern resource in
-      let parts : covering resource (before ++ d ∷ behind) ≡ d ∷ covering resource behind = filter-append covers before (d ∷ behind) ∙ rw (kept_none covers before none, covered) refl in
-      ap first_of parts ∙ ap Some (stays (first_of (covering resource behind)) (first_is (covering resource behind)))
+      let parts : covering resource (before ++ d ∷ after) ≡ d ∷ covering resource after = filter-append covers before (d ∷ after) ∙ rw (kept_none covers before none, covered) refl in
+      ap first_of parts ∙ ap Some (stays (first_of (covering resource after)) (first_is (covering resource after)))
 
-  pub read_first : length (read_until (Some d) (before ++ d ∷ behind)) ≡ length before + 1
+  pub read_first : length (read_until (Some d) (before ++ d ∷ after)) ≡ length before + 1
   read_first =
       let read : Profile → Bool = λ p. not (is_before d p) in
-      let earlier : All (λ p. read p ≡ true) before = λ k e l. ap not (ordered.one_way (get_or before k e) d (related_before (λ (p q : Profile). is_before p q ≡ true) before d behind order k e l)) in
-      let not_later : All (λ p. read p ≡ false) behind = λ k e l. ap not (related_after (λ (p q : Profile). is_before p q ≡ true) before d behind order k e l) in
-      let parts : read_until (Some d) (before ++ d ∷ behind) ≡ before ++ d ∷ [] = filter-append read before (d ∷ behind) ∙ rw (kept_all read before earlier, not_before_itself d, kept_none read behind not_later) refl in
+      let earlier : All (λ p. read p ≡ true) before = λ k e l. ap not (ordered.one_way (get_or before k e) d (related_before (λ (p q : Profile). is_before p q ≡ true) before d after order k e l)) in
+      let not_later : All (λ p. read p ≡ false) after = λ k e l. ap not (related_after (λ (p q : Profile). is_before p q ≡ true) before d after order k e l) in
+      let parts : read_until (Some d) (before ++ d ∷ after) ≡ before ++ d ∷ [] = filter-append read before (d ∷ after) ∙ rw (kept_all read before earlier, not_before_itself d, kept_none read after not_later) refl in
       ap length parts ∙ length-append before (d ∷ [])
 
 pub none_found : (resource : List ℕ) (profiles : List Profile) → NoneCovers resource profiles → deciding profiles resource ≡ None
@@ -116,19 +116,19 @@ module _ (chosen : Profile → Bool) (resource : List ℕ) (done : List Profile)
         none = subst (NoneCovers resource) (sym more) (All-push (λ (q : Profile). covers_text q.pattern resource ≡ false) (filter chosen done) p so_far.none uncovered);
       }
 
-  module _ (all behind : List Profile) (is : all ≡ done ++ p ∷ behind) (order : AreBefore (filter chosen all)) (here : chosen p ≡ true) where
-    parts : filter chosen all ≡ filter chosen done ++ p ∷ filter chosen behind
-    parts = ap (filter chosen) is ∙ filter-append chosen done (p ∷ behind) ∙ rw here refl
+  module _ (all after : List Profile) (is : all ≡ done ++ p ∷ after) (order : AreBefore (filter chosen all)) (here : chosen p ≡ true) where
+    parts : filter chosen all ≡ filter chosen done ++ p ∷ filter chosen after
+    parts = ap (filter chosen) is ∙ filter-append chosen done (p ∷ after) ∙ rw here refl
 
     pub unfound_now : covers_text p.pattern resource ≡ true → Some p ≡ deciding (filter chosen all) resource
-    unfound_now covered = sym (rw parts (found_first resource (filter chosen done) p (filter chosen behind) (subst AreBefore parts order) so_far.none covered))
+    unfound_now covered = sym (rw parts (found_first resource (filter chosen done) p (filter chosen after) (subst AreBefore parts order) so_far.none covered))
 
     pub read_now : rows + 1 ≡ length (read_until (Some p) (filter chosen all))
-    read_now = sym (rw (parts, so_far.count) (read_first resource (filter chosen done) p (filter chosen behind) (subst AreBefore parts order)))
+    read_now = sym (rw (parts, so_far.count) (read_first resource (filter chosen done) p (filter chosen after) (subst AreBefore parts order)))
 
 -- fewer are read than there are
-pub few_rows : (chosen : Profile → Bool) (resource : List ℕ) (done : List Profile) (rows : ℕ) (all : List Profile) (p : Profile) (behind : List Profile) → Unfound chosen resource done rows → all ≡ done ++ p ∷ behind → rows + 1 ≤ length all
-few_rows chosen resource done rows all p behind so_far is =
+pub few_rows : (chosen : Profile → Bool) (resource : List ℕ) (done : List Profile) (rows : ℕ) (all : List Profile) (p : Profile) (after : List Profile) → Unfound chosen resource done rows → all ≡ done ++ p ∷ after → rows + 1 ≤ length all
+few_rows chosen resource done rows all p after so_far is =
     let count = so_far.count in
     let few : length (filter chosen done) ≤ length done = rw length-filter (count_by-le-length chosen done) in
     rw (is, length-append) (omega (arith, count, few))

@@ -62,19 +62,19 @@ itself : (a : List ℕ) → bytes_eq a a ≡ true
 itself a = (bytes_eq-Decides a a).1 refl
 
 -- whoever is in a list is found there
-found_in : (front : List User) (u : User) (back : List User) → is_some (user_of (front ++ u ∷ back) u.id) ≡ true
+found_in : (prefix : List User) (u : User) (back : List User) → is_some (user_of (prefix ++ u ∷ back) u.id) ≡ true
 found_in [] u back = ap (λ b. is_some (cond b (Some u) (user_of back u.id))) (itself u.id)
-found_in (v ∷ front) u back = go (bytes_eq u.id v.id) (found_in front u back)
+found_in (v ∷ prefix) u back = go (bytes_eq u.id v.id) (found_in prefix u back)
   where
-    go : (b : Bool) → is_some (user_of (front ++ u ∷ back) u.id) ≡ true → is_some (cond b (Some v) (user_of (front ++ u ∷ back) u.id)) ≡ true
+    go : (b : Bool) → is_some (user_of (prefix ++ u ∷ back) u.id) ≡ true → is_some (cond b (Some v) (user_of (prefix ++ u ∷ back) u.id)) ≡ true
     go true more = refl
     go false more = more
 
-all_found : (front back : List User) → AllByRecursion (λ (u : User). is_some (user_of (front ++ back) u.id) ≡ true) back
-all_found front [] = tt
-all_found front (u ∷ back) = (
-  found_in front u back,
-  subst (λ (us : List User). AllByRecursion (λ (v : User). is_some (user_of us v.id) ≡ true) back) (append_assoc front (u ∷ []) back) (all_found (front ++ u ∷ []) back),
+all_found : (prefix back : List User) → AllByRecursion (λ (u : User). is_some (user_of (prefix ++ back) u.id) ≡ true) back
+all_found prefix [] = tt
+all_found prefix (u ∷ back) = (
+  found_in prefix u back,
+  subst (λ (us : List User). AllByRecursion (λ (v : User). is_some (user_of us v.id) ≡ true) back) (append_assoc prefix (u ∷ []) back) (all_found (prefix ++ u ∷ []) back),
 )
 
 compares_equal : (x q : Profile) → same_class x.class q.class ≡ true → bytes_eq x.pattern q.pattern ≡ true → profile_cmp x q ≡ Equal
@@ -178,39 +178,39 @@ module _ (p : Policy) (facts : IsPolicy p) (order : IsOrdered p) where
       profile_taken p.profiles order.profiles facts.profiles
 
   -- the access list of a profile between those that have theirs and those that have none yet
-  module _ (front : List Profile) (q : Profile) (back : List Profile) (behind : AllByRecursion (λ (r : Profile). is_lt (profile_cmp r q) ≡ true) front) where
+  module _ (prefix : List Profile) (q : Profile) (back : List Profile) (after : AllByRecursion (λ (r : Profile). is_lt (profile_cmp r q) ≡ true) prefix) where
     abbrev listing : List Entry → List Profile
-    listing entries = front ++ record q { entries = entries } ∷ back
+    listing entries = prefix ++ record q { entries = entries } ∷ back
 
     entry_taken : (done : List Entry) (e : Entry) → AllByRecursion (λ (f : Entry). is_lt (entry_cmp f e) ≡ true) done → IsEntryOfStored p e
         → after_row (row_of_entry q.class q.pattern e) (of_profiles (listing done)) ≡ Ok (of_profiles (listing (done ++ e ∷ [])))
     entry_taken done e all stored =
         ap (λ (o : Option Profile). needing (is_some o) q.pattern (needing (has_holder p e.id) e.id (Ok (of_profiles (option_map_or (λ (r : Profile). with_profile (record r { entries = with_entry e r.entries }) (listing done)) o (listing done)))))) known
         ∙ ap (λ b. needing b e.id (Ok (of_profiles (with_profile (record q { entries = with_entry e done }) (listing done))))) stored
-        ∙ ap (λ qs. Ok (of_profiles qs)) (replace_middle profile_cmp profile_total front (record q { entries = with_entry e done }) (record q { entries = done }) back behind (tied_itself profile_total q))
+        ∙ ap (λ qs. Ok (of_profiles qs)) (replace_middle profile_cmp profile_total prefix (record q { entries = with_entry e done }) (record q { entries = done }) back after (tied_itself profile_total q))
         ∙ ap (λ es. Ok (of_profiles (listing es))) (replace_last entry_cmp entry_total done e all)
       where
         known : profile_of (listing done) q.class q.pattern ≡ Some (record q { entries = done })
         known =
-            find_past (is_of q.class q.pattern) front (record q { entries = done } ∷ back)
-            (all_of (λ (r : Profile). is_lt (profile_cmp r q) ≡ true) (λ (r : Profile). is_of q.class q.pattern r ≡ false) (λ r less. not_of r q less) front behind)
+            find_past (is_of q.class q.pattern) prefix (record q { entries = done } ∷ back)
+            (all_of (λ (r : Profile). is_lt (profile_cmp r q) ≡ true) (λ (r : Profile). is_of q.class q.pattern r ≡ false) (λ r less. not_of r q less) prefix after)
             ∙ ap (λ b. cond b (Some (record q { entries = done })) (find (is_of q.class q.pattern) back)) (is_its_own q)
 
     list_taken : Ascends (λ (e f : Entry). is_lt (entry_cmp e f)) q.entries → AllByRecursion (IsEntryOfStored p) q.entries
-        → policy_after (permits_of q) (of_profiles (listing [])) ≡ Ok (of_profiles (front ++ q ∷ back))
+        → policy_after (permits_of q) (of_profiles (listing [])) ≡ Ok (of_profiles (prefix ++ q ∷ back))
     list_taken ascends stored =
         all_taken (row_of_entry q.class q.pattern) (λ es. of_profiles (listing es)) (λ (e f : Entry). is_lt (entry_cmp e f)) (IsEntryOfStored p) entry_taken q.entries ascends stored
 
-  lists_from : (front back : List Profile) → Ascends (λ (q r : Profile). is_lt (profile_cmp q r)) (front ++ back)
+  lists_from : (prefix back : List Profile) → Ascends (λ (q r : Profile). is_lt (profile_cmp q r)) (prefix ++ back)
       → AllByRecursion (λ (q : Profile). Ascends (λ (e f : Entry). is_lt (entry_cmp e f)) q.entries) back → AllByRecursion (IsProfileOfStored p) back
-      → policy_after (flat_map permits_of back) (of_profiles (front ++ map bare back)) ≡ Ok (of_profiles (front ++ back))
-  lists_from front [] ascends entries stored = refl
-  lists_from front (q ∷ back) ascends entries stored =
-      let same : (front ++ q ∷ []) ++ back ≡ front ++ q ∷ back = append_assoc front (q ∷ []) back in
-      then_rows (permits_of q) (flat_map permits_of back) (of_profiles (front ++ bare q ∷ map bare back)) (of_profiles (front ++ q ∷ map bare back)) (of_profiles (front ++ q ∷ back))
-      (list_taken front q (map bare back) (all_before (λ (r s : Profile). is_lt (profile_cmp r s)) front q back ascends) entries.0 stored.0.1)
-      (ap (λ qs. policy_after (flat_map permits_of back) (of_profiles qs)) (sym (append_assoc front (q ∷ []) (map bare back)))
-      ∙ lists_from (front ++ q ∷ []) back (subst (Ascends (λ (r s : Profile). is_lt (profile_cmp r s))) (sym same) ascends) entries.1 stored.1
+      → policy_after (flat_map permits_of back) (of_profiles (prefix ++ map bare back)) ≡ Ok (of_profiles (prefix ++ back))
+  lists_from prefix [] ascends entries stored = refl
+  lists_from prefix (q ∷ back) ascends entries stored =
+      let same : (prefix ++ q ∷ []) ++ back ≡ prefix ++ q ∷ back = append_assoc prefix (q ∷ []) back in
+      then_rows (permits_of q) (flat_map permits_of back) (of_profiles (prefix ++ bare q ∷ map bare back)) (of_profiles (prefix ++ q ∷ map bare back)) (of_profiles (prefix ++ q ∷ back))
+      (list_taken prefix q (map bare back) (all_before (λ (r s : Profile). is_lt (profile_cmp r s)) prefix q back ascends) entries.0 stored.0.1)
+      (ap (λ qs. policy_after (flat_map permits_of back) (of_profiles qs)) (sym (append_assoc prefix (q ∷ []) (map bare back)))
+      ∙ lists_from (prefix ++ q ∷ []) back (subst (Ascends (λ (r s : Profile). is_lt (profile_cmp r s))) (sym same) ascends) entries.1 stored.1
       ∙ ap (λ qs. Ok (of_profiles qs)) same)
 
   past_consoles : (consoles : List ConsoleRow) (q : Policy) → policy_after (map row_of_console consoles) q ≡ Ok q

@@ -89,14 +89,14 @@ logoff_kept s c facts =
     then_kept (refuse_if fault.NotOn None (is_none c.user)) (λ _. does (record s { board = logged_off c.name s.board }) [] None)
     (λ _ _. with_board_kept s (logged_off c.name s.board) facts (changed_kept s.policy c.name (λ (d : ConsoleRow). record d { user = None }) s.board (λ d. refl) (λ d was. tt) (facts.state.board, facts.state.logons)))
 
-needless_kept : (s : State) (c : ConsoleRow) (k : Command) → HasFacts s → IfDoes (without_need s c k)
-needless_kept s c (command.Logon id password) facts = logon_kept s c id.value password.value facts
-needless_kept s c command.Logoff facts = logoff_kept s c facts
-needless_kept s c other facts = facts
+no_need_kept : (s : State) (c : ConsoleRow) (k : Command) → HasFacts s → IfDoes (without_need s c k)
+no_need_kept s c (command.Logon id password) facts = logon_kept s c id.value password.value facts
+no_need_kept s c command.Logoff facts = logoff_kept s c facts
+no_need_kept s c other facts = facts
 
 typed_kept : (s : State) (c : ConsoleRow) (k : Command) (need : Option Need) → HasFacts s → IfDoes (typed s c k need)
 typed_kept s c k (Some need) facts = board_command_kept s c k need facts
-typed_kept s c k None facts = needless_kept s c k facts
+typed_kept s c k None facts = no_need_kept s c k facts
 
 command_kept : (s : State) (name text : List ℕ) → HasFacts s → IfDoes (command_outcome s name text)
 command_kept s name text facts =

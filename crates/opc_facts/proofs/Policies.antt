@@ -90,29 +90,29 @@ some_replaced {K} cmp test k (x ∷ xs) ties = go (cmp k x) refl (some_replaced 
     compares_equal true b same = refl
     compares_equal false b same = sym (ap (λ (t : Bool). is_some (if t then Some x else find test xs)) same)
 
-    behind : (a : Bool) → is_some (find test (replace_key cmp xs k)) ≡ (test k || is_some (find test xs)) → is_some (if a then Some x else find test (replace_key cmp xs k)) ≡ (test k || is_some (if a then Some x else find test xs))
-    behind true later = sym (or_true (test k))
-    behind false later = later
+    after : (a : Bool) → is_some (find test (replace_key cmp xs k)) ≡ (test k || is_some (find test xs)) → is_some (if a then Some x else find test (replace_key cmp xs k)) ≡ (test k || is_some (if a then Some x else find test xs))
+    after true later = sym (or_true (test k))
+    after false later = later
 
     go : (o : Ordering) → cmp k x ≡ o → is_some (find test (replace_key cmp xs k)) ≡ (test k || is_some (find test xs))
         → is_some (find test (match_ordering o (k ∷ x ∷ xs) (k ∷ xs) (x ∷ replace_key cmp xs k))) ≡ (test k || is_some (if test x then Some x else find test xs))
     go Less same later = first (test k) (if test x then Some x else find test xs)
     go Equal same later = compares_equal (test k) (test x) (ties x same)
-    go Greater same later = behind (test x) later
+    go Greater same later = after (test x) later
 
 -- one that is inserted leaves the others
 any_inserted : {K : Type 0} (cmp : K → K → Ordering) (test : K → Bool) (k : K) (xs : List K) → list_any test xs ≡ true → list_any test (insert_key cmp xs k) ≡ true
 any_inserted cmp test k [] there = absurd (search (rules, there))
 any_inserted {K} cmp test k (x ∷ xs) there = go (cmp k x) (any_inserted cmp test k xs)
   where
-    behind : (a : Bool) → (list_any test xs ≡ true → list_any test (insert_key cmp xs k) ≡ true) → (a || list_any test xs) ≡ true → (a || list_any test (insert_key cmp xs k)) ≡ true
-    behind true later h = refl
-    behind false later h = later h
+    after : (a : Bool) → (list_any test xs ≡ true → list_any test (insert_key cmp xs k) ≡ true) → (a || list_any test xs) ≡ true → (a || list_any test (insert_key cmp xs k)) ≡ true
+    after true later h = refl
+    after false later h = later h
 
     go : (o : Ordering) → (list_any test xs ≡ true → list_any test (insert_key cmp xs k) ≡ true) → list_any test (match_ordering o (k ∷ x ∷ xs) (x ∷ xs) (x ∷ insert_key cmp xs k)) ≡ true
     go Less later = ap (λ b. test k || b) there ∙ or_true (test k)
     go Equal later = there
-    go Greater later = behind (test x) later there
+    go Greater later = after (test x) later there
 
 -- fewer are found among fewer
 fewer_found : {K : Type 0} (test keep : K → Bool) (xs : List K) → is_some (find test xs) ≡ false → is_some (find test (filter keep xs)) ≡ false

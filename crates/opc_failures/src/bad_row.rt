@@ -14,7 +14,7 @@ const SHOWN_CHARACTERS: usize = 39;
 /// The most bytes that these have.
 const SHOWN_BYTES: usize = 4 * SHOWN_CHARACTERS;
 
-/// A bad row of a policy file behind its header: which it is, and what is wrong with it first.
+/// A bad row of a policy file after its header: which it is, and what is wrong with it first.
 #[derive(Clone, Copy)]
 pub struct BadRow {
     number: u32,
@@ -67,7 +67,7 @@ impl Display for FieldStart {
 }
 
 impl BadRow {
-    /// The row of this number in the text of a policy file, which is refused for this reason, where it is behind the
+    /// The row of this number in the text of a policy file, which is refused for this reason, where it is after the
     /// header and there is memory to read it again.
     pub fn find(alloc: Global, text: &str, number: u32, why: Why) -> Option<Self> {
         let record = record_at(alloc, text, number)?;

@@ -58,7 +58,7 @@ module _ {T L : Type 0} (is_sure : T → Type 0) (represents may_leave : T → S
       record {
         before = take i rs;
         request = r;
-        behind = drop (i + 1) rs;
+        later = drop (i + 1) rs;
         are = sym (take-append-drop (i + 1) rs) ∙ ap (λ qs. qs ++ drop (i + 1) rs) all ∙ append_assoc (take i rs) (r ∷ []) (drop (i + 1) rs);
         answers = far.answers;
         answer = answer;

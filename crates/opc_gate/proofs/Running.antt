@@ -28,12 +28,12 @@ runs_long s (r ∷ rs) (a ∷ answers) last runs = ap suc (runs_long runs.0 rs a
 made_before : (s : State) (rs : List (ℕ × Request)) (answers : List Answer) (last made : State) (r : ℕ × Request) (answer : Answer) → Runs s (inputs_of rs) answers last
     → IsMadeByOne s rs answers made → IsMadeByOne s (rs ++ r ∷ []) (answers ++ answer ∷ []) made
 made_before s rs answers last made r answer runs m =
-    let few : length m.before ≤ length answers = omega (arith, runs_long s rs answers last runs, ap length m.are, length-append m.before (m.request ∷ m.behind)) in
+    let few : length m.before ≤ length answers = omega (arith, runs_long s rs answers last runs, ap length m.are, length-append m.before (m.request ∷ m.later)) in
     record {
       before = m.before;
       request = m.request;
-      behind = m.behind ++ r ∷ [];
-      are = ap (λ qs. qs ++ r ∷ []) m.are ∙ append_assoc m.before (m.request ∷ m.behind) (r ∷ []);
+      later = m.later ++ r ∷ [];
+      are = ap (λ qs. qs ++ r ∷ []) m.are ∙ append_assoc m.before (m.request ∷ m.later) (r ∷ []);
       met = m.met;
       runs = subst (λ given. Runs s (inputs_of m.before) given m.met) (sym (take-append-le (length m.before) answers (answer ∷ []) few)) m.runs;
       makes = m.makes;
@@ -48,7 +48,7 @@ made_last s rs answers mid made r answer runs makes =
     record {
       before = rs;
       request = r;
-      behind = [];
+      later = [];
       are = refl;
       met = mid;
       runs = subst (λ given. Runs s (inputs_of rs) given mid) (sym all) runs;

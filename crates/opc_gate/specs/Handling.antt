@@ -50,8 +50,8 @@ pub record IsHandled {T : Type 0} (represents may_leave : T → State → Type 0
 pub record IsMadeByOne (s : State) (requests : List (ℕ × Request)) (answers : List Answer) (made : State) : Type 0 where
   pub before : List (ℕ × Request)
   pub request : ℕ × Request
-  pub behind : List (ℕ × Request)
-  pub are : requests ≡ before ++ request ∷ behind
+  pub later : List (ℕ × Request)
+  pub are : requests ≡ before ++ request ∷ later
   pub met : State
   pub runs : Runs s (inputs_of before) (take (length before) answers) met
   pub makes : made ≡ after met request.0 (input_of request.1) (outcome met (input_of request.1))

@@ -23,8 +23,8 @@ module _ {T L : Type 0} (is_sure : T → Type 0) (represents may_leave : T → S
   pub record IsEndedRun {F : Type 0} (missed : L → ℕ → Answer → L → F → Type 0) (old new : T) (requests : List (ℕ × Request)) (from to : L) (fault : F) : Type 0 where
     pub before : List (ℕ × Request)
     pub request : ℕ × Request
-    pub behind : List (ℕ × Request)
-    pub are : requests ≡ before ++ request ∷ behind
+    pub later : List (ℕ × Request)
+    pub are : requests ≡ before ++ request ∷ later
     pub answers : List Answer
     pub answer : Answer
     pub run : is_sure new → (s : State) → represents old s → IsRun represents may_leave old new s (before ++ request ∷ []) (answers ++ answer ∷ [])

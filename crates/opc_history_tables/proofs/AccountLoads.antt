@@ -14,7 +14,7 @@ use Rattle.sqlite_value.specs.declared.keys.Collation.TheVariants.{Binary}
 use Rattle.sqlite_tied.specs.Compute.{everything}
 use Rattle.opc_statements.proofs.Asked.{Asked, IsPaged, by_columns, columns, numbers_listed, pages}
 use Rattle.opc_statements.proofs.Numbered.{number_cmp}
-use Rattle.opc_statements.proofs.Places.{placed, place_cmp, placed_row, placed_rows, placed_rises, placed_behind}
+use Rattle.opc_statements.proofs.Places.{placed, place_cmp, placed_row, placed_rows, placed_rises, placed_after}
 use Rattle.opc_statements.proofs.Values.{number_past, and_true}
 use Rattle.opc_state.specs.declared.account.AccountRow.{AccountRow}
 use Rattle.opc_state.specs.Loads.{asked_for, numbered}
@@ -80,9 +80,9 @@ account_told old new s was last count rows h =
     let it = pages account params (col 0 1) account_asked old new was.rows.schema rows h in
     let found : it.all ≡ map numbered_shown (filter (λ (p : ℕ × AccountRow). nat_lt last p.0) (placed 1 xs)) =
     numbers_listed account params (placed_row account_values) place_cmp (λ p q less. rw (number_cmp p.0 q.0, less)) (λ p. nat_lt last p.0) (λ p. and_true _ ∙ number_past p.0 last) old.now.trees (placed 1 xs) (placed_rises 1 xs) (was.rows.holds.account ∙ placed_rows account_values 1 xs) it.all it.lists in
-    let behind : suc last - 1 ≡ last = omega arith in
+    let after : suc last - 1 ≡ last = omega arith in
     let past : filter (λ (p : ℕ × AccountRow). nat_lt last p.0) (placed 1 xs) ≡ drop last (numbered xs) =
-    placed_behind last 1 xs ∙ (ap (λ (n : ℕ). drop n (placed 1 xs)) behind ∙ ap (drop last) (placed_numbered 1 xs)) in
+    placed_after last 1 xs ∙ (ap (λ (n : ℕ). drop n (placed 1 xs)) after ∙ ap (drop last) (placed_numbered 1 xs)) in
     it.are ∙ (ap (take count) (found ∙ ap (map numbered_shown) past) ∙ take-map numbered_shown count (drop last (numbered xs)))
 
 -- a page without its numbers

@@ -38,8 +38,8 @@ takes-more first more before mid after a b = record {
 }
 
 -- some bytes, and then a read of no more than is left of a limit
-pub takes-behind : (most len : ℕ) (before mid after : Option (List ℕ)) (bytes : List ℕ) → Consumes before mid bytes → length bytes ≤ most → length bytes ≡ len → TakesAtMost (most - len) mid after → TakesAtMost most before after
-takes-behind most len before mid after bytes first fits same more = record {
+pub takes-after : (most len : ℕ) (before mid after : Option (List ℕ)) (bytes : List ℕ) → Consumes before mid bytes → length bytes ≤ most → length bytes ≡ len → TakesAtMost (most - len) mid after → TakesAtMost most before after
+takes-after most len before mid after bytes first fits same more = record {
   taken = bytes ++ more.taken;
   consumes = consumes-more before mid after bytes more.taken first more.consumes;
   few = let two = more.few in omega (arith, two, fits, same, length-append bytes more.taken);

@@ -6,7 +6,7 @@ use Rattle.std.proofs.lemmas.Bool.Decides.{nat_tests}
 use Rattle.std.proofs.lemmas.List.{append-nil, drop-append-le, length-drop, take-append-le}
 use Rattle.opc_http_link.specs.Reads.{Reads, ReadsMore, ReadsOnce, TakesAtMost}
 use Rattle.opc_http_link.specs.declared.source.ReadFault.{ReadFault}
-use Rattle.opc_http_link.proofs.Reading.{consumes-more, consumes-none, one-read-more, takes-behind}
+use Rattle.opc_http_link.proofs.Reading.{consumes-more, consumes-none, one-read-more, takes-after}
 use Rattle.opc_http_head.specs.declared.refusal.Refusal.TheVariants.{BadRequest}
 use Rattle.opc_http_requests.specs.Bodies.{MayFill, ReadsTo}
 use Rattle.opc_http_requests.specs.Requests.{body_in}
@@ -56,7 +56,7 @@ takes-failed end first filled before mid after old buf was is so more =
     let long : length buf ≡ length old + length so.moved = ap length so.buffer ∙ length-append old so.moved in
     let left : end - filled ≡ (end - first) - length so.moved = omega (arith, long, was, is) in
     let few : length so.moved ≤ end - first = let h = so.few in omega (arith, h, was) in
-    takes-behind (end - first) (length so.moved) before mid after so.moved so.consumes few refl (rw left at more)
+    takes-after (end - first) (length so.moved) before mid after so.moved so.consumes few refl (rw left at more)
 
 -- one read more
 pub filled : {S : Type 0} (left : S → Option (List ℕ)) (gives : S → List ℕ → S → Type 0) (end : ℕ) (first mid last : S) (start buf new bytes : List ℕ) (most : ℕ) (result : Result ℕ ReadFault)
@@ -74,16 +74,16 @@ all-bytes old moved new left rest e f = ap (λ (t : List ℕ). old ++ t) f ∙ s
 -- a body that is there
 there : (len n : ℕ) (new rest : List ℕ) → len + n ≤ length new → body_in n (drop len (new ++ rest)) ≡ Ok (slice_range new len (len + n))
 there len n new rest long =
-    let behind : drop len (new ++ rest) ≡ drop len new ++ rest = drop-append-le len new rest (omega (arith, long)) in
+    let later : drop len (new ++ rest) ≡ drop len new ++ rest = drop-append-le len new rest (omega (arith, long)) in
     let low : n ≤ length (drop len new) = omega (arith, length-drop len new, long) in
     let fits : nat_le n (length (drop len new ++ rest)) ≡ true = grind (arith, nat_tests, length-append (drop len new) rest, low) in
     let count : len + n - len ≡ n = omega arith in
-    rw (behind, fits, count, take-append-le n (drop len new) rest low) refl
+    rw (later, fits, count, take-append-le n (drop len new) rest low) refl
 
 -- a body that is not
 missing : (len n : ℕ) (new : List ℕ) → len ≤ length new → length new < len + n → body_in n (drop len new) ≡ Err BadRequest
-missing len n new behind short =
-    let few : length (drop len new) < n = omega (arith, length-drop len new, behind, short) in
+missing len n new later short =
+    let few : length (drop len new) < n = omega (arith, length-drop len new, later, short) in
     let test : nat_le n (length (drop len new)) ≡ false = grind (arith, nat_tests, few) in
     rw test refl
 
@@ -100,12 +100,12 @@ body-missing (Some left) None old new len n low read = absurd read.consumes
 body-missing (Some left) (Some rest) old new len n low read =
     let short : length new < len + n = read.is.0 in
     let none : rest ≡ [] = read.is.1 in
-    let behind : len ≤ length new = omega (arith, low, ap length read.buffer, length-append old read.moved) in
-    rw (all-bytes old read.moved new left rest read.buffer read.consumes, none, append-nil new) (missing len n new behind short)
+    let later : len ≤ length new = omega (arith, low, ap length read.buffer, length-append old read.moved) in
+    rw (all-bytes old read.moved new left rest read.buffer read.consumes, none, append-nil new) (missing len n new later short)
 
 -- a part of the head is the same, whatever was read after it
 pub same-part : (old moved new : List ℕ) (from to : ℕ) → new ≡ old ++ moved → from ≤ to → to ≤ length old → slice_range new from to ≡ slice_range old from to
 same-part old moved new from to e order low =
-    let behind : drop from (old ++ moved) ≡ drop from old ++ moved = drop-append-le from old moved (omega (arith, order, low)) in
+    let later : drop from (old ++ moved) ≡ drop from old ++ moved = drop-append-le from old moved (omega (arith, order, low)) in
     let fits : to - from ≤ length (drop from old) = omega (arith, length-drop from old, low) in
-    rw (e, behind) (take-append-le (to - from) (drop from old) moved fits)
+    rw (e, later) (take-append-le (to - from) (drop from old) moved fits)

@@ -28,11 +28,11 @@ part-none (suc n) = part-none n
 
 pub part-split : (n : ℕ) (path : List ℕ) → unwrap_or (slice_get (slice_split is_slash path) n) [] ≡ part_at n path
 part-split zero path = rw (parts path) refl
-part-split (suc n) path = rw (parts path) (behind (after_part path) (λ rest. part-split n rest))
+part-split (suc n) path = rw (parts path) (after (after_part path) (λ rest. part-split n rest))
   where
-    behind : (left : List ℕ) → ((rest : List ℕ) → unwrap_or (slice_get (slice_split is_slash rest) n) [] ≡ part_at n rest) → unwrap_or (slice_get (later left) n) [] ≡ part_at n (drop 1 left)
-    behind [] at = rw (part-none n) refl
-    behind (b ∷ rest) at = at rest
+    after : (left : List ℕ) → ((rest : List ℕ) → unwrap_or (slice_get (slice_split is_slash rest) n) [] ≡ part_at n rest) → unwrap_or (slice_get (later left) n) [] ≡ part_at n (drop 1 left)
+    after [] at = rw (part-none n) refl
+    after (b ∷ rest) at = at rest
 
 -- the text after a reference, or an empty text
 pub shown : (found : Option (Bor (List ℕ))) (none : Bor (List ℕ)) (parts : List (List ℕ)) (n : ℕ) → none.now ≡ [] → option_map (λ (r : Bor (List ℕ)). r.now) found ≡ slice_get parts n

@@ -1,38 +1,30 @@
--- Rows that are compared one after another.
-use Rattle.std.proofs.Common.{◌≡◌, ℕ, zero, suc, ◌≤◌, ◌+◌, ◌<◌, Bool, true, false, List, [], ◌∷◌, ◌++◌, length, take, get_or, refl, sym, ap, ap₂, ◌∙◌, rules, arith}
-use Rattle.std.proofs.lemmas.List.{take_all, take_more}
+-- The equality that rows derive is that of the definition.
+use Rattle.std.proofs.Common.{◌≡◌, Bool, true, false, List, [], ◌∷◌, refl, sym, ap, ap₂, ◌∙◌, rules}
+use Rattle.std.specs.Prelude.{◌&&◌}
+use Rattle.std.specs.Cmp.Lexicographic.{pointwise}
 use Rattle.opc_policy.specs.declared.row.Row.{Row}
+use Rattle.opc_policy.specs.contracts.row.RowPartialEq.TheImpl as derived
 use Rattle.opc_machine.specs.Imports.{same_row, same_rows}
-use Rattle.opc_laws.proofs.SameBatches.{row_is, row_itself, same_are_equal}
+use Rattle.opc_laws.proofs.SameBatches.{row_is, row_itself}
 
-pub differ : (xs ys : List Row) → (xs ≡ ys → ⊥) → false ≡ same_rows xs ys
-differ xs ys apart = go (same_rows xs ys) refl
-  where
-    go : (b : Bool) → same_rows xs ys ≡ b → false ≡ b
-    go false e = refl
-    go true e = absurd (apart ((same_are_equal xs ys).0 e))
+derived_is : (r q : Row) → derived.eq-value.it r q ≡ true → r ≡ q
+derived_is r q h = search (rules, h)
 
-at_any : (l : List Row) (k : ℕ) (d e : Row) → k < length l → get_or l k d ≡ get_or l k e
-at_any [] k d e h = absurd (omega (arith, h))
-at_any (x ∷ l) zero d e h = refl
-at_any (x ∷ l) (suc k) d e h = at_any l k d e (omega (arith, h))
+derived_itself : (r : Row) → derived.eq-value.it r r ≡ true
+derived_itself r = search rules
 
-pub differ_at : (xs ys : List Row) (i : ℕ) (x y : Row) → x ≡ get_or xs i x → y ≡ get_or ys i y → i < length xs → length xs ≡ length ys → same_row x y ≡ false → false ≡ same_rows xs ys
-differ_at xs ys i x y x_is y_is low long apart = differ xs ys (λ same.
-    let low_too : i < length ys = omega (arith, low, long) in
-    let one : take (i + 1) xs ≡ take i xs ++ x ∷ [] = take_more xs i x low ∙ ap (λ r. take i xs ++ r ∷ []) (sym x_is) in
-    let is : x ≡ y = x_is ∙ ap (λ l. get_or l i x) same ∙ at_any ys i x y low_too ∙ sym y_is in
-    search (rules, sym apart ∙ ap (same_row x) (sym is) ∙ row_itself x))
+same_truth : (a b : Bool) → (a ≡ true → b ≡ true) → (b ≡ true → a ≡ true) → a ≡ b
+same_truth true b there back = sym (there refl)
+same_truth false true there back = back refl
+same_truth false false there back = refl
 
-pub alike_more : (xs ys : List Row) (i : ℕ) (x y : Row) → x ≡ get_or xs i x → y ≡ get_or ys i y → i < length xs → length xs ≡ length ys → take i xs ≡ take i ys → same_row x y ≡ true
-    → take (i + 1) xs ≡ take (i + 1) ys
-alike_more xs ys i x y x_is y_is low long so_far same =
-    let low_too : i < length ys = omega (arith, low, long) in
-    take_more xs i x low ∙ ap₂ (λ l r. l ++ r ∷ []) so_far (sym x_is ∙ row_is x y same ∙ y_is) ∙ sym (take_more ys i y low_too)
+same_row_by_derived : (r q : Row) → derived.eq-value.it r q ≡ same_row r q
+same_row_by_derived r q = same_truth (derived.eq-value.it r q) (same_row r q)
+    (λ h. ap (same_row r) (sym (derived_is r q h)) ∙ row_itself r)
+    (λ h. ap (derived.eq-value.it r) (sym (row_is r q h)) ∙ derived_itself r)
 
-pub all_alike : (xs ys : List Row) (i : ℕ) → length xs ≤ i → i ≤ length xs → length xs ≡ length ys → take i xs ≡ take i ys → true ≡ same_rows xs ys
-all_alike xs ys i past within long same =
-    let at : i ≡ length xs = omega (arith, past, within) in
-    let at_too : i ≡ length ys = at ∙ long in
-    let is : xs ≡ ys = sym (ap (λ k. take k xs) at ∙ take_all (length xs) xs (omega arith)) ∙ same ∙ ap (λ k. take k ys) at_too ∙ take_all (length ys) ys (omega arith) in
-    sym ((same_are_equal xs ys).1 is)
+pub same_by_derived : (rows others : List Row) → pointwise derived.eq-value.it rows others ≡ same_rows rows others
+same_by_derived [] [] = refl
+same_by_derived [] (q ∷ others) = refl
+same_by_derived (r ∷ rows) [] = refl
+same_by_derived (r ∷ rows) (q ∷ others) = ap₂ (λ a b. a && b) (same_row_by_derived r q) (same_by_derived rows others)

@@ -9,10 +9,9 @@ ghost use Rattle.opc_state.specs.Changes.{IsKept};
 ghost use Rattle.opc_state.specs.Loads.{batch_rows};
 ghost use Rattle.opc_state.specs.State.{State};
 ghost use Rattle.opc_machine.specs.Deeds.{IsOutcome};
-ghost use Rattle.opc_machine.specs.Imports.{batch_line, batch_of, batch_outcome, import_outcome, new_batch, same_batch};
+ghost use Rattle.opc_machine.specs.Imports.{batch_line, batch_of, batch_outcome, import_outcome, new_batch, same_batch, same_rows};
 ghost use Rattle.opc_machine.specs.Rights.{is_special};
 
-use crate::same::same_rows;
 use opc_board::line::{Item, Line};
 use opc_board::rows::ConsoleRow;
 use opc_board::text::KeptText;
@@ -85,6 +84,13 @@ fn new_batch<T: Tables>(tables: &mut T, alloc: Global, number: u32, rows: &[Row]
         lines,
         rule: None,
     }))
+}
+
+#[tactic(auto, using(crate::proofs::SameLists::same_by_derived))]
+fn same_rows(rows: &[Row], others: &[Row]) -> bool
+    ensures { result ≡ same_rows rows.now others.now }
+{
+    rows == others
 }
 
 // A batch whose number is kept: nothing is done, where its rows are the same.

@@ -93,16 +93,16 @@ by_groups entries when (group ∷ groups) given h = go (λ l at. by_groups entri
 
     go : ((l : Level) → highest_level entries when groups ≡ Some l → IsGiven entries when (λ e. Contains groups e.id) l) → (one : Option Level) → entry_level entries when group ≡ one → (more : Option Level) → highest_level entries when groups ≡ more → higher one more ≡ Some given
         → IsGiven entries when (λ e. Contains (group ∷ groups) e.id) given
-    go among None at more behind g = later among given (behind ∙ g) refl
-    go among (Some a) at None behind g = let is : a ≡ given = cc in first a at is
-    go among (Some a) at (Some b) behind g = pick (one_of_two a b)
+    go among None at more after g = later among given (after ∙ g) refl
+    go among (Some a) at None after g = let is : a ≡ given = cc in first a at is
+    go among (Some a) at (Some b) after g = pick (one_of_two a b)
       where
         is : higher_level a b ≡ given
         is = cc
 
         pick : (higher_level a b ≡ a) ⊎ (higher_level a b ≡ b) → IsGiven entries when (λ e. Contains (group ∷ groups) e.id) given
         pick (inl h0) = first a at (sym h0 ∙ is)
-        pick (inr h0) = later among b behind (sym h0 ∙ is)
+        pick (inr h0) = later among b after (sym h0 ∙ is)
 
 by_first : (entries : List Entry) (when : Option (List ℕ)) (u : User) (groups : List (List ℕ)) (given : Level) → first_level entries when u groups ≡ Some given → IsGiven entries when (IsForUser u groups) given
 by_first entries when u groups given h = own (entry_level entries when u.id) refl h

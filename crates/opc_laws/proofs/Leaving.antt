@@ -73,14 +73,14 @@ logon_left s c id password =
 logoff_left : (s : State) (c : ConsoleRow) → IfDoes (IsRestLeft s) (logoff s c)
 logoff_left s c = then_left (IsRestLeft s) (refuse_if fault.NotOn None (is_none c.user)) (λ _. does (record s { board = logged_off c.name s.board }) [] None) (λ _ _. (refl, refl))
 
-needless_left : (s : State) (c : ConsoleRow) (k : Command) → IfDoes (IsRestLeft s) (without_need s c k)
-needless_left s c (command.Logon id password) = logon_left s c id.value password.value
-needless_left s c command.Logoff = logoff_left s c
-needless_left s c other = (refl, refl)
+no_need_left : (s : State) (c : ConsoleRow) (k : Command) → IfDoes (IsRestLeft s) (without_need s c k)
+no_need_left s c (command.Logon id password) = logon_left s c id.value password.value
+no_need_left s c command.Logoff = logoff_left s c
+no_need_left s c other = (refl, refl)
 
 typed_left : (s : State) (c : ConsoleRow) (k : Command) (need : Option Need) → IfDoes (IsRestLeft s) (typed s c k need)
 typed_left s c k (Some need) = board_left s c k need
-typed_left s c k None = needless_left s c k
+typed_left s c k None = no_need_left s c k
 
 command_left : (s : State) (name text : List ℕ) → IfDoes (IsRestLeft s) (command_outcome s name text)
 command_left s name text =

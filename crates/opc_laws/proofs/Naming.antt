@@ -209,14 +209,14 @@ module _ (s : State) (name text : List ℕ) where
       on true = tt
       on false = tt
 
-  needless_told : (c : ConsoleRow) (k : Command) → IsHeard s name text c k → IfRefused (IsTold s (input.Command name text)) (without_need s c k)
-  needless_told c (command.Logon id password) heard = logon_told c id password heard
-  needless_told c command.Logoff heard = logoff_told c
-  needless_told c other heard = tt
+  no_need_told : (c : ConsoleRow) (k : Command) → IsHeard s name text c k → IfRefused (IsTold s (input.Command name text)) (without_need s c k)
+  no_need_told c (command.Logon id password) heard = logon_told c id password heard
+  no_need_told c command.Logoff heard = logoff_told c
+  no_need_told c other heard = tt
 
   typed_told : (c : ConsoleRow) (k : Command) → IsHeard s name text c k → (need : Option Need) → need_of s.board k ≡ need → IfRefused (IsTold s (input.Command name text)) (typed s c k need)
   typed_told c k heard (Some need) is = board_told c k heard need is
-  typed_told c k heard None is = needless_told c k heard
+  typed_told c k heard None is = no_need_told c k heard
 
   pub command_told : IfRefused (IsTold s (input.Command name text)) (command_outcome s name text)
   command_told = then_told (IsTold s (input.Command name text)) (console_for s name) (λ c. command_in text >>= λ k. typed s c k (need_of s.board k)) (console_told s (input.Command name text) name)

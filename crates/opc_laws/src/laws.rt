@@ -205,7 +205,7 @@ pub fn given_up_changes_nothing()
     ensures { GivenUpChangesNothing }
 {}
 
-/// A request is given up for want of memory (E90) or because the store failed (E91), and is answered so.
+/// A request is given up where memory is refused (E90) or because the store failed (E91), and is answered so.
 pub fn given_up_for_want_of_memory_or_store()
     ensures { GivenUpForWantOfMemoryOrStore }
 {}

@@ -63,9 +63,9 @@ nothing_is [] = refl
 nothing_is (s ∷ r) = ap (λ bs. false ∷ bs) (nothing_is r)
 
 -- the first of a list and what follows it, each written
-pub front_written : (old new : List Bool) (x : Bool) → 0 < length old → slice_set (put_mid 1 (length old - 1) old new) 0 x ≡ x ∷ new
-front_written [] new x h = absurd (omega (arith, h))
-front_written (b ∷ bs) new x h = grind (arith, common_steps)
+pub prefix_written : (old new : List Bool) (x : Bool) → 0 < length old → slice_set (put_mid 1 (length old - 1) old new) 0 x ≡ x ∷ new
+prefix_written [] new x h = absurd (omega (arith, h))
+prefix_written (b ∷ bs) new x h = grind (arith, common_steps)
 
 -- the places for the suffixes of a name, of which only the last is true, stand for no qualifier
 pub nothing_prepended : (n : ℕ) (r : List (List ℕ)) → length r < n → take (length r + 1) (slice_set (replicate n false) (length r) true) ≡ covered_suffixes [] r

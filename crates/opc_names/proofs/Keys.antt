@@ -12,7 +12,7 @@ use Rattle.opc_names.specs.Laws.{KeysAreInOrder, KeysAreShort}
 use Rattle.opc_names.specs.Names.{pattern_rule}
 use Rattle.opc_names.specs.Patterns.{tokens, token_of}
 use Rattle.opc_names.proofs.Faults.{name_ascii, name_short}
-use Rattle.opc_names.specs.Walk.{BeforeBehind, sort_key_behind}
+use Rattle.opc_names.specs.Walk.{BeforeAfter, sort_key_after}
 use Rattle.opc_names.specs.Order.{Earlier, EndsOpen, Decides, Before, key_byte, is_open, ends_open, sort_key}
 
 -- a character below 128
@@ -72,18 +72,18 @@ earlier_itself Percent h = h
 earlier_itself Star h = h
 earlier_itself Stars h = h
 
-pub keys_behind : (opened : Bool) (p q : List Token) → AreSmall p → AreSmall q → (slice_cmp nat_cmp (sort_key_behind opened p) (sort_key_behind opened q) ≡ Less) ↔ BeforeBehind opened p q
-keys_behind true [] [] a b = (λ e. cc, λ e. absurd e)
-keys_behind false [] [] a b = (λ e. cc, λ e. absurd e)
-keys_behind true [] (u ∷ q) a b = rw (more_cmp 255 (key_byte u) (small_byte u b.0)) (λ e. cc, λ e. cc)
-keys_behind false [] (u ∷ q) a b = (λ e. refl, λ e. refl)
-keys_behind true (t ∷ p) [] a b = rw (less_cmp (key_byte t) 255 (small_byte t a.0)) (λ e. refl, λ e. refl)
-keys_behind false (t ∷ p) [] a b = (λ e. cc, λ e. cc)
-keys_behind opened (t ∷ p) (u ∷ q) a b =
+pub keys_after : (opened : Bool) (p q : List Token) → AreSmall p → AreSmall q → (slice_cmp nat_cmp (sort_key_after opened p) (sort_key_after opened q) ≡ Less) ↔ BeforeAfter opened p q
+keys_after true [] [] a b = (λ e. cc, λ e. absurd e)
+keys_after false [] [] a b = (λ e. cc, λ e. absurd e)
+keys_after true [] (u ∷ q) a b = rw (more_cmp 255 (key_byte u) (small_byte u b.0)) (λ e. cc, λ e. cc)
+keys_after false [] (u ∷ q) a b = (λ e. refl, λ e. refl)
+keys_after true (t ∷ p) [] a b = rw (less_cmp (key_byte t) 255 (small_byte t a.0)) (λ e. refl, λ e. refl)
+keys_after false (t ∷ p) [] a b = (λ e. cc, λ e. cc)
+keys_after opened (t ∷ p) (u ∷ q) a b =
     elim (ranked t u a.0 b.0) [
       | inl e ↦ rw (less_cmp (key_byte t) (key_byte u) e.1) (λ _. inl e.0, λ _. refl)
       | inr (inl e) ↦
-          (let rest = keys_behind (is_open t) p q a.1 b.1 in
+          (let rest = keys_after (is_open t) p q a.1 b.1 in
           rw (← e, same_cmp) (λ k. inr (refl, rest.0 k), λ k. ⊎_elim (λ h. absurd (earlier_itself t h)) (λ h. rest.1 h.1) k))
       | inr (inr e) ↦ rw (more_cmp (key_byte t) (key_byte u) e.2) (λ k. cc, λ k. ⊎_elim (λ h. absurd (e.0 h)) (λ h. absurd (e.1 h.0)) k)
     ]
@@ -99,17 +99,17 @@ DecidesBy opened [] (u ∷ q) = opened ≡ false
 DecidesBy opened (t ∷ p) [] = opened ≡ true
 DecidesBy opened (t ∷ p) (u ∷ q) = Earlier t u
 
-ends-push : (opened : Bool) (front : List Token) (t : Token) → ends opened (front ++ t ∷ []) ≡ is_open t
+ends-push : (opened : Bool) (prefix : List Token) (t : Token) → ends opened (prefix ++ t ∷ []) ≡ is_open t
 ends-push opened [] t = refl
-ends-push opened (u ∷ front) t = ends-push (is_open u) front t
+ends-push opened (u ∷ prefix) t = ends-push (is_open u) prefix t
 
 ends_from : (ts : List Token) → EndsOpen ts → ends false ts ≡ true
-ends_from ts (front, inl e) = ap (ends false) e ∙ ends-push false front Star
-ends_from ts (front, inr e) = ap (ends false) e ∙ ends-push false front Stars
+ends_from ts (prefix, inl e) = ap (ends false) e ∙ ends-push false prefix Star
+ends_from ts (prefix, inr e) = ap (ends false) e ∙ ends-push false prefix Stars
 
 longer : (t : Token) (ts : List Token) → EndsOpen ts → EndsOpen (t ∷ ts)
-longer t ts (front, inl e) = (t ∷ front, inl (ap (λ s. t ∷ s) e))
-longer t ts (front, inr e) = (t ∷ front, inr (ap (λ s. t ∷ s) e))
+longer t ts (prefix, inl e) = (t ∷ prefix, inl (ap (λ s. t ∷ s) e))
+longer t ts (prefix, inr e) = (t ∷ prefix, inr (ap (λ s. t ∷ s) e))
 
 from_ends : (t : Token) (ts : List Token) → ends (is_open t) ts ≡ true → EndsOpen (t ∷ ts)
 from_ends (Literal c) [] h = cc
@@ -138,14 +138,14 @@ decides common [] (u ∷ q) h = λ k. let e = ends_from common k in cc
 decides common (t ∷ p) [] h = open_end common h
 decides common (t ∷ p) (u ∷ q) h = h
 
-walk_to : (opened : Bool) (common p q : List Token) → DecidesBy (ends opened common) p q → BeforeBehind opened (common ++ p) (common ++ q)
+walk_to : (opened : Bool) (common p q : List Token) → DecidesBy (ends opened common) p q → BeforeAfter opened (common ++ p) (common ++ q)
 walk_to opened [] [] [] h = h
 walk_to opened [] [] (u ∷ q) h = h
 walk_to opened [] (t ∷ p) [] h = h
 walk_to opened [] (t ∷ p) (u ∷ q) h = inl h
 walk_to opened (t ∷ common) p q h = inr (refl, walk_to (is_open t) common p q h)
 
-walk_from : (opened : Bool) (p q : List Token) → BeforeBehind opened p q → (common p' q' : List Token) × (p ≡ common ++ p') × (q ≡ common ++ q') × DecidesBy (ends opened common) p' q'
+walk_from : (opened : Bool) (p q : List Token) → BeforeAfter opened p q → (common p' q' : List Token) × (p ≡ common ++ p') × (q ≡ common ++ q') × DecidesBy (ends opened common) p' q'
 walk_from opened [] [] h = absurd h
 walk_from opened [] (u ∷ q) h = ([], [], u ∷ q, refl, refl, h)
 walk_from opened (t ∷ p) [] h = ([], t ∷ p, [], refl, refl, h)
@@ -154,8 +154,8 @@ walk_from opened (t ∷ p) (u ∷ q) (inr e) =
     let r = walk_from (is_open t) p q e.1 in
     (t ∷ r.0, r.1, r.2, ap (λ s. t ∷ s) r.3, (let f = e.0 in let g = r.4 in cc), r.5)
 
-pub before_behind : (p q : List Token) → Before p q ↔ BeforeBehind false p q
-before_behind p q = (
+pub before_after : (p q : List Token) → Before p q ↔ BeforeAfter false p q
+before_after p q = (
   λ h. rw (h.3, h.4) (walk_to false h.0 h.1 h.2 (decided h.0 h.1 h.2 h.5)),
   λ h. let r = walk_from false p q h in (r.0, r.1, r.2, r.3, r.4, decides r.0 r.1 r.2 r.5),
 )
@@ -177,22 +177,22 @@ small_tokens (c ∷ (d ∷ cs)) a =
     ]
 
 -- a sort key as it is made from the first token to the last
-key_behind : (opened : Bool) (ts : List Token) → sort_key_behind opened ts ≡ map key_byte ts ++ (if ends opened ts then 255 ∷ [] else [])
-key_behind opened [] = refl
-key_behind opened (t ∷ ts) = ap (λ bytes. key_byte t ∷ bytes) (key_behind (is_open t) ts)
+key_after : (opened : Bool) (ts : List Token) → sort_key_after opened ts ≡ map key_byte ts ++ (if ends opened ts then 255 ∷ [] else [])
+key_after opened [] = refl
+key_after opened (t ∷ ts) = ap (λ bytes. key_byte t ∷ bytes) (key_after (is_open t) ts)
 
-ends_behind : (t : Token) (ts : List Token) → ends (is_open t) ts ≡ ends_open (t ∷ ts)
-ends_behind t [] = refl
-ends_behind t (u ∷ ts) = ends_behind u ts
+ends_after : (t : Token) (ts : List Token) → ends (is_open t) ts ≡ ends_open (t ∷ ts)
+ends_after t [] = refl
+ends_after t (u ∷ ts) = ends_after u ts
 
-pub key_is : (text : List ℕ) → sort_key_behind false (tokens text) ≡ sort_key text
-key_is text = key_behind false (tokens text) ∙ ap (λ b. map key_byte (tokens text) ++ (if b then 255 ∷ [] else [])) (ends_is (tokens text))
+pub key_is : (text : List ℕ) → sort_key_after false (tokens text) ≡ sort_key text
+key_is text = key_after false (tokens text) ∙ ap (λ b. map key_byte (tokens text) ++ (if b then 255 ∷ [] else [])) (ends_is (tokens text))
   where
     ends_is : (ts : List Token) → ends false ts ≡ ends_open ts
     ends_is [] = refl
-    ends_is (t ∷ ts) = ends_behind t ts
+    ends_is (t ∷ ts) = ends_after t ts
 
-length-key : (opened : Bool) (ts : List Token) → length (sort_key_behind opened ts) ≤ length ts + 1
+length-key : (opened : Bool) (ts : List Token) → length (sort_key_after opened ts) ≤ length ts + 1
 length-key true [] = omega arith
 length-key false [] = omega arith
 length-key opened (t ∷ ts) = omega (arith, length-key (is_open t) ts)
@@ -211,6 +211,6 @@ keys_are_short p h = rw (← key_is p) (omega (arith, length-key false (tokens p
 
 pub keys_are_in_order : KeysAreInOrder
 keys_are_in_order p q a b =
-    let keys = keys_behind false (tokens p) (tokens q) (small_tokens p (name_ascii pattern_rule p a)) (small_tokens q (name_ascii pattern_rule q b)) in
-    let order = before_behind (tokens p) (tokens q) in
+    let keys = keys_after false (tokens p) (tokens q) (small_tokens p (name_ascii pattern_rule p a)) (small_tokens q (name_ascii pattern_rule q b)) in
+    let order = before_after (tokens p) (tokens q) in
     rw (← key_is p, ← key_is q) (λ h. order.1 (keys.0 h), λ h. keys.1 (order.0 h))

@@ -6,7 +6,7 @@ use Rattle.opc_names.specs.declared.token.Token.{Token}
 use Rattle.opc_names.specs.Order.{is_open, key_byte}
 use Rattle.opc_names.specs.Laws.{KeysDiffer}
 use Rattle.opc_names.specs.Names.{pattern_rule}
-use Rattle.opc_names.specs.Walk.{sort_key_behind}
+use Rattle.opc_names.specs.Walk.{sort_key_after}
 use Rattle.opc_names.specs.Patterns.{tokens, token_of, spelling}
 use Rattle.opc_names.proofs.Faults.{name_ascii}
 use Rattle.opc_names.proofs.Keys.{IsSmall, AreSmall, small_tokens, small_byte, ranked, key_is}
@@ -44,7 +44,7 @@ same_token t u a b e =
       | inr (inr h) ↦ absurd (omega (arith, h.2, e))
     ]
 
-same_tokens : (opened : Bool) (p q : List Token) → AreSmall p → AreSmall q → sort_key_behind opened p ≡ sort_key_behind opened q → p ≡ q
+same_tokens : (opened : Bool) (p q : List Token) → AreSmall p → AreSmall q → sort_key_after opened p ≡ sort_key_after opened q → p ≡ q
 same_tokens opened [] [] a b e = refl
 same_tokens true [] (u ∷ q) a b e = let h : 255 ≡ key_byte u = cc in absurd (omega (arith, h, small_byte u b.0))
 same_tokens false [] (u ∷ q) a b e = cc
@@ -52,9 +52,9 @@ same_tokens true (t ∷ p) [] a b e = let h : 255 ≡ key_byte t = cc in absurd 
 same_tokens false (t ∷ p) [] a b e = cc
 same_tokens opened (t ∷ p) (u ∷ q) a b e =
     let head : key_byte t ≡ key_byte u = cc in
-    let rest : sort_key_behind (is_open t) p ≡ sort_key_behind (is_open u) q = cc in
+    let rest : sort_key_after (is_open t) p ≡ sort_key_after (is_open u) q = cc in
     let token = same_token t u a.0 b.0 head in
-    let tokens = same_tokens (is_open t) p q a.1 b.1 (subst (λ x. sort_key_behind (is_open t) p ≡ sort_key_behind (is_open x) q) (sym token) rest) in
+    let tokens = same_tokens (is_open t) p q a.1 b.1 (subst (λ x. sort_key_after (is_open t) p ≡ sort_key_after (is_open x) q) (sym token) rest) in
     cc
 
 -- texts with the same tokens are one

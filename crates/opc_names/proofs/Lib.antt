@@ -4,7 +4,7 @@ pub mod CoveredSuffixes
 pub mod Digits
 pub mod Faults
 pub mod FewParts
-pub mod Fronts
+pub mod Prefixes
 pub mod GroupNames
 pub mod Heads
 pub mod Keys

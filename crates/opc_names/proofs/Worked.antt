@@ -15,8 +15,8 @@ nothing_for_a_star = refl
 pub not_the_parent : covers_text (codes "A.B.*") (codes "A.B") ≡ false
 not_the_parent = refl
 
-pub more_behind_the_last_star : covers_text (codes "A.**.B.*") (codes "A.B.C.X") ≡ true
-more_behind_the_last_star = refl
+pub more_after_the_last_star : covers_text (codes "A.**.B.*") (codes "A.B.C.X") ≡ true
+more_after_the_last_star = refl
 
 pub any_number_for_stars : covers_text (codes "A.**.B") (codes "A.X.Y.B") ≡ true
 any_number_for_stars = refl

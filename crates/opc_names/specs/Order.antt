@@ -17,7 +17,7 @@ Earlier t u = ⊥
 
 -- the last token is `*` or `**`
 abbrev pub EndsOpen : List Token → Type 0
-EndsOpen ts = (front : List Token) × ((ts ≡ front ++ Star ∷ []) ⊎ (ts ≡ front ++ Stars ∷ []))
+EndsOpen ts = (prefix : List Token) × ((ts ≡ prefix ++ Star ∷ []) ⊎ (ts ≡ prefix ++ Stars ∷ []))
 
 -- what decides after a common part: the earlier token; where one pattern ends, the end, unless the common
 -- part leaves open what follows

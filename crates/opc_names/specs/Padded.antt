@@ -20,9 +20,9 @@ pub padded-take : (n len : ℕ) (bytes : List ℕ) → IsPadded n len bytes → 
 padded-take n len bytes h = rw (length-padded n len bytes h, ← h.zeros) (take-append-drop len bytes)
 
 -- bytes as the digits of a number, after those of n
-abbrev pub number_behind : ℕ → List ℕ → ℕ
-number_behind n [] = n
-number_behind n (b ∷ bytes) = number_behind (n * 256 + b) bytes
+abbrev pub number_after : ℕ → List ℕ → ℕ
+number_after n [] = n
+number_after n (b ∷ bytes) = number_after (n * 256 + b) bytes
 
 abbrev pub IsByte : ℕ → Type 0
 IsByte b = b < 256

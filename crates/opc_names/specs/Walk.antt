@@ -36,13 +36,13 @@ any_from_here [] = []
 any_from_here (b ∷ bs) = list_any (λ x. x) (b ∷ bs) ∷ any_from_here bs
 
 -- the order after a common part, of which `opened` says whether it ends in `*` or `**`
-abbrev pub BeforeBehind : Bool → List Token → List Token → Type 0
-BeforeBehind opened [] [] = ⊥
-BeforeBehind opened [] (u ∷ q) = opened ≡ false
-BeforeBehind opened (t ∷ p) [] = opened ≡ true
-BeforeBehind opened (t ∷ p) (u ∷ q) = Earlier t u ⊎ ((t ≡ u) × BeforeBehind (is_open t) p q)
+abbrev pub BeforeAfter : Bool → List Token → List Token → Type 0
+BeforeAfter opened [] [] = ⊥
+BeforeAfter opened [] (u ∷ q) = opened ≡ false
+BeforeAfter opened (t ∷ p) [] = opened ≡ true
+BeforeAfter opened (t ∷ p) (u ∷ q) = Earlier t u ⊎ ((t ≡ u) × BeforeAfter (is_open t) p q)
 
 -- a byte for each token, and one more after the last where that leaves open what follows
-abbrev pub sort_key_behind : Bool → List Token → List ℕ
-sort_key_behind opened [] = if opened then 255 ∷ [] else []
-sort_key_behind opened (t ∷ ts) = key_byte t ∷ sort_key_behind (is_open t) ts
+abbrev pub sort_key_after : Bool → List Token → List ℕ
+sort_key_after opened [] = if opened then 255 ∷ [] else []
+sort_key_after opened (t ∷ ts) = key_byte t ∷ sort_key_after (is_open t) ts

@@ -6,7 +6,7 @@ ghost use Rattle.std.specs.Cmp.Lexicographic.{pointwise, slice_cmp, nat_list_eq_
 ghost use Rattle.std.specs.Ordering.{nat_cmp};
 ghost use Rattle.std.specs.declared.cmp.Ordering.TheVariants.{Equal};
 ghost use Rattle.std.specs.List.{AllByRecursion};
-ghost use Rattle.opc_names.specs.Padded.{number_behind, IsByte};
+ghost use Rattle.opc_names.specs.Padded.{number_after, IsByte};
 
 use std::cmp::Ordering;
 use std::marker::Model;
@@ -104,7 +104,7 @@ fn order_of_words(ours: &[u8], theirs: &[u8]) -> Option<Ordering>
 {
     let (mut left, mut right) = (ours, theirs);
     while left.len() >= 8 {
-        let (word, other) = (front(left), front(right));
+        let (word, other) = (prefix(left), prefix(right));
         if word != other {
             return Some(word.cmp(&other));
         }
@@ -115,9 +115,9 @@ fn order_of_words(ours: &[u8], theirs: &[u8]) -> Option<Ordering>
 }
 
 /// The first eight bytes as a number, which is faster to compare; 0 where there are fewer.
-fn front(room: &[u8]) -> u64
+fn prefix(room: &[u8]) -> u64
     ensures short { length room.now < 8 → result ≡ 0 }
-    ensures value { 8 ≤ length room.now → result ≡ number_behind 0 (take 8 room.now) }
+    ensures value { 8 ≤ length room.now → result ≡ number_after 0 (take 8 room.now) }
     ensures bytes { 8 ≤ length room.now → AllByRecursion IsByte (take 8 room.now) }
 {
     match room {

@@ -3,7 +3,7 @@ ghost use Rattle.std.specs.Prelude.{◌≡◌, ◌≤◌, ◌↔◌, IsTrue, fal
 ghost use Rattle.opc_names.specs.Names.{IsPattern};
 ghost use Rattle.opc_names.specs.Order.{Before, sort_key, head};
 ghost use Rattle.opc_names.specs.Patterns.{tokens, CoversText};
-ghost use Rattle.opc_names.specs.Walk.{BeforeBehind, sort_key_behind};
+ghost use Rattle.opc_names.specs.Walk.{BeforeAfter, sort_key_after};
 
 use crate::bytes::Bytes;
 use crate::cover;
@@ -27,7 +27,7 @@ impl Pattern {
     pub fn before(&self, other: &Pattern) -> bool
         ensures { IsTrue result ↔ Before (tokens self.now) (tokens other.now) }
     {
-        before_behind(false, self.text().as_bytes(), other.text().as_bytes())
+        before_after(false, self.text().as_bytes(), other.text().as_bytes())
     }
 
     /// Bytes whose order is that of the patterns.
@@ -51,7 +51,7 @@ impl Pattern {
 /// The bytes of a sort key: one for each token, and one more after a last `*` or `**`.
 fn key_bytes(text: &[u8]) -> ArrayVec<u8, 40>
     requires { length text.now ≤ 39 }
-    ensures key { result.items ≡ sort_key_behind false (tokens text.now) }
+    ensures key { result.items ≡ sort_key_after false (tokens text.now) }
     ensures short { length result.items ≤ 40 }
 {
     let mut bytes = ArrayVec::new();
@@ -68,8 +68,8 @@ fn key_bytes(text: &[u8]) -> ArrayVec<u8, 40>
     bytes
 }
 
-fn before_behind(opened: bool, ours: &[u8], theirs: &[u8]) -> bool
-    ensures { IsTrue result ↔ BeforeBehind opened (tokens ours.now) (tokens theirs.now) }
+fn before_after(opened: bool, ours: &[u8], theirs: &[u8]) -> bool
+    ensures { IsTrue result ↔ BeforeAfter opened (tokens ours.now) (tokens theirs.now) }
 {
     match (first_token(ours), first_token(theirs)) {
         (None, None) => false,
@@ -77,7 +77,7 @@ fn before_behind(opened: bool, ours: &[u8], theirs: &[u8]) -> bool
         (Some(_), None) => opened,
         (Some((token, ours)), Some((other, theirs))) => {
             if token == other {
-                before_behind(token.is_open(), ours, theirs)
+                before_after(token.is_open(), ours, theirs)
             } else {
                 token.is_earlier(other)
             }

@@ -26,15 +26,15 @@ impl Resource {
 }
 
 /// Two resources with a period between them.
-fn joined(front: &str, behind: &str) -> Resource
-    requires front { IsResource front.now }
-    requires behind { IsResource behind.now }
-    requires room { length front.now + length behind.now < 39 }
-    ensures { result ≡ front.now ++ 46 ∷ behind.now }
+fn joined(prefix: &str, after: &str) -> Resource
+    requires prefix { IsResource prefix.now }
+    requires after { IsResource after.now }
+    requires room { length prefix.now + length after.now < 39 }
+    ensures { result ≡ prefix.now ++ 46 ∷ after.now }
 {
     let mut text = ArrayString::<39>::new();
-    text.push_str(front);
+    text.push_str(prefix);
     text.push('.');
-    text.push_str(behind);
+    text.push_str(after);
     Resource::of(text.as_str())
 }

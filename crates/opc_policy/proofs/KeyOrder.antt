@@ -35,14 +35,14 @@ by_key : (e f : Keyed) → IsAtItsKey e → IsAtItsKey f → key_cmp e.0 f.0 ≡
 by_key e f at_e at_f less same =
     ap is_lt (sym (in_one_class f.1.class (slice_cmp nat_cmp (sort_key e.1.pattern) (sort_key f.1.pattern))) ∙ rw (at_e.0, at_e.1, at_f.0, at_f.1, same) at less)
 
-behind : (e : Keyed) (es : List Keyed) → IsAtItsKey e → AreByKey es → AllByRecursion (λ (k : Class × List ℕ). key_cmp e.0 k ≡ Less) (keys_of es) → All (InOrder e.1) (values_of es)
-behind e [] at all less = All-nil (InOrder e.1)
-behind e (f ∷ es) at all less = All-cons (InOrder e.1) f.1 (values_of es) (by_key e f at all.0 less.0) (behind e es at all.1 less.1)
+after : (e : Keyed) (es : List Keyed) → IsAtItsKey e → AreByKey es → AllByRecursion (λ (k : Class × List ℕ). key_cmp e.0 k ≡ Less) (keys_of es) → All (InOrder e.1) (values_of es)
+after e [] at all less = All-nil (InOrder e.1)
+after e (f ∷ es) at all less = All-cons (InOrder e.1) f.1 (values_of es) (by_key e f at all.0 less.0) (after e es at all.1 less.1)
 
 pub values_in_order : (es : List Keyed) → AreByKey es → IsStrictlySortedBy key_cmp (keys_of es) → AreMostSpecificFirst (values_of es)
 unfolding IsStrictlySortedBy
 values_in_order [] all sorted = λ i j d l m. absurd (omega (arith, m))
-values_in_order (e ∷ es) all sorted = AllPairs-cons InOrder e.1 (values_of es) (behind e es all.0 all.1 sorted.0) (values_in_order es all.1 sorted.1)
+values_in_order (e ∷ es) all sorted = AllPairs-cons InOrder e.1 (values_of es) (after e es all.0 all.1 sorted.0) (values_in_order es all.1 sorted.1)
 
 are_patterns : (es : List Keyed) → AreByKey es → All (λ (p : Profile). IsPattern p.pattern) (values_of es)
 are_patterns [] all = All-nil (λ (p : Profile). IsPattern p.pattern)

@@ -26,11 +26,11 @@ module _ {X : Type 0} (cmp : X → X → Ordering) (x : X) where
 
   -- between those before it and those after it
   pub insert-place : (xs : List X) (i : ℕ) (d : X) → ((k : ℕ) → k < i → cmp x (get_or xs k d) ≡ Greater) → i ≤ length xs → (i < length xs → cmp x (get_or xs i d) ≡ Less) → insert xs i x ≡ replace_key cmp xs x
-  insert-place [] zero d before within behind = refl
-  insert-place [] (suc i) d before within behind = absurd (omega (arith, within))
-  insert-place (y ∷ ys) zero d before within behind = rw (behind (omega arith)) refl
-  insert-place (y ∷ ys) (suc i) d before within behind =
-      rw (before 0 (omega arith)) (ap (λ zs. y ∷ zs) (insert-place ys i d (λ k l. before (suc k) (omega (arith, l))) (omega (arith, within)) (λ l. behind (omega (arith, l)))))
+  insert-place [] zero d before within after = refl
+  insert-place [] (suc i) d before within after = absurd (omega (arith, within))
+  insert-place (y ∷ ys) zero d before within after = rw (after (omega arith)) refl
+  insert-place (y ∷ ys) (suc i) d before within after =
+      rw (before 0 (omega arith)) (ap (λ zs. y ∷ zs) (insert-place ys i d (λ k l. before (suc k) (omega (arith, l))) (omega (arith, within)) (λ l. after (omega (arith, l)))))
 
 pub order : IsTotalOrder entry_cmp
 order = then_total (on_total (λ (e : Entry). e.id) nat_list_cmp_total) (on_total (λ (e : Entry). e.when) (options_total nat_list_cmp_total))
@@ -57,8 +57,8 @@ place_found new entries (Err at) ordered within found =
     )
 
 -- a list of entries stays in order
-in_order_behind : (x : Entry) (xs : List Entry) → AreInOrder (x ∷ xs) → All (λ (y : Entry). entry_cmp x y ≡ Less) xs
-in_order_behind x xs h = λ k d l. h 0 (suc k) d (omega arith) (omega (arith, l))
+in_order_after : (x : Entry) (xs : List Entry) → AreInOrder (x ∷ xs) → All (λ (y : Entry). entry_cmp x y ≡ Less) xs
+in_order_after x xs h = λ k d l. h 0 (suc k) d (omega arith) (omega (arith, l))
 
 in_order_rest : (x : Entry) (xs : List Entry) → AreInOrder (x ∷ xs) → AreInOrder xs
 in_order_rest x xs h = λ i j d l m. h (suc i) (suc j) d (omega (arith, l)) (omega (arith, m))
@@ -79,13 +79,13 @@ pub stays_in_order : (e : Entry) (xs : List Entry) → AreInOrder xs → AreInOr
 stays_in_order e [] h = in_order_cons e [] (All-nil (λ (y : Entry). entry_cmp e y ≡ Less)) h
 stays_in_order e (x ∷ xs) h = go (entry_cmp e x) refl (stays_in_order e xs (in_order_rest x xs h))
   where
-    behind : All (λ (y : Entry). entry_cmp x y ≡ Less) xs
-    behind = in_order_behind x xs h
+    after : All (λ (y : Entry). entry_cmp x y ≡ Less) xs
+    after = in_order_after x xs h
 
     go : (o : Ordering) → entry_cmp e x ≡ o → AreInOrder (replace_key entry_cmp xs e) → AreInOrder (match_ordering o (e ∷ x ∷ xs) (e ∷ xs) (x ∷ replace_key entry_cmp xs e))
-    go Less at later = in_order_cons e (x ∷ xs) (All-cons (λ (y : Entry). entry_cmp e y ≡ Less) x xs at (λ k d l. order.trans e x (get_or xs k d) at (behind k d l))) h
-    go Equal at later = in_order_cons e xs (λ k d l. order.congr e x (get_or xs k d) at ∙ behind k d l) (in_order_rest x xs h)
-    go Greater at later = in_order_cons x (replace_key entry_cmp xs e) (all_with (λ (y : Entry). entry_cmp x y ≡ Less) e xs (turned e x Greater at) behind) later
+    go Less at later = in_order_cons e (x ∷ xs) (All-cons (λ (y : Entry). entry_cmp e y ≡ Less) x xs at (λ k d l. order.trans e x (get_or xs k d) at (after k d l))) h
+    go Equal at later = in_order_cons e xs (λ k d l. order.congr e x (get_or xs k d) at ∙ after k d l) (in_order_rest x xs h)
+    go Greater at later = in_order_cons x (replace_key entry_cmp xs e) (all_with (λ (y : Entry). entry_cmp x y ≡ Less) e xs (turned e x Greater at) after) later
 
 pub set_in_place : (e : Entry) (xs : List Entry) (at : ℕ) → IsPlace e xs (Ok at) → set xs at e ≡ replace_key entry_cmp xs e
 set_in_place e xs at h = set-place entry_cmp e xs at e (λ k l. h.1 k e l) h.0 (h.2 e)

@@ -6,12 +6,12 @@ use Rattle.opc_policy.specs.Access.{entry_cmp}
 use Rattle.opc_policy.specs.declared.entry.Entry.{Entry}
 
 -- an entry comes after all entries before a place
-abbrev pub IsBehind : Entry → List Entry → ℕ → Type 0
-IsBehind entry entries place = (k : ℕ) (d : Entry) → k < place → entry_cmp entry (slice_index_or entries k d) ≡ Greater
+abbrev pub IsAfter : Entry → List Entry → ℕ → Type 0
+IsAfter entry entries place = (k : ℕ) (d : Entry) → k < place → entry_cmp entry (slice_index_or entries k d) ≡ Greater
 
 -- the place of the entry for the same id and console, or the place where it would stand
 abbrev pub IsPlace : Entry → List Entry → Result ℕ ℕ → Type 0
 IsPlace entry entries (Ok place) =
-    (place < length entries) × IsBehind entry entries place × ((d : Entry) → entry_cmp entry (slice_index_or entries place d) ≡ Equal)
+    (place < length entries) × IsAfter entry entries place × ((d : Entry) → entry_cmp entry (slice_index_or entries place d) ≡ Equal)
 IsPlace entry entries (Err place) =
-    (place ≤ length entries) × IsBehind entry entries place × ((d : Entry) → place < length entries → entry_cmp entry (slice_index_or entries place d) ≡ Less)
+    (place ≤ length entries) × IsAfter entry entries place × ((d : Entry) → place < length entries → entry_cmp entry (slice_index_or entries place d) ≡ Less)

@@ -28,20 +28,20 @@ module _ (pattern : List ℕ) where
   strict : (x y : Row) → is_gt (text_cmp (pattern_in x) (pattern_in y)) ≡ false → is_before pattern y ≡ true → is_before pattern x ≡ true
   strict x y most before = go (text_cmp (pattern_in x) (pattern_in y)) refl most
     where
-      behind : text_cmp (pattern_in y) pattern ≡ Less
-      behind = less_is _ before
+      after : text_cmp (pattern_in y) pattern ≡ Less
+      after = less_is _ before
 
       go : (o : Ordering) → text_cmp (pattern_in x) (pattern_in y) ≡ o → is_gt o ≡ false → is_before pattern x ≡ true
-      go Less e h = ap is_lt (nat_list_cmp_total.trans (pattern_in x) (pattern_in y) pattern e behind)
-      go Equal e h = ap is_lt (nat_list_cmp_total.congr (pattern_in x) (pattern_in y) pattern e ∙ behind)
+      go Less e h = ap is_lt (nat_list_cmp_total.trans (pattern_in x) (pattern_in y) pattern e after)
+      go Equal e h = ap is_lt (nat_list_cmp_total.congr (pattern_in x) (pattern_in y) pattern e ∙ after)
       go Greater e h = absurd cc
 
-  pub parted : (rows : List Row) → AreByPattern rows → IsPartitionedBy (is_before pattern) rows
-  parted [] up i j d low high h = absurd (omega arith)
-  parted (x ∷ rows) up zero zero d low high h = h
-  parted (x ∷ rows) up zero (suc j) d low high h = strict x (get_or rows j d) (at_each _ rows up.0 j d (omega arith)) h
-  parted (x ∷ rows) up (suc i) zero d low high h = absurd (omega arith)
-  parted (x ∷ rows) up (suc i) (suc j) d low high h = parted rows up.1 i j d (omega arith) (omega arith) h
+  pub split : (rows : List Row) → AreByPattern rows → IsPartitionedBy (is_before pattern) rows
+  split [] up i j d low high h = absurd (omega arith)
+  split (x ∷ rows) up zero zero d low high h = h
+  split (x ∷ rows) up zero (suc j) d low high h = strict x (get_or rows j d) (at_each _ rows up.0 j d (omega arith)) h
+  split (x ∷ rows) up (suc i) zero d low high h = absurd (omega arith)
+  split (x ∷ rows) up (suc i) (suc j) d low high h = split rows up.1 i j d (omega arith) (omega arith) h
 
   ties : (x : Row) → is_of pattern x ≡ is_eq (text_cmp (pattern_in x) pattern)
   ties x = sym (is_eq-slice_cmp (pattern_in x) pattern)
@@ -66,9 +66,9 @@ module _ (pattern : List ℕ) where
           absurd cc
       go Greater e = refl
 
-  in_front : (rows : List Row) → AreByPattern rows → AllByRecursion (λ row. is_before pattern row ≡ false) rows → take (length (take_while (is_of pattern) rows)) rows ≡ filter (is_of pattern) rows
-  in_front [] up past = refl
-  in_front (x ∷ rows) up past = go (is_of pattern x) refl (in_front rows up.1 past.1)
+  in_prefix : (rows : List Row) → AreByPattern rows → AllByRecursion (λ row. is_before pattern row ≡ false) rows → take (length (take_while (is_of pattern) rows)) rows ≡ filter (is_of pattern) rows
+  in_prefix [] up past = refl
+  in_prefix (x ∷ rows) up past = go (is_of pattern x) refl (in_prefix rows up.1 past.1)
     where
       go : (b : Bool) → is_of pattern x ≡ b → take (length (take_while (is_of pattern) rows)) rows ≡ filter (is_of pattern) rows
           → take (length (take_while (is_of pattern) (x ∷ rows))) (x ∷ rows) ≡ cond (is_of pattern x) (x ∷ filter (is_of pattern) rows) (filter (is_of pattern) rows)
@@ -85,7 +85,7 @@ module _ (pattern : List ℕ) where
 
   pub rows_at : (rows : List Row) (i : ℕ) → AreByPattern rows → i ≤ length rows → IsPartitionPoint (λ row. is_before pattern row ≡ true) (λ row. is_before pattern row ≡ false) rows i
       → take (length (take_while (is_of pattern) (drop i rows))) (drop i rows) ≡ filter (is_of pattern) rows
-  rows_at rows zero up low at = in_front rows up (from_within _ rows at.1)
+  rows_at rows zero up low at = in_prefix rows up (from_within _ rows at.1)
   rows_at [] (suc i) up low at = absurd (omega arith)
   rows_at (x ∷ rows) (suc i) up low at =
       rows_at rows i up.1 (omega arith) (λ k d a b. at.0 (suc k) d (omega arith) (omega arith), λ k d a b. at.1 (suc k) d (omega arith) (omega arith))

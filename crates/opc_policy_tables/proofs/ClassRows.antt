@@ -84,9 +84,9 @@ module _ (old new : SqlState) (count : ℕ) (s : State) (was : Tabulates old.now
   abbrev rows_of : State → List (Class × Bool)
   rows_of s = (Console, s.policy.active.console) ∷ (Opercmds, s.policy.active.opercmds) ∷ []
 
-  parted : (class : Class) (active : Bool) (rows : List Row) → HasRows (map (λ (v : Row). class_row (class, active)) (filter (has_key class) (map class_row (rows_of s))) ++ filter (λ v. not (has_key class v)) (map class_row (rows_of s))) rows
+  split : (class : Class) (active : Bool) (rows : List Row) → HasRows (map (λ (v : Row). class_row (class, active)) (filter (has_key class) (map class_row (rows_of s))) ++ filter (λ v. not (has_key class v)) (map class_row (rows_of s))) rows
       → HasRows (map (λ (v : Row). class_row (class, active)) (map class_row (filter (is_of class) (rows_of s))) ++ map class_row (filter (λ x. not (is_of class x)) (rows_of s))) rows
-  parted class active rows h =
+  split class active rows h =
       let hit : filter (has_key class) (map class_row (rows_of s)) ≡ map class_row (filter (is_of class) (rows_of s)) = filter-map (has_key class) class_row (rows_of s) ∙ ap (map class_row) (filter_same _ _ (picks class) (rows_of s)) in
       let left : filter (λ v. not (has_key class v)) (map class_row (rows_of s)) ≡ map class_row (filter (λ x. not (is_of class x)) (rows_of s)) =
       filter-map (λ (v : Row). not (has_key class v)) class_row (rows_of s) ∙ ap (map class_row) (filter_same _ _ (λ x. ap not (picks class x)) (rows_of s)) in
@@ -105,7 +105,7 @@ module _ (old new : SqlState) (count : ℕ) (s : State) (was : Tabulates old.now
   sets_class class active h =
       let x : Class × Bool = (class, active) in
       let it = sets the_schema update_class 1 classes_at (class_row x) update_plain refl old new was.schema count tests (has_key class) two update_is (below x old.now.trees) (class_row x) (λ r. cast_class x (column r 0)) idle h in
-      with_classes (contents_of s) old.now new.now was it.spares _ (set_rows class active _ (parted class active _ (it.rows (map class_row (rows_of s)) was.holds.classes)))
+      with_classes (contents_of s) old.now new.now was it.spares _ (set_rows class active _ (split class active _ (it.rows (map class_row (rows_of s)) was.holds.classes)))
 
 pub class_params : (sql text : List ℕ) (class : Class) (active : Bool) → text ≡ class_text class → (old new : SqlState) (count : ℕ)
     → Executes sql (Text text ∷ flag active ∷ []) old new (Ok count) → Executes sql (class_row (class, active)) old new (Ok count)

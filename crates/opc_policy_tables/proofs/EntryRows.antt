@@ -55,7 +55,7 @@ use Rattle.opc_stored.proofs.Decoded.{filter_on}
 use Rattle.opc_stored.proofs.Ordered.{permission_ordered}
 use Rattle.opc_stored.proofs.Keys.{entry_total}
 use Rattle.opc_stored.proofs.ProfileTexts.{entry_terms, of_entry, insert_entry, insert_entry_is, insert_entry_plain, update_entry, update_entry_is, update_entry_plain, delete_entry, delete_entry_is, delete_entry_plain, has_profile, has_entry, entry_key, entry_below, entry_key_below, picks_profile, entry_cast, is_at}
-use Rattle.opc_stored.proofs.AccessLists.{split, Split, is_of_means, listing, same_profiles, parted_entries, entries_hit, entries_rest, no_entries, all_entries}
+use Rattle.opc_stored.proofs.AccessLists.{split, Split, is_of_means, listing, same_profiles, split_entries, entries_hit, entries_rest, no_entries, all_entries}
 
 same_rows : (xs ys rows : List Row) → IsPermutation xs ys → HasRows xs rows → HasRows ys rows
 same_rows xs ys rows same h = record { each = IsPermutation-trans _ _ _ (IsPermutation-sym _ _ same) h.each; kept = h.kept }
@@ -120,8 +120,8 @@ module _ (old new : SqlState) (count : ℕ) (s : State) (was : Tabulates old.now
           ap (λ (o : Option Profile). option_map_or (λ (p : Profile). with_profile (record p { entries = without_entry id when p.entries }) s.policy.profiles) o s.policy.profiles) here in
           let mine : IsAccessList p.entries = found_one (λ (q : Profile). IsAccessList q.entries) (is_of class pattern) s.policy.profiles p lists_up here in
           let others : filter (λ (e : Entry). not (is_at id (or_empty when) e)) p.entries ≡ without_entry id when p.entries = filter_on _ _ p.entries (all_weaker IsNamed _ (λ e is. ap not (at_console id when named e is)) p.entries mine.1) in
-          let rest = entries_rest class pattern id (or_empty when) s.policy.profiles p it ∙ ap (λ (l : List Entry). flat_map entry_rows it.front ++ (map (entry_row p.class p.pattern) l ++ flat_map entry_rows it.back)) others in
-          let rows = subst (λ (l : List Row). HasRows l (new.now.trees entries_at.tree)) (rest ∙ sym (parted_entries class pattern s.policy.profiles p it (without_entry id when))) left in
+          let rest = entries_rest class pattern id (or_empty when) s.policy.profiles p it ∙ ap (λ (l : List Entry). flat_map entry_rows it.prefix ++ (map (entry_row p.class p.pattern) l ++ flat_map entry_rows it.back)) others in
+          let rows = subst (λ (l : List Row). HasRows l (new.now.trees entries_at.tree)) (rest ∙ sym (split_entries class pattern s.policy.profiles p it (without_entry id when))) left in
           subst (λ (l : List Profile). Tabulates new.now (with_profiles l s)) (sym same) (subst (λ (c : Contents). IsMade c new.now) (sym (same_contents s class pattern p it (without_entry id when))) (spared _ rows))
 
 -- ---- an entry is put
@@ -142,16 +142,16 @@ module _ (class : Class) (pattern : List ℕ) (ps : List Profile) (p : Profile) 
       → IsPermutation (entry_row class pattern e ∷ filter (λ v. not (has_entry class pattern e.id (or_empty e.when) v)) (flat_map entry_rows ps)) (flat_map entry_rows (with_profile (listing class pattern ps p it (with_entry e)) ps))
   put_in named list =
       let row = entry_row p.class p.pattern in
-      let front = flat_map entry_rows it.front in
+      let prefix = flat_map entry_rows it.prefix in
       let back = flat_map entry_rows it.back in
       let rest = filter (λ (f : Entry). not (is_at e.id (or_empty e.when) f)) p.entries in
-      let first : entry_row class pattern e ∷ filter (λ v. not (has_entry class pattern e.id (or_empty e.when) v)) (flat_map entry_rows ps) ≡ row e ∷ (front ++ (map row rest ++ back)) = ap₂ (λ (a : Row) (l : List Row). a ∷ l) row_is (entries_rest class pattern e.id (or_empty e.when) ps p it) in
+      let first : entry_row class pattern e ∷ filter (λ v. not (has_entry class pattern e.id (or_empty e.when) v)) (flat_map entry_rows ps) ≡ row e ∷ (prefix ++ (map row rest ++ back)) = ap₂ (λ (a : Row) (l : List Row). a ∷ l) row_is (entries_rest class pattern e.id (or_empty e.when) ps p it) in
       let same : others entry_cmp entry_total e p.entries ≡ rest = filter_on _ _ p.entries (all_weaker IsNamed _ (λ f is. ap not (same_test named f is)) p.entries list.1) in
       let mine : IsPermutation (map row (e ∷ rest)) (map row (with_entry e p.entries)) =
       IsPermutation-map row _ _ (subst (λ (l : List Entry). IsPermutation (e ∷ l) (with_entry e p.entries)) same (IsPermutation-sym _ _ (replaced_is entry_cmp entry_total e p.entries list.0))) in
       IsPermutation-trans _ _ _ (IsPermutation-same _ _ first)
-      (IsPermutation-trans _ _ _ (IsPermutation-sym _ _ (IsPermutation-middle front (row e) (map row rest ++ back)))
-      (IsPermutation-trans _ _ _ (IsPermutation-append_right front _ _ (IsPermutation-append_left back _ _ mine)) (IsPermutation-same _ _ (sym (parted_entries class pattern ps p it (with_entry e))))))
+      (IsPermutation-trans _ _ _ (IsPermutation-sym _ _ (IsPermutation-middle prefix (row e) (map row rest ++ back)))
+      (IsPermutation-trans _ _ _ (IsPermutation-append_right prefix _ _ (IsPermutation-append_left back _ _ mine)) (IsPermutation-same _ _ (sym (split_entries class pattern ps p it (with_entry e))))))
 
 -- The database obeys its foreign keys, so the profile of an entry that is there is there.
 refers : (db : Trees) (row : Row) → list_all (has_parent the_schema.tables db row) entries_at.references

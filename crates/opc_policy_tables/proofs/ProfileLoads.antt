@@ -136,8 +136,8 @@ module _ (P : Profile → Type 0) where
 
 -- ---- class by class
 
-behind : (p q : Profile) → p.class ≡ Opercmds → profile_cmp p q ≡ Less → same_class q.class Console ≡ false
-behind p q is less = go q.class refl
+after : (p q : Profile) → p.class ≡ Opercmds → profile_cmp p q ≡ Less → same_class q.class Console ≡ false
+after p q is less = go q.class refl
   where
     go : (c : Class) → q.class ≡ c → same_class q.class Console ≡ false
     go Console e = absurd (let back : profile_cmp p q ≡ Greater = ap₂ (λ (a b : Class). ordering_then (class_cmp a b) (pattern_cmp p.pattern q.pattern)) is e in cc)
@@ -146,9 +146,9 @@ behind p q is less = go q.class refl
 of_one : (class : Class) (b : Bool) (p : Profile) (ps : List Profile) → same_class p.class class ≡ b → of_class class (p ∷ ps) ≡ cond b (p ∷ of_class class ps) (of_class class ps)
 of_one class b p ps is = ap (λ (c : Bool). cond c (p ∷ of_class class ps) (of_class class ps)) is
 
-all_behind : (ps : List Profile) → AllByRecursion (λ q. same_class q.class Console ≡ false) ps → (of_class Console ps ≡ []) × (of_class Opercmds ps ≡ ps)
-all_behind [] all = (refl, refl)
-all_behind (q ∷ ps) all = go q.class refl (all_behind ps all.1)
+all_after : (ps : List Profile) → AllByRecursion (λ q. same_class q.class Console ≡ false) ps → (of_class Console ps ≡ []) × (of_class Opercmds ps ≡ ps)
+all_after [] all = (refl, refl)
+all_after (q ∷ ps) all = go q.class refl (all_after ps all.1)
   where
     go : (c : Class) → q.class ≡ c → (of_class Console ps ≡ []) × (of_class Opercmds ps ≡ ps) → (of_class Console (q ∷ ps) ≡ []) × (of_class Opercmds (q ∷ ps) ≡ q ∷ ps)
     go Console e more = absurd (let hit : same_class q.class Console ≡ true = ap (λ c. same_class c Console) e in let miss = all.0 in cc)
@@ -166,6 +166,6 @@ by_classes (p ∷ ps) up = go p.class refl (by_classes ps up.1)
         ap₂ (λ (a b : List Profile). a ++ b) (of_one Console true p ps (ap (λ c. same_class c Console) e)) (of_one Opercmds false p ps (ap (λ c. same_class c Opercmds) e))
         ∙ ap (λ (l : List Profile). p ∷ l) more
     go Opercmds e more =
-        let later = all_behind ps (all_weaker _ (λ q. same_class q.class Console ≡ false) (λ q. behind p q e) ps up.0) in
+        let later = all_after ps (all_weaker _ (λ q. same_class q.class Console ≡ false) (λ q. after p q e) ps up.0) in
         ap₂ (λ (a b : List Profile). a ++ b) (of_one Console false p ps (ap (λ c. same_class c Console) e) ∙ later.0)
         (of_one Opercmds true p ps (ap (λ c. same_class c Opercmds) e) ∙ ap (λ (l : List Profile). p ∷ l) later.1)

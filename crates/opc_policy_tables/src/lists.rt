@@ -38,7 +38,7 @@ fn is_of(row: &Row, pattern: &str) -> bool
 // Where the rows of a pattern begin, or would, among rows in the order of their patterns.
 fn first_of(rows: &[Row], pattern: &str) -> usize
     ensures bound { result ≤ length rows.now }
-    ensures parted { IsPartitionedBy (is_before pattern.now) rows.now → IsPartitionPoint (λ row. is_before pattern.now row ≡ true) (λ row. is_before pattern.now row ≡ false) rows.now result }
+    ensures split { IsPartitionedBy (is_before pattern.now) rows.now → IsPartitionPoint (λ row. is_before pattern.now row ≡ true) (λ row. is_before pattern.now row ≡ false) rows.now result }
 {
     rows.partition_point(|row| is_before(row, pattern))
 }

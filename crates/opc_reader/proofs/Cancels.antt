@@ -10,7 +10,7 @@ use Rattle.opc_reader.specs.declared.command.Command.{Command}
 use Rattle.opc_reader.specs.declared.command.Command.TheVariants.{Cancel, CancelUser, Force, Stop}
 use Rattle.opc_reader.specs.Forms.{Name, parts, AreTyped}
 use Rattle.opc_reader.specs.Operands.{in_name}
-use Rattle.opc_reader.specs.Reading.{last_name, cancel_behind, cancel, force, stop}
+use Rattle.opc_reader.specs.Reading.{last_name, cancel_after, cancel, force, stop}
 use Rattle.opc_reader.specs.Stretches.{Stretch, folded, word}
 use Rattle.opc_reader.proofs.Leaves.{length_folded, word_found, word_run, name_chars}
 use Rattle.opc_reader.proofs.Steps.{over_word, back_word, over_last_name, back_last_name, bind_some, Gives, gives}
@@ -48,7 +48,7 @@ of_user user s t =
 pub cancel_found : (s : Stretch) (c : Command) → cancel s ≡ Some c → Gives verb.Cancel s c
 unfolding cancel
 cancel_found s c h = by_word (word (codes "U=") s) refl h where
-  by_word : (read : Option Stretch) → word (codes "U=") s ≡ read → cancel_behind read s ≡ Some c → Gives verb.Cancel s c
+  by_word : (read : Option Stretch) → word (codes "U=") s ≡ read → cancel_after read s ≡ Some c → Gives verb.Cancel s c
   by_word (Some rest) e k =
       let found = bind_some (last_name user_rule rest) (λ user. Some (CancelUser user)) c k in
       gives verb.Cancel s (CancelUser found.0) c (same_Some _ _ found.2) (record { verb = refl; typed = back_word (codes "U=") (Name user_rule found.0 ∷ []) s rest e (back_last_name user_rule found.0 rest found.1); meant = tt })

@@ -13,12 +13,12 @@ use Rattle.opc_reader.specs.declared.command.Command.TheVariants.{DisplayUnits, 
 use Rattle.opc_reader.specs.Forms.{Word, Name, parts, IsMeant, AreTyped}
 use Rattle.opc_reader.specs.Reading.{◌>>=◌, last_name, display}
 use Rattle.opc_reader.specs.Stretches.{Stretch, folded, word}
-use Rattle.opc_reader.proofs.Leaves.{bytes_same, bytes_refl, bytes_other, behind_part}
+use Rattle.opc_reader.proofs.Leaves.{bytes_same, bytes_refl, bytes_other, after_part}
 use Rattle.opc_reader.proofs.Steps.{over_word, back_word, over_last, back_last, over_last_name, back_last_name, bind_some, cond_cases, Gives, gives}
 
 display_text : (o : Operand (List ℕ)) (s : Stretch) → AreTyped (Word (codes "A,") ∷ Name unit_rule o ∷ []) s → folded s.text ≡ 65 ∷ 44 ∷ o.value
 display_text o s (a, b, e, typed, rest) =
-    let last = over_last (Name unit_rule o) (behind_part a b s.from) rest in
+    let last = over_last (Name unit_rule o) (after_part a b s.from) rest in
     ap folded e ∙ map-append to_ascii_uppercase a b ∙ ap (λ x. x ++ folded b) typed ∙ ap (λ x. 65 ∷ 44 ∷ x) (sym last.1)
 
 pub units : (s : Stretch) → AreTyped (parts DisplayUnits) s → display s ≡ Some DisplayUnits

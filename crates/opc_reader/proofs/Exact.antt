@@ -18,15 +18,15 @@ use Rattle.opc_reader.specs.Lines.{is_space, is_typeable, Reads, trimmed, verb_p
 use Rattle.opc_reader.proofs.Forms.{complete, sound}
 use Rattle.opc_reader.proofs.Opens.{no_open}
 use Rattle.opc_reader.proofs.Steps.{Gives}
-use Rattle.opc_reader.proofs.Runs.{all_run, run_all, run_front, run_rest, suffix_append, suffix_all, ended}
+use Rattle.opc_reader.proofs.Runs.{all_run, run_all, run_prefix, run_rest, suffix_append, suffix_all, ended}
 use Rattle.opc_reader.proofs.Scans.{no_space, verb_word, IsWord, Laid, scan, scan_verb, scan_operands, nothing}
 
 laid_of : (line : List ℕ) (c : Command) (r : Reads line c) → Laid r.before r.verb r.gap r.operands r.after
 laid_of line c r = record {
   before_run = all_run is_space r.before r.before_verb;
   word = verb_word r.verb (verb_of c) r.spelled;
-  gap_run = all_run is_space r.gap r.behind_verb;
-  after_run = all_run is_space r.after r.behind_operands;
+  gap_run = all_run is_space r.gap r.after_verb;
+  after_run = all_run is_space r.after r.after_operands;
   separated = r.separated;
   bare = r.bare;
 }
@@ -137,8 +137,8 @@ from_scan line c pass spelled found = record {
   short = pass.short;
   typeable = pass.typeable;
   before_verb = run_all is_space before before_run;
-  behind_verb = run_all is_space gap gap_run;
-  behind_operands = run_all is_space after (ended is_space line).run;
+  after_verb = run_all is_space gap gap_run;
+  after_operands = run_all is_space after (ended is_space line).run;
   separated = (no_gap, no_operands);
   bare = (run_rest is_space rest, operands_end);
   spelled = spelled;
@@ -148,17 +148,17 @@ from_scan line c pass spelled found = record {
   n : ℕ
   n = length line - suffix_len is_space line
 
-  front_text : List ℕ
-  front_text = take n line
+  prefix_text : List ℕ
+  prefix_text = take n line
 
   after : List ℕ
   after = drop n line
 
   before : List ℕ
-  before = take (prefix_len is_space front_text) front_text
+  before = take (prefix_len is_space prefix_text) prefix_text
 
   body : List ℕ
-  body = drop (prefix_len is_space front_text) front_text
+  body = drop (prefix_len is_space prefix_text) prefix_text
 
   verb : List ℕ
   verb = take (prefix_len no_space body) body
@@ -173,29 +173,29 @@ from_scan line c pass spelled found = record {
   operands = drop (prefix_len is_space rest) rest
 
   before_run : prefix_len is_space before ≡ length before
-  before_run = run_front is_space front_text ∙ sym (length-prefix_len is_space front_text)
+  before_run = run_prefix is_space prefix_text ∙ sym (length-prefix_len is_space prefix_text)
 
   gap_run : prefix_len is_space gap ≡ length gap
-  gap_run = run_front is_space rest ∙ sym (length-prefix_len is_space rest)
+  gap_run = run_prefix is_space rest ∙ sym (length-prefix_len is_space rest)
 
-  front_is : front_text ≡ before ++ (verb ++ (gap ++ operands))
-  front_is =
-      sym (take-append-drop (prefix_len is_space front_text) front_text) ∙
+  prefix_is : prefix_text ≡ before ++ (verb ++ (gap ++ operands))
+  prefix_is =
+      sym (take-append-drop (prefix_len is_space prefix_text) prefix_text) ∙
       ap (λ t. before ++ t) (sym (take-append-drop (prefix_len no_space body) body) ∙ ap (λ t. verb ++ t) (sym (take-append-drop (prefix_len is_space rest) rest)))
 
   whole : line ≡ before ++ (verb ++ (gap ++ (operands ++ after)))
-  whole = sym (take-append-drop n line) ∙ ap (λ t. t ++ after) front_is ∙ regroup before verb gap operands after where
+  whole = sym (take-append-drop n line) ∙ ap (λ t. t ++ after) prefix_is ∙ regroup before verb gap operands after where
     regroup : (a b d e f : List ℕ) → (a ++ (b ++ (d ++ e))) ++ f ≡ a ++ (b ++ (d ++ (e ++ f)))
     regroup a b d e f = simp append_assoc
 
-  front_end : suffix_len is_space (before ++ (verb ++ (gap ++ operands))) ≡ 0
-  front_end = ap (suffix_len is_space) (sym front_is) ∙ (ended is_space line).bare
+  prefix_end : suffix_len is_space (before ++ (verb ++ (gap ++ operands))) ≡ 0
+  prefix_end = ap (suffix_len is_space) (sym prefix_is) ∙ (ended is_space line).bare
 
   tail_end : (xs ys : List ℕ) → suffix_len is_space (xs ++ ys) ≡ 0 → suffix_len is_space ys ≡ 0
   tail_end xs ys h = grind (arith, nat_tests, suffix_append is_space xs ys, h)
 
   gap_end : suffix_len is_space (gap ++ operands) ≡ 0
-  gap_end = tail_end verb (gap ++ operands) (tail_end before (verb ++ (gap ++ operands)) front_end)
+  gap_end = tail_end verb (gap ++ operands) (tail_end before (verb ++ (gap ++ operands)) prefix_end)
 
   operands_end : suffix_len is_space operands ≡ 0
   operands_end = tail_end gap operands gap_end
@@ -219,7 +219,7 @@ from_scan line c pass spelled found = record {
   at k = record { text = operands; from = k }
 
   place : operands_place (trimmed line) ≡ record { text = operands; from = length before + length verb + length gap }
-  place = ap at (omega (arith, length-prefix_len is_space front_text, length-prefix_len no_space body, length-prefix_len is_space rest))
+  place = ap at (omega (arith, length-prefix_len is_space prefix_text, length-prefix_len no_space body, length-prefix_len is_space rest))
 
 outcome_ok : (o : Option Command) (s : Stretch) (c : Command) → outcome o s ≡ Ok c → o ≡ Some c
 outcome_ok None s c h = cc

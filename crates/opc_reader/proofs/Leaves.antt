@@ -17,7 +17,7 @@ use Rattle.opc_names.specs.declared.rule.NameRule.{NameRule}
 use Rattle.opc_names.specs.declared.rule.NameFault.TheVariants.{Empty, TooShort, TooLong, BadCharacter, BadQualifier}
 use Rattle.opc_names.specs.Names.{is_name_character, may_begin, may_follow, bad_character, bad_qualifier, is_plain, name_fault}
 use Rattle.opc_reader.specs.declared.command.Operand.{Operand}
-use Rattle.opc_reader.specs.Stretches.{Stretch, folded, front, behind, word}
+use Rattle.opc_reader.specs.Stretches.{Stretch, folded, prefix, after, word}
 use Rattle.opc_reader.specs.Operands.{in_name}
 use Rattle.opc_reader.specs.Reading.{name}
 
@@ -34,24 +34,24 @@ bytes_other a b h = grind (arith, nat_tests, bytes_eq-Decides a b)
 abbrev pub joined : List ℕ → List ℕ → ℕ → Stretch
 joined a b n = record { text = a ++ b; from = n }
 
-abbrev pub behind_part : List ℕ → List ℕ → ℕ → Stretch
-behind_part a b n = record { text = b; from = n + length a }
+abbrev pub after_part : List ℕ → List ℕ → ℕ → Stretch
+after_part a b n = record { text = b; from = n + length a }
 
 pub length_folded : (a : List ℕ) → length (folded a) ≡ length a
 length_folded a = length-map a to_ascii_uppercase
 
-pub word_read : (a b : List ℕ) (n : ℕ) → word (folded a) (joined a b n) ≡ Some (behind_part a b n)
+pub word_read : (a b : List ℕ) (n : ℕ) → word (folded a) (joined a b n) ≡ Some (after_part a b n)
 unfolding word
 word_read a b n = rw (length_folded a, take-append_seam a b, drop-append_seam a b, bytes_refl (folded a)) refl
 
-pub word_found : (w : List ℕ) (s r : Stretch) → word w s ≡ Some r → (a : List ℕ) × (s.text ≡ a ++ r.text) × (folded a ≡ w) × (r ≡ behind_part a r.text s.from)
+pub word_found : (w : List ℕ) (s r : Stretch) → word w s ≡ Some r → (a : List ℕ) × (s.text ≡ a ++ r.text) × (folded a ≡ w) × (r ≡ after_part a r.text s.from)
 unfolding word
 word_found w s r h =
-    let parts = cond_some (bytes_eq (folded (take (length w) s.text)) w) (behind (length w) s) r h in
+    let parts = cond_some (bytes_eq (folded (take (length w) s.text)) w) (after (length w) s) r h in
     let same : folded (take (length w) s.text) ≡ w = bytes_same _ _ parts.0 in
     let count : length w ≡ length (take (length w) s.text) = sym (ap length same) ∙ length_folded (take (length w) s.text) in
-    let left : behind (length w) s ≡ behind_part (take (length w) s.text) (drop (length w) s.text) s.from = ap (λ k. record { text = drop (length w) s.text; from = s.from + k }) count in
-    let P : Stretch → Type 0 = λ q. (a : List ℕ) × (s.text ≡ a ++ q.text) × (folded a ≡ w) × (q ≡ behind_part a q.text s.from) in
+    let left : after (length w) s ≡ after_part (take (length w) s.text) (drop (length w) s.text) s.from = ap (λ k. record { text = drop (length w) s.text; from = s.from + k }) count in
+    let P : Stretch → Type 0 = λ q. (a : List ℕ) × (s.text ≡ a ++ q.text) × (folded a ≡ w) × (q ≡ after_part a q.text s.from) in
     subst P parts.1 (take (length w) s.text, sym (take-append-drop (length w) s.text), same, left)
 
 -- which word it begins with says how far its name characters go
@@ -124,7 +124,7 @@ name_chars rule a p h =
     let good = or_none (option_map BadCharacter (bad_character rule.alphabet (folded a))) (option_map BadQualifier (bad_qualifier rule.alphabet (folded a))) few.1 in
     bad_named rule.alphabet a p (none_of_map BadCharacter _ good)
 
-pub name_read : (rule : NameRule) (a b : List ℕ) (n : ℕ) → is_plain rule.alphabet ≡ true → name_fault rule (folded a) ≡ None → prefix_len in_name b ≡ 0 → name rule (joined a b n) ≡ Some (record { value = folded a; typed = record { text = a; from = n } }, behind_part a b n)
+pub name_read : (rule : NameRule) (a b : List ℕ) (n : ℕ) → is_plain rule.alphabet ≡ true → name_fault rule (folded a) ≡ None → prefix_len in_name b ≡ 0 → name rule (joined a b n) ≡ Some (record { value = folded a; typed = record { text = a; from = n } }, after_part a b n)
 unfolding name
 name_read rule a b n p h stops =
     let all = name_chars rule a p h in
@@ -135,13 +135,13 @@ none_is : {A : Type 0} (o : Option A) → is_none o ≡ true → o ≡ None
 none_is None h = refl
 none_is (Some x) h = cc
 
-pub name_found : (rule : NameRule) (s r : Stretch) (o : Operand (List ℕ)) → name rule s ≡ Some (o, r) → (a : List ℕ) × (s.text ≡ a ++ r.text) × (o ≡ record { value = folded a; typed = record { text = a; from = s.from } }) × (name_fault rule (folded a) ≡ None) × (r ≡ behind_part a r.text s.from)
+pub name_found : (rule : NameRule) (s r : Stretch) (o : Operand (List ℕ)) → name rule s ≡ Some (o, r) → (a : List ℕ) × (s.text ≡ a ++ r.text) × (o ≡ record { value = folded a; typed = record { text = a; from = s.from } }) × (name_fault rule (folded a) ≡ None) × (r ≡ after_part a r.text s.from)
 unfolding name
 name_found rule s r o h =
     let n : ℕ = prefix_len in_name s.text in
-    let parts = cond_some (is_none (name_fault rule (folded (take n s.text)))) (record { value = folded (take n s.text); typed = front n s }, behind n s) (o, r) h in
+    let parts = cond_some (is_none (name_fault rule (folded (take n s.text)))) (record { value = folded (take n s.text); typed = prefix n s }, after n s) (o, r) h in
     let both = some_pair_parts _ _ _ _ (ap Some parts.1) in
     let count : n ≡ length (take n s.text) = sym (length-take-le n s.text (prefix_len-le-length in_name s.text)) in
-    let left : behind n s ≡ behind_part (take n s.text) (drop n s.text) s.from = ap (λ k. record { text = drop n s.text; from = s.from + k }) count in
-    let P : Stretch → Type 0 = λ q. (a : List ℕ) × (s.text ≡ a ++ q.text) × (o ≡ record { value = folded a; typed = record { text = a; from = s.from } }) × (name_fault rule (folded a) ≡ None) × (q ≡ behind_part a q.text s.from) in
+    let left : after n s ≡ after_part (take n s.text) (drop n s.text) s.from = ap (λ k. record { text = drop n s.text; from = s.from + k }) count in
+    let P : Stretch → Type 0 = λ q. (a : List ℕ) × (s.text ≡ a ++ q.text) × (o ≡ record { value = folded a; typed = record { text = a; from = s.from } }) × (name_fault rule (folded a) ≡ None) × (q ≡ after_part a q.text s.from) in
     subst P both.1 (take n s.text, sym (take-append-drop n s.text), sym both.0, none_is _ parts.0, left)

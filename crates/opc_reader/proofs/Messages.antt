@@ -8,9 +8,9 @@ use Rattle.opc_reader.specs.declared.command.Text.{Text}
 use Rattle.opc_reader.specs.declared.command.Command.{Command}
 use Rattle.opc_reader.specs.declared.command.Command.TheVariants.{Modify, Reply, Send, Log}
 use Rattle.opc_reader.specs.Forms.{Part, Word, Name, AnyText, parts, AreTyped}
-use Rattle.opc_reader.specs.Reading.{name, number_front, quoted_text, quoted_front, any_text, modify, reply, send, log}
+use Rattle.opc_reader.specs.Reading.{name, number_prefix, quoted_text, quoted_prefix, any_text, modify, reply, send, log}
 use Rattle.opc_reader.specs.Stretches.{Stretch, word}
-use Rattle.opc_reader.proofs.Steps.{over_word, back_word, over_name, back_name, over_number, back_number, over_text, back_text, over_quoted, back_quoted, over_quoted_front, back_quoted_front, only_read, only_found, bind_some, Gives, gives}
+use Rattle.opc_reader.proofs.Steps.{over_word, back_word, over_name, back_name, over_number, back_number, over_text, back_text, over_quoted, back_quoted, over_quoted_prefix, back_quoted_prefix, only_read, only_found, bind_some, Gives, gives}
 
 pub modified : (name : Operand (List ℕ)) (text : Text) (s : Stretch) → AreTyped (parts (Modify name text)) s → modify s ≡ Some (Modify name text)
 unfolding modify
@@ -37,7 +37,7 @@ replied id text s t =
 pub reply_found : (s : Stretch) (c : Command) → reply s ≡ Some c → Gives verb.Reply s c
 unfolding reply
 reply_found s c h =
-    let id = bind_some (number_front s) _ c h in
+    let id = bind_some (number_prefix s) _ c h in
     let comma = bind_some (word (codes ",") id.0.1) _ c id.2 in
     let text = bind_some (any_text comma.0) _ c comma.2 in
     gives verb.Reply s (Reply id.0.0 text.0) c (same_Some _ _ text.2) (record { verb = refl; typed = back_number id.0.0 (Word (codes ",") ∷ AnyText text.0 ∷ []) s id.0.1 id.1 (back_word (codes ",") (AnyText text.0 ∷ []) id.0.1 comma.0 comma.1 (back_text text.0 comma.0 text.1)); meant = tt })
@@ -45,7 +45,7 @@ reply_found s c h =
 pub sent : (text : Text) (user : Operand (List ℕ)) (s : Stretch) → AreTyped (parts (Send text user)) s → send s ≡ Some (Send text user)
 unfolding send
 sent text user s t =
-    let quote = over_quoted_front text (codes "USER=(") 44 (Name user_rule user ∷ Word (codes ")") ∷ []) s refl t in
+    let quote = over_quoted_prefix text (codes "USER=(") 44 (Name user_rule user ∷ Word (codes ")") ∷ []) s refl t in
     let opened = over_word (codes ",USER=(") (Name user_rule user ∷ Word (codes ")") ∷ []) quote.rest quote.typed in
     let step = over_name user_rule user (Word (codes ")") ∷ []) opened.rest refl refl opened.typed in
     let close = over_word (codes ")") [] step.rest step.typed in
@@ -54,13 +54,13 @@ sent text user s t =
 pub send_found : (s : Stretch) (c : Command) → send s ≡ Some c → Gives verb.Send s c
 unfolding send
 send_found s c h =
-    let quote = bind_some (quoted_front s) _ c h in
+    let quote = bind_some (quoted_prefix s) _ c h in
     let opened = bind_some (word (codes ",USER=(") quote.0.1) _ c quote.2 in
     let user = bind_some (name user_rule opened.0) _ c opened.2 in
     let close = bind_some (word (codes ")") user.0.1) _ c user.2 in
     let end = only_found (Send quote.0.0 user.0.0) c close.0 close.2 in
     let ps : List Part = Word (codes ")") ∷ [] in
-    gives verb.Send s (Send quote.0.0 user.0.0) c end.0 (record { verb = refl; typed = back_quoted_front quote.0.0 (Word (codes ",USER=(") ∷ Name user_rule user.0.0 ∷ ps) s quote.0.1 quote.1 (back_word (codes ",USER=(") (Name user_rule user.0.0 ∷ ps) quote.0.1 opened.0 opened.1 (back_name user_rule user.0.0 ps opened.0 user.0.1 user.1 (back_word (codes ")") [] user.0.1 close.0 close.1 end.1))); meant = tt })
+    gives verb.Send s (Send quote.0.0 user.0.0) c end.0 (record { verb = refl; typed = back_quoted_prefix quote.0.0 (Word (codes ",USER=(") ∷ Name user_rule user.0.0 ∷ ps) s quote.0.1 quote.1 (back_word (codes ",USER=(") (Name user_rule user.0.0 ∷ ps) quote.0.1 opened.0 opened.1 (back_name user_rule user.0.0 ps opened.0 user.0.1 user.1 (back_word (codes ")") [] user.0.1 close.0 close.1 end.1))); meant = tt })
 
 pub logged : (text : Text) (s : Stretch) → AreTyped (parts (Log text)) s → log s ≡ Some (Log text)
 unfolding log

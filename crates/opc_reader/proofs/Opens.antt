@@ -11,14 +11,14 @@ use Rattle.opc_reader.specs.declared.command.Text.{Text}
 use Rattle.opc_reader.specs.declared.command.Command.{Command}
 use Rattle.opc_reader.specs.declared.command.Command.TheVariants.{DisplayUnits, DisplayUnit, DisplayDevices, DisplayConsoles, DisplayReplies, Cancel, CancelUser, Force, Start, StartAs, Stop, Modify, Reply, VaryDeviceOnline, VaryDeviceOffline, VaryConsoleOnline, VaryConsoleOffline, VaryConsoleAuth, Mount, Unload, Swap, ResetConsole, Send, Log, Monitor, StopMonitor, Halt, Logon, Logoff}
 use Rattle.opc_reader.specs.Forms.{Word, Name, QuotedText, AnyText, verb_of, parts, IsTyped, AreTyped}
-use Rattle.opc_reader.specs.Lines.{open_behind, open_place}
+use Rattle.opc_reader.specs.Lines.{open_after, open_place}
 use Rattle.opc_reader.specs.Operands.{in_name}
 use Rattle.opc_reader.specs.Quotes.{closing_len, quoted_len, is_open}
-use Rattle.opc_reader.specs.Reading.{quoted_front}
-use Rattle.opc_reader.specs.Stretches.{Stretch, folded, front, behind}
+use Rattle.opc_reader.specs.Reading.{quoted_prefix}
+use Rattle.opc_reader.specs.Stretches.{Stretch, folded, prefix, after}
 use Rattle.opc_reader.proofs.Leaves.{name_chars}
 use Rattle.opc_reader.proofs.Quoted.{closed, plain_closed, not_opens}
-use Rattle.opc_reader.proofs.Steps.{over_last, over_quoted_front, number_digits, map_some}
+use Rattle.opc_reader.proofs.Steps.{over_last, over_quoted_prefix, number_digits, map_some}
 
 -- the first comma is that after a run of other characters
 comma_first : (p : ℕ → Bool) (a b : List ℕ) → p 44 ≡ false → prefix_len p a ≡ length a → position_or_len (λ c. c == 44) (a ++ 44 ∷ b) ≡ length a
@@ -58,20 +58,20 @@ one_comma (c ∷ []) h = let same : to_ascii_uppercase c ≡ 44 = cc in ap (λ v
 one_comma (c ∷ (d ∷ x)) h = cc
 
 -- the text after the first comma is closed
-closed_behind : (p : ℕ → Bool) (a b : List ℕ) (n : ℕ) (text : Text) (s : Stretch) → p 44 ≡ false → prefix_len p a ≡ length a → s.text ≡ a ++ b → AreTyped (Word (codes ",") ∷ AnyText text ∷ []) (record { text = b; from = n }) → open_behind (position (λ c. c == 44) s.text) s ≡ None
-closed_behind p a b n text s none run e (a', b', e', comma, rest) =
+closed_after : (p : ℕ → Bool) (a b : List ℕ) (n : ℕ) (text : Text) (s : Stretch) → p 44 ≡ false → prefix_len p a ≡ length a → s.text ≡ a ++ b → AreTyped (Word (codes ",") ∷ AnyText text ∷ []) (record { text = b; from = n }) → open_after (position (λ c. c == 44) s.text) s ≡ None
+closed_after p a b n text s none run e (a', b', e', comma, rest) =
     let word : a' ≡ 44 ∷ [] = one_comma a' comma in
     let whole : s.text ≡ a ++ 44 ∷ b' = e ∙ ap (λ x. a ++ x) (e' ∙ ap (λ x. x ++ b') word) in
     let at : position_or_len (λ c. c == 44) s.text ≡ length a = ap (position_or_len (λ c. c == 44)) whole ∙ comma_first p a b' none run in
     let count : length s.text ≡ length a + suc (length b') = ap length whole ∙ length-append a (44 ∷ b') in
     let place : position (λ c. c == 44) s.text ≡ Some (length a) = grind (arith, nat_tests, at, count) in
-    let behind_it : drop (length a + 1) s.text ≡ b' = ap (drop (length a + 1)) (whole ∙ sym (append_assoc a (44 ∷ []) b')) ∙ ap (λ n. drop n ((a ++ 44 ∷ []) ++ b')) (sym (length-append a (44 ∷ []))) ∙ drop-append_seam (a ++ 44 ∷ []) b' in
-    rw (place, behind_it, text_closed text _ (over_last (AnyText text) _ rest)) refl
+    let after_it : drop (length a + 1) s.text ≡ b' = ap (drop (length a + 1)) (whole ∙ sym (append_assoc a (44 ∷ []) b')) ∙ ap (λ n. drop n ((a ++ 44 ∷ []) ++ b')) (sym (length-append a (44 ∷ []))) ∙ drop-append_seam (a ++ 44 ∷ []) b' in
+    rw (place, after_it, text_closed text _ (over_last (AnyText text) _ rest)) refl
 
 -- a quoted text at the start is closed
-closed_front : (t : Text) (s r : Stretch) → quoted_front s ≡ Some (t, r) → is_open s.text ≡ false
-unfolding quoted_front
-closed_front t s r h = let found = map_some (λ n. (record { typed = front n s }, behind n s)) (quoted_len s.text) (t, r) h in counted s.text found.0 found.1 where
+closed_prefix : (t : Text) (s r : Stretch) → quoted_prefix s ≡ Some (t, r) → is_open s.text ≡ false
+unfolding quoted_prefix
+closed_prefix t s r h = let found = map_some (λ n. (record { typed = prefix n s }, after n s)) (quoted_len s.text) (t, r) h in counted s.text found.0 found.1 where
   none_left : (o : Option ℕ) (n : ℕ) → option_map (λ m. m + 1) o ≡ Some n → is_none o ≡ false
   none_left None n k = cc
   none_left (Some m) n k = refl
@@ -98,8 +98,8 @@ no_open (StartAs member id) s t = refl
 no_open (Stop name) s t = refl
 no_open (Modify name text) s (a, b, e, typed, rest) =
     let fault : name_fault unit_rule (folded a) ≡ None = rw (← typed.1) typed.2 in
-    closed_behind in_name a b _ text s refl (name_chars unit_rule a refl fault) e rest
-no_open (Reply id text) s (a, b, e, typed, rest) = closed_behind is_ascii_digit a b _ text s refl (number_digits a id.value typed.1) e rest
+    closed_after in_name a b _ text s refl (name_chars unit_rule a refl fault) e rest
+no_open (Reply id text) s (a, b, e, typed, rest) = closed_after is_ascii_digit a b _ text s refl (number_digits a id.value typed.1) e rest
 no_open (VaryDeviceOnline device) s t = refl
 no_open (VaryDeviceOffline device) s t = refl
 no_open (VaryConsoleOnline console) s t = refl
@@ -110,8 +110,8 @@ no_open (Unload device) s t = refl
 no_open (Swap from to) s t = refl
 no_open (ResetConsole console) s t = refl
 no_open (Send text user) s t =
-    let quote = over_quoted_front text (codes "USER=(") 44 (Name user_rule user ∷ Word (codes ")") ∷ []) s refl t in
-    rw (closed_front text s quote.rest quote.read_is) refl
+    let quote = over_quoted_prefix text (codes "USER=(") 44 (Name user_rule user ∷ Word (codes ")") ∷ []) s refl t in
+    rw (closed_prefix text s quote.rest quote.read_is) refl
 no_open (Log text) s t = rw (closed s.text (over_last (QuotedText text) s t).1) refl
 no_open Monitor s t = refl
 no_open StopMonitor s t = refl

@@ -122,42 +122,42 @@ said bytes_of (Ok v) t b e h = says t (bytes_of v) (h ∙ ap text_value e)
 said bytes_of (Err x) t b e h = tt
 
 -- a quoted text at the start, with other text after it, ends at one place
-pub quote_front : (text rest : List ℕ) → opens_quote rest ≡ false → closing_len (doubled text ++ 39 ∷ rest) ≡ Some (length (doubled text) + 1)
-quote_front [] [] h = refl
-quote_front [] (d ∷ rest) h = rw h refl
-quote_front (c ∷ text) rest h =
+pub quote_prefix : (text rest : List ℕ) → opens_quote rest ≡ false → closing_len (doubled text ++ 39 ∷ rest) ≡ Some (length (doubled text) + 1)
+quote_prefix [] [] h = refl
+quote_prefix [] (d ∷ rest) h = rw h refl
+quote_prefix (c ∷ text) rest h =
     elim (c == 39) as (λ b. (c == 39) ≡ b → closing_len (cond b (39 ∷ (39 ∷ doubled text)) (c ∷ doubled text) ++ 39 ∷ rest) ≡ Some (length (cond b (39 ∷ (39 ∷ doubled text)) (c ∷ doubled text)) + 1)) [
-      | true ↦ (λ e. rw (quote_front text rest h) (ap Some (omega arith)))
-      | false ↦ (λ e. quote_other c (doubled text ++ 39 ∷ rest) e ∙ rw (quote_front text rest h) (ap Some (omega arith)))
+      | true ↦ (λ e. rw (quote_prefix text rest h) (ap Some (omega arith)))
+      | false ↦ (λ e. quote_other c (doubled text ++ 39 ∷ rest) e ∙ rw (quote_prefix text rest h) (ap Some (omega arith)))
     ] refl
 
-pub record Front (b : List ℕ) (n : ℕ) : Type 0 where
+pub record Prefix (b : List ℕ) (n : ℕ) : Type 0 where
   pub text : List ℕ
   pub rest : List ℕ
   pub whole : b ≡ doubled text ++ 39 ∷ rest
   pub count : n ≡ length (doubled text) + 1
   pub ends : opens_quote rest ≡ false
 
-pub front_found : (b : List ℕ) (n : ℕ) → closing_len b ≡ Some n → Front b n
-front_found [] n h = absurd (none n h) where
+pub prefix_found : (b : List ℕ) (n : ℕ) → closing_len b ≡ Some n → Prefix b n
+prefix_found [] n h = absurd (none n h) where
   none : (m : ℕ) → None ≡ Some m → ⊥
   none m e = absurd (none-some m e)
-front_found (c ∷ []) n h =
-    elim (c == 39) as (λ b. (c == 39) ≡ b → cond b (Some 1) None ≡ Some n → Front (c ∷ []) n) [
+prefix_found (c ∷ []) n h =
+    elim (c == 39) as (λ b. (c == 39) ≡ b → cond b (Some 1) None ≡ Some n → Prefix (c ∷ []) n) [
       | true ↦ (λ e k. record { text = []; rest = []; whole = ap (λ x. x ∷ []) (same_code c 39 e); count = cc; ends = refl })
       | false ↦ (λ e k. absurd (none-some n k))
     ] refl h
-front_found (c ∷ (d ∷ cs)) n h =
-    elim (c == 39) as (λ b. (c == 39) ≡ b → cond b (cond (d == 39) (option_map (λ m. m + 2) (closing_len cs)) (Some 1)) (option_map (λ m. m + 1) (closing_len (d ∷ cs))) ≡ Some n → Front (c ∷ (d ∷ cs)) n) [
-      | true ↦ (λ e. elim (d == 39) as (λ v. (d == 39) ≡ v → cond v (option_map (λ m. m + 2) (closing_len cs)) (Some 1) ≡ Some n → Front (c ∷ (d ∷ cs)) n) [
+prefix_found (c ∷ (d ∷ cs)) n h =
+    elim (c == 39) as (λ b. (c == 39) ≡ b → cond b (cond (d == 39) (option_map (λ m. m + 2) (closing_len cs)) (Some 1)) (option_map (λ m. m + 1) (closing_len (d ∷ cs))) ≡ Some n → Prefix (c ∷ (d ∷ cs)) n) [
+      | true ↦ (λ e. elim (d == 39) as (λ v. (d == 39) ≡ v → cond v (option_map (λ m. m + 2) (closing_len cs)) (Some 1) ≡ Some n → Prefix (c ∷ (d ∷ cs)) n) [
         | true ↦ (λ f k.
             let m = some_of_map (closing_len cs) 2 n k in
-            let found = front_found cs m.0 m.1 in
+            let found = prefix_found cs m.0 m.1 in
             record { text = 39 ∷ found.text; rest = found.rest; whole = ap (λ x. x ∷ (d ∷ cs)) (same_code c 39 e) ∙ ap (λ x. 39 ∷ (x ∷ cs)) (same_code d 39 f) ∙ ap (λ x. 39 ∷ (39 ∷ x)) found.whole; count = omega (arith, m.2, found.count); ends = found.ends })
         | false ↦ (λ f k. record { text = []; rest = d ∷ cs; whole = ap (λ x. x ∷ (d ∷ cs)) (same_code c 39 e); count = cc; ends = f })
       ] refl)
       | false ↦ (λ e k.
           let m = some_of_map (closing_len (d ∷ cs)) 1 n k in
-          let found = front_found (d ∷ cs) m.0 m.1 in
+          let found = prefix_found (d ∷ cs) m.0 m.1 in
           record { text = c ∷ found.text; rest = found.rest; whole = ap (λ x. c ∷ x) found.whole ∙ ap (λ x. x ++ 39 ∷ found.rest) (sym (doubled_other c found.text e)); count = omega (arith, m.2, found.count, ap length (doubled_other c found.text e)); ends = found.ends })
     ] refl h

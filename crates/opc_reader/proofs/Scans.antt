@@ -113,8 +113,8 @@ scan before verb gap operands after laid =
     let some : 0 < length body = omega (arith, laid.word.some, length-append verb (gap ++ operands)) in
     let one = suffix_append is_space before body in
     let two = suffix_append is_space (before ++ body) after in
-    let front_end : suffix_len is_space (before ++ body) ≡ 0 = grind (arith, nat_tests, one, some, body_ends) in
-    let line_end : suffix_len is_space ((before ++ body) ++ after) ≡ length after = grind (arith, nat_tests, two, front_end, after_ends) in
+    let prefix_end : suffix_len is_space (before ++ body) ≡ 0 = grind (arith, nat_tests, one, some, body_ends) in
+    let line_end : suffix_len is_space ((before ++ body) ++ after) ≡ length after = grind (arith, nat_tests, two, prefix_end, after_ends) in
     let n_is : length line - suffix_len is_space line ≡ length (before ++ body) =
     ap (λ t. length t - suffix_len is_space t) whole ∙ omega (arith, line_end, length-append (before ++ body) after) in
     let text_is : take (length line - suffix_len is_space line) line ≡ before ++ body =

@@ -18,7 +18,7 @@ slice_of line x t y e = (
 slices : (ps : List Part) (s : Stretch) (line x y : List ℕ) → line ≡ x ++ (s.text ++ y) → s.from ≡ length x → AreTyped ps s → AllByRecursion (IsSliceOf line) (flat_map typed_of ps)
 slices [] s line x y e at t = tt
 slices (p ∷ ps) s line x y e at (a, b, whole, typed, rest) =
-    with_front p typed (slices ps (record { text = b; from = s.from + length a }) line (x ++ a) y (here ∙ sym (append_assoc x a (b ++ y))) (omega (arith, at, length-append x a)) rest) where
+    with_prefix p typed (slices ps (record { text = b; from = s.from + length a }) line (x ++ a) y (here ∙ sym (append_assoc x a (b ++ y))) (omega (arith, at, length-append x a)) rest) where
       here : line ≡ x ++ (a ++ (b ++ y))
       here = e ∙ ap (λ t. x ++ (t ++ y)) whole ∙ ap (λ t. x ++ t) (append_assoc a b y)
 
@@ -28,13 +28,13 @@ slices (p ∷ ps) s line x y e at (a, b, whole, typed, rest) =
       typed_place : (o : Stretch) → o ≡ record { text = a; from = s.from } → IsSliceOf line o
       typed_place o f = subst (IsSliceOf line) (sym f) place
 
-      with_front : (q : Part) → IsTyped q (record { text = a; from = s.from }) → AllByRecursion (IsSliceOf line) (flat_map typed_of ps) → AllByRecursion (IsSliceOf line) (flat_map typed_of (q ∷ ps))
-      with_front (Word w) k others = others
-      with_front (Name rule o) k others = (typed_place o.typed k.0, others)
-      with_front (Number o) k others = (typed_place o.typed k.0, others)
-      with_front (Authority o) k others = (typed_place o.typed k.0, others)
-      with_front (QuotedText t) k others = (typed_place t.typed k.0, others)
-      with_front (AnyText t) k others = (typed_place t.typed k.0, others)
+      with_prefix : (q : Part) → IsTyped q (record { text = a; from = s.from }) → AllByRecursion (IsSliceOf line) (flat_map typed_of ps) → AllByRecursion (IsSliceOf line) (flat_map typed_of (q ∷ ps))
+      with_prefix (Word w) k others = others
+      with_prefix (Name rule o) k others = (typed_place o.typed k.0, others)
+      with_prefix (Number o) k others = (typed_place o.typed k.0, others)
+      with_prefix (Authority o) k others = (typed_place o.typed k.0, others)
+      with_prefix (QuotedText t) k others = (typed_place t.typed k.0, others)
+      with_prefix (AnyText t) k others = (typed_place t.typed k.0, others)
 
 pub operands_slices : (line : List ℕ) (c : Command) → Reads line c → OperandsAreSlices line c
 operands_slices line c r =

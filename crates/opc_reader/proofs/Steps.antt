@@ -24,10 +24,10 @@ use Rattle.opc_reader.specs.Authorities.{authorities}
 use Rattle.opc_reader.specs.Forms.{Part, Word, Name, Number, Authority, QuotedText, AnyText, verb_of, parts, IsMeant, IsTyped, AreTyped}
 use Rattle.opc_reader.specs.Operands.{in_name, number}
 use Rattle.opc_reader.specs.Quotes.{doubled, closing_len, quoted_len, opens_quote, is_quoted, IsQuoted, OpensQuote}
-use Rattle.opc_reader.specs.Reading.{◌>>=◌, only, fixed, name, last_name, number_front, valued, authority, quoted_text, quoted_front, any_text}
-use Rattle.opc_reader.specs.Stretches.{Stretch, folded, front, behind, word}
-use Rattle.opc_reader.proofs.Leaves.{bytes_same, bytes_refl, joined, behind_part, length_folded, word_read, word_found, name_read, name_found}
-use Rattle.opc_reader.proofs.Quoted.{quoted_is, is_quoted_of, quoted_opens, not_opens, opens_not, both_true, quote_front, front_found, same_code}
+use Rattle.opc_reader.specs.Reading.{◌>>=◌, only, fixed, name, last_name, number_prefix, valued, authority, quoted_text, quoted_prefix, any_text}
+use Rattle.opc_reader.specs.Stretches.{Stretch, folded, prefix, after, word}
+use Rattle.opc_reader.proofs.Leaves.{bytes_same, bytes_refl, joined, after_part, length_folded, word_read, word_found, name_read, name_found}
+use Rattle.opc_reader.proofs.Quoted.{quoted_is, is_quoted_of, quoted_opens, not_opens, opens_not, both_true, quote_prefix, prefix_found, same_code}
 
 -- What follows a name begins with no name character.
 abbrev pub Stops : List Part → Type 0
@@ -67,7 +67,7 @@ pub record WordSteps (read : Option Stretch) (ps : List Part) : Type 0 where
 pub over_word : (w : List ℕ) (ps : List Part) (s : Stretch) → AreTyped (Word w ∷ ps) s → WordSteps (word w s) ps
 over_word w ps s (a, b, e, typed, rest) =
     let at_text : word (folded a) (joined a b s.from) ≡ word w s = let f : List ℕ → List ℕ → Option Stretch = λ v t. word v (record { text = t; from = s.from }) in ap (λ v. f v (a ++ b)) typed ∙ ap (f w) (sym e) in
-    record { rest = behind_part a b s.from; read_is = sym at_text ∙ word_read a b s.from; typed = rest }
+    record { rest = after_part a b s.from; read_is = sym at_text ∙ word_read a b s.from; typed = rest }
 
 pub back_word : (w : List ℕ) (ps : List Part) (s r : Stretch) → word w s ≡ Some r → AreTyped ps r → AreTyped (Word w ∷ ps) s
 back_word w ps s r h t =
@@ -84,9 +84,9 @@ pub over_name : (rule : NameRule) (o : Operand (List ℕ)) (ps : List Part) (s :
 over_name rule o ps s p h (a, b, e, (typed, value, fine), rest) =
     let fault : name_fault rule (folded a) ≡ None = rw (← value) fine in
     let at_text : name rule (joined a b s.from) ≡ name rule s = let f : List ℕ → Option (Operand (List ℕ) × Stretch) = λ t. name rule (record { text = t; from = s.from }) in ap f (sym e) in
-    let pair : Operand (List ℕ) → Option (Operand (List ℕ) × Stretch) = λ x. Some (x, behind_part a b s.from) in
+    let pair : Operand (List ℕ) → Option (Operand (List ℕ) × Stretch) = λ x. Some (x, after_part a b s.from) in
     record {
-      rest = behind_part a b s.from;
+      rest = after_part a b s.from;
       read_is = sym at_text ∙ name_read rule a b s.from p fault (stops ps _ h rest) ∙ ap pair (operand_is o (folded a) (record { text = a; from = s.from }) typed value);
       typed = rest;
     }
@@ -219,15 +219,15 @@ number_digits (x ∷ (y ∷ [])) v h =
     rw (both.0, both.1) refl
 number_digits (x ∷ (y ∷ (z ∷ a))) v h = cc
 
-pub over_number : (o : Operand ℕ) (ps : List Part) (s : Stretch) → AreTyped (Number o ∷ Word (codes ",") ∷ ps) s → Steps (number_front s) o (Word (codes ",") ∷ ps)
-unfolding number_front
+pub over_number : (o : Operand ℕ) (ps : List Part) (s : Stretch) → AreTyped (Number o ∷ Word (codes ",") ∷ ps) s → Steps (number_prefix s) o (Word (codes ",") ∷ ps)
+unfolding number_prefix
 over_number o ps s (a, b, e, (typed, value), rest) =
     let none : prefix_len is_ascii_digit b ≡ 0 = rw rest.2 (digit_stops rest.0 rest.1 rest.3) in
     let all = number_digits a o.value value in
     let run : prefix_len is_ascii_digit (a ++ b) ≡ length a = grind (arith, nat_tests, prefix_len-append is_ascii_digit a b) in
-    let pair : Operand ℕ → Option (Operand ℕ × Stretch) = λ x. Some (x, behind_part a b s.from) in
+    let pair : Operand ℕ → Option (Operand ℕ × Stretch) = λ x. Some (x, after_part a b s.from) in
     record {
-      rest = behind_part a b s.from;
+      rest = after_part a b s.from;
       read_is = rw (e, run, take-append_seam a b, drop-append_seam a b, value) (ap pair (operand_is o o.value (record { text = a; from = s.from }) typed refl));
       typed = rest;
     }
@@ -236,16 +236,16 @@ pub map_some : {A B : Type 0} (f : A → B) (o : Option A) (y : B) → option_ma
 map_some f None y h = cc
 map_some f (Some x) y h = (x, refl, cc)
 
-pub back_number : (o : Operand ℕ) (ps : List Part) (s r : Stretch) → number_front s ≡ Some (o, r) → AreTyped ps r → AreTyped (Number o ∷ ps) s
-unfolding number_front
+pub back_number : (o : Operand ℕ) (ps : List Part) (s r : Stretch) → number_prefix s ≡ Some (o, r) → AreTyped ps r → AreTyped (Number o ∷ ps) s
+unfolding number_prefix
 back_number o ps s r h t =
     let n : ℕ = prefix_len is_ascii_digit s.text in
-    let found = map_some (λ v. (record { value = v; typed = front n s }, behind n s)) (number (take n s.text)) (o, r) h in
+    let found = map_some (λ v. (record { value = v; typed = prefix n s }, after n s)) (number (take n s.text)) (o, r) h in
     let both = some_pair_parts _ _ _ _ (ap Some found.2) in
     let count : n ≡ length (take n s.text) = sym (length-take-le n s.text (prefix_len-le-length is_ascii_digit s.text)) in
-    let left : behind n s ≡ behind_part (take n s.text) (drop n s.text) s.from = ap (λ k. record { text = drop n s.text; from = s.from + k }) count in
+    let left : after n s ≡ after_part (take n s.text) (drop n s.text) s.from = ap (λ k. record { text = drop n s.text; from = s.from + k }) count in
     let P : Stretch → Type 0 = AreTyped ps in
-    let same : r ≡ behind_part (take n s.text) (drop n s.text) s.from = sym both.1 ∙ left in
+    let same : r ≡ after_part (take n s.text) (drop n s.text) s.from = sym both.1 ∙ left in
     let value : number (take n s.text) ≡ Some o.value = found.1 ∙ ap (λ x. Some x.value) both.0 in
     (take n s.text, drop n s.text, sym (take-append-drop n s.text), (sym (ap (λ x. x.typed) both.0), value), subst P same t)
 
@@ -291,38 +291,38 @@ no_quote c w (d ∷ a) b h e =
           let upper : c ≡ 39 = sym f ∙ ap to_ascii_uppercase code in
           absurd (false≢true (sym h ∙ ap (λ x. x == 39) upper))
 
-pub over_quoted_front : (t : Text) (w : List ℕ) (c : ℕ) (ps : List Part) (s : Stretch) → (c == 39) ≡ false → AreTyped (QuotedText t ∷ Word (c ∷ w) ∷ ps) s → Steps (quoted_front s) t (Word (c ∷ w) ∷ ps)
-unfolding quoted_front
-over_quoted_front t w c ps s other (a, b, e, (typed, (text, quote)), rest) =
+pub over_quoted_prefix : (t : Text) (w : List ℕ) (c : ℕ) (ps : List Part) (s : Stretch) → (c == 39) ≡ false → AreTyped (QuotedText t ∷ Word (c ∷ w) ∷ ps) s → Steps (quoted_prefix s) t (Word (c ∷ w) ∷ ps)
+unfolding quoted_prefix
+over_quoted_prefix t w c ps s other (a, b, e, (typed, (text, quote)), rest) =
     let stops_there : opens_quote b ≡ false = rw rest.2 (no_quote c w rest.0 rest.1 other rest.3) in
     let whole : s.text ≡ 39 ∷ (doubled text ++ 39 ∷ b) = e ∙ ap (λ x. x ++ b) quote ∙ ap (λ x. 39 ∷ x) (append_assoc (doubled text) (39 ∷ []) b) in
-    let closing : closing_len (doubled text ++ 39 ∷ b) ≡ Some (length (doubled text) + 1) = quote_front text b stops_there in
+    let closing : closing_len (doubled text ++ 39 ∷ b) ≡ Some (length (doubled text) + 1) = quote_prefix text b stops_there in
     let count : length (doubled text) + 1 + 1 ≡ length a = omega (arith, ap length quote, length-append (doubled text) (39 ∷ [])) in
     let found : quoted_len s.text ≡ Some (length a) = rw (whole, closing) (ap Some count) in
-    let pair : Text → Option (Text × Stretch) = λ x. Some (x, behind_part a b s.from) in
+    let pair : Text → Option (Text × Stretch) = λ x. Some (x, after_part a b s.from) in
     record {
-      rest = behind_part a b s.from;
+      rest = after_part a b s.from;
       read_is = rw (found, e, take-append_seam a b, drop-append_seam a b) (ap pair (text_is t (record { text = a; from = s.from }) typed));
       typed = rest;
     }
 
-pub back_quoted_front : (t : Text) (ps : List Part) (s r : Stretch) → quoted_front s ≡ Some (t, r) → AreTyped ps r → AreTyped (QuotedText t ∷ ps) s
-unfolding quoted_front
-back_quoted_front t ps s r h typed =
-    let found = map_some (λ n. (record { typed = front n s }, behind n s)) (quoted_len s.text) (t, r) h in
+pub back_quoted_prefix : (t : Text) (ps : List Part) (s r : Stretch) → quoted_prefix s ≡ Some (t, r) → AreTyped ps r → AreTyped (QuotedText t ∷ ps) s
+unfolding quoted_prefix
+back_quoted_prefix t ps s r h typed =
+    let found = map_some (λ n. (record { typed = prefix n s }, after n s)) (quoted_len s.text) (t, r) h in
     let both = some_pair_parts _ _ _ _ (ap Some found.2) in
-    let quote = front_is s.text found.0 found.1 in
+    let quote = prefix_is s.text found.0 found.1 in
     let count : found.0 ≡ length (take found.0 s.text) = sym (length-take-le found.0 s.text quote.0) in
-    let left : behind found.0 s ≡ behind_part (take found.0 s.text) (drop found.0 s.text) s.from = ap (λ k. record { text = drop found.0 s.text; from = s.from + k }) count in
+    let left : after found.0 s ≡ after_part (take found.0 s.text) (drop found.0 s.text) s.from = ap (λ k. record { text = drop found.0 s.text; from = s.from + k }) count in
     let P : Stretch → Type 0 = AreTyped ps in
     (take found.0 s.text, drop found.0 s.text, sym (take-append-drop found.0 s.text), (sym (ap (λ x. x.typed) both.0), quote.1), subst P (sym both.1 ∙ left) typed) where
-      front_is : (text : List ℕ) (n : ℕ) → quoted_len text ≡ Some n → (n ≤ length text) × IsQuoted (take n text)
-      front_is [] n k = cc
-      front_is (c ∷ cs) n k =
+      prefix_is : (text : List ℕ) (n : ℕ) → quoted_len text ≡ Some n → (n ≤ length text) × IsQuoted (take n text)
+      prefix_is [] n k = cc
+      prefix_is (c ∷ cs) n k =
           elim (c == 39) as (λ v. (c == 39) ≡ v → cond v (option_map (λ m. m + 1) (closing_len cs)) None ≡ Some n → (n ≤ suc (length cs)) × IsQuoted (take n (c ∷ cs))) [
             | true ↦ (λ f g.
                 let m = map_some (λ i. i + 1) (closing_len cs) n g in
-                let found = front_found cs m.0 m.1 in
+                let found = prefix_found cs m.0 m.1 in
                 let typed_text : List ℕ = 39 ∷ (doubled found.text ++ 39 ∷ []) in
                 let whole : c ∷ cs ≡ typed_text ++ found.rest = ap (λ x. x ∷ cs) (same_code c 39 f) ∙ ap (λ x. 39 ∷ x) (found.whole ∙ sym (append_assoc (doubled found.text) (39 ∷ []) found.rest)) in
                 let count : length typed_text ≡ n = omega (arith, length-append (doubled found.text) (39 ∷ []), found.count, m.2) in

@@ -115,21 +115,21 @@ unfolding vary_console
 console_found s rest c opened h =
     let console = bind_some (name console_rule rest) _ c h in
     online console.0.0 console.0.1 console.1 (cond_cases (bytes_eq (folded console.0.1.text) (codes "),ONLINE")) _ _ _ console.2) where
-      behind_name : (o : Operand (List ℕ)) (left : Stretch) (ps : List Part) → name console_rule rest ≡ Some (o, left) → AreTyped ps left → AreTyped (Word (codes "CN(") ∷ Name console_rule o ∷ ps) s
-      behind_name o left ps found t = back_word (codes "CN(") (Name console_rule o ∷ ps) s rest opened (back_name console_rule o ps rest left found t)
+      after_name : (o : Operand (List ℕ)) (left : Stretch) (ps : List Part) → name console_rule rest ≡ Some (o, left) → AreTyped ps left → AreTyped (Word (codes "CN(") ∷ Name console_rule o ∷ ps) s
+      after_name o left ps found t = back_word (codes "CN(") (Name console_rule o ∷ ps) s rest opened (back_name console_rule o ps rest left found t)
 
       auth : (o : Operand (List ℕ)) (left : Stretch) → name console_rule rest ≡ Some (o, left) → (word (codes "),AUTH=") left >>= λ r. authority r >>= λ x. Some (VaryConsoleAuth o x)) ≡ Some c → Gives verb.Vary s c
       auth o left found k =
           let close = bind_some (word (codes "),AUTH=") left) _ c k in
           let to = bind_some (authority close.0) (λ x. Some (VaryConsoleAuth o x)) c close.2 in
-          gives verb.Vary s (VaryConsoleAuth o to.0) c (same_Some _ _ to.2) (record { verb = refl; typed = behind_name o left (Word (codes "),AUTH=") ∷ Authority to.0 ∷ []) found (back_word (codes "),AUTH=") (Authority to.0 ∷ []) left close.0 close.1 (back_authority to.0 close.0 to.1)); meant = tt })
+          gives verb.Vary s (VaryConsoleAuth o to.0) c (same_Some _ _ to.2) (record { verb = refl; typed = after_name o left (Word (codes "),AUTH=") ∷ Authority to.0 ∷ []) found (back_word (codes "),AUTH=") (Authority to.0 ∷ []) left close.0 close.1 (back_authority to.0 close.0 to.1)); meant = tt })
 
       offline : (o : Operand (List ℕ)) (left : Stretch) → name console_rule rest ≡ Some (o, left) → ((bytes_eq (folded left.text) (codes "),OFFLINE") ≡ true) × (Some (VaryConsoleOffline o) ≡ Some c)) ⊎ ((bytes_eq (folded left.text) (codes "),OFFLINE") ≡ false) × ((word (codes "),AUTH=") left >>= λ r. authority r >>= λ x. Some (VaryConsoleAuth o x)) ≡ Some c)) → Gives verb.Vary s c
-      offline o left found (inl (e, k)) = gives verb.Vary s (VaryConsoleOffline o) c (same_Some _ _ k) (record { verb = refl; typed = behind_name o left (Word (codes "),OFFLINE") ∷ []) found (last_word (codes "),OFFLINE") left e); meant = tt })
+      offline o left found (inl (e, k)) = gives verb.Vary s (VaryConsoleOffline o) c (same_Some _ _ k) (record { verb = refl; typed = after_name o left (Word (codes "),OFFLINE") ∷ []) found (last_word (codes "),OFFLINE") left e); meant = tt })
       offline o left found (inr (e, k)) = auth o left found k
 
       online : (o : Operand (List ℕ)) (left : Stretch) → name console_rule rest ≡ Some (o, left) → ((bytes_eq (folded left.text) (codes "),ONLINE") ≡ true) × (Some (VaryConsoleOnline o) ≡ Some c)) ⊎ ((bytes_eq (folded left.text) (codes "),ONLINE") ≡ false) × (cond (bytes_eq (folded left.text) (codes "),OFFLINE")) (Some (VaryConsoleOffline o)) (word (codes "),AUTH=") left >>= λ r. authority r >>= λ x. Some (VaryConsoleAuth o x)) ≡ Some c)) → Gives verb.Vary s c
-      online o left found (inl (e, k)) = gives verb.Vary s (VaryConsoleOnline o) c (same_Some _ _ k) (record { verb = refl; typed = behind_name o left (Word (codes "),ONLINE") ∷ []) found (last_word (codes "),ONLINE") left e); meant = tt })
+      online o left found (inl (e, k)) = gives verb.Vary s (VaryConsoleOnline o) c (same_Some _ _ k) (record { verb = refl; typed = after_name o left (Word (codes "),ONLINE") ∷ []) found (last_word (codes "),ONLINE") left e); meant = tt })
       online o left found (inr (e, k)) = offline o left found (cond_cases (bytes_eq (folded left.text) (codes "),OFFLINE")) _ _ _ k)
 
 pub vary_found : (s : Stretch) (c : Command) → vary s ≡ Some c → Gives verb.Vary s c

@@ -13,7 +13,7 @@ use Rattle.opc_reader.specs.declared.line.ReadFault.{ReadFault}
 use Rattle.opc_reader.specs.declared.line.ReadFault.TheVariants.{Empty, TooLong, BadCharacter, UnknownVerb, OpenQuote, BadOperand}
 use Rattle.opc_reader.specs.Forms.{Part, Word, Name, Number, Authority, QuotedText, AnyText, verb_of, parts, IsMeant, AreTyped}
 use Rattle.opc_reader.specs.Quotes.{is_open}
-use Rattle.opc_reader.specs.Stretches.{Stretch, folded, front, behind}
+use Rattle.opc_reader.specs.Stretches.{Stretch, folded, prefix, after}
 use Rattle.opc_reader.specs.Verbs.{verbs}
 
 abbrev pub is_space : ℕ → Bool
@@ -43,8 +43,8 @@ pub record Reads (line : List ℕ) (c : Command) : Type 0 where
   pub short : length (chars line) ≤ 126
   pub typeable : list_all is_typeable line ≡ true
   pub before_verb : AreSpaces before
-  pub behind_verb : AreSpaces gap
-  pub behind_operands : AreSpaces after
+  pub after_verb : AreSpaces gap
+  pub after_operands : AreSpaces after
   pub separated : (operands ≡ []) ↔ (gap ≡ [])
   pub bare : IsBare operands
   pub spelled : lookup verbs (folded verb) ≡ Some (verb_of c)
@@ -52,18 +52,18 @@ pub record Reads (line : List ℕ) (c : Command) : Type 0 where
   pub meant : IsMeant c
 
 abbrev pub skip_spaces : Stretch → Stretch
-skip_spaces s = behind (prefix_len is_space s.text) s
+skip_spaces s = after (prefix_len is_space s.text) s
 
 -- a line without the spaces round it
 abbrev pub trimmed : List ℕ → Stretch
-trimmed line = skip_spaces (front (length line - suffix_len is_space line) (record { text = line; from = 0 }))
+trimmed line = skip_spaces (prefix (length line - suffix_len is_space line) (record { text = line; from = 0 }))
 
 -- up to its first space, and from the next character on that is none
 abbrev pub verb_place : Stretch → Stretch
-verb_place s = front (prefix_len (λ c. not (is_space c)) s.text) s
+verb_place s = prefix (prefix_len (λ c. not (is_space c)) s.text) s
 
 abbrev pub operands_place : Stretch → Stretch
-operands_place s = skip_spaces (behind (prefix_len (λ c. not (is_space c)) s.text) s)
+operands_place s = skip_spaces (after (prefix_len (λ c. not (is_space c)) s.text) s)
 
 abbrev pub span : Stretch → Span
 span s = record { from = s.from; to = s.from + length s.text }
@@ -73,13 +73,13 @@ span s = record { from = s.from; to = s.from + length s.text }
 abbrev pub open_at : ℕ → List ℕ → Option ℕ
 open_at at text = if is_open text then Some at else None
 
-abbrev pub open_behind : Option ℕ → Stretch → Option ℕ
-open_behind None s = None
-open_behind (Some comma) s = open_at (s.from + comma + 1) (drop (comma + 1) s.text)
+abbrev pub open_after : Option ℕ → Stretch → Option ℕ
+open_after None s = None
+open_after (Some comma) s = open_at (s.from + comma + 1) (drop (comma + 1) s.text)
 
 abbrev pub open_place : Verb → Stretch → Option ℕ
-open_place verb.Modify s = open_behind (position (λ c. c == 44) s.text) s
-open_place verb.Reply s = open_behind (position (λ c. c == 44) s.text) s
+open_place verb.Modify s = open_after (position (λ c. c == 44) s.text) s
+open_place verb.Reply s = open_after (position (λ c. c == 44) s.text) s
 open_place verb.Send s = open_at s.from s.text
 open_place verb.Log s = open_at s.from s.text
 open_place v s = None

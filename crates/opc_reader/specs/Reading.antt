@@ -20,7 +20,7 @@ use Rattle.opc_reader.specs.Authorities.{authorities}
 use Rattle.opc_reader.specs.Lines.{trimmed, verb_place, operands_place, span, early_fault}
 use Rattle.opc_reader.specs.Operands.{in_name, number}
 use Rattle.opc_reader.specs.Quotes.{quoted_len, is_quoted, opens_quote}
-use Rattle.opc_reader.specs.Stretches.{Stretch, folded, front, behind, word}
+use Rattle.opc_reader.specs.Stretches.{Stretch, folded, prefix, after, word}
 use Rattle.opc_reader.specs.Verbs.{verbs}
 
 infixl 10 ◌>>=◌
@@ -39,7 +39,7 @@ fixed w x s = if bytes_eq (folded s.text) w then Some x else None
 -- A name is the run of name characters, and what stands after it begins with no other.
 abbrev pub name_operand : NameRule → ℕ → Stretch → Option (Operand (List ℕ) × Stretch)
 name_operand rule n s =
-    if is_none (name_fault rule (folded (take n s.text))) then Some (record { value = folded (take n s.text); typed = front n s }, behind n s) else None
+    if is_none (name_fault rule (folded (take n s.text))) then Some (record { value = folded (take n s.text); typed = prefix n s }, after n s) else None
 
 unfoldable pub name : NameRule → Stretch → Option (Operand (List ℕ) × Stretch)
 name rule s = name_operand rule (prefix_len in_name s.text) s
@@ -51,10 +51,10 @@ last_name rule s = do
 
 -- a number, and what stands after it
 abbrev pub number_operand : ℕ → Stretch → Option (Operand ℕ × Stretch)
-number_operand n s = option_map (λ v. (record { value = v; typed = front n s }, behind n s)) (number (take n s.text))
+number_operand n s = option_map (λ v. (record { value = v; typed = prefix n s }, after n s)) (number (take n s.text))
 
-unfoldable pub number_front : Stretch → Option (Operand ℕ × Stretch)
-number_front s = number_operand (prefix_len is_ascii_digit s.text) s
+unfoldable pub number_prefix : Stretch → Option (Operand ℕ × Stretch)
+number_prefix s = number_operand (prefix_len is_ascii_digit s.text) s
 
 abbrev pub valued : {V : Type 0} → Stretch → Option V → Option (Operand V)
 valued s found = option_map (λ v. record { value = v; typed = s }) found
@@ -66,8 +66,8 @@ authority s = valued s (lookup authorities (folded s.text))
 unfoldable pub quoted_text : Stretch → Option Text
 quoted_text s = if is_quoted s.text then Some (record { typed = s }) else None
 
-unfoldable pub quoted_front : Stretch → Option (Text × Stretch)
-quoted_front s = option_map (λ n. (record { typed = front n s }, behind n s)) (quoted_len s.text)
+unfoldable pub quoted_prefix : Stretch → Option (Text × Stretch)
+quoted_prefix s = option_map (λ n. (record { typed = prefix n s }, after n s)) (quoted_len s.text)
 
 unfoldable pub any_text : Stretch → Option Text
 any_text s = if opens_quote s.text then quoted_text s else (if length s.text == 0 then None else Some (record { typed = s }))
@@ -84,32 +84,32 @@ display s =
       Some (DisplayUnit name)))))
 
 -- after `U=` a user, else a name
-abbrev pub cancel_behind : Option Stretch → Stretch → Option Command
-cancel_behind (Some rest) s = do
+abbrev pub cancel_after : Option Stretch → Stretch → Option Command
+cancel_after (Some rest) s = do
   user ← last_name user_rule rest
   Some (CancelUser user)
-cancel_behind None s = do
+cancel_after None s = do
   name ← last_name unit_rule s
   Some (Cancel name)
 
 unfoldable pub cancel : Stretch → Option Command
-cancel s = cancel_behind (word (codes "U=") s) s
+cancel s = cancel_after (word (codes "U=") s) s
 
 unfoldable pub force : Stretch → Option Command
 force s = do
   name ← last_name unit_rule s
   Some (Force name)
 
-abbrev pub start_behind : Operand (List ℕ) → Option Stretch → Stretch → Option Command
-start_behind member (Some rest) s = do
+abbrev pub start_after : Operand (List ℕ) → Option Stretch → Stretch → Option Command
+start_after member (Some rest) s = do
   id ← last_name unit_rule rest
   Some (StartAs member id)
-start_behind member None s = only (Start member) s
+start_after member None s = only (Start member) s
 
 unfoldable pub start : Stretch → Option Command
 start s = do
   member ← name unit_rule s
-  start_behind member.0 (word (codes ".") member.1) member.1
+  start_after member.0 (word (codes ".") member.1) member.1
 
 unfoldable pub stop : Stretch → Option Command
 stop s = do
@@ -125,23 +125,23 @@ modify s = do
 
 unfoldable pub reply : Stretch → Option Command
 reply s = do
-  id ← number_front s
+  id ← number_prefix s
   rest ← word (codes ",") id.1
   text ← any_text rest
   Some (Reply id.0 text)
 
-abbrev pub vary_device_behind : Operand (List ℕ) → Stretch → Option Command
-vary_device_behind device s =
+abbrev pub vary_device_after : Operand (List ℕ) → Stretch → Option Command
+vary_device_after device s =
     if bytes_eq (folded s.text) (codes ",ONLINE") then Some (VaryDeviceOnline device) else
     (if bytes_eq (folded s.text) (codes ",OFFLINE") then Some (VaryDeviceOffline device) else None)
 
 unfoldable pub vary_device : Stretch → Option Command
 vary_device s = do
   device ← name device_rule s
-  vary_device_behind device.0 device.1
+  vary_device_after device.0 device.1
 
-abbrev pub vary_console_behind : Operand (List ℕ) → Stretch → Option Command
-vary_console_behind console s =
+abbrev pub vary_console_after : Operand (List ℕ) → Stretch → Option Command
+vary_console_after console s =
     if bytes_eq (folded s.text) (codes "),ONLINE") then Some (VaryConsoleOnline console) else
     (if bytes_eq (folded s.text) (codes "),OFFLINE") then Some (VaryConsoleOffline console) else
     (do
@@ -152,7 +152,7 @@ vary_console_behind console s =
 unfoldable pub vary_console : Stretch → Option Command
 vary_console s = do
   console ← name console_rule s
-  vary_console_behind console.0 console.1
+  vary_console_after console.0 console.1
 
 abbrev pub vary_opened : Option Stretch → Stretch → Option Command
 vary_opened (Some rest) s = vary_console rest
@@ -189,7 +189,7 @@ reset s = do
 
 unfoldable pub send : Stretch → Option Command
 send s = do
-  text ← quoted_front s
+  text ← quoted_prefix s
   rest ← word (codes ",USER=(") text.1
   user ← name user_rule rest
   end ← word (codes ")") user.1

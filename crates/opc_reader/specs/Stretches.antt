@@ -13,12 +13,12 @@ abbrev pub folded : List ℕ → List ℕ
 folded text = map to_ascii_uppercase text
 
 -- the first n characters, and those after them
-abbrev pub front : ℕ → Stretch → Stretch
-front n s = record { text = take n s.text; from = s.from }
+abbrev pub prefix : ℕ → Stretch → Stretch
+prefix n s = record { text = take n s.text; from = s.from }
 
-abbrev pub behind : ℕ → Stretch → Stretch
-behind n s = record { text = drop n s.text; from = s.from + n }
+abbrev pub after : ℕ → Stretch → Stretch
+after n s = record { text = drop n s.text; from = s.from + n }
 
 -- what stands after a word, where the stretch begins with it in any case
 unfoldable pub word : List ℕ → Stretch → Option Stretch
-word w s = if bytes_eq (folded (take (length w) s.text)) w then Some (behind (length w) s) else None
+word w s = if bytes_eq (folded (take (length w) s.text)) w then Some (after (length w) s) else None

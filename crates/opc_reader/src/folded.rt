@@ -33,9 +33,9 @@ impl Folded {
         ensures { result ≡ folded text.now }
     {
         let mut room = [0; ROOM];
-        let front = &mut room[..text.len()];
-        front.copy_from_slice(text.as_bytes());
-        front.make_ascii_uppercase();
+        let prefix = &mut room[..text.len()];
+        prefix.copy_from_slice(text.as_bytes());
+        prefix.make_ascii_uppercase();
         Folded {
             room,
             len: text.len(),

@@ -4,7 +4,7 @@ ghost use Rattle.opc_reader.specs.Reading.{fixed, only, display, cancel, start, 
 
 use crate::command::Command;
 use crate::operand::{
-    any_text, authority, last_name, name, number_front, quoted_front, quoted_text,
+    any_text, authority, last_name, name, number_prefix, quoted_prefix, quoted_text,
 };
 use crate::piece::Piece;
 use crate::verb::Verb;
@@ -81,7 +81,7 @@ fn modify<'a>(s: &Piece<'a>) -> Option<Command<'a>>
 fn reply<'a>(s: &Piece<'a>) -> Option<Command<'a>>
     ensures { result ≡ reply s.now }
 {
-    let (id, rest) = number_front(s)?;
+    let (id, rest) = number_prefix(s)?;
     let text = any_text(rest.word(",")?)?;
     Some(Command::Reply(id, text))
 }
@@ -153,7 +153,7 @@ fn reset<'a>(s: &Piece<'a>) -> Option<Command<'a>>
 fn send<'a>(s: &Piece<'a>) -> Option<Command<'a>>
     ensures { result ≡ send s.now }
 {
-    let (text, rest) = quoted_front(s)?;
+    let (text, rest) = quoted_prefix(s)?;
     let (user, rest) = name(&rest.word(",USER=(")?)?;
     only(&rest.word(")")?, Command::Send(text, user))
 }

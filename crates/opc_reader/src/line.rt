@@ -91,7 +91,7 @@ fn spaces_before(text: &[u8]) -> usize
     text.iter().take_while(|c| **c == SPACE).count()
 }
 
-fn spaces_behind(text: &[u8]) -> usize
+fn spaces_after(text: &[u8]) -> usize
     ensures value { result ≡ suffix_len is_space text.now }
     ensures within { result ≤ length text.now }
 {
@@ -117,9 +117,9 @@ fn trimmed(line: &str) -> Piece<'_>
     requires short { length line.now ≤ 126 }
     ensures { result ≡ trimmed line.now }
 {
-    let end = line.len() - spaces_behind(line.as_bytes());
-    let (front, _) = Piece::whole(line).split(end);
-    skip_spaces(&front)
+    let end = line.len() - spaces_after(line.as_bytes());
+    let (prefix, _) = Piece::whole(line).split(end);
+    skip_spaces(&prefix)
 }
 
 fn open_at(at: usize, text: &[u8]) -> Option<usize>

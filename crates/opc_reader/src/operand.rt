@@ -5,7 +5,7 @@ ghost use Rattle.std.specs.Char.{is_ascii_digit};
 ghost use Rattle.opc_names.specs.Spellings.{lookup};
 ghost use Rattle.opc_reader.specs.Authorities.{authorities};
 ghost use Rattle.opc_reader.specs.Operands.{in_name, number};
-ghost use Rattle.opc_reader.specs.Reading.{name, last_name, number_front, authority, quoted_text, quoted_front, any_text};
+ghost use Rattle.opc_reader.specs.Reading.{name, last_name, number_prefix, authority, quoted_text, quoted_prefix, any_text};
 
 use crate::command::{Operand, Text};
 use crate::piece::Piece;
@@ -74,9 +74,9 @@ fn number(text: &[u8]) -> Option<ReplyId>
 }
 
 /// A number of one or two digits, and what stands after it.
-#[tactic(auto, unfolding(crate::specs::Reading::number_front))]
-pub(crate) fn number_front<'a>(s: &Piece<'a>) -> Option<(Operand<'a, ReplyId>, Piece<'a>)>
-    ensures { result ≡ number_front s.now }
+#[tactic(auto, unfolding(crate::specs::Reading::number_prefix))]
+pub(crate) fn number_prefix<'a>(s: &Piece<'a>) -> Option<(Operand<'a, ReplyId>, Piece<'a>)>
+    ensures { result ≡ number_prefix s.now }
 {
     let (typed, rest) = s.split(digits_len(s.text().as_bytes()));
     let value = number(typed.text().as_bytes())?;
@@ -128,9 +128,9 @@ pub(crate) fn quoted_text<'a>(s: Piece<'a>) -> Option<Text<'a>>
 }
 
 /// Quoted text, and what stands after it.
-#[tactic(auto, unfolding(crate::specs::Reading::quoted_front))]
-pub(crate) fn quoted_front<'a>(s: &Piece<'a>) -> Option<(Text<'a>, Piece<'a>)>
-    ensures { result ≡ quoted_front s.now }
+#[tactic(auto, unfolding(crate::specs::Reading::quoted_prefix))]
+pub(crate) fn quoted_prefix<'a>(s: &Piece<'a>) -> Option<(Text<'a>, Piece<'a>)>
+    ensures { result ≡ quoted_prefix s.now }
 {
     let (typed, rest) = s.split(quoted_len(s.text().as_bytes())?);
     Some((Text { typed }, rest))

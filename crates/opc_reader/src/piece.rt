@@ -1,7 +1,7 @@
 //! Pieces of a line.
 ghost use Rattle.std.specs.Prelude.{◌≡◌, ◌+◌, ◌≤◌, length};
 ghost use Rattle.std.specs.Str.{IsAscii};
-ghost use Rattle.opc_reader.specs.Stretches.{folded, front, behind, word};
+ghost use Rattle.opc_reader.specs.Stretches.{folded, prefix, after, word};
 
 use crate::folded::Folded;
 use std::marker::Model;
@@ -66,17 +66,17 @@ impl<'a> Piece<'a> {
     /// Its first bytes, and those after them.
     pub(crate) fn split(&self, at: usize) -> (Piece<'a>, Piece<'a>)
         requires { at ≤ length self.now.text }
-        ensures front { result.0 ≡ front at self.now }
-        ensures behind { result.1 ≡ behind at self.now }
+        ensures prefix { result.0 ≡ prefix at self.now }
+        ensures after { result.1 ≡ after at self.now }
     {
-        let (front, behind) = self.text.split_at(at);
+        let (prefix, after) = self.text.split_at(at);
         (
             Piece {
-                text: front,
+                text: prefix,
                 from: self.from,
             },
             Piece {
-                text: behind,
+                text: after,
                 from: self.from + at,
             },
         )
@@ -97,9 +97,9 @@ impl<'a> Piece<'a> {
         if self.text.len() < text.len() {
             return None;
         }
-        let (front, behind) = self.split(text.len());
-        if front.folded().as_str() == text {
-            Some(behind)
+        let (prefix, after) = self.split(text.len());
+        if prefix.folded().as_str() == text {
+            Some(after)
         } else {
             None
         }

@@ -100,11 +100,11 @@ module _ {A : Type 0} where
   module _ (before : A → A → Bool) (trans : (x y z : A) → before x y ≡ true → before y z ≡ true → before x z ≡ true) where
     -- it goes before all that are after the one that it is before
     put_first : (x : A) (ys : List A) (s : A → Bool) → AllByRecursion (λ z. before x z ≡ true) ys → put before x (filter s ys) ≡ x ∷ filter s ys
-    put_first x [] s behind = refl
-    put_first x (y ∷ ys) s behind = go (s y) (put_first x ys s behind.1)
+    put_first x [] s after = refl
+    put_first x (y ∷ ys) s after = go (s y) (put_first x ys s after.1)
       where
         go : (b : Bool) → put before x (filter s ys) ≡ x ∷ filter s ys → put before x (cond b (y ∷ filter s ys) (filter s ys)) ≡ x ∷ cond b (y ∷ filter s ys) (filter s ys)
-        go true more = ap (λ c. cond c (x ∷ y ∷ filter s ys) (y ∷ put before x (filter s ys))) behind.0
+        go true more = ap (λ c. cond c (x ∷ y ∷ filter s ys) (y ∷ put before x (filter s ys))) after.0
         go false more = more
 
     pub put_seen : (x : A) (s : A → Bool) → s x ≡ true → (xs : List A) → Ascends before xs → put before x (filter s xs) ≡ filter s (put before x xs)
@@ -118,7 +118,7 @@ module _ {A : Type 0} where
             ∙ ap (λ c. x ∷ cond c (y ∷ filter s ys) (filter s ys)) (sym there)
             ∙ ap (λ c. cond c (x ∷ filter s (y ∷ ys)) (filter s (y ∷ ys))) (sym sees)
         go true false here there more =
-            put_first x ys s (all_weaker (λ z. before y z ≡ true) (λ z. before x z ≡ true) (λ z behind. trans x y z here behind) ys order.0)
+            put_first x ys s (all_weaker (λ z. before y z ≡ true) (λ z. before x z ≡ true) (λ z after. trans x y z here after) ys order.0)
             ∙ ap (λ c. x ∷ cond c (y ∷ filter s ys) (filter s ys)) (sym there)
             ∙ ap (λ c. cond c (x ∷ filter s (y ∷ ys)) (filter s (y ∷ ys))) (sym sees)
         go false true here there more =
@@ -154,7 +154,7 @@ module _ {A : Type 0} where
           turned true m e = refl
           turned false m e = sym e
       go true false here there more = refl
-      go false true here there more = sym (any_other q p xs (all_weaker (λ y. before x y ≡ true) (λ y. p y ≡ false) (λ y behind. once x y there behind) xs order.0)) ∙ turned (list_any (λ y. q y && not (p y)) xs) (q x) here
+      go false true here there more = sym (any_other q p xs (all_weaker (λ y. before x y ≡ true) (λ y. p y ≡ false) (λ y after. once x y there after) xs order.0)) ∙ turned (list_any (λ y. q y && not (p y)) xs) (q x) here
         where
           turned : (o m : Bool) → m ≡ false → o ≡ (false || o) || m
           turned true m e = refl
@@ -172,7 +172,7 @@ module _ {A : Type 0} where
       go a true here there more at =
           let is : x ≡ c = cc in
           ap (λ m. m || list_any q xs) (ap (λ y. q (f y)) is)
-          ∙ ap (λ o. q (f c) || o) (sym (any_other q p xs (all_weaker (λ y. before x y ≡ true) (λ y. p y ≡ false) (λ y behind. once x y there behind) xs order.0)))
+          ∙ ap (λ o. q (f c) || o) (sym (any_other q p xs (all_weaker (λ y. before x y ≡ true) (λ y. p y ≡ false) (λ y after. once x y there after) xs order.0)))
           ∙ turned a (q (f c)) (list_any (λ y. q y && not (p y)) xs)
         where
           turned : (a m o : Bool) → m || o ≡ ((a && false) || o) || m
@@ -201,7 +201,7 @@ module _ {A : Type 0} where
   filter_one p before once (x ∷ xs) order = go (p x) refl (filter_one p before once xs order.1)
     where
       go : (a : Bool) → p x ≡ a → filter p xs ≡ listed (find p xs) → cond a (x ∷ filter p xs) (filter p xs) ≡ listed (cond a (Some x) (find p xs))
-      go true here more = ap (λ ws. x ∷ ws) (none_there p xs (all_weaker (λ y. before x y ≡ true) (λ y. p y ≡ false) (λ y behind. once x y here behind) xs order.0))
+      go true here more = ap (λ ws. x ∷ ws) (none_there p xs (all_weaker (λ y. before x y ≡ true) (λ y. p y ≡ false) (λ y after. once x y here after) xs order.0))
       go false here more = more
 
   -- each element is found by its own key, where no two have one key
@@ -210,8 +210,8 @@ module _ {A : Type 0} where
   found_each at before itself apart (x ∷ xs) order = (ap (λ c. cond c (Some x) (find (λ y. at y x) xs)) (itself x), further xs order.0 (found_each at before itself apart xs order.1))
     where
       further : (ys : List A) → AllByRecursion (λ y. before x y ≡ true) ys → AllByRecursion (λ y. find (λ z. at z y) xs ≡ Some y) ys → AllByRecursion (λ y. find (λ z. at z y) (x ∷ xs) ≡ Some y) ys
-      further [] behind found = tt
-      further (y ∷ ys) behind found = (ap (λ c. cond c (Some x) (find (λ z. at z y) xs)) (apart x y behind.0) ∙ found.0, further ys behind.1 found.1)
+      further [] after found = tt
+      further (y ∷ ys) after found = (ap (λ c. cond c (Some x) (find (λ z. at z y) xs)) (apart x y after.0) ∙ found.0, further ys after.1 found.1)
 
   -- whether any passes, where all that pass are seen
   pub any_seen : (q s : A → Bool) (xs : List A) → AllByRecursion (λ x. q x ≡ true → s x ≡ true) xs → list_any q (filter s xs) ≡ list_any q xs

@@ -107,7 +107,7 @@ not_changed p f (x ∷ xs) none = let here : p x ≡ false = none.0 in rw here (
 pub changed_is_map : {A : Type 0} (before : A → A → Bool) (p : A → Bool) (f : A → A) → ((x y : A) → p x ≡ true → before x y ≡ true → p y ≡ false) → (xs : List A) → Ascends before xs → changed p f xs ≡ map (λ x. cond (p x) (f x) x) xs
 changed_is_map before p f once [] order = refl
 changed_is_map before p f once (x ∷ xs) order = elim (p x) as (λ b. p x ≡ b → cond b (f x ∷ xs) (x ∷ changed p f xs) ≡ cond b (f x) x ∷ map (λ x. cond (p x) (f x) x) xs) [
-  | true ↦ λ here. ap (λ ws. f x ∷ ws) (not_changed p f xs (all_weaker (λ y. before x y ≡ true) (λ y. p y ≡ false) (λ y behind. once x y here behind) xs order.0))
+  | true ↦ λ here. ap (λ ws. f x ∷ ws) (not_changed p f xs (all_weaker (λ y. before x y ≡ true) (λ y. p y ≡ false) (λ y after. once x y here after) xs order.0))
   | false ↦ λ here. ap (λ ws. x ∷ ws) (changed_is_map before p f once xs order.1)
 ] refl
 
@@ -123,7 +123,7 @@ module _ {A : Type 0} (before : A → A → Bool) (trans : (x y z : A) → befor
   rises x (y ∷ ys) pairs =
       let rest : Ascends before (y ∷ ys) = rises y ys (λ k d lt. pairs (suc k) d (omega arith)) in
       let here : before x y ≡ true = pairs 0 x (omega arith) in
-      ((here, all_weaker (λ z. before y z ≡ true) (λ z. before x z ≡ true) (λ z behind. trans x y z here behind) ys rest.0), rest)
+      ((here, all_weaker (λ z. before y z ≡ true) (λ z. before x z ≡ true) (λ z after. trans x y z here after) ys rest.0), rest)
 
   pub falls : (xs : List A) (k : ℕ) (d : A) → Ascends before xs → suc k < length xs → before (get_or xs k d) (get_or xs (suc k) d) ≡ true
   falls [] k d order within = absurd (omega arith)

@@ -84,7 +84,7 @@ remove_at : {A : Type 0} (before : A → A → Bool) (p : A → Bool) → ((x y 
 remove_at before p once [] i order = λ first within. absurd (omega arith)
 remove_at before p once (x ∷ xs) i order =
     elim (p x) as (λ b. p x ≡ b → cond (not b) (1 + position_or_len p xs) 0 ≡ i → i < length (x ∷ xs) → remove (x ∷ xs) i ≡ cond (not b) (x ∷ filter (λ x. not (p x)) xs) (filter (λ x. not (p x)) xs)) [
-      | true ↦ λ here first within. subst (λ (n : ℕ). remove (x ∷ xs) n ≡ filter (λ x. not (p x)) xs) first (sym (kept p xs (all_weaker (λ y. before x y ≡ true) (λ y. p y ≡ false) (λ y behind. once x y here behind) xs order.0)))
+      | true ↦ λ here first within. subst (λ (n : ℕ). remove (x ∷ xs) n ≡ filter (λ x. not (p x)) xs) first (sym (kept p xs (all_weaker (λ y. before x y ≡ true) (λ y. p y ≡ false) (λ y after. once x y here after) xs order.0)))
       | false ↦ λ here first within.
           let rest : suc (position_or_len p xs) ≡ i = omega arith in
           subst (λ (n : ℕ). remove (x ∷ xs) n ≡ x ∷ filter (λ x. not (p x)) xs) rest (ap (λ ws. x ∷ ws) (remove_at before p once xs (position_or_len p xs) order.1 refl (omega arith)))

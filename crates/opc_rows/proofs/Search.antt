@@ -47,9 +47,9 @@ changed_nowhere p f (x ∷ xs) = elim (p x) as (λ b. cond b (Some x) (find p xs
 ]
 
 -- an element put after all that it isn't before
-pub insert_behind : {A : Type 0} (before : A → A → Bool) (x : A) (xs : List A) (at : ℕ) → at ≤ length xs → IsPartitionPoint (λ y. before x y ≡ false) (λ y. before x y ≡ true) xs at → insert xs at x ≡ put before x xs
-insert_behind before x xs at within parted =
-    let first : position_or_len (before x) xs ≡ at = position_or_len_is (before x) xs at x within (λ k lt. parted.0 k x (omega arith) lt) (λ lt. parted.1 at x (omega arith) lt) in
+pub insert_after : {A : Type 0} (before : A → A → Bool) (x : A) (xs : List A) (at : ℕ) → at ≤ length xs → IsPartitionPoint (λ y. before x y ≡ false) (λ y. before x y ≡ true) xs at → insert xs at x ≡ put before x xs
+insert_after before x xs at within split =
+    let first : position_or_len (before x) xs ≡ at = position_or_len_is (before x) xs at x within (λ k lt. split.0 k x (omega arith) lt) (λ lt. split.1 at x (omega arith) lt) in
     subst (λ (n : ℕ). insert xs n x ≡ put before x xs) first (insert_first before x xs)
 
 less_is : (o : Ordering) → is_lt o ≡ true → o ≡ Less
@@ -66,9 +66,9 @@ module _ {K R : Type 0} (cmp : K → K → Ordering) (total : IsTotalOrder cmp) 
 
   -- of two rows in order one at most has the key
   pub once : (key : K) (x y : R) → eq (key_of x) key ≡ true → comes_before cmp key_of x y ≡ true → eq (key_of y) key ≡ false
-  once key x y here behind =
+  once key x y here after =
       let same : cmp (key_of x) key ≡ Equal = equal_is _ (sym (ties (key_of x) key) ∙ here) in
-      let passed : cmp key (key_of y) ≡ Less = sym (total.congr (key_of x) key (key_of y) same) ∙ less_is _ behind in
+      let passed : cmp key (key_of y) ≡ Less = sym (total.congr (key_of x) key (key_of y) same) ∙ less_is _ after in
       ties (key_of y) key ∙ ap is_eq (mirrored key (key_of y) passed)
     where
       equal_is : (o : Ordering) → is_eq o ≡ true → o ≡ Equal
@@ -101,8 +101,8 @@ module _ {K R : Type 0} (cmp : K → K → Ordering) (total : IsTotalOrder cmp) 
     where
       placed : (n i len : ℕ) → n ≡ i → i < len → cond (ltb n len) (Some n) None ≡ Some i
       placed n i len same lt = grind (arith, nat_tests)
-  searched xs key (Err at) order within parted =
-      let cut = parted (comparisons_rise xs key order) in
+  searched xs key (Err at) order within split =
+      let cut = split (comparisons_rise xs key order) in
       nowhere (λ row. eq (key_of row) key) xs (λ k d lt. elim (ltb k at) as (λ b. ltb k at ≡ b → eq (key_of (get_or xs k d)) key ≡ false) [
         | true ↦ λ below. ties _ key ∙ ap is_eq (cut.0 k d (omega arith) (grind (arith, nat_tests, below)))
         | false ↦ λ above. ties _ key ∙ ap is_eq (cut.1 k d (grind (arith, nat_tests, above)) lt)
@@ -115,8 +115,8 @@ module _ {K R : Type 0} (cmp : K → K → Ordering) (total : IsTotalOrder cmp) 
         | false ↦ λ here. refl
         | true ↦ λ here. elim (ltb i j) as (λ b. ltb i j ≡ b → false ≡ true) [
           | true ↦ λ lt.
-              let behind : cmp (key_of (get_or xs i d)) (key_of (get_or xs j d)) ≡ Less = less_is _ (later (comes_before cmp key_of) xs i j d order (grind (arith, nat_tests, lt)) within) in
-              let there : is_lt (cmp key (key_of (get_or xs j d))) ≡ true = ap is_lt (total.trans key _ _ (less_is _ here) behind) in
+              let after : cmp (key_of (get_or xs i d)) (key_of (get_or xs j d)) ≡ Less = less_is _ (later (comes_before cmp key_of) xs i j d order (grind (arith, nat_tests, lt)) within) in
+              let there : is_lt (cmp key (key_of (get_or xs j d))) ≡ true = ap is_lt (total.trans key _ _ (less_is _ here) after) in
               rw there at passes
           | false ↦ λ same. let at : i ≡ j = grind (arith, nat_tests, same) in
               let there : is_lt (cmp key (key_of (get_or xs j d))) ≡ true = rw (← at) here in
@@ -127,7 +127,7 @@ module _ {K R : Type 0} (cmp : K → K → Ordering) (total : IsTotalOrder cmp) 
   -- where the rows begin that a key is less than
   pub cut_by_key : (xs : List R) (key : K) (at : ℕ) → IsPartitionPoint (λ row. not (is_lt (cmp key (key_of row))) ≡ true) (λ row. not (is_lt (cmp key (key_of row))) ≡ false) xs at
       → IsPartitionPoint (λ row. is_lt (cmp key (key_of row)) ≡ false) (λ row. is_lt (cmp key (key_of row)) ≡ true) xs at
-  cut_by_key xs key at parted = (λ k d low lt. fails _ (parted.0 k d low lt), λ k d le lt. passes _ (parted.1 k d le lt))
+  cut_by_key xs key at split = (λ k d low lt. fails _ (split.0 k d low lt), λ k d le lt. passes _ (split.1 k d le lt))
     where
       fails : (b : Bool) → not b ≡ true → b ≡ false
       fails true e = absurd (cc)

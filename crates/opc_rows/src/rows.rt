@@ -150,7 +150,7 @@ impl<R: Keyed + Drop> Rows<R> {
     fn place_after(&self, key: &R::Key) -> usize
         requires { IsInKeyOrder R.Key.cmp R.key_of self.now }
         ensures within { result ≤ length self.now }
-        ensures parted { IsPartitionPoint
+        ensures split { IsPartitionPoint
             (λ row. is_lt (R.Key.cmp key.now (R.key_of row)) ≡ false)
             (λ row. is_lt (R.Key.cmp key.now (R.key_of row)) ≡ true) self.now result }
     {

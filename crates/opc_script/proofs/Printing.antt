@@ -74,7 +74,7 @@ module _ {L N : Type 0} (heard : L → ℕ → Answer → L → Type 0) (same : 
         record {
           told = run.before;
           request = run.request;
-          behind = run.behind;
+          later = run.later;
           are = run.are;
           answers = run.answers;
           each = done.each;

@@ -65,14 +65,14 @@ kind_back Job false h = refl
 kind_back Tsu true h = refl
 kind_back Tsu false h = refl
 kind_back (Stc member) true h =
-    let behind : separated (codes "STC" ++ 32 ∷ member) ≡ Some (codes "STC", member) = separated_back (codes "STC") member refl in
+    let later : separated (codes "STC" ++ 32 ∷ member) ≡ Some (codes "STC", member) = separated_back (codes "STC") member refl in
     let alone : separated member ≡ None = separated_none member (name_is_word unit_rule member h) in
-    ap (kind_of (codes "STC" ++ 32 ∷ member)) behind ∙ (rw (alone, name_back unit_rule member h) refl)
+    ap (kind_of (codes "STC" ++ 32 ∷ member)) later ∙ (rw (alone, name_back unit_rule member h) refl)
 kind_back (Stc member) false h =
     let rest : List ℕ = member ++ 32 ∷ codes "NONCANCEL" in
-    let behind : separated (codes "STC" ++ 32 ∷ rest) ≡ Some (codes "STC", rest) = separated_back (codes "STC") rest refl in
+    let later : separated (codes "STC" ++ 32 ∷ rest) ≡ Some (codes "STC", rest) = separated_back (codes "STC") rest refl in
     let parts : separated rest ≡ Some (member, codes "NONCANCEL") = separated_back member (codes "NONCANCEL") (name_is_word unit_rule member h) in
-    ap (kind_of (codes "STC" ++ 32 ∷ rest)) behind ∙ (rw (parts, name_back unit_rule member h) refl)
+    ap (kind_of (codes "STC" ++ 32 ∷ rest)) later ∙ (rw (parts, name_back unit_rule member h) refl)
 
 job_back : (name : List ℕ) (kind : UnitKind) (cancelable : Bool) → IsName unit_rule name → IsKind kind
     → job_in (name ++ 32 ∷ columns (kind_words kind ++ cancelable_words cancelable)) ≡ Some (event.JobIn name kind cancelable)

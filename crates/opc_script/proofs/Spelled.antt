@@ -80,15 +80,15 @@ kind_is text kind h = go (separated text) refl h
     go (Some words) p k = test words p (bytes_eq words.0 (codes "STC")) refl k
 
 -- a text after the word of a verb
-abbrev Behind : List ℕ → List ℕ → Event → Type 0
-Behind verb text e = IsEvent e × (verb ++ 32 ∷ text ≡ event_text e)
+abbrev After : List ℕ → List ℕ → Event → Type 0
+After verb text e = IsEvent e × (verb ++ 32 ∷ text ≡ event_text e)
 
 pub before_kind : (name : List ℕ) (kind : UnitKind) (more : List (List ℕ)) → columns (name ∷ (kind_words kind ++ more)) ≡ name ++ 32 ∷ columns (kind_words kind ++ more)
 before_kind name Job more = refl
 before_kind name (Stc member) more = refl
 before_kind name Tsu more = refl
 
-job_is : (text : List ℕ) (e : Event) → job_in text ≡ Some e → Behind (codes "JOBIN") text e
+job_is : (text : List ℕ) (e : Event) → job_in text ≡ Some e → After (codes "JOBIN") text e
 unfolding job_in
 job_is text e h =
     let w = bind_some (separated text) _ e h in
@@ -97,12 +97,12 @@ job_is text e h =
     let name = name_is unit_rule w.0.0 n.0 n.1 in
     let kind = kind_is w.0.1 k.0 k.1 in
     let same : event.JobIn n.0 k.0.0 k.0.1 ≡ e = search (rules, k.2) in
-    subst (Behind (codes "JOBIN") text) same (
+    subst (After (codes "JOBIN") text) same (
       (name.0, kind.0),
       ap (λ t. codes "JOBIN" ++ 32 ∷ t) (separated_is text w.0 w.1 ∙ ap (λ t. t ++ 32 ∷ w.0.1) name.1 ∙ ap (λ t. n.0 ++ 32 ∷ t) kind.1 ∙ sym (before_kind n.0 k.0.0 (cancelable_words k.0.1))),
     )
 
-allocate_is : (text : List ℕ) (e : Event) → allocate text ≡ Some e → Behind (codes "ALLOCATE") text e
+allocate_is : (text : List ℕ) (e : Event) → allocate text ≡ Some e → After (codes "ALLOCATE") text e
 unfolding allocate
 allocate_is text e h =
     let w = bind_some (separated text) _ e h in
@@ -111,7 +111,7 @@ allocate_is text e h =
     let device = name_is device_rule w.0.0 d.0 d.1 in
     let unit = name_is unit_rule w.0.1 u.0 u.1 in
     let same : event.Allocate d.0 u.0 ≡ e = search (rules, u.2) in
-    subst (Behind (codes "ALLOCATE") text) same (
+    subst (After (codes "ALLOCATE") text) same (
       (device.0, unit.0),
       ap (λ t. codes "ALLOCATE" ++ 32 ∷ t) (separated_is text w.0 w.1 ∙ ap (λ t. t ++ 32 ∷ w.0.1) device.1 ∙ ap (λ t. d.0 ++ 32 ∷ t) unit.1),
     )
@@ -136,41 +136,41 @@ asked_is text parts h =
       separated_is text w.0 w.1 ∙ ap (λ x. x ++ 32 ∷ w.0.1) id.1 ∙ ap (λ x. two_digits i.0 ++ 32 ∷ x) told.1,
     )
 
-ask_is : (text : List ℕ) (e : Event) → ask text ≡ Some e → Behind (codes "ASK") text e
+ask_is : (text : List ℕ) (e : Event) → ask text ≡ Some e → After (codes "ASK") text e
 ask_is text e h =
     let a = mapped (λ (parts : ℕ × List ℕ). event.Ask parts.0 parts.1) (asked text) e h in
     let parts = asked_is text a.0 a.1 in
-    subst (Behind (codes "ASK") text) a.2 (parts.0, ap (λ t. codes "ASK" ++ 32 ∷ t) parts.1)
+    subst (After (codes "ASK") text) a.2 (parts.0, ap (λ t. codes "ASK" ++ 32 ∷ t) parts.1)
 
 -- a row of the table of verbs, and those that follow it
 row_is : (verb text word : List ℕ) (e : Event) (read : List ℕ → Option Event) (rows : List (List ℕ × (List ℕ → Option Event))) (b : Bool) → bytes_eq verb word ≡ b
-    → ((if b then Some read else lookup rows verb) >>= (λ r. r text)) ≡ Some e → (read text ≡ Some e → Behind word text e) → ((lookup rows verb >>= (λ r. r text)) ≡ Some e → Behind verb text e)
-    → Behind verb text e
-row_is verb text word e read rows true eq h here next = subst (λ v. Behind v text e) (sym (bytes_same verb word eq)) (here h)
+    → ((if b then Some read else lookup rows verb) >>= (λ r. r text)) ≡ Some e → (read text ≡ Some e → After word text e) → ((lookup rows verb >>= (λ r. r text)) ≡ Some e → After verb text e)
+    → After verb text e
+row_is verb text word e read rows true eq h here next = subst (λ v. After v text e) (sym (bytes_same verb word eq)) (here h)
 row_is verb text word e read rows false eq h here next = next h
 
 no_row : {A : Type 0} (text : List ℕ) (e : Event) → (let none : Option (List ℕ → Option Event) = None in (none >>= (λ r. r text))) ≡ Some e → A
 no_row text e h = absurd (search (rules, h))
 
-job_end_is : (text : List ℕ) (e : Event) → option_map event.JobEnd (name_in unit_rule text) ≡ Some e → Behind (codes "JOBEND") text e
+job_end_is : (text : List ℕ) (e : Event) → option_map event.JobEnd (name_in unit_rule text) ≡ Some e → After (codes "JOBEND") text e
 job_end_is text e h =
     let m = mapped event.JobEnd (name_in unit_rule text) e h in
     let n = name_is unit_rule text m.0 m.1 in
-    subst (Behind (codes "JOBEND") text) m.2 (n.0, ap (λ t. codes "JOBEND" ++ 32 ∷ t) n.1)
+    subst (After (codes "JOBEND") text) m.2 (n.0, ap (λ t. codes "JOBEND" ++ 32 ∷ t) n.1)
 
-attach_is : (text : List ℕ) (e : Event) → option_map event.Attach (name_in device_rule text) ≡ Some e → Behind (codes "ATTACH") text e
+attach_is : (text : List ℕ) (e : Event) → option_map event.Attach (name_in device_rule text) ≡ Some e → After (codes "ATTACH") text e
 attach_is text e h =
     let m = mapped event.Attach (name_in device_rule text) e h in
     let n = name_is device_rule text m.0 m.1 in
-    subst (Behind (codes "ATTACH") text) m.2 (n.0, ap (λ t. codes "ATTACH" ++ 32 ∷ t) n.1)
+    subst (After (codes "ATTACH") text) m.2 (n.0, ap (λ t. codes "ATTACH" ++ 32 ∷ t) n.1)
 
-free_is : (text : List ℕ) (e : Event) → option_map event.Free (name_in device_rule text) ≡ Some e → Behind (codes "FREE") text e
+free_is : (text : List ℕ) (e : Event) → option_map event.Free (name_in device_rule text) ≡ Some e → After (codes "FREE") text e
 free_is text e h =
     let m = mapped event.Free (name_in device_rule text) e h in
     let n = name_is device_rule text m.0 m.1 in
-    subst (Behind (codes "FREE") text) m.2 (n.0, ap (λ t. codes "FREE" ++ 32 ∷ t) n.1)
+    subst (After (codes "FREE") text) m.2 (n.0, ap (λ t. codes "FREE" ++ 32 ∷ t) n.1)
 
-by_is : (verb text : List ℕ) (e : Event) → event_by verb text ≡ Some e → Behind verb text e
+by_is : (verb text : List ℕ) (e : Event) → event_by verb text ≡ Some e → After verb text e
 by_is verb text e h =
     row_is verb text (codes "JOBIN") e job_in (drop 1 verbs) (bytes_eq verb (codes "JOBIN")) refl h (job_is text e) (λ h.
     row_is verb text (codes "JOBEND") e (λ text. option_map event.JobEnd (name_in unit_rule text)) (drop 2 verbs) (bytes_eq verb (codes "JOBEND")) refl h (job_end_is text e) (λ h.

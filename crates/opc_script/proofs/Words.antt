@@ -75,9 +75,9 @@ separated_back word rest h =
     let at : position_or_len is_space (word ++ 32 ∷ rest) ≡ length word = first_space word rest h in
     let long : length (word ++ 32 ∷ rest) ≡ length word + suc (length rest) = length-append word (32 ∷ rest) in
     let low : nat_lt (length word) (length (word ++ 32 ∷ rest)) ≡ true = lt-ltb _ _ (omega (arith, long)) in
-    let front : take (length word) (word ++ 32 ∷ rest) ≡ word = take-append_seam word (32 ∷ rest) in
+    let prefix : take (length word) (word ++ 32 ∷ rest) ≡ word = take-append_seam word (32 ∷ rest) in
     let back : drop (length word + 1) (word ++ 32 ∷ rest) ≡ rest = drop-append-add word (32 ∷ rest) 1 in
-    rw (at, low, front, back) refl
+    rw (at, low, prefix, back) refl
 
 pub separated_none : (word : List ℕ) → IsWord word → separated word ≡ None
 separated_none word h =

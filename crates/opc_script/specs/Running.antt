@@ -36,8 +36,8 @@ module _ {T : Type 0} (is_sure : T → Type 0) (represents may_leave : T → Sta
   pub record IsCut (old new : T) (requests : List (ℕ × Request)) (before written : Option (List ℕ)) (fault : ScriptFault) : Type 0 where
     pub told : List (ℕ × Request)
     pub request : ℕ × Request
-    pub behind : List (ℕ × Request)
-    pub are : requests ≡ told ++ request ∷ behind
+    pub later : List (ℕ × Request)
+    pub are : requests ≡ told ++ request ∷ later
     pub answers : List Answer
     pub each : length answers ≡ length told
     pub answer : Answer

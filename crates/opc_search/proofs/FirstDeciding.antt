@@ -56,14 +56,14 @@ are_profiles s ordered =
 module _ (resource : List ℕ) where
   -- where it stands, if one covers
   record Found (xs : List Profile) : Type 0 where
-    front : List Profile
+    prefix : List Profile
     d : Profile
-    behind : List Profile
-    whole : xs ≡ front ++ d ∷ behind
-    none : NoneCovers resource front
+    after : List Profile
+    whole : xs ≡ prefix ++ d ∷ after
+    none : NoneCovers resource prefix
     hit : covers resource d ≡ true
     is : find (covers resource) xs ≡ Some d
-    count : taken_for (covers resource) xs ≡ length front + 1
+    count : taken_for (covers resource) xs ≡ length prefix + 1
 
   record Nowhere (xs : List Profile) : Type 0 where
     none : NoneCovers resource xs
@@ -79,9 +79,9 @@ module _ (resource : List ℕ) where
     where
       go : (b : Bool) → covers resource x ≡ b → Found xs ⊎ Nowhere xs → Found (x ∷ xs) ⊎ Nowhere (x ∷ xs)
       go true e more = inl (record {
-        front = [];
+        prefix = [];
         d = x;
-        behind = xs;
+        after = xs;
         whole = refl;
         none = empty_none;
         hit = e;
@@ -89,11 +89,11 @@ module _ (resource : List ℕ) where
         count = ap (λ b. cond b 1 (1 + taken_for (covers resource) xs)) e;
       })
       go false e (inl f) = inl (record {
-        front = x ∷ f.front;
+        prefix = x ∷ f.prefix;
         d = f.d;
-        behind = f.behind;
+        after = f.after;
         whole = ap (λ (l : List Profile). x ∷ l) f.whole;
-        none = All-cons (λ (p : Profile). covers resource p ≡ false) x f.front e f.none;
+        none = All-cons (λ (p : Profile). covers resource p ≡ false) x f.prefix e f.none;
         hit = f.hit;
         is = ap (λ b. cond b (Some x) (find (covers resource) xs)) e ∙ f.is;
         count = ap (λ b. cond b 1 (1 + taken_for (covers resource) xs)) e ∙ (let c = f.count in omega arith);
@@ -114,8 +114,8 @@ module _ (resource : List ℕ) where
     where
       go : Found xs ⊎ Nowhere xs → Decides xs
       go (inl f) =
-          let up : AreBefore (f.front ++ f.d ∷ f.behind) = subst AreBefore f.whole order in
-          let here : deciding xs resource ≡ Some f.d = ap (λ (l : List Profile). deciding l resource) f.whole ∙ found_first resource f.front f.d f.behind up f.none f.hit in
-          let read : length (read_until (Some f.d) xs) ≡ length f.front + 1 = ap (λ (l : List Profile). length (read_until (Some f.d) l)) f.whole ∙ read_first resource f.front f.d f.behind up in
+          let up : AreBefore (f.prefix ++ f.d ∷ f.after) = subst AreBefore f.whole order in
+          let here : deciding xs resource ≡ Some f.d = ap (λ (l : List Profile). deciding l resource) f.whole ∙ found_first resource f.prefix f.d f.after up f.none f.hit in
+          let read : length (read_until (Some f.d) xs) ≡ length f.prefix + 1 = ap (λ (l : List Profile). length (read_until (Some f.d) l)) f.whole ∙ read_first resource f.prefix f.d f.after up in
           record { decides = f.is ∙ sym here; reads = f.count ∙ (sym read ∙ ap (λ o. length (read_until o xs)) (sym f.is)) }
       go (inr f) = record { decides = f.is ∙ sym (none_found resource xs f.none); reads = f.count ∙ ap (λ o. length (read_until o xs)) (sym f.is) }

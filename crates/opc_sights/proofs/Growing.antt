@@ -44,20 +44,20 @@ or_second false b h = h
 -- names and numbers in order
 
 one_way : (a b : Name) → earlier a b ≡ true → earlier b a ≡ false
-one_way a b behind = go (earlier b a) refl
+one_way a b after = go (earlier b a) refl
   where
     go : (back : Bool) → earlier b a ≡ back → back ≡ false
-    go true e = absurd (false≢true (sym (not_earlier a) ∙ earlier_on a b a behind e))
+    go true e = absurd (false≢true (sym (not_earlier a) ∙ earlier_on a b a after e))
     go false e = refl
 
 apart : (a b : Name) → earlier a b ≡ true → is b a ≡ false
-apart a b behind = apart_names a b a (is_itself a) behind
+apart a b after = apart_names a b a (is_itself a) after
 
 number_apart : (m n id : ℕ) → (m == id) ≡ true → is_lt (nat_cmp m n) ≡ true → (n == id) ≡ false
-number_apart m n id here behind = grind (arith, nat_tests, here, behind)
+number_apart m n id here after = grind (arith, nat_tests, here, after)
 
 number_one_way : (m n : ℕ) → is_lt (nat_cmp m n) ≡ true → is_lt (nat_cmp n m) ≡ false
-number_one_way m n behind = grind (arith, nat_tests, behind)
+number_one_way m n after = grind (arith, nat_tests, after)
 
 number_itself : (n : ℕ) → (n == n) ≡ true
 number_itself n = grind (arith, nat_tests)
@@ -113,7 +113,7 @@ module _ (s : State) where
     within = record { units = λ n h. or_first (seen.units n) (is n name) h; devices = λ n h. h; consoles = λ n h. h; replies = λ n h. h };
     is =
         ap (λ us. record old { units = us }) (makes ∙ ap (λ (o : BoardRows). joined unit_before (λ u. is u.name name) unit o.units) part
-        ∙ joins unit_before (λ u. is u.name name) (sees_unit seen) (λ x y here behind. apart_names x.name y.name name here behind) (λ x y behind. one_way x.name y.name behind) unit s.board.units keyed.board.units at)
+        ∙ joins unit_before (λ u. is u.name name) (sees_unit seen) (λ x y here after. apart_names x.name y.name name here after) (λ x y after. one_way x.name y.name after) unit s.board.units keyed.board.units at)
         ∙ ap (λ (o : BoardRows). record o { units = filter (λ u. sees_unit seen u || is u.name name) s.board.units }) part;
     sees = or_second (seen.units name) (is name name) (is_itself name);
   }
@@ -125,7 +125,7 @@ module _ (s : State) where
     within = record { units = λ n h. h; devices = λ n h. or_first (seen.devices n) (is n number) h; consoles = λ n h. h; replies = λ n h. h };
     is =
         ap (λ ds. record old { devices = ds }) (makes ∙ ap (λ (o : BoardRows). joined device_before (λ d. is d.number number) device o.devices) part
-        ∙ joins device_before (λ d. is d.number number) (sees_device seen) (λ x y here behind. apart_names x.number y.number number here behind) (λ x y behind. one_way x.number y.number behind) device s.board.devices keyed.board.devices at)
+        ∙ joins device_before (λ d. is d.number number) (sees_device seen) (λ x y here after. apart_names x.number y.number number here after) (λ x y after. one_way x.number y.number after) device s.board.devices keyed.board.devices at)
         ∙ ap (λ (o : BoardRows). record o { devices = filter (λ d. sees_device seen d || is d.number number) s.board.devices }) part;
     sees = or_second (seen.devices number) (is number number) (is_itself number);
   }
@@ -137,7 +137,7 @@ module _ (s : State) where
     within = record { units = λ n h. h; devices = λ n h. h; consoles = λ n h. or_first (seen.consoles n) (is n name) h; replies = λ n h. h };
     is =
         ap (λ cs. record old { consoles = cs }) (makes ∙ ap (λ (o : BoardRows). joined console_before (λ c. is c.name name) console o.consoles) part
-        ∙ joins console_before (λ c. is c.name name) (sees_console seen) (λ x y here behind. apart_names x.name y.name name here behind) (λ x y behind. one_way x.name y.name behind) console s.board.consoles keyed.board.consoles at)
+        ∙ joins console_before (λ c. is c.name name) (sees_console seen) (λ x y here after. apart_names x.name y.name name here after) (λ x y after. one_way x.name y.name after) console s.board.consoles keyed.board.consoles at)
         ∙ ap (λ (o : BoardRows). record o { consoles = filter (λ c. sees_console seen c || is c.name name) s.board.consoles }) part;
     sees = or_second (seen.consoles name) (is name name) (is_itself name);
   }
@@ -149,7 +149,7 @@ module _ (s : State) where
     within = record { units = λ n h. h; devices = λ n h. h; consoles = λ n h. h; replies = λ n h. or_first (seen.replies n) (n == id) h };
     is =
         ap (λ rs. record old { replies = rs }) (makes ∙ ap (λ (o : BoardRows). joined reply_before (λ r. r.id == id) reply o.replies) part
-        ∙ joins reply_before (λ r. r.id == id) (sees_reply seen) (λ x y here behind. number_apart x.id y.id id here behind) (λ x y behind. number_one_way x.id y.id behind) reply s.board.replies keyed.board.replies at)
+        ∙ joins reply_before (λ r. r.id == id) (sees_reply seen) (λ x y here after. number_apart x.id y.id id here after) (λ x y after. number_one_way x.id y.id after) reply s.board.replies keyed.board.replies at)
         ∙ ap (λ (o : BoardRows). record o { replies = filter (λ r. sees_reply seen r || (r.id == id)) s.board.replies }) part;
     sees = or_second (seen.replies id) (id == id) (number_itself id);
   }
@@ -178,10 +178,10 @@ module _ (s : State) where
   }
 
   devices_found : IsKeyed s → AllByRecursion (λ d. device_at s.board d.number ≡ Some d) s.board.devices
-  devices_found keyed = found_each (λ (x y : DeviceRow). is x.number y.number) device_before (λ d. is_itself d.number) (λ x y behind. is_mirrored y.number x.number (apart x.number y.number behind)) s.board.devices keyed.board.devices
+  devices_found keyed = found_each (λ (x y : DeviceRow). is x.number y.number) device_before (λ d. is_itself d.number) (λ x y after. is_mirrored y.number x.number (apart x.number y.number after)) s.board.devices keyed.board.devices
 
   consoles_found : IsKeyed s → AllByRecursion (λ c. console_at s.board c.name ≡ Some c) s.board.consoles
-  consoles_found keyed = found_each (λ (x y : ConsoleRow). is x.name y.name) console_before (λ c. is_itself c.name) (λ x y behind. is_mirrored y.name x.name (apart x.name y.name behind)) s.board.consoles keyed.board.consoles
+  consoles_found keyed = found_each (λ (x y : ConsoleRow). is x.name y.name) console_before (λ c. is_itself c.name) (λ x y after. is_mirrored y.name x.name (apart x.name y.name after)) s.board.consoles keyed.board.consoles
 
   pub devices_of_unit : (old : BoardRows) (unit : Name) (rows : List DeviceRow) → rows ≡ devices_of s.board unit → Begins s old (record old { devices = rows }) (λ seen. AllByRecursion (λ d. is_holder unit d.unit ≡ true → sees_device seen d ≡ true) s.board.devices)
   devices_of_unit old unit rows are keyed part =
@@ -200,7 +200,7 @@ module _ (s : State) where
   pub two_masters : (old : BoardRows) (rows : List ConsoleRow) → rows ≡ take 2 (masters s.board) → Begins s old (record old { consoles = rows }) (λ seen. SeesMasters seen (without_history s.board))
   two_masters old rows are keyed part =
       begin_consoles old rows (λ n. list_any (λ (m : ConsoleRow). is m.name n) (take 2 (masters s.board))) (λ seen. SeesMasters seen (without_history s.board))
-      (are ∙ first_by_keys (λ (x y : ConsoleRow). is x.name y.name) console_before (λ c. is_itself c.name) (λ x y behind. is_mirrored y.name x.name (apart x.name y.name behind)) (λ x y behind. apart x.name y.name behind) is_master 2 s.board.consoles keyed.board.consoles)
+      (are ∙ first_by_keys (λ (x y : ConsoleRow). is x.name y.name) console_before (λ c. is_itself c.name) (λ x y after. is_mirrored y.name x.name (apart x.name y.name after)) (λ x y after. apart x.name y.name after) is_master 2 s.board.consoles keyed.board.consoles)
       (each_at (λ (x y : ConsoleRow). is x.name y.name) (λ c. is_itself c.name) (take 2 (masters s.board)))
       keyed part
 

@@ -34,8 +34,8 @@ module _ {A : Type 0} (before : A → A → Bool) (is_at p : A → Bool) where
   not_found (x ∷ xs) none = ap (λ c. cond c (Some x) (find is_at xs)) none.0 ∙ not_found xs none.1
 
   goes_first : (x : A) (xs : List A) → AllByRecursion (λ y. before x y ≡ true) xs → put before x xs ≡ x ∷ xs
-  goes_first x [] behind = refl
-  goes_first x (y ∷ ys) behind = ap (λ c. cond c (x ∷ y ∷ ys) (y ∷ put before x ys)) behind.0
+  goes_first x [] after = refl
+  goes_first x (y ∷ ys) after = ap (λ c. cond c (x ∷ y ∷ ys) (y ∷ put before x ys)) after.0
 
   stays_first : (c : Bool) (x : A) (xs ys : List A) → cond c (x ∷ xs) (x ∷ ys) ≡ x ∷ cond c xs ys
   stays_first true x xs ys = refl
@@ -47,7 +47,7 @@ module _ {A : Type 0} (before : A → A → Bool) (is_at p : A → Bool) where
     one_more row (x ∷ xs) order at = go (is_at x) (p x) refl refl at (one_more row xs order.1)
       where
         none : is_at x ≡ true → AllByRecursion (λ y. is_at y ≡ false) xs
-        none here = all_weaker (λ y. before x y ≡ true) (λ y. is_at y ≡ false) (λ y behind. once x y here behind) xs order.0
+        none here = all_weaker (λ y. before x y ≡ true) (λ y. is_at y ≡ false) (λ y after. once x y here after) xs order.0
 
         go : (a b : Bool) → is_at x ≡ a → p x ≡ b → cond a (Some x) (find is_at xs) ≡ Some row
             → (find is_at xs ≡ Some row → joined before is_at (Some row) (filter p xs) ≡ filter (λ y. p y || is_at y) xs)
@@ -62,9 +62,9 @@ module _ {A : Type 0} (before : A → A → Bool) (is_at p : A → Bool) where
             ∙ goes_first x (filter p xs) (all_filter (λ y. before x y ≡ true) p xs order.0)
             ∙ ap (λ ws. x ∷ ws) (none_more xs (none here))
         go false true here there at later =
-            let behind : before row x ≡ false = one_way x row (all_found (λ y. before x y ≡ true) is_at row xs at order.0) in
+            let after : before row x ≡ false = one_way x row (all_found (λ y. before x y ≡ true) is_at row xs at order.0) in
             ap (λ c. cond (is_some (cond c (Some x) (find is_at (filter p xs)))) (x ∷ filter p xs) (put before row (x ∷ filter p xs))) here
-            ∙ ap (λ c. cond (is_some (find is_at (filter p xs))) (x ∷ filter p xs) (cond c (row ∷ x ∷ filter p xs) (x ∷ put before row (filter p xs)))) behind
+            ∙ ap (λ c. cond (is_some (find is_at (filter p xs))) (x ∷ filter p xs) (cond c (row ∷ x ∷ filter p xs) (x ∷ put before row (filter p xs)))) after
             ∙ stays_first (is_some (find is_at (filter p xs))) x (filter p xs) (put before row (filter p xs))
             ∙ ap (λ ws. x ∷ ws) (later at)
         go false false here there at later = later at

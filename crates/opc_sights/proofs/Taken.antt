@@ -45,12 +45,12 @@ module _ {A : Type 0} (at : A → A → Bool) where
       where
         here : (ms : List A) → ms ≡ filter (λ y. list_any (λ m. at m y) ms) xs → x ∷ ms ≡ filter (λ y. at x y || list_any (λ m. at m y) ms) (x ∷ xs)
         here ms more =
-            ap (λ ws. x ∷ ws) (more ∙ filter_alike (λ y. list_any (λ m. at m y) ms) (λ y. at x y || list_any (λ m. at m y) ms) xs (all_weaker (λ y. before x y ≡ true) (λ y. list_any (λ m. at m y) ms ≡ at x y || list_any (λ m. at m y) ms) (λ y behind. ap (λ c. c || list_any (λ m. at m y) ms) (sym (apart x y behind))) xs order.0))
+            ap (λ ws. x ∷ ws) (more ∙ filter_alike (λ y. list_any (λ m. at m y) ms) (λ y. at x y || list_any (λ m. at m y) ms) xs (all_weaker (λ y. before x y ≡ true) (λ y. list_any (λ m. at m y) ms ≡ at x y || list_any (λ m. at m y) ms) (λ y after. ap (λ c. c || list_any (λ m. at m y) ms) (sym (apart x y after))) xs order.0))
             ∙ ap (λ c. cond (c || list_any (λ m. at m x) ms) (x ∷ filter (λ y. at x y || list_any (λ m. at m y) ms) xs) (filter (λ y. at x y || list_any (λ m. at m y) ms) xs)) (sym (itself x))
 
         elsewhere : (ms : List A) → AllByRecursion (λ m. before x m ≡ true) ms → ms ≡ filter (λ y. list_any (λ m. at m y) ms) xs → ms ≡ filter (λ y. list_any (λ m. at m y) ms) (x ∷ xs)
-        elsewhere ms behind more =
-            more ∙ ap (λ c. cond c (x ∷ filter (λ y. list_any (λ m. at m y) ms) xs) (filter (λ y. list_any (λ m. at m y) ms) xs)) (sym (none_at x ms (all_weaker (λ m. before x m ≡ true) (λ m. at m x ≡ false) (λ m later. apart_back x m later) ms behind)))
+        elsewhere ms after more =
+            more ∙ ap (λ c. cond c (x ∷ filter (λ y. list_any (λ m. at m y) ms) xs) (filter (λ y. list_any (λ m. at m y) ms) xs)) (sym (none_at x ms (all_weaker (λ m. before x m ≡ true) (λ m. at m x ≡ false) (λ m later. apart_back x m later) ms after)))
 
         go : (a : Bool) → take n (filter q xs) ≡ filter (λ y. list_any (λ m. at m y) (take n (filter q xs))) xs
             → take (suc n) (filter q xs) ≡ filter (λ y. list_any (λ m. at m y) (take (suc n) (filter q xs))) xs
@@ -83,7 +83,7 @@ module _ {A : Type 0} (m s p : A → Bool) where
       go : (a b c : Bool) → m x ≡ a → s x ≡ b → p x ≡ c → AllByRecursion (λ y. s y ≡ true) (take 2 (cond a (x ∷ filter m xs) (filter m xs)))
           → (AllByRecursion (λ y. s y ≡ true) (take 2 (filter m xs)) → list_any other (filter s xs) ≡ list_any other xs)
           → list_any other (cond b (x ∷ filter s xs) (filter s xs)) ≡ (m x && not (p x)) || list_any other xs
-      go true true true is there named seen more = rw (is, named) (first_seen xs (all_weaker (λ y. before x y ≡ true) (λ y. p y ≡ false) (λ y behind. once x y named behind) xs order.0) seen.1)
+      go true true true is there named seen more = rw (is, named) (first_seen xs (all_weaker (λ y. before x y ≡ true) (λ y. p y ≡ false) (λ y after. once x y named after) xs order.0) seen.1)
       go true true false is there named seen more = rw (is, named) refl
       go true false c is there named seen more = let here : s x ≡ true = seen.0 in absurd (cc)
       go false true c is there named seen more = rw is (more seen)

@@ -63,9 +63,9 @@ module _ {R : Type 0} (cmp : R → R → Ordering) (total : IsTotalOrder cmp) (i
       turned = total.antisymm q k ∙ ap ordering_reverse (total.congr k r q (tied_back total r k (tie r k h))) ∙ sym (total.antisymm q r)
 
   -- none of those after is at the key
-  pub none_behind : (r k : R) (rows : List R) → is_at r k ≡ true → AllByRecursion (λ q. before r q ≡ true) rows → at k rows ≡ None
-  none_behind r k [] h behind = refl
-  none_behind r k (q ∷ rows) h behind = rw (apart r q k behind.0 h) (none_behind r k rows h behind.1)
+  pub none_after : (r k : R) (rows : List R) → is_at r k ≡ true → AllByRecursion (λ q. before r q ≡ true) rows → at k rows ≡ None
+  none_after r k [] h after = refl
+  none_after r k (q ∷ rows) h after = rw (apart r q k after.0 h) (none_after r k rows h after.1)
 
   -- a row that is put is at its key, and the others stay
   pub at_put : (r k : R) (rows : List R) → at k (replace_key cmp rows r) ≡ cond (is_at r k) (Some r) (at k rows)
@@ -82,16 +82,16 @@ module _ {R : Type 0} (cmp : R → R → Ordering) (total : IsTotalOrder cmp) (i
               alike_left : (x y z : R) → cmp x y ≡ Equal → is_at y z ≡ is_at x z
               alike_left x y z t = ties y z ∙ ap is_eq (sym (total.congr x y z t)) ∙ sym (ties x z)
 
-      behind : (a b : Bool) → is_at q k ≡ a → is_at r k ≡ b → cmp r q ≡ Greater → cond a (Some q) (cond b (Some r) (at k rows)) ≡ cond b (Some r) (cond a (Some q) (at k rows))
-      behind false b f e more = refl
-      behind true false f e more = refl
-      behind true true f e more = let same : cmp r q ≡ Equal = met r q k e f in absurd (cc)
+      after : (a b : Bool) → is_at q k ≡ a → is_at r k ≡ b → cmp r q ≡ Greater → cond a (Some q) (cond b (Some r) (at k rows)) ≡ cond b (Some r) (cond a (Some q) (at k rows))
+      after false b f e more = refl
+      after true false f e more = refl
+      after true true f e more = let same : cmp r q ≡ Equal = met r q k e f in absurd (cc)
 
       go : (o : Ordering) → cmp r q ≡ o → at k (replace_key cmp rows r) ≡ cond (is_at r k) (Some r) (at k rows)
           → at k (match_ordering o (r ∷ q ∷ rows) (r ∷ rows) (q ∷ replace_key cmp rows r)) ≡ cond (is_at r k) (Some r) (at k (q ∷ rows))
       go Less e more = refl
       go Equal e more = same_key (is_at r k) refl e
-      go Greater e more = rw more (behind (is_at q k) (is_at r k) refl refl e)
+      go Greater e more = rw more (after (is_at q k) (is_at r k) refl refl e)
 
   -- a row that is removed is gone, and the others stay
   pub at_removed : (r k : R) (rows : List R) → at k (filter (λ q. not (is_at q r)) rows) ≡ cond (is_at r k) None (at k rows)
@@ -136,7 +136,7 @@ module _ {R : Type 0} (cmp : R → R → Ordering) (total : IsTotalOrder cmp) (i
           → at k (cond a (r ∷ filter p rows) (filter p rows)) ≡ passing p (cond b (Some r) (at k rows))
       go true true pr rk more = rw (pr, rk) refl
       go true false pr rk more = rw rk more
-      go false true pr rk more = let none : at k rows ≡ None = none_behind r k rows rk order.0 in rw (pr, more, none) refl
+      go false true pr rk more = let none : at k rows ≡ None = none_after r k rows rk order.0 in rw (pr, more, none) refl
       go false false pr rk more = more
 
   -- rows that are removed one after another
@@ -156,7 +156,7 @@ module _ {R : Type 0} (cmp : R → R → Ordering) (total : IsTotalOrder cmp) (i
   at_with (r ∷ rs) k rows order = at_with rs k (replace_key cmp rows r) order.1 ∙ rw (at_put r k rows) (go (is_at r k) refl)
     where
       go : (b : Bool) → is_at r k ≡ b → option_or (at k rs) (cond b (Some r) (at k rows)) ≡ option_or (cond b (Some r) (at k rs)) (at k rows)
-      go true e = rw (none_behind r k rs e order.0) refl
+      go true e = rw (none_after r k rs e order.0) refl
       go false e = refl
 
   -- the order stays
@@ -209,7 +209,7 @@ module _ {R : Type 0} (cmp : R → R → Ordering) (total : IsTotalOrder cmp) (i
   first_is r rows = ap (λ b. cond b (Some r) (at r rows)) (here_itself r)
 
   misses : (r q : R) (rows : List R) → cmp r q ≡ Less → AllByRecursion (λ x. before q x ≡ true) rows → at r (q ∷ rows) ≡ None
-  misses r q rows less behind = ap (λ b. cond b (Some q) (at r rows)) (apart r q r (ap is_lt less) (here_itself r)) ∙ none_behind r r rows (here_itself r) (raised r q rows less behind)
+  misses r q rows less after = ap (λ b. cond b (Some q) (at r rows)) (apart r q r (ap is_lt less) (here_itself r)) ∙ none_after r r rows (here_itself r) (raised r q rows less after)
 
   -- lists in order with the same row at each key are the same
   pub same_at_each : (xs ys : List R) → Ascends before xs → Ascends before ys → ((k : R) → at k xs ≡ at k ys) → xs ≡ ys
@@ -222,7 +222,7 @@ module _ {R : Type 0} (cmp : R → R → Ordering) (total : IsTotalOrder cmp) (i
       heads e = let s : Some x ≡ Some y = sym (first_is x xs) ∙ h x ∙ ap (λ b. cond b (Some y) (at x ys)) (there y x (tied_back total x y e)) in cc
 
       tails : cmp x y ≡ Equal → (k : R) (a b : Bool) → is_at x k ≡ a → is_at y k ≡ b → at k xs ≡ at k ys
-      tails e k true true xk yk = none_behind x k xs xk ox.0 ∙ sym (none_behind y k ys yk oy.0)
+      tails e k true true xk yk = none_after x k xs xk ox.0 ∙ sym (none_after y k ys yk oy.0)
       tails e k false false xk yk = sym (ap (λ b. cond b (Some x) (at k xs)) xk) ∙ h k ∙ ap (λ b. cond b (Some y) (at k ys)) yk
       tails e k true false xk yk = let same : x ≡ y = heads e in let moved : is_at x k ≡ is_at y k = ap (λ r. is_at r k) same in absurd (cc)
       tails e k false true xk yk = let same : x ≡ y = heads e in let moved : is_at x k ≡ is_at y k = ap (λ r. is_at r k) same in absurd (cc)
@@ -248,11 +248,11 @@ module _ {R : Type 0} (cmp : R → R → Ordering) (total : IsTotalOrder cmp) (i
   -- each row is the one at its key
   pub each_found : (rows : List R) → Ascends before rows → AllByRecursion (λ r. at r rows ≡ Some r) rows
   each_found [] order = tt
-  each_found (r ∷ rows) order = (first_is r rows, all_behind rows order.0 (each_found rows order.1))
+  each_found (r ∷ rows) order = (first_is r rows, all_after rows order.0 (each_found rows order.1))
     where
-      all_behind : (later : List R) → AllByRecursion (λ q. before r q ≡ true) later → AllByRecursion (λ q. at q rows ≡ Some q) later → AllByRecursion (λ q. at q (r ∷ rows) ≡ Some q) later
-      all_behind [] behind found = tt
-      all_behind (q ∷ later) behind found = (ap (λ b. cond b (Some r) (at q rows)) (elsewhere r q behind.0) ∙ found.0, all_behind later behind.1 found.1)
+      all_after : (later : List R) → AllByRecursion (λ q. before r q ≡ true) later → AllByRecursion (λ q. at q rows ≡ Some q) later → AllByRecursion (λ q. at q (r ∷ rows) ≡ Some q) later
+      all_after [] after found = tt
+      all_after (q ∷ later) after found = (ap (λ b. cond b (Some r) (at q rows)) (elsewhere r q after.0) ∙ found.0, all_after later after.1 found.1)
         where
           elsewhere : (x y : R) → before x y ≡ true → is_at x y ≡ false
           elsewhere x y less = ties x y ∙ ap is_eq (is_less _ less)

@@ -24,11 +24,11 @@ second P Q true none h = absurd cc
 second P Q false none h = h
 
 -- the first tables have their rows
-front_filled : (front back : List Table) (all more : List (List Row)) (trees : Trees) → length all ≡ length front → AreFilled (front ++ back) (all ++ more) trees → AreFilled front all trees
-front_filled [] back [] more trees long h = tt
-front_filled [] back (rows ∷ all) more trees long h = absurd (omega arith)
-front_filled (t ∷ front) back [] more trees long h = absurd (omega arith)
-front_filled (t ∷ front) back (rows ∷ all) more trees long h = (h.0, front_filled front back all more trees (omega (arith, long)) h.1)
+prefix_filled : (prefix back : List Table) (all more : List (List Row)) (trees : Trees) → length all ≡ length prefix → AreFilled (prefix ++ back) (all ++ more) trees → AreFilled prefix all trees
+prefix_filled [] back [] more trees long h = tt
+prefix_filled [] back (rows ∷ all) more trees long h = absurd (omega arith)
+prefix_filled (t ∷ prefix) back [] more trees long h = absurd (omega arith)
+prefix_filled (t ∷ prefix) back (rows ∷ all) more trees long h = (h.0, prefix_filled prefix back all more trees (omega (arith, long)) h.1)
 
 pub record Dropped (schema : Schema) (tree : ℕ) (old : Trees) (new : Database) : Type 0 where
   pub schema_is : new.schema ≡ without_table schema tree
@@ -61,7 +61,7 @@ module _ (schema : Schema) (text : List ℕ) (at : ℕ) (table : Table) (is : co
   pub drops_last : schema.tables ≡ (without_table schema table.tree).tables ++ table ∷ [] → (old new : State) (count : ℕ) (all : List (List Row)) (rows : List Row) → length all ≡ length (without_table schema table.tree).tables
       → HasTables schema (all ++ rows ∷ []) old.now → Executes text [] old new (Ok count) → HasTables (without_table schema table.tree) all new.now
   drops_last last old new count all rows long has h =
-      let front = (without_table schema table.tree).tables in
+      let prefix = (without_table schema table.tree).tables in
       let it = drops old new count has.schema_is h in
       let filled = subst (λ (l : List Table). AreFilled l (all ++ rows ∷ []) old.now.trees) last has.filled in
-      record { schema_is = it.0.schema_is; sound = it.1; filled = filled_kept front all old.now.trees new.now.trees it.0.others (front_filled front (table ∷ []) all (rows ∷ []) old.now.trees long filled) }
+      record { schema_is = it.0.schema_is; sound = it.1; filled = filled_kept prefix all old.now.trees new.now.trees it.0.others (prefix_filled prefix (table ∷ []) all (rows ∷ []) old.now.trees long filled) }

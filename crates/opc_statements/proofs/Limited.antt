@@ -82,12 +82,12 @@ module _ (a : Asked) (params : Row) (values : is_of_values a ≡ true) where
       let db = old.now.trees in
       let test = passes a.tree a.tests a.project a.order db params in
       let hits : List Row = filter test (db a.tree) in
-      let behind = λ (r : Row). drop 1 r in
+      let after = λ (r : Row). drop 1 r in
       let it = pages a params one_row is old new has rows h in
-      let kept : filter picked (map behind (db a.tree)) ≡ map behind hits = filter-map picked behind (db a.tree) ∙ ap (map behind) (filter_same _ _ (λ r. sym (passes_values a params values db r)) (db a.tree)) in
+      let kept : filter picked (map after (db a.tree)) ≡ map after hits = filter-map picked after (db a.tree) ∙ ap (map after) (filter_same _ _ (λ r. sym (passes_values a params values db r)) (db a.tree)) in
       let many : length it.all ≡ length (filter picked have) =
       ap length it.lists.are
       ∙ (length-map it.lists.ordered (λ (o : Output). o.1)
       ∙ (length_permutation _ _ it.lists.same
-      ∙ (length-map hits (shown a.tree a.tests a.project a.order db params) ∙ (sym (length-map hits behind) ∙ (ap length (sym kept) ∙ length_permutation _ _ (IsPermutation-filter picked _ _ had.each)))))) in
+      ∙ (length-map hits (shown a.tree a.tests a.project a.order db params) ∙ (sym (length-map hits after) ∙ (ap length (sym kept) ∙ length_permutation _ _ (IsPermutation-filter picked _ _ had.each)))))) in
       ap (λ (l : List Row). not (length l == 0)) it.are ∙ first_of picked it.all have many

@@ -16,17 +16,17 @@ keeps_all p (x ∷ xs) h = rw (h.0, keeps_all p xs h.1)
 module _ {X : Type 0} (cmp : X → X → Ordering) (p : X → Bool) where
   -- it passes, and no other does; whatever has its key takes its place
   pub record Parts (xs : List X) (x : X) : Type 0 where
-    pub front : List X
+    pub prefix : List X
     pub back : List X
-    pub whole : xs ≡ front ++ x ∷ back
+    pub whole : xs ≡ prefix ++ x ∷ back
     pub passes : p x ≡ true
-    pub before : AllByRecursion (λ y. p y ≡ false) front
+    pub before : AllByRecursion (λ y. p y ≡ false) prefix
     pub after : AllByRecursion (λ y. p y ≡ false) back
-    pub replaced : (y : X) → cmp y x ≡ Equal → replace_key cmp xs y ≡ front ++ y ∷ back
+    pub replaced : (y : X) → cmp y x ≡ Equal → replace_key cmp xs y ≡ prefix ++ y ∷ back
 
-  in_middle : (P : X → Type 0) (front : List X) (x : X) (back : List X) → AllByRecursion P (front ++ x ∷ back) → P x
+  in_middle : (P : X → Type 0) (prefix : List X) (x : X) (back : List X) → AllByRecursion P (prefix ++ x ∷ back) → P x
   in_middle P [] x back h = h.0
-  in_middle P (y ∷ front) x back h = in_middle P front x back h.1
+  in_middle P (y ∷ prefix) x back h = in_middle P prefix x back h.1
 
   module _ (total : IsTotalOrder cmp) (ties : (x y : X) → p x ≡ true → p y ≡ true → cmp x y ≡ Equal) where
     none_above : (x : X) (xs : List X) → p x ≡ true → AllByRecursion (λ y. cmp x y ≡ Less) xs → AllByRecursion (λ y. p y ≡ false) xs
@@ -43,7 +43,7 @@ module _ {X : Type 0} (cmp : X → X → Ordering) (p : X → Bool) where
       where
         here : p z ≡ true → z ≡ x → Parts (z ∷ xs) x
         here hit same = subst (λ (y : X). Parts (z ∷ xs) y) same (record {
-          front = [];
+          prefix = [];
           back = xs;
           whole = refl;
           passes = hit;
@@ -54,9 +54,9 @@ module _ {X : Type 0} (cmp : X → X → Ordering) (p : X → Bool) where
 
         later : p z ≡ false → Parts xs x → Parts (z ∷ xs) x
         later miss it =
-            let less : cmp z x ≡ Less = in_middle (λ y. cmp z y ≡ Less) it.front x it.back (subst (λ (l : List X). AllByRecursion (λ y. cmp z y ≡ Less) l) it.whole up.0) in
+            let less : cmp z x ≡ Less = in_middle (λ y. cmp z y ≡ Less) it.prefix x it.back (subst (λ (l : List X). AllByRecursion (λ y. cmp z y ≡ Less) l) it.whole up.0) in
             record {
-              front = z ∷ it.front;
+              prefix = z ∷ it.prefix;
               back = it.back;
               whole = ap (λ (l : List X). z ∷ l) it.whole;
               passes = it.passes;
@@ -75,15 +75,15 @@ module _ {X : Type 0} (cmp : X → X → Ordering) (p : X → Bool) where
   pub picked : (xs : List X) (x : X) → Parts xs x → filter p xs ≡ x ∷ []
   picked xs x it =
       ap (filter p) it.whole
-      ∙ (filter-append p it.front (x ∷ it.back)
-      ∙ ap₂ (λ (a b : List X). a ++ b) (filter_none p it.front it.before) (ap (λ b. cond b (x ∷ filter p it.back) (filter p it.back)) it.passes ∙ ap (λ (l : List X). x ∷ l) (filter_none p it.back it.after)))
+      ∙ (filter-append p it.prefix (x ∷ it.back)
+      ∙ ap₂ (λ (a b : List X). a ++ b) (filter_none p it.prefix it.before) (ap (λ b. cond b (x ∷ filter p it.back) (filter p it.back)) it.passes ∙ ap (λ (l : List X). x ∷ l) (filter_none p it.back it.after)))
 
   -- and the others are left
-  pub others_of : (xs : List X) (x : X) (it : Parts xs x) → filter (λ y. not (p y)) xs ≡ it.front ++ it.back
+  pub others_of : (xs : List X) (x : X) (it : Parts xs x) → filter (λ y. not (p y)) xs ≡ it.prefix ++ it.back
   others_of xs x it =
       ap (filter (λ y. not (p y))) it.whole
-      ∙ (filter-append (λ y. not (p y)) it.front (x ∷ it.back)
-      ∙ ap₂ (λ (a b : List X). a ++ b) (keeps_all p it.front it.before) (ap (λ b. cond (not b) (x ∷ filter (λ y. not (p y)) it.back) (filter (λ y. not (p y)) it.back)) it.passes ∙ keeps_all p it.back it.after))
+      ∙ (filter-append (λ y. not (p y)) it.prefix (x ∷ it.back)
+      ∙ ap₂ (λ (a b : List X). a ++ b) (keeps_all p it.prefix it.before) (ap (λ b. cond (not b) (x ∷ filter (λ y. not (p y)) it.back) (filter (λ y. not (p y)) it.back)) it.passes ∙ keeps_all p it.back it.after))
 
   -- none passes
   pub none_picked : (xs : List X) → find p xs ≡ None → AllByRecursion (λ y. p y ≡ false) xs

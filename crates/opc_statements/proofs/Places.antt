@@ -36,9 +36,9 @@ none_dropped zero = refl
 none_dropped (suc n) = refl
 
 -- those after a number
-pub placed_behind : {X : Type 0} (k n : ℕ) (xs : List X) → filter (λ (p : ℕ × X). nat_lt k p.0) (placed n xs) ≡ drop (suc k - n) (placed n xs)
-placed_behind k n [] = sym (none_dropped (suc k - n))
-placed_behind {X} k n (x ∷ xs) = go (nat_lt k n) refl (placed_behind k (n + 1) xs)
+pub placed_after : {X : Type 0} (k n : ℕ) (xs : List X) → filter (λ (p : ℕ × X). nat_lt k p.0) (placed n xs) ≡ drop (suc k - n) (placed n xs)
+placed_after k n [] = sym (none_dropped (suc k - n))
+placed_after {X} k n (x ∷ xs) = go (nat_lt k n) refl (placed_after k (n + 1) xs)
   where
     go : (b : Bool) → nat_lt k n ≡ b → filter (λ (p : ℕ × X). nat_lt k p.0) (placed (n + 1) xs) ≡ drop (suc k - (n + 1)) (placed (n + 1) xs)
         → cond b ((n, x) ∷ filter (λ (p : ℕ × X). nat_lt k p.0) (placed (n + 1) xs)) (filter (λ (p : ℕ × X). nat_lt k p.0) (placed (n + 1) xs)) ≡ drop (suc k - n) ((n, x) ∷ placed (n + 1) xs)

@@ -42,8 +42,8 @@ module _ {X : Type 0} (cmp : X → X → Ordering) (total : IsTotalOrder cmp) wh
   put_same before (x ∷ xs) up alone apart =
       let next = replace_key cmp before x in
       let more = put_same next xs (replaced_rises cmp total x before up) alone.1 (still_apart before xs x up apart.0 alone.0 apart.1) in
-      let front : IsPermutation (next ++ xs) ((x ∷ before) ++ xs) = IsPermutation-append next (x ∷ before) xs xs (one_put before x up apart.0) (IsPermutation-refl xs) in
-      IsPermutation-trans _ _ _ more (IsPermutation-trans _ _ _ front (IsPermutation-sym _ _ (IsPermutation-middle before x xs)))
+      let prefix : IsPermutation (next ++ xs) ((x ∷ before) ++ xs) = IsPermutation-append next (x ∷ before) xs xs (one_put before x up apart.0) (IsPermutation-refl xs) in
+      IsPermutation-trans _ _ _ more (IsPermutation-trans _ _ _ prefix (IsPermutation-sym _ _ (IsPermutation-middle before x xs)))
 
   pub none_apart : (xs : List X) → AllByRecursion (IsApartFrom []) xs
   none_apart [] = tt

@@ -10,17 +10,17 @@ use Rattle.opc_statements.proofs.Decoded.{at}
 use Rattle.opc_statements.proofs.Sets.{inserted_same}
 
 module _ {X : Type 0} (cmp : X → X → Ordering) where
-  in_middle : (P : X → Type 0) (front : List X) (x : X) (back : List X) → AllByRecursion P (front ++ x ∷ back) → P x
+  in_middle : (P : X → Type 0) (prefix : List X) (x : X) (back : List X) → AllByRecursion P (prefix ++ x ∷ back) → P x
   in_middle P [] x back h = h.0
-  in_middle P (y ∷ front) x back h = in_middle P front x back h.1
+  in_middle P (y ∷ prefix) x back h = in_middle P prefix x back h.1
 
   -- those before a member are below it
-  pub all_below : (front : List X) (x : X) (back : List X) → Rises cmp (front ++ x ∷ back) → AllByRecursion (λ y. cmp y x ≡ Less) front
+  pub all_below : (prefix : List X) (x : X) (back : List X) → Rises cmp (prefix ++ x ∷ back) → AllByRecursion (λ y. cmp y x ≡ Less) prefix
   all_below [] x back up = tt
-  all_below (y ∷ front) x back up = (in_middle (λ z. cmp y z ≡ Less) front x back up.0, all_below front x back up.1)
+  all_below (y ∷ prefix) x back up = (in_middle (λ z. cmp y z ≡ Less) prefix x back up.0, all_below prefix x back up.1)
 
-  parted : (xs : List X) (i : ℕ) (x : X) → take (suc i) xs ≡ take i xs ++ x ∷ [] → xs ≡ take i xs ++ x ∷ drop (suc i) xs
-  parted xs i x more = sym (take-append-drop (suc i) xs) ∙ (ap (λ (l : List X). l ++ drop (suc i) xs) more ∙ append_assoc (take i xs) (x ∷ []) (drop (suc i) xs))
+  split : (xs : List X) (i : ℕ) (x : X) → take (suc i) xs ≡ take i xs ++ x ∷ [] → xs ≡ take i xs ++ x ∷ drop (suc i) xs
+  split xs i x more = sym (take-append-drop (suc i) xs) ∙ (ap (λ (l : List X). l ++ drop (suc i) xs) more ∙ append_assoc (take i xs) (x ∷ []) (drop (suc i) xs))
 
   module _ (total : IsTotalOrder cmp) where
     -- one above all others comes last
@@ -42,7 +42,7 @@ module _ {X : Type 0} (cmp : X → X → Ordering) where
       pub next : Next
       next =
           let it = at row xs i y (subst (λ (l : List Y). i < length l) are low) in
-          let split = parted xs i it.x it.more in
+          let split = split xs i it.x it.more in
           record {
             x = it.x;
             here = is ∙ (ap (λ (l : List Y). get_or l i y) are ∙ it.is);

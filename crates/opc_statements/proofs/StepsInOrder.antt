@@ -23,12 +23,12 @@ module _ {S : Type 0} (g : Ghosts S) where
   stays_for X Y E x y a b h = record { survives = h.survives; kept = h.kept; inside = h.inside }
 
   -- one more statement, after those that ran
-  ran_behind : (before : List (List ℕ)) (sql : List ℕ) (a b c : Held S) (count : ℕ) → RanAll g before a b → Ran g sql [] b c count → RanAll g (before ++ sql ∷ []) a c
-  ran_behind [] sql a b c count h ran = (c, count, subst (λ (x : Held S). Ran g sql [] x c count) h ran, refl)
-  ran_behind (first ∷ before) sql a b c count h ran = (h.0, h.1, h.2, ran_behind before sql h.0 b c count h.3 ran)
+  ran_after : (before : List (List ℕ)) (sql : List ℕ) (a b c : Held S) (count : ℕ) → RanAll g before a b → Ran g sql [] b c count → RanAll g (before ++ sql ∷ []) a c
+  ran_after [] sql a b c count h ran = (c, count, subst (λ (x : Held S). Ran g sql [] x c count) h ran, refl)
+  ran_after (first ∷ before) sql a b c count h ran = (h.0, h.1, h.2, ran_after before sql h.0 b c count h.3 ran)
 
   pub ran_more : {X : Type 0} (text : X → List ℕ) (xs : List X) (i : ℕ) (x : X) (a b c : Held S) (count : ℕ) → i < length xs → RanAll g (map text (take i xs)) a b
       → Ran g (text (get_or xs i x)) [] b c count → RanAll g (map text (take (i + 1) xs)) a c
   ran_more text xs i x a b c count low h ran =
       let taken = ap (map text) (take_more xs i x low) ∙ map-append text (take i xs) (get_or xs i x ∷ []) in
-      subst (λ l. RanAll g l a c) (sym taken) (ran_behind (map text (take i xs)) (text (get_or xs i x)) a b c count h ran)
+      subst (λ l. RanAll g l a c) (sym taken) (ran_after (map text (take i xs)) (text (get_or xs i x)) a b c count h ran)

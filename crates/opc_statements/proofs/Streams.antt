@@ -7,16 +7,16 @@ use Rattle.opc_statements.specs.Taken.{taken_for}
 
 -- these are the members whose rows were taken so far, and none passes
 pub record HasTaken {X : Type 0} (row : X → Row) (p : X → Bool) (xs : List X) (given : List Row) (n : ℕ) : Type 0 where
-  pub front : List X
+  pub prefix : List X
   pub rest : List X
-  pub whole : xs ≡ front ++ rest
-  pub are : given ≡ map row front
-  pub many : length front ≡ n
-  pub none : AllByRecursion (λ x. p x ≡ false) front
+  pub whole : xs ≡ prefix ++ rest
+  pub are : given ≡ map row prefix
+  pub many : length prefix ≡ n
+  pub none : AllByRecursion (λ x. p x ≡ false) prefix
 
-find_past : {X : Type 0} (p : X → Bool) (front rest : List X) → AllByRecursion (λ x. p x ≡ false) front → (find p (front ++ rest) ≡ find p rest) × (taken_for p (front ++ rest) ≡ length front + taken_for p rest)
+find_past : {X : Type 0} (p : X → Bool) (prefix rest : List X) → AllByRecursion (λ x. p x ≡ false) prefix → (find p (prefix ++ rest) ≡ find p rest) × (taken_for p (prefix ++ rest) ≡ length prefix + taken_for p rest)
 find_past p [] rest h = (refl, omega arith)
-find_past p (x ∷ front) rest h = let more = find_past p front rest h.1 in (rw h.0 more.0, rw h.0 (rw more.1 (omega arith)))
+find_past p (x ∷ prefix) rest h = let more = find_past p prefix rest h.1 in (rw h.0 more.0, rw h.0 (rw more.1 (omega arith)))
 
 all_push : {X : Type 0} (P : X → Type 0) (xs : List X) (x : X) → AllByRecursion P xs → P x → AllByRecursion P (xs ++ x ∷ [])
 all_push P [] x h p = (p, tt)
@@ -24,24 +24,24 @@ all_push P (y ∷ xs) x h p = (h.0, all_push P xs x h.1 p)
 
 module _ {X : Type 0} (row : X → Row) (p : X → Bool) (xs : List X) where
   pub none_taken : HasTaken row p xs [] 0
-  none_taken = record { front = []; rest = xs; whole = refl; are = refl; many = refl; none = tt }
+  none_taken = record { prefix = []; rest = xs; whole = refl; are = refl; many = refl; none = tt }
 
-  cancel : {Y : Type 0} (front ys zs : List Y) → front ++ ys ≡ front ++ zs → ys ≡ zs
+  cancel : {Y : Type 0} (prefix ys zs : List Y) → prefix ++ ys ≡ prefix ++ zs → ys ≡ zs
   cancel [] ys zs e = e
-  cancel (f ∷ front) ys zs e = cancel front ys zs (let t : front ++ ys ≡ front ++ zs = cc in t)
+  cancel (f ∷ prefix) ys zs e = cancel prefix ys zs (let t : prefix ++ ys ≡ prefix ++ zs = cc in t)
 
   rest_is : (given more : List Row) (n : ℕ) (h : HasTaken row p xs given n) → map row xs ≡ given ++ more → map row h.rest ≡ more
   rest_is given more n h all =
-      let split : map row h.front ++ map row h.rest ≡ map row h.front ++ more = sym (map-append row h.front h.rest) ∙ (ap (map row) (sym h.whole) ∙ (all ∙ ap (λ (l : List Row). l ++ more) h.are)) in
-      cancel (map row h.front) (map row h.rest) more split
+      let split : map row h.prefix ++ map row h.rest ≡ map row h.prefix ++ more = sym (map-append row h.prefix h.rest) ∙ (ap (map row) (sym h.whole) ∙ (all ∙ ap (λ (l : List Row). l ++ more) h.are)) in
+      cancel (map row h.prefix) (map row h.rest) more split
 
   -- the rows were all
   pub taken_all : (given : List Row) (n : ℕ) → HasTaken row p xs given n → map row xs ≡ given → (None ≡ find p xs) × (n ≡ taken_for p xs)
   taken_all given n h all = go h.rest h.whole (rest_is given [] n h (all ∙ sym (append-nil given)))
     where
-      go : (rest : List X) → xs ≡ h.front ++ rest → map row rest ≡ [] → (None ≡ find p xs) × (n ≡ taken_for p xs)
+      go : (rest : List X) → xs ≡ h.prefix ++ rest → map row rest ≡ [] → (None ≡ find p xs) × (n ≡ taken_for p xs)
       go [] whole e =
-          let past = find_past p h.front [] h.none in
+          let past = find_past p h.prefix [] h.none in
           (sym past.0 ∙ ap (find p) (sym whole), let many = h.many in let all = past.1 in let same = ap (taken_for p) whole in omega arith)
       go (x ∷ rest) whole e = absurd cc
 
@@ -55,11 +55,11 @@ module _ {X : Type 0} (row : X → Row) (p : X → Bool) (xs : List X) where
   pub takes_on : (given tail : List Row) (y : Row) (n : ℕ) → HasTaken row p xs given n → map row xs ≡ given ++ y ∷ tail → TakesOn given y n
   takes_on given tail y n h all = go h.rest h.whole (rest_is given (y ∷ tail) n h all)
     where
-      go : (rest : List X) → xs ≡ h.front ++ rest → map row rest ≡ y ∷ tail → TakesOn given y n
+      go : (rest : List X) → xs ≡ h.prefix ++ rest → map row rest ≡ y ∷ tail → TakesOn given y n
       go [] whole e = absurd cc
       go (x ∷ rest) whole e =
           let here : y ≡ row x = cc in
-          let past = find_past p h.front (x ∷ rest) h.none in
+          let past = find_past p h.prefix (x ∷ rest) h.none in
           record {
             x = x;
             is = here;
@@ -68,11 +68,11 @@ module _ {X : Type 0} (row : X → Row) (p : X → Bool) (xs : List X) where
                 let one : taken_for p (x ∷ rest) ≡ 1 = rw yes in
                 (sym found ∙ (sym past.0 ∙ ap (find p) (sym whole)), let many = h.many in let all = past.1 in let same = ap (taken_for p) whole in omega arith);
             fails = λ no. record {
-              front = h.front ++ x ∷ [];
+              prefix = h.prefix ++ x ∷ [];
               rest = rest;
-              whole = whole ∙ sym (append_assoc h.front (x ∷ []) rest);
-              are = ap₂ (λ (a : List Row) (b : Row). a ++ b ∷ []) h.are here ∙ sym (map-append row h.front (x ∷ []));
-              many = let many = h.many in omega (arith, length-append h.front (x ∷ []));
-              none = all_push (λ z. p z ≡ false) h.front x h.none no;
+              whole = whole ∙ sym (append_assoc h.prefix (x ∷ []) rest);
+              are = ap₂ (λ (a : List Row) (b : Row). a ++ b ∷ []) h.are here ∙ sym (map-append row h.prefix (x ∷ []));
+              many = let many = h.many in omega (arith, length-append h.prefix (x ∷ []));
+              none = all_push (λ z. p z ≡ false) h.prefix x h.none no;
             };
           }

@@ -87,6 +87,10 @@ pub record Adopts {S : Type 0} (g : Ghosts S) (image : Image) (opened adopted : 
 abbrev pub IsAdopted : {D : Type 0} {g : disk.Ghosts D} → Image → Held (FileStore D g) → Type 0
 IsAdopted {D = D} {g = g} image store = (opened : Held (FileStore D g)) × Adopts over_files image opened store
 
+-- A crash leaves what is there.
+abbrev pub LeavesItself : State → Type 0
+LeavesItself s = HasCleanDisk s → (db : Trees) → s.may_leave db → db ≡ s.now.trees
+
 -- The files were not opened: the system refused them or is out of memory, and nothing is left; or `left` is what an opening that
 -- meets this error leaves of `files`.
 abbrev pub FailsToOpen : {D : Type 0} (g : disk.Ghosts D) → (Bool → D → Type 0) → OpenFault → Type 0

@@ -16,7 +16,7 @@ ghost use Rattle.opc_stored.specs.Making.{AreMadeOver};
 ghost use Rattle.opc_stored.specs.Represented.{Represents, AreTablesOf};
 ghost use Rattle.opc_stored.specs.Ours.{has_our_name};
 ghost use Rattle.opc_old_tables.specs.Old.{AreOldTablesOf, RepresentsOld};
-ghost use Rattle.opc_store.specs.Opening.{new_files, open_fault, unasked, IsKnown, IsAdopted, IsNoVersion, IsRefused, MayLeave, FailsAtPath};
+ghost use Rattle.opc_store.specs.Opening.{new_files, open_fault, unasked, IsKnown, IsAdopted, IsNoVersion, IsRefused, LeavesItself, MayLeave, FailsAtPath};
 ghost use Rattle.opc_store.specs.declared.opening.OpenFault.TheVariants as TheFault;
 
 use crate::store::Store;
@@ -87,7 +87,7 @@ impl<S: Alter> Store<S> {
         ensures crash { IfOk result (λ store. Survives (state S.Store conn) (state S.Store store) (λ db. (version : _) → (s : _) → RepresentsOld version (state S.Store conn).now s → AreTablesOf db s)) }
         ensures crash_at_fault { IfErr result (λ e. Survives (state S.Store conn) (state S.Store e.1) (λ db. (version : _) → (s : _) → RepresentsOld version (state S.Store conn).now s → AreTablesOf db s)) }
         ensures outside { IfErr result (λ e. e.1.in_transaction ≡ false) }
-        ensures settled { IfOk result (λ store. HasCleanDisk (state S.Store store) → (db : Trees) → (state S.Store store).may_leave db → db ≡ (state S.Store store).now.trees) }
+        ensures settled { IfOk result (λ store. LeavesItself (state S.Store store)) }
     {
         match copy_on(&mut conn) {
             Ok(()) => Ok(Store { conn }),
@@ -111,7 +111,7 @@ impl<S: Alter> Store<S> {
         ensures crash { IfOk result (λ store. Survives (state S.Store conn) (state S.Store store) (MayLeave S.Store conn)) }
         ensures crash_at_fault { IfErr result (λ e. Survives (state S.Store conn) (state S.Store e.1) (λ db. IsNoVersion e.0 × MayLeave S.Store conn db)) }
         ensures outside { IfErr result (λ e. e.1.in_transaction ≡ false) }
-        ensures settled { IfOk result (λ store. HasCleanDisk (state S.Store store) → (db : Trees) → (state S.Store store).may_leave db → db ≡ (state S.Store store).now.trees) }
+        ensures settled { IfOk result (λ store. LeavesItself (state S.Store store)) }
     {
         let _settled = conn.is_autocommit();
         if !has_our_name(conn.schema()) {
@@ -140,7 +140,7 @@ impl<S: Start> Store<FileStore<FileFrom<S>>> {
         ensures found { IfOk result (λ store. HasCleanDisk (file_state store) → (db : Trees) → HoldsDatabase (image_at S.Start) db → (s : _) → AreTablesOf db s → Represents (file_state store).now s) }
         ensures copied { IfOk result (λ store. HasCleanDisk (file_state store) → (db : Trees) → HoldsDatabase (image_at S.Start) db → (version : _) → (s : _) → AreOldTablesOf version db s → Represents (file_state store).now s) }
         ensures made { IfOk result (λ store. HasCleanDisk (file_state store) → (trees : Trees) × AreFoundIn (image_at S.Start) trees × (Lists (trees catalog_tree) no_schema → Represents (file_state store).now empty)) }
-        ensures settled { IfOk result (λ store. HasCleanDisk (file_state store) → (db : Trees) → (file_state store).may_leave db → db ≡ (file_state store).now.trees) }
+        ensures settled { IfOk result (λ store. LeavesItself (file_state store)) }
         ensures adopted { IfOk result (λ store. HasCleanDisk (file_state store) → IsAdopted (image_at S.Start) store) }
         ensures failed { FailsAtPath IsFresh (image_at S.Start) result }
     {
@@ -163,7 +163,7 @@ impl Store<FileStore<FileFrom<Wary>>> {
         ensures found { IfOk result (λ store. HasCleanDisk (file_state store) → (db : Trees) → HoldsDatabase new_files db → (s : _) → AreTablesOf db s → Represents (file_state store).now s) }
         ensures copied { IfOk result (λ store. HasCleanDisk (file_state store) → (db : Trees) → HoldsDatabase new_files db → (version : _) → (s : _) → AreOldTablesOf version db s → Represents (file_state store).now s) }
         ensures made { IfOk result (λ store. HasCleanDisk (file_state store) → (trees : Trees) × AreFoundIn new_files trees × (Lists (trees catalog_tree) no_schema → Represents (file_state store).now empty)) }
-        ensures settled { IfOk result (λ store. HasCleanDisk (file_state store) → (db : Trees) → (file_state store).may_leave db → db ≡ (file_state store).now.trees) }
+        ensures settled { IfOk result (λ store. LeavesItself (file_state store)) }
         ensures adopted { IfOk result (λ store. HasCleanDisk (file_state store) → IsAdopted new_files store) }
         ensures failed { FailsAtPath IsFresh new_files result }
     {

@@ -106,11 +106,11 @@ module _ (class : Class) (pattern : List ℕ) where
   pub list_hit : (ps : List Profile) (p : Profile) → Split ps p → filter (has_profile class pattern) (flat_map entry_rows ps) ≡ map (entry_row p.class p.pattern) p.entries
   list_hit ps p it =
       let has = has_profile class pattern in
-      let whole : flat_map entry_rows ps ≡ flat_map entry_rows it.front ++ (entry_rows p ++ flat_map entry_rows it.back) = ap (flat_map entry_rows) it.whole ∙ flat_map-append entry_rows it.front (p ∷ it.back) in
+      let whole : flat_map entry_rows ps ≡ flat_map entry_rows it.prefix ++ (entry_rows p ++ flat_map entry_rows it.back) = ap (flat_map entry_rows) it.whole ∙ flat_map-append entry_rows it.prefix (p ∷ it.back) in
       let mine : filter has (entry_rows p) ≡ entry_rows p = kept_row (entry_rows p) (all-map (λ v. has v ≡ true) (entry_row p.class p.pattern) (λ e. picks_entries class pattern p e ∙ it.passes) p.entries) in
       ap (filter has) whole
-      ∙ (filter-append has (flat_map entry_rows it.front) (entry_rows p ++ flat_map entry_rows it.back)
-      ∙ (ap₂ (λ (a b : List Row). a ++ b) (filter_none has _ (lack it.front it.before)) (filter-append has (entry_rows p) (flat_map entry_rows it.back) ∙ ap₂ (λ (a b : List Row). a ++ b) mine (filter_none has _ (lack it.back it.after)))
+      ∙ (filter-append has (flat_map entry_rows it.prefix) (entry_rows p ++ flat_map entry_rows it.back)
+      ∙ (ap₂ (λ (a b : List Row). a ++ b) (filter_none has _ (lack it.prefix it.before)) (filter-append has (entry_rows p) (flat_map entry_rows it.back) ∙ ap₂ (λ (a b : List Row). a ++ b) mine (filter_none has _ (lack it.back it.after)))
       ∙ append-nil _))
 
   -- ---- a profile is put, and keeps its access list
@@ -123,7 +123,7 @@ module _ (class : Class) (pattern : List ℕ) where
       here : (p.class ≡ class) × (p.pattern ≡ pattern)
       here = is_of_means p it.passes
 
-      pub replaced_here : with_profile (keeping p) ps ≡ it.front ++ keeping p ∷ it.back
+      pub replaced_here : with_profile (keeping p) ps ≡ it.prefix ++ keeping p ∷ it.back
       replaced_here = it.replaced (keeping p) (compares_equal (keeping p) p (of_class ∙ sym here.0) (of_pattern ∙ sym here.1))
 
       same_list : entry_rows (keeping p) ≡ entry_rows p
@@ -132,18 +132,18 @@ module _ (class : Class) (pattern : List ℕ) where
       pub same_entries : flat_map entry_rows (with_profile (keeping p) ps) ≡ flat_map entry_rows ps
       same_entries =
           ap (flat_map entry_rows) replaced_here
-          ∙ (flat_map-append entry_rows it.front (keeping p ∷ it.back)
-          ∙ (ap (λ (l : List Row). flat_map entry_rows it.front ++ (l ++ flat_map entry_rows it.back)) same_list
-          ∙ (sym (flat_map-append entry_rows it.front (p ∷ it.back)) ∙ ap (flat_map entry_rows) (sym it.whole))))
+          ∙ (flat_map-append entry_rows it.prefix (keeping p ∷ it.back)
+          ∙ (ap (λ (l : List Row). flat_map entry_rows it.prefix ++ (l ++ flat_map entry_rows it.back)) same_list
+          ∙ (sym (flat_map-append entry_rows it.prefix (p ∷ it.back)) ∙ ap (flat_map entry_rows) (sym it.whole))))
 
       -- its row comes in the place of the one that was there
       pub profile_replaced : IsPermutation (map (λ (v : Row). profile_row x) (filter (has_profile class pattern) (map profile_row ps)) ++ filter (λ v. not (has_profile class pattern v)) (map profile_row ps)) (map profile_row (with_profile (keeping p) ps))
       profile_replaced =
           let hit : filter (has_profile class pattern) (map profile_row ps) ≡ profile_row p ∷ [] =
           filter-map _ profile_row ps ∙ (ap (map profile_row) (filter_same _ _ (picks_profile class pattern) ps) ∙ ap (map profile_row) (picked profile_cmp (is_of class pattern) ps p it)) in
-          let rest : filter (λ v. not (has_profile class pattern v)) (map profile_row ps) ≡ map profile_row (it.front ++ it.back) = profiles_left ps ∙ ap (map profile_row) (others_of profile_cmp (is_of class pattern) ps p it) in
+          let rest : filter (λ v. not (has_profile class pattern v)) (map profile_row ps) ≡ map profile_row (it.prefix ++ it.back) = profiles_left ps ∙ ap (map profile_row) (others_of profile_cmp (is_of class pattern) ps p it) in
           let both = ap₂ (λ (a b : List Row). map (λ (v : Row). profile_row x) a ++ b) hit rest in
-          let middle : IsPermutation (map profile_row (keeping p ∷ (it.front ++ it.back))) (map profile_row (it.front ++ keeping p ∷ it.back)) = IsPermutation-map profile_row _ _ (IsPermutation-sym _ _ (IsPermutation-middle it.front (keeping p) it.back)) in
+          let middle : IsPermutation (map profile_row (keeping p ∷ (it.prefix ++ it.back))) (map profile_row (it.prefix ++ keeping p ∷ it.back)) = IsPermutation-map profile_row _ _ (IsPermutation-sym _ _ (IsPermutation-middle it.prefix (keeping p) it.back)) in
           IsPermutation-trans _ _ _ (IsPermutation-same _ _ both) (IsPermutation-trans _ _ _ middle (IsPermutation-same _ _ (ap (map profile_row) (sym replaced_here))))
 
     -- where it is not there, it comes in
@@ -192,14 +192,14 @@ module _ (class : Class) (pattern : List ℕ) where
     abbrev pub listing : Profile
     listing = record p { entries = change p.entries }
 
-    pub replaced_list : with_profile listing ps ≡ it.front ++ listing ∷ it.back
+    pub replaced_list : with_profile listing ps ≡ it.prefix ++ listing ∷ it.back
     replaced_list = it.replaced listing (compares_equal listing p refl refl)
 
     pub same_profiles : map profile_row (with_profile listing ps) ≡ map profile_row ps
-    same_profiles = ap (map profile_row) replaced_list ∙ (map-append profile_row it.front (listing ∷ it.back) ∙ (sym (map-append profile_row it.front (p ∷ it.back)) ∙ ap (map profile_row) (sym it.whole)))
+    same_profiles = ap (map profile_row) replaced_list ∙ (map-append profile_row it.prefix (listing ∷ it.back) ∙ (sym (map-append profile_row it.prefix (p ∷ it.back)) ∙ ap (map profile_row) (sym it.whole)))
 
-    pub parted_entries : flat_map entry_rows (with_profile listing ps) ≡ flat_map entry_rows it.front ++ (map (entry_row p.class p.pattern) (change p.entries) ++ flat_map entry_rows it.back)
-    parted_entries = ap (flat_map entry_rows) replaced_list ∙ flat_map-append entry_rows it.front (listing ∷ it.back)
+    pub split_entries : flat_map entry_rows (with_profile listing ps) ≡ flat_map entry_rows it.prefix ++ (map (entry_row p.class p.pattern) (change p.entries) ++ flat_map entry_rows it.back)
+    split_entries = ap (flat_map entry_rows) replaced_list ∙ flat_map-append entry_rows it.prefix (listing ∷ it.back)
 
   module _ (id console : List ℕ) where
     lack_entry : (qs : List Profile) → AllByRecursion (λ q. is_of class pattern q ≡ false) qs → AllByRecursion (λ v. has_entry class pattern id console v ≡ false) (flat_map entry_rows qs)
@@ -211,8 +211,8 @@ module _ (class : Class) (pattern : List ℕ) where
       picks_here : (e : Entry) → has_entry class pattern id console (entry_row p.class p.pattern e) ≡ is_at id console e
       picks_here e = picks_entry class pattern id console p e ∙ ap (λ b. b && is_at id console e) it.passes
 
-      whole_entries : flat_map entry_rows ps ≡ flat_map entry_rows it.front ++ (entry_rows p ++ flat_map entry_rows it.back)
-      whole_entries = ap (flat_map entry_rows) it.whole ∙ flat_map-append entry_rows it.front (p ∷ it.back)
+      whole_entries : flat_map entry_rows ps ≡ flat_map entry_rows it.prefix ++ (entry_rows p ++ flat_map entry_rows it.back)
+      whole_entries = ap (flat_map entry_rows) it.whole ∙ flat_map-append entry_rows it.prefix (p ∷ it.back)
 
       -- those that the test picks are those of the one access list
       pub entries_hit : filter (has_entry class pattern id console) (flat_map entry_rows ps) ≡ map (entry_row p.class p.pattern) (filter (is_at id console) p.entries)
@@ -220,20 +220,20 @@ module _ (class : Class) (pattern : List ℕ) where
           let has = has_entry class pattern id console in
           let mine : filter has (entry_rows p) ≡ map (entry_row p.class p.pattern) (filter (is_at id console) p.entries) = filter-map has (entry_row p.class p.pattern) p.entries ∙ ap (map (entry_row p.class p.pattern)) (filter_same _ _ picks_here p.entries) in
           ap (filter has) whole_entries
-          ∙ (filter-append has (flat_map entry_rows it.front) (entry_rows p ++ flat_map entry_rows it.back)
-          ∙ (ap₂ (λ (a b : List Row). a ++ b) (filter_none has _ (lack_entry it.front it.before)) (filter-append has (entry_rows p) (flat_map entry_rows it.back) ∙ ap₂ (λ (a b : List Row). a ++ b) mine (filter_none has _ (lack_entry it.back it.after)))
+          ∙ (filter-append has (flat_map entry_rows it.prefix) (entry_rows p ++ flat_map entry_rows it.back)
+          ∙ (ap₂ (λ (a b : List Row). a ++ b) (filter_none has _ (lack_entry it.prefix it.before)) (filter-append has (entry_rows p) (flat_map entry_rows it.back) ∙ ap₂ (λ (a b : List Row). a ++ b) mine (filter_none has _ (lack_entry it.back it.after)))
           ∙ append-nil _))
 
       -- and the others are left
       pub entries_rest : filter (λ v. not (has_entry class pattern id console v)) (flat_map entry_rows ps)
-          ≡ flat_map entry_rows it.front ++ (map (entry_row p.class p.pattern) (filter (λ (e : Entry). not (is_at id console e)) p.entries) ++ flat_map entry_rows it.back)
+          ≡ flat_map entry_rows it.prefix ++ (map (entry_row p.class p.pattern) (filter (λ (e : Entry). not (is_at id console e)) p.entries) ++ flat_map entry_rows it.back)
       entries_rest =
           let lacks = λ (v : Row). not (has_entry class pattern id console v) in
           let mine : filter lacks (entry_rows p) ≡ map (entry_row p.class p.pattern) (filter (λ (e : Entry). not (is_at id console e)) p.entries) =
           filter-map lacks (entry_row p.class p.pattern) p.entries ∙ ap (map (entry_row p.class p.pattern)) (filter_same _ _ (λ e. ap not (picks_here e)) p.entries) in
           ap (filter lacks) whole_entries
-          ∙ (filter-append lacks (flat_map entry_rows it.front) (entry_rows p ++ flat_map entry_rows it.back)
-          ∙ ap₂ (λ (a b : List Row). a ++ b) (keeps_all _ _ (lack_entry it.front it.before)) (filter-append lacks (entry_rows p) (flat_map entry_rows it.back) ∙ ap₂ (λ (a b : List Row). a ++ b) mine (keeps_all _ _ (lack_entry it.back it.after))))
+          ∙ (filter-append lacks (flat_map entry_rows it.prefix) (entry_rows p ++ flat_map entry_rows it.back)
+          ∙ ap₂ (λ (a b : List Row). a ++ b) (keeps_all _ _ (lack_entry it.prefix it.before)) (filter-append lacks (entry_rows p) (flat_map entry_rows it.back) ∙ ap₂ (λ (a b : List Row). a ++ b) mine (keeps_all _ _ (lack_entry it.back it.after))))
 
     -- of a profile that is not there no entry is picked
     pub no_entries : (ps : List Profile) → profile_of ps class pattern ≡ None → filter (has_entry class pattern id console) (flat_map entry_rows ps) ≡ []

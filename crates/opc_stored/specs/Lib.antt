@@ -7,6 +7,7 @@ pub mod State
 pub mod Represented
 pub mod Changes
 pub mod Asked
+pub mod Ending
 pub mod Ours
 pub mod Content
 pub mod Laws

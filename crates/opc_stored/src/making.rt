@@ -10,6 +10,7 @@ ghost use Rattle.opc_stored.specs.Made.{IsMade, nothing, no_last_rows};
 ghost use Rattle.opc_stored.specs.Making.{lasting, last, indexes, first_rows, RanEach, AreMadeOver};
 ghost use Rattle.opc_stored.specs.Tables.{lasting_schema, the_schema};
 ghost use Rattle.opc_state.specs.State.{empty};
+ghost use Rattle.opc_stored.specs.Ending.{IsCommitted};
 ghost use Rattle.opc_stored.specs.Represented.{Represents, AreTablesOf};
 
 use opc_statements::{run, run_all};
@@ -98,7 +99,7 @@ pub fn make_tables<S: Alter>(conn: &mut Connection<S>) -> Result<(), Error>
     ensures ran { HasCleanDisk (state S.Store conn.new) → OnOk result (AreMadeOver S.Store conn.old (state S.Store conn.new).now.trees) }
     ensures made { HasCleanDisk (state S.Store conn.new) → OnOk result (conn.old.schema ≡ no_schema → Represents (state S.Store conn.new).now empty) }
     ensures failed { HasCleanDisk (state S.Store conn.new) → IsTrue (state S.Store conn.new).is_open → OnErr result ((state S.Store conn.new).now ≡ (state S.Store conn.old).committed) }
-    ensures settled { HasCleanDisk (state S.Store conn.new) → OnOk result (IsTrue (state S.Store conn.new).is_open × ((state S.Store conn.new).committed ≡ (state S.Store conn.new).now)) }
+    ensures settled { IsCommitted S.Store conn.new result }
     ensures survives { Survives (state S.Store conn.old) (state S.Store conn.new) (λ db. AreMadeOver S.Store conn.old db × (conn.old.schema ≡ no_schema → AreTablesOf db empty)) }
 {
     let mut tx = conn.transaction();

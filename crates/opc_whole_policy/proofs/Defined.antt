@@ -11,9 +11,9 @@ use Rattle.std.proofs.lemmas.List.{map-id}
 use Rattle.opc_stored.proofs.PolicyRead.{not_of}
 
 -- before it comes there is none of its class and pattern
-absent_in : (x : Profile) (front : List Profile) → AllByRecursion (λ z. profile_cmp z x ≡ Less) front → profile_of front x.class x.pattern ≡ None
+absent_in : (x : Profile) (prefix : List Profile) → AllByRecursion (λ z. profile_cmp z x ≡ Less) prefix → profile_of prefix x.class x.pattern ≡ None
 absent_in x [] h = refl
-absent_in x (z ∷ front) h = ap (λ b. cond b (Some z) (profile_of front x.class x.pattern)) (not_of x z h.0) ∙ absent_in x front h.1
+absent_in x (z ∷ prefix) h = ap (λ b. cond b (Some z) (profile_of prefix x.class x.pattern)) (not_of x z h.0) ∙ absent_in x prefix h.1
 
 -- the next profile comes after those before it
 pub more_defined : (ps : List Profile) → Rises profile_cmp ps → (i : ℕ) (y : Profile) → i < length ps → y ≡ get_or ps i y → (vs : List Profile) → vs ≡ take i ps → with_definition y vs ≡ take (i + 1) ps

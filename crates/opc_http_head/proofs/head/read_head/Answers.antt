@@ -1,6 +1,6 @@
 use Rattle.std.proofs.Common.{◌≡◌, ◌∙◌, ◌≤◌, ◌<◌, ◌+◌, ◌-◌, ◌++◌, ap, arith, min, refl, sym, length, vec_len}
 use Rattle.std.proofs.lemmas.Result.{err_from_is_err_and}
-use Rattle.opc_http_link.proofs.Reading.{takes-behind}
+use Rattle.opc_http_link.proofs.Reading.{takes-after}
 use Rattle.opc_http_head.proofs.HeadLemmas.{found, found-here, looked, none-by-error, none-by-room, nothing-more, more-there, read-further}
 use Rattle.opc_http_head.proofs.head.read_head.Goals as goal
 
@@ -30,7 +30,7 @@ returns-then-branch-eq0-clause-head g c =
 pub returns-in_err-read_more-clause-most : goal.returns-in_err-read_more-clause-most
 returns-in_err-read_more-clause-most g c =
     let inv = c.loop-turn.invariant in
-    takes-behind 8192 _ _ _ _ c.loop-turn.buf.items inv.0 inv.1 (ap length (sym c.as_slice.ensures.value) ∙ c.as_slice.ensures.len) c.read_more.ensures.most
+    takes-after 8192 _ _ _ _ c.loop-turn.buf.items inv.0 inv.1 (ap length (sym c.as_slice.ensures.value) ∙ c.as_slice.ensures.len) c.read_more.ensures.most
 
 pub returns-in-Whole-clause-found : goal.returns-in-Whole-clause-found
 returns-in-Whole-clause-found g c =

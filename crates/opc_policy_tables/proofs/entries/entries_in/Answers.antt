@@ -9,9 +9,9 @@ use Rattle.opc_stored.specs.State.{IsNamed}
 use Rattle.opc_stored.proofs.Keys.{entry_total}
 use Rattle.opc_policy_tables.proofs.entries.entries_in.Goals as goal
 
-one_named : (front : List Entry) (e : Entry) (back : List Entry) → AllByRecursion IsNamed (front ++ e ∷ back) → IsNamed e
+one_named : (prefix : List Entry) (e : Entry) (back : List Entry) → AllByRecursion IsNamed (prefix ++ e ∷ back) → IsNamed e
 one_named [] e back named = named.0
-one_named (f ∷ front) e back named = one_named front e back named.1
+one_named (f ∷ prefix) e back named = one_named prefix e back named.1
 
 pub loop-row-preserved : goal.loop-row-preserved
 loop-row-preserved c class pattern xs list are =

@@ -1,5 +1,5 @@
 use Rattle.std.proofs.Common.{sym, ◌∙◌}
-use Rattle.opc_names.proofs.Fronts.{padded}
+use Rattle.opc_names.proofs.Prefixes.{padded}
 use Rattle.opc_names.proofs.bytes.BytesOrd.cmp.Goals as goal
 
 -- what the rooms decide, their bytes do

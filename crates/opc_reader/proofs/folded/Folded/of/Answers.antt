@@ -5,12 +5,12 @@ use Rattle.std.proofs.lemmas.List.{length-map, take_at}
 use Rattle.std.proofs.lemmas.Str.Ascii.{IsAscii-map, uppercase_ascii}
 use Rattle.opc_reader.proofs.folded.Folded.of.Goals as goal
 
-upper_front : (text front rest : List ℕ) → front ≡ map to_ascii_uppercase text → IsAscii text → IsAscii (take (length text) (front ++ rest))
-upper_front text front rest e ascii =
-    let count : length front ≡ length text = ap length e ∙ length-map text to_ascii_uppercase in
-    let upper : IsAscii front = subst IsAscii (sym e) (IsAscii-map to_ascii_uppercase text uppercase_ascii ascii) in
-    subst IsAscii (sym (take_at front rest (length text) count)) upper
+upper_prefix : (text prefix rest : List ℕ) → prefix ≡ map to_ascii_uppercase text → IsAscii text → IsAscii (take (length text) (prefix ++ rest))
+upper_prefix text prefix rest e ascii =
+    let count : length prefix ≡ length text = ap length e ∙ length-map text to_ascii_uppercase in
+    let upper : IsAscii prefix = subst IsAscii (sym e) (IsAscii-map to_ascii_uppercase text uppercase_ascii ascii) in
+    subst IsAscii (sym (take_at prefix rest (length text) count)) upper
 
 pub invariant_of-result : goal.invariant_of-result
 invariant_of-result c =
-    (c.requires.fits, upper_front _ _ _ (c.make_ascii_uppercase.ensures.after ∙ ap (map to_ascii_uppercase) (c.copy_from_slice.ensures.after ∙ c.as_bytes.ensures.value)) c.requires.ascii)
+    (c.requires.fits, upper_prefix _ _ _ (c.make_ascii_uppercase.ensures.after ∙ ap (map to_ascii_uppercase) (c.copy_from_slice.ensures.after ∙ c.as_bytes.ensures.value)) c.requires.ascii)

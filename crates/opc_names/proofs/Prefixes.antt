@@ -8,22 +8,22 @@ use Rattle.std.specs.Cmp.Lexicographic.{slice_cmp}
 use Rattle.std.specs.Ordering.{nat_cmp, MatchOrdering, ordering_then}
 use Rattle.std.specs.declared.cmp.Ordering.{Ordering}
 use Rattle.std.specs.declared.cmp.Ordering.TheVariants.{Less, Equal, Greater}
-use Rattle.opc_names.specs.Padded.{IsPadded, number_behind, IsByte, length-padded}
+use Rattle.opc_names.specs.Padded.{IsPadded, number_after, IsByte, length-padded}
 
-rises : (a b : ℕ) (us vs : List ℕ) → length us ≡ length vs → AllByRecursion IsByte us → AllByRecursion IsByte vs → a < b → number_behind a us < number_behind b vs
+rises : (a b : ℕ) (us vs : List ℕ) → length us ≡ length vs → AllByRecursion IsByte us → AllByRecursion IsByte vs → a < b → number_after a us < number_after b vs
 rises a b [] [] e h k less = less
 rises a b [] (v ∷ vs) e h k less = absurd (omega (arith, e))
 rises a b (u ∷ us) [] e h k less = absurd (omega (arith, e))
 rises a b (u ∷ us) (v ∷ vs) e h k less = rises (a * 256 + u) (b * 256 + v) us vs (omega (arith, e)) h.1 k.1 (omega (arith, less, h.0, k.0))
 
-pub numbers_are_in_order : (a : ℕ) (us vs : List ℕ) → length us ≡ length vs → AllByRecursion IsByte us → AllByRecursion IsByte vs → nat_cmp (number_behind a us) (number_behind a vs) ≡ slice_cmp nat_cmp us vs
+pub numbers_are_in_order : (a : ℕ) (us vs : List ℕ) → length us ≡ length vs → AllByRecursion IsByte us → AllByRecursion IsByte vs → nat_cmp (number_after a us) (number_after a vs) ≡ slice_cmp nat_cmp us vs
 numbers_are_in_order a [] [] e h k = sym (nat_cmp_is a a Equal refl)
 numbers_are_in_order a [] (v ∷ vs) e h k = absurd (omega (arith, e))
 numbers_are_in_order a (u ∷ us) [] e h k = absurd (omega (arith, e))
 numbers_are_in_order a (u ∷ us) (v ∷ vs) e h k = by (nat_cmp u v) refl (ranks u v) (numbers_are_in_order (a * 256 + v) us vs (omega (arith, e)) h.1 k.1)
   where
-    by : (r : Ordering) → nat_cmp u v ≡ r → MatchOrdering r (u < v) (u ≡ v) (v < u) → nat_cmp (number_behind (a * 256 + v) us) (number_behind (a * 256 + v) vs) ≡ slice_cmp nat_cmp us vs
-        → nat_cmp (number_behind (a * 256 + u) us) (number_behind (a * 256 + v) vs) ≡ ordering_then (nat_cmp u v) (slice_cmp nat_cmp us vs)
+    by : (r : Ordering) → nat_cmp u v ≡ r → MatchOrdering r (u < v) (u ≡ v) (v < u) → nat_cmp (number_after (a * 256 + v) us) (number_after (a * 256 + v) vs) ≡ slice_cmp nat_cmp us vs
+        → nat_cmp (number_after (a * 256 + u) us) (number_after (a * 256 + v) vs) ≡ ordering_then (nat_cmp u v) (slice_cmp nat_cmp us vs)
     by Less r less rest = rw r (sym (nat_cmp_is _ _ Less (rises (a * 256 + u) (a * 256 + v) us vs (omega (arith, e)) h.1 k.1 (omega (arith, less)))))
     by Equal r same rest = rw r (rw same rest)
     by Greater r more rest = rw r (sym (nat_cmp_is _ _ Greater (rises (a * 256 + v) (a * 256 + u) vs us (omega (arith, e)) k.1 h.1 (omega (arith, more)))))
@@ -38,12 +38,12 @@ carried Equal o p rest h = rest h
 carried Greater o p rest h = refl
 
 -- what the first n decide, all decide
-fronts : (n : ℕ) (us vs : List ℕ) → length us ≡ length vs → order (take n us) (take n vs) ≢ Equal → order us vs ≡ order (take n us) (take n vs)
-fronts zero us vs e h = absurd (h refl)
-fronts (suc n) [] [] e h = absurd (h refl)
-fronts (suc n) [] (v ∷ vs) e h = absurd (omega (arith, e))
-fronts (suc n) (u ∷ us) [] e h = absurd (omega (arith, e))
-fronts (suc n) (u ∷ us) (v ∷ vs) e h = carried (nat_cmp u v) _ _ (fronts n us vs (omega (arith, e))) h
+prefixes : (n : ℕ) (us vs : List ℕ) → length us ≡ length vs → order (take n us) (take n vs) ≢ Equal → order us vs ≡ order (take n us) (take n vs)
+prefixes zero us vs e h = absurd (h refl)
+prefixes (suc n) [] [] e h = absurd (h refl)
+prefixes (suc n) [] (v ∷ vs) e h = absurd (omega (arith, e))
+prefixes (suc n) (u ∷ us) [] e h = absurd (omega (arith, e))
+prefixes (suc n) (u ∷ us) (v ∷ vs) e h = carried (nat_cmp u v) _ _ (prefixes n us vs (omega (arith, e))) h
 
 zeros_are_equal : (k : ℕ) → order (replicate k 0) (replicate k 0) ≡ Equal
 zeros_are_equal zero = refl
@@ -105,32 +105,32 @@ passed Less o p q rest h = cc
 passed Equal o p q rest h = rest h
 passed Greater o p q rest h = cc
 
-behind : (n : ℕ) (us vs : List ℕ) → length us ≡ length vs → order (take n us) (take n vs) ≡ Equal → order us vs ≡ order (drop n us) (drop n vs)
-behind zero us vs e h = refl
-behind (suc n) [] [] e h = refl
-behind (suc n) [] (v ∷ vs) e h = absurd (omega (arith, e))
-behind (suc n) (u ∷ us) [] e h = absurd (omega (arith, e))
-behind (suc n) (u ∷ us) (v ∷ vs) e h = passed (nat_cmp u v) _ _ _ (behind n us vs (omega (arith, e))) h
+after : (n : ℕ) (us vs : List ℕ) → length us ≡ length vs → order (take n us) (take n vs) ≡ Equal → order us vs ≡ order (drop n us) (drop n vs)
+after zero us vs e h = refl
+after (suc n) [] [] e h = refl
+after (suc n) [] (v ∷ vs) e h = absurd (omega (arith, e))
+after (suc n) (u ∷ us) [] e h = absurd (omega (arith, e))
+after (suc n) (u ∷ us) (v ∷ vs) e h = passed (nat_cmp u v) _ _ _ (after n us vs (omega (arith, e))) h
 
 -- two lists of at least eight bytes, and the numbers that their first eight make
-pub record AreFronts (x y : ℕ) (us vs : List ℕ) : Type 0 where
+pub record ArePrefixes (x y : ℕ) (us vs : List ℕ) : Type 0 where
   pub lengths : length us ≡ length vs
   pub long : 8 ≤ length us
   pub ours : AllByRecursion IsByte (take 8 us)
   pub theirs : AllByRecursion IsByte (take 8 vs)
-  pub x_is : x ≡ number_behind 0 (take 8 us)
-  pub y_is : y ≡ number_behind 0 (take 8 vs)
+  pub x_is : x ≡ number_after 0 (take 8 us)
+  pub y_is : y ≡ number_after 0 (take 8 vs)
 
-numbers_tell : (x y : ℕ) (us vs : List ℕ) → AreFronts x y us vs → nat_cmp x y ≡ order (take 8 us) (take 8 vs)
+numbers_tell : (x y : ℕ) (us vs : List ℕ) → ArePrefixes x y us vs → nat_cmp x y ≡ order (take 8 us) (take 8 vs)
 numbers_tell x y us vs h = rw (h.x_is, h.y_is) (numbers_are_in_order 0 (take 8 us) (take 8 vs) (omega (arith, length-take-le 8 us h.long, length-take-le 8 vs (omega (arith, h.long, h.lengths)))) h.ours h.theirs)
 
 -- where these differ they decide the order
-pub fronts_decide : (x y : ℕ) (us vs : List ℕ) → AreFronts x y us vs → x ≢ y → (nat_cmp x y ≡ order us vs) × (nat_cmp x y ≢ Equal)
-fronts_decide x y us vs h differ =
+pub prefixes_decide : (x y : ℕ) (us vs : List ℕ) → ArePrefixes x y us vs → x ≢ y → (nat_cmp x y ≡ order us vs) × (nat_cmp x y ≢ Equal)
+prefixes_decide x y us vs h differ =
     let told = numbers_tell x y us vs h in
     let unequal : order (take 8 us) (take 8 vs) ≢ Equal = (λ z. differ (same_number x y (told ∙ z))) in
-    (told ∙ sym (fronts 8 us vs h.lengths unequal), λ z. differ (same_number x y z))
+    (told ∙ sym (prefixes 8 us vs h.lengths unequal), λ z. differ (same_number x y z))
 
 -- and else it is that of the rest
-pub fronts_pass : (x y : ℕ) (us vs : List ℕ) → AreFronts x y us vs → x ≡ y → order us vs ≡ order (drop 8 us) (drop 8 vs)
-fronts_pass x y us vs h same = behind 8 us vs h.lengths (sym (numbers_tell x y us vs h) ∙ sym (nat_cmp_is x y Equal same))
+pub prefixes_pass : (x y : ℕ) (us vs : List ℕ) → ArePrefixes x y us vs → x ≡ y → order us vs ≡ order (drop 8 us) (drop 8 vs)
+prefixes_pass x y us vs h same = after 8 us vs h.lengths (sym (numbers_tell x y us vs h) ∙ sym (nat_cmp_is x y Equal same))

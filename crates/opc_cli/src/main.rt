@@ -1,13 +1,12 @@
-//! The program `opcmds` on the machine that runs it.
+//! The program `opcmds`: the words of its command line, then the process that does what they ask for.
 #![tactic(auto)]
 
 mod database;
-mod machine;
+mod process;
 
-use crate::machine::Process;
+use crate::process::Process;
 use opc_failures::failure::{Failure, NO_PATHS};
 use opc_failures::status::Status;
-use opc_program::program::run_words;
 use opc_terms::fault::Fault;
 use std::io::{ErrorKind, Write};
 use std::process::ExitCode;
@@ -21,8 +20,7 @@ fn answer(process: &Process) -> Status {
     let rt = &process.rt;
     let mut errors = rt.stderr();
     match given_words(rt) {
-        Ok(words) => run_words(
-            process,
+        Ok(words) => process.answer(
             words.as_slice(),
             &mut rt.stdin(),
             &mut rt.stdout(),

@@ -1,9 +1,7 @@
-//! The program `opcmds` over any machine: questions to a policy, and the gate itself, by the words of a command line.
+//! What the program `opcmds` does over tables that are open: runs, imports, exports and the service.
 #![tactic(auto)]
 
 pub mod import;
-pub mod machine;
 mod printing;
-pub mod program;
 pub mod run;
 pub mod serve;

@@ -1,11 +1,11 @@
-//! The machine that the program runs on: a process of the system, its files, and the tables in them.
+//! A process of the system, its files and the tables in them: it does what the words of a command line ask for.
 use crate::database::reason_at;
 use opc_failures::failure::{Failure, Paths, Place, told};
 use opc_failures::reason::Reason;
 use opc_failures::status::Status;
 use opc_http_link::watched::Watched;
+use opc_policy_files::explain::answer_question;
 use opc_program::import::{export_on, import_on};
-use opc_program::machine::Machine;
 use opc_program::run::run_on;
 use opc_program::serve::serve_tables;
 use opc_serve::clock::moment;
@@ -14,8 +14,8 @@ use opc_store::store::Store;
 use opc_terms::fault::Fault;
 use opc_words::import::Import;
 use opc_words::serve::Serve;
+use opc_words::words::{Task, read_words};
 use sqlite::{Error, ErrorCode, FileFrom, FileStore, MemStore, Wary};
-use std::alloc::Global;
 use std::io::{Read, Write};
 
 /// What the system gives a process.
@@ -62,6 +62,73 @@ fn of_file(path: &str) -> Paths<'_> {
 }
 
 impl Process {
+    /// Does what the words ask for, the first of which is the program's own name, and answers the status.
+    pub fn answer<R: Read, W: Write, E: Write>(
+        &self,
+        words: &[String],
+        input: &mut R,
+        output: &mut W,
+        errors: &mut E,
+    ) -> Status {
+        let alloc = self.rt.alloc();
+        match read_words(alloc, words, output, errors) {
+            Ok(Task::Explain(question)) => answer_question(alloc, &question, input, output, errors),
+            Ok(Task::Run(paths)) => self.run(&paths, input, output, errors),
+            Ok(Task::Import(import)) => self.import(&import, input, output, errors),
+            Ok(Task::Export(path)) => self.export(path, output, errors),
+            Ok(Task::Serve(serve)) => self.serve(&serve, output, errors),
+            Err(status) => status,
+        }
+    }
+
+    /// Opens the tables of the database file, which is made if it is not there, or new ones in memory where none is named;
+    /// takes the first policy, if one is named, and runs the script on the input.
+    fn run<R: Read, W: Write, E: Write>(
+        &self,
+        paths: &Paths<'_>,
+        input: &mut R,
+        output: &mut W,
+        errors: &mut E,
+    ) -> Status {
+        let end = match paths.database {
+            Some(path) => self.run_in_file(path, paths, input, output, errors),
+            None => self.run_in_memory(paths, input, output),
+        };
+        told(end, paths, errors)
+    }
+
+    /// Puts the policy file on the input into the tables of the database file, at the clock's moment.
+    fn import<R: Read, W: Write, E: Write>(
+        &self,
+        import: &Import<'_>,
+        input: &mut R,
+        output: &mut W,
+        errors: &mut E,
+    ) -> Status {
+        let paths = of_file(import.path);
+        let end = self.import_in_file(import, &paths, input, output, errors);
+        told(end, &paths, errors)
+    }
+
+    /// Writes the policy in the tables of the database file as a policy file.
+    fn export<W: Write, E: Write>(&self, path: &str, output: &mut W, errors: &mut E) -> Status {
+        let paths = of_file(path);
+        let end = self.export_of_file(path, &paths, output, errors);
+        told(end, &paths, errors)
+    }
+
+    /// Listens at the port, and serves the clients that come, over the tables of the database file.
+    fn serve<W: Write, E: Write>(
+        &self,
+        serve: &Serve<'_>,
+        output: &mut W,
+        errors: &mut E,
+    ) -> Status {
+        let paths = of_file(serve.path);
+        let end = self.serve_file(serve, &paths, output, errors);
+        told(end, &paths, errors)
+    }
+
     fn new_tables(&self) -> Result<InMemory, Fault> {
         Store::in_memory(self.rt.alloc()).map_err(Fault::from)
     }
@@ -147,58 +214,5 @@ impl Process {
             Ok(moment) => Ok(moment),
             Err(error) => Err(Failure::at(Place::Clock, error)),
         }
-    }
-}
-
-impl Alloc for Process {
-    type A = Global;
-
-    fn alloc(&self) -> Global {
-        self.rt.alloc()
-    }
-}
-
-impl Machine for Process {
-    fn run<R: Read, W: Write, E: Write>(
-        &self,
-        paths: &Paths<'_>,
-        input: &mut R,
-        output: &mut W,
-        errors: &mut E,
-    ) -> Status {
-        let end = match paths.database {
-            Some(path) => self.run_in_file(path, paths, input, output, errors),
-            None => self.run_in_memory(paths, input, output),
-        };
-        told(end, paths, errors)
-    }
-
-    fn import<R: Read, W: Write, E: Write>(
-        &self,
-        import: &Import<'_>,
-        input: &mut R,
-        output: &mut W,
-        errors: &mut E,
-    ) -> Status {
-        let paths = of_file(import.path);
-        let end = self.import_in_file(import, &paths, input, output, errors);
-        told(end, &paths, errors)
-    }
-
-    fn export<W: Write, E: Write>(&self, path: &str, output: &mut W, errors: &mut E) -> Status {
-        let paths = of_file(path);
-        let end = self.export_of_file(path, &paths, output, errors);
-        told(end, &paths, errors)
-    }
-
-    fn serve<W: Write, E: Write>(
-        &self,
-        serve: &Serve<'_>,
-        output: &mut W,
-        errors: &mut E,
-    ) -> Status {
-        let paths = of_file(serve.path);
-        let end = self.serve_file(serve, &paths, output, errors);
-        told(end, &paths, errors)
     }
 }

@@ -81,15 +81,15 @@ defined_after past b found (rows.Console name auth mode) = go (console_at b name
     go (Some console) = refl
 defined_after past b found other = refl
 
-pub consoles_after : (past : History) (all : List Row) (b : BoardRows) → after past (consoles_after all b) ≡ consoles_after all (after past b)
-consoles_after past [] b = refl
-consoles_after past (row ∷ all) b = consoles_after past all (console_after row b) ∙ ap (consoles_after all) (defined_after past b None row)
+pub past_consoles_after : (past : History) (all : List Row) (b : BoardRows) → after past (consoles_after all b) ≡ consoles_after all (after past b)
+past_consoles_after past [] b = refl
+past_consoles_after past (row ∷ all) b = past_consoles_after past all (console_after row b) ∙ ap (consoles_after all) (defined_after past b None row)
 
 pub whole_board : (b : BoardRows) → after (history_of b) (without_history b) ≡ b
 whole_board b = simp append-nil
 
 pub consoles_whole : (b : BoardRows) (all : List Row) → after (history_of b) (consoles_after all (without_history b)) ≡ consoles_after all b
-consoles_whole b all = consoles_after (history_of b) all (without_history b) ∙ ap (consoles_after all) (whole_board b)
+consoles_whole b all = past_consoles_after (history_of b) all (without_history b) ∙ ap (consoles_after all) (whole_board b)
 
 -- ---- the edits of rows
 

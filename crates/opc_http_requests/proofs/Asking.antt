@@ -19,7 +19,7 @@ use Rattle.opc_http_head.specs.declared.refusal.Refusal.TheVariants.{BadRequest}
 use Rattle.opc_http_requests.specs.Asked.{Asks, AsksOnly}
 use Rattle.opc_http_requests.specs.Faults.{IfRefused, by_asking}
 use Rattle.opc_http_requests.specs.Paths.{path_in}
-use Rattle.opc_http_requests.specs.Plans.{plan_of}
+use Rattle.opc_http_requests.specs.Plans.{plan_in, plan_of}
 use Rattle.opc_http_requests.specs.Requests.{body_in, planned, request_at, request_of}
 use Rattle.opc_http_requests.specs.declared.fault.ReadingFault.{ReadingFault}
 use Rattle.opc_http_requests.specs.declared.fault.ReadingFault.TheVariants as reading
@@ -45,27 +45,14 @@ pub asks-headless : (known : Option (List ℕ)) → IfSome known NoHead → IfSo
 asks-headless None h = tt
 asks-headless (Some all) h = asks-only all (Err BadRequest) (inl (h, refl))
 
--- the plan of the head that the spans tell
-abbrev pub spans_plan : List ℕ → List HeaderSpan → RequestSpans → Result Plan Refusal
-spans_plan buf headers spans = plan_of (span_bytes buf spans.method) (span_bytes buf spans.path) (map (header_bytes buf) (take spans.headers headers))
-
+-- the spans tell the plan of the head that they find
 pub head-plan : (all buf : List ℕ) (headers : List HeaderSpan) (spans : RequestSpans) (f : FoundHead all buf headers spans)
-    → spans_plan buf headers spans ≡ plan_of f.head.method f.head.target (map name_and_value f.head.fields)
+    → plan_in buf headers spans ≡ plan_of f.head.method f.head.target (map name_and_value f.head.fields)
 head-plan all buf headers spans f = rw (f.parts.method, f.parts.path, f.parts.fields) refl
-
--- as it was made
-pub plan-is : (buf : List ℕ) (headers : List HeaderSpan) (spans : RequestSpans) (method target bytes : List ℕ) (firsts : List HeaderSpan) (r : Result Plan Refusal)
-    → method ≡ span_bytes buf spans.method → target ≡ span_bytes buf spans.path → bytes ≡ buf → firsts ≡ take spans.headers headers
-    → r ≡ plan_of method target (map (header_bytes bytes) firsts) → spans_plan buf headers spans ≡ r
-plan-is buf headers spans method target bytes firsts r m t b f e = sym (
-    e ∙ ap (λ (x : List ℕ). plan_of x target (map (header_bytes bytes) firsts)) m
-    ∙ ap (λ (x : List ℕ). plan_of (span_bytes buf spans.method) x (map (header_bytes bytes) firsts)) t
-    ∙ ap (λ (x : List ℕ). plan_of (span_bytes buf spans.method) (span_bytes buf spans.path) (map (header_bytes x) firsts)) b
-    ∙ ap (λ (x : List HeaderSpan). plan_of (span_bytes buf spans.method) (span_bytes buf spans.path) (map (header_bytes buf) x)) f)
 
 -- the plan is a refusal
 pub asks-refused : (known : Option (List ℕ)) (buf : List ℕ) (headers : List HeaderSpan) (spans : RequestSpans) (why : Refusal)
-    → IfSome known (λ all. FoundHead all buf headers spans) → spans_plan buf headers spans ≡ Err why → IfSome known (λ all. AsksOnly all (Err why))
+    → IfSome known (λ all. FoundHead all buf headers spans) → plan_in buf headers spans ≡ Err why → IfSome known (λ all. AsksOnly all (Err why))
 asks-refused None buf headers spans why f e = tt
 asks-refused (Some all) buf headers spans why f e =
     let plan = sym (head-plan all buf headers spans f) ∙ e in
@@ -73,7 +60,7 @@ asks-refused (Some all) buf headers spans why f e =
 
 -- the plan comes to a request or a refusal
 pub asks-planned : (known mid : Option (List ℕ)) (buf : List ℕ) (headers : List HeaderSpan) (spans : RequestSpans) (plan : Plan) (r : Result Request Refusal)
-    → Consumes known mid buf → IfSome known (λ all. FoundHead all buf headers spans) → spans_plan buf headers spans ≡ Ok plan
+    → Consumes known mid buf → IfSome known (λ all. FoundHead all buf headers spans) → plan_in buf headers spans ≡ Ok plan
     → IfSome mid (λ left. planned (span_bytes buf spans.path) (drop spans.len (buf ++ left)) plan ≡ r) → IfSome known (λ all. AsksOnly all r)
 asks-planned None mid buf headers spans plan r c f e p = tt
 asks-planned (Some all) None buf headers spans plan r c f e p = absurd c

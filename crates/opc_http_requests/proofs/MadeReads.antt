@@ -17,7 +17,8 @@ use Rattle.opc_http_head.proofs.HeadLemmas.{first-bytes}
 use Rattle.opc_http_requests.specs.Asked.{MayRead, StopsAtEnd, looked_through, request_length}
 use Rattle.opc_http_requests.specs.Bodies.{MayFill}
 use Rattle.opc_http_requests.specs.declared.plan.Plan.{Plan}
-use Rattle.opc_http_requests.proofs.Asking.{head-plan, one-head, spans_plan}
+use Rattle.opc_http_requests.specs.Plans.{plan_in}
+use Rattle.opc_http_requests.proofs.Asking.{head-plan, one-head}
 
 -- a head that is there is there, whatever follows
 has-more : (bytes more : List ℕ) (head : RequestHead) → HasHead bytes head → HasHead (bytes ++ more) head
@@ -53,7 +54,7 @@ short-of-head all before rest head is has none low = elim (cases_Bool (nat_lt (l
 ]
 
 -- the rest of the body of a head may be read once the head is there
-body-may : (buf : List ℕ) (headers : List HeaderSpan) (spans : RequestSpans) (plan : Plan) → FoundHead buf buf headers spans → spans_plan buf headers spans ≡ Ok plan
+body-may : (buf : List ℕ) (headers : List HeaderSpan) (spans : RequestSpans) (plan : Plan) → FoundHead buf buf headers spans → plan_in buf headers spans ≡ Ok plan
     → (moved : List ℕ) (count : ℕ) → MayFill (spans.len + plan.length) (buf ++ moved) count → MayRead (buf ++ moved) count
 body-may buf headers spans plan found is moved count fill =
     let planned = sym (head-plan buf buf headers spans found) ∙ is in
@@ -70,7 +71,7 @@ module _ {S : Type 0} (left : S → Option (List ℕ)) (gives : S → List ℕ �
 
   -- and those for a body, once its head is there
   pub body-only : (first mid last : S) (buf bytes : List ℕ) (headers : List HeaderSpan) (spans : RequestSpans) (plan : Plan)
-      → Reads left gives MayLook first [] mid bytes → buf ≡ bytes → FoundHead buf buf headers spans → spans_plan buf headers spans ≡ Ok plan
+      → Reads left gives MayLook first [] mid bytes → buf ≡ bytes → FoundHead buf buf headers spans → plan_in buf headers spans ≡ Ok plan
       → ReadsOnly left gives (MayFill (spans.len + plan.length)) mid buf last → ReadsOnly left gives MayRead first [] last
   body-only first mid last buf bytes headers spans plan reads same found is body =
       let head : Reads left gives MayRead first [] mid buf = looked first mid buf (subst (λ (t : List ℕ). Reads left gives MayLook first [] mid t) (sym same) reads) in

@@ -1,6 +1,9 @@
 -- What the head of a request says of its route and its body.
-use Rattle.std.specs.Prelude.{ℕ, List, codes, Result, Ok, Err, if◌then◌else◌}
+use Rattle.std.specs.Prelude.{ℕ, List, codes, map, take, Result, Ok, Err, if◌then◌else◌}
 use Rattle.std.specs.Str.{bytes_eq}
+use Rattle.httparse.specs.Spans.{header_bytes, span_bytes}
+use Rattle.httparse.specs.declared.spans.HeaderSpan.{HeaderSpan}
+use Rattle.httparse.specs.declared.spans.RequestSpans.{RequestSpans}
 use Rattle.opc_http_head.specs.Framing.{FieldLine, body_length}
 use Rattle.opc_http_head.specs.Refusals.{◌>>=◌}
 use Rattle.opc_http_head.specs.declared.refusal.Method.{Method}
@@ -36,3 +39,7 @@ plan_of method target fields = do
   _ ← has_method method route
   length ← body_length fields
   Ok (record { route = route; length = length })
+
+-- the same of the head that these bytes begin with, where the spans find its parts
+abbrev pub plan_in : List ℕ → List HeaderSpan → RequestSpans → Result Plan Refusal
+plan_in buf headers spans = plan_of (span_bytes buf spans.method) (span_bytes buf spans.path) (map (header_bytes buf) (take spans.headers headers))

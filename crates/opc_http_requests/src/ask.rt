@@ -11,7 +11,7 @@ ghost use Rattle.opc_http_requests.specs.Requests.{planned, request_at, request_
 use crate::body::read_to;
 use crate::fault::ReadingFault;
 use crate::path::{batch_in, class_in, console_in, count_in, from_in, path_in};
-use crate::plan::{Plan, plan_of};
+use crate::plan::{Plan, plan_in};
 use httparse::spans::{EMPTY_HEADER_SPAN, RequestSpans};
 use opc_http_bodies::body::{command_in, operation_in, rows_in};
 use opc_http_head::head::read_head;
@@ -141,12 +141,6 @@ pub fn read_request<S: Source>(
     let Some(spans) = read_head(source, &mut buf, &mut headers)? else {
         return Err(ReadingFault::Refused(Refusal::BadRequest));
     };
-    let plan = plan_of(
-        routes,
-        spans.method.of(buf.as_slice()),
-        spans.path.of(buf.as_slice()),
-        buf.as_slice(),
-        &headers[..spans.headers],
-    )?;
+    let plan = plan_in(routes, buf.as_slice(), &headers, &spans)?;
     read_planned(alloc, source, &mut buf, &spans, plan)
 }

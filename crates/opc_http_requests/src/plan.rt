@@ -1,10 +1,10 @@
 //! What the head of a request says of its route and its body.
 ghost use Rattle.std.specs.Prelude.{◌≡◌, ◌≤◌, All, IfOk, length, map};
-ghost use Rattle.httparse.specs.Spans.{IsHeaderWithin, header_bytes};
-ghost use Rattle.opc_http_requests.specs.Plans.{has_method, method_of, method_text, plan_of};
+ghost use Rattle.httparse.specs.Spans.{IsHeaderWithin, IsRequestWithin, header_bytes};
+ghost use Rattle.opc_http_requests.specs.Plans.{has_method, method_of, method_text, plan_in, plan_of};
 
 use crate::path::{path_in, route_in};
-use httparse::spans::HeaderSpan;
+use httparse::spans::{HeaderSpan, RequestSpans};
 use opc_http_head::framing::body_length;
 use opc_http_head::refusal::{Method, Refusal};
 use opc_http_head::routes::{Route, Routes};
@@ -46,8 +46,8 @@ fn has_method(name: &[u8], route: Route) -> Result<(), Refusal>
     }
 }
 
-/// The plan of a head, given its method, its target and where its fields are in `buf`.
-pub(crate) fn plan_of(
+// The plan of a head, given its method, its target and where its fields are in `buf`.
+fn plan_of(
     routes: &Routes,
     method: &[u8],
     target: &[u8],
@@ -63,4 +63,24 @@ pub(crate) fn plan_of(
     has_method(method, route)?;
     let length = body_length(buf, headers)?;
     Ok(Plan { route, length })
+}
+
+/// The plan of the head that `buf` begins with, where the spans find its parts.
+pub(crate) fn plan_in(
+    routes: &Routes,
+    buf: &[u8],
+    headers: &[HeaderSpan],
+    spans: &RequestSpans,
+) -> Result<Plan, Refusal>
+    requires { IsRequestWithin buf.now headers.now spans.now }
+    ensures plan { result ≡ plan_in buf.now headers.now spans.now }
+    ensures few { IfOk result (λ plan. plan.length ≤ 65536) }
+{
+    plan_of(
+        routes,
+        spans.method.of(buf),
+        spans.path.of(buf),
+        buf,
+        &headers[..spans.headers],
+    )
 }

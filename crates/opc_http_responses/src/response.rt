@@ -96,10 +96,7 @@ fn answer_response(alloc: Global, answer: &Answer) -> Result<Response, AllocErro
 pub fn answered(alloc: Global, answer: &Answer) -> Result<Response, NoMemory>
     ensures { IfOk result (λ made. (made.status ≡ status_of answer.now) × (made.bytes.items ≡ response_of answer.now)) }
 {
-    match answer_response(alloc, answer) {
-        Ok(made) => Ok(made),
-        Err(_) => Err(NoMemory),
-    }
+    answer_response(alloc, answer).map_err(|_| NoMemory)
 }
 
 fn allowed(refusal: &Refusal) -> Option<Method>
@@ -127,8 +124,5 @@ fn response_to_refusal(alloc: Global, refusal: &Refusal) -> Result<Response, All
 pub fn refused(alloc: Global, refusal: &Refusal) -> Result<Response, NoMemory>
     ensures { IfOk result (λ made. (made.status ≡ refusal_status refusal.now) × (made.bytes.items ≡ refusal_response refusal.now)) }
 {
-    match response_to_refusal(alloc, refusal) {
-        Ok(made) => Ok(made),
-        Err(_) => Err(NoMemory),
-    }
+    response_to_refusal(alloc, refusal).map_err(|_| NoMemory)
 }

@@ -142,10 +142,7 @@ pub fn remove_entry<S: Alter>(
 fn entry_id_in(row: &Row) -> Result<EntryId, StoreFault>
     ensures { (id : List ℕ) → column row.now 2 ≡ Text id → IfOk result (λ v. v ≡ id) }
 {
-    match EntryId::read(text_at(row, 2)?) {
-        Ok(id) => Ok(id),
-        Err(_) => Err(unreadable()),
-    }
+    EntryId::read(text_at(row, 2)?).map_err(|_| unreadable())
 }
 
 fn console_in(row: &Row) -> Result<Option<ConsoleName>, StoreFault>

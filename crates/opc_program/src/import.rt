@@ -94,10 +94,7 @@ fn listed(alloc: Global, rows: &[Row]) -> Result<Rows<Row>, Failure>
     ensures rows { IfOk result (λ copy. copy ≡ rows.now) }
     ensures fault { IfErr result (λ failure. failure.fault ≡ Fault.NoMemory) }
 {
-    match copied(alloc, rows) {
-        Ok(rows) => Ok(rows),
-        Err(_) => Err(Failure::from(Fault::NoMemory)),
-    }
+    copied(alloc, rows).map_err(|_| Failure::from(Fault::NoMemory))
 }
 
 fn copied(alloc: Global, rows: &[Row]) -> Result<Rows<Row>, AllocError>

@@ -1,5 +1,5 @@
 -- How a transaction ends.
-use Rattle.std.specs.Prelude.{◌≡◌, ◌×◌, IsTrue, Result, OnErr, OnOk}
+use Rattle.std.specs.Prelude.{◌≡◌, IsTrue, Result, OnErr, OnOk}
 use Rattle.sqlite_trees.specs.declared.store.Store.{Ghosts}
 use Rattle.sqlite.specs.Held.{Held, state}
 use Rattle.sqlite.specs.State.{HasCleanDisk}

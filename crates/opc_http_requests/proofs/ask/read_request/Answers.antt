@@ -1,11 +1,12 @@
-use Rattle.std.proofs.Common.{◌≡◌, ◌∙◌, ◌≤◌, ◌++◌, ℕ, List, Ok, Err, ap, arith, drop, length, refl, take, vec_len}
-use Rattle.std.specs.Prelude.{IfSome, slice_range}
+use Rattle.std.proofs.Common.{◌≡◌, ◌∙◌, ◌≤◌, ◌++◌, ℕ, List, Ok, Err, ap, arith, drop, length, subst, sym, vec_len}
+use Rattle.std.specs.Prelude.{IfSome}
 use Rattle.std.proofs.lemmas.Result.{IfOk-weaker, err_from_is_err_and}
 use Rattle.httparse.specs.Spans.{span_bytes}
 use Rattle.opc_http_head.specs.Head.{FoundHead, NoHead}
 use Rattle.opc_http_requests.specs.Asked.{AsksOnly}
+use Rattle.opc_http_requests.specs.Plans.{plan_in}
 use Rattle.opc_http_requests.specs.Requests.{planned}
-use Rattle.opc_http_requests.proofs.Asking.{asks-headless, asks-planned, asks-refused, fault-weaker, none-found, plan-is, some-found, takes-whole}
+use Rattle.opc_http_requests.proofs.Asking.{asks-headless, asks-planned, asks-refused, fault-weaker, none-found, some-found, takes-whole}
 use Rattle.opc_http_requests.proofs.MadeReads.{body-only, looked-only, stops}
 use Rattle.opc_http_requests.proofs.ask.read_request.Goals as goal
 
@@ -21,10 +22,7 @@ returns-in_err-plan-clause-refused g c =
     let headers = c.read_head.new.headers in
     let spans = c.in-Some.spans in
     let head = some-found known c.in_ok-spans.field-0 spans NoHead (λ all. FoundHead all buf headers) c.in-Some.is c.in_ok-spans.ensures.head in
-    let method : c.of.result.now ≡ span_bytes buf spans.method = c.of.ensures ∙ ap (λ (t : List ℕ). slice_range t spans.method.start spans.method.end) c.as_slice.ensures.value in
-    let target : c.of-2.result.now ≡ span_bytes buf spans.path = c.of-2.ensures ∙ ap (λ (t : List ℕ). slice_range t spans.path.start spans.path.end) c.as_slice-2.ensures.value in
-    let firsts = take spans.headers headers in
-    let plan = plan-is buf headers spans c.of.result.now c.of-2.result.now c.as_slice-3.result.now firsts (Err c.in_err-plan.field-0.0) method target c.as_slice-3.ensures.value refl c.in_err-plan.ensures.plan in
+    let plan = subst (λ (t : List ℕ). plan_in t headers spans ≡ Err c.in_err-plan.field-0.0) c.as_slice.ensures.value (sym c.in_err-plan.ensures.plan) in
     let err = err_from_is_err_and c.from_residual-in_err-plan.result c.from_residual-in_err-plan.ensures.1 in
     rw (err.1, err.2) (asks-refused known buf headers spans c.in_err-plan.field-0.0 head plan)
 
@@ -36,10 +34,7 @@ returns-clause-asked g c =
     let headers = c.read_head.new.headers in
     let spans = c.in-Some.spans in
     let head = some-found known c.in_ok-spans.field-0 spans NoHead (λ all. FoundHead all buf headers) c.in-Some.is c.in_ok-spans.ensures.head in
-    let method : c.of.result.now ≡ span_bytes buf spans.method = c.of.ensures ∙ ap (λ (t : List ℕ). slice_range t spans.method.start spans.method.end) c.as_slice.ensures.value in
-    let target : c.of-2.result.now ≡ span_bytes buf spans.path = c.of-2.ensures ∙ ap (λ (t : List ℕ). slice_range t spans.path.start spans.path.end) c.as_slice-2.ensures.value in
-    let firsts = take spans.headers headers in
-    let plan = plan-is buf headers spans c.of.result.now c.of-2.result.now c.as_slice-3.result.now firsts (Ok c.in_ok-plan.plan) method target c.as_slice-3.ensures.value refl c.in_ok-plan.ensures.plan in
+    let plan = subst (λ (t : List ℕ). plan_in t headers spans ≡ Ok c.in_ok-plan.plan) c.as_slice.ensures.value (sym c.in_ok-plan.ensures.plan) in
     IfOk-weaker c.read_planned.result
     (λ request. IfSome mid (λ left. planned (span_bytes buf spans.path) (drop spans.len (buf ++ left)) c.in_ok-plan.plan ≡ Ok request))
     (λ request. IfSome known (λ all. AsksOnly all (Ok request)))
@@ -53,10 +48,7 @@ returns-clause-refused g c =
     let headers = c.read_head.new.headers in
     let spans = c.in-Some.spans in
     let head = some-found known c.in_ok-spans.field-0 spans NoHead (λ all. FoundHead all buf headers) c.in-Some.is c.in_ok-spans.ensures.head in
-    let method : c.of.result.now ≡ span_bytes buf spans.method = c.of.ensures ∙ ap (λ (t : List ℕ). slice_range t spans.method.start spans.method.end) c.as_slice.ensures.value in
-    let target : c.of-2.result.now ≡ span_bytes buf spans.path = c.of-2.ensures ∙ ap (λ (t : List ℕ). slice_range t spans.path.start spans.path.end) c.as_slice-2.ensures.value in
-    let firsts = take spans.headers headers in
-    let plan = plan-is buf headers spans c.of.result.now c.of-2.result.now c.as_slice-3.result.now firsts (Ok c.in_ok-plan.plan) method target c.as_slice-3.ensures.value refl c.in_ok-plan.ensures.plan in
+    let plan = subst (λ (t : List ℕ). plan_in t headers spans ≡ Ok c.in_ok-plan.plan) c.as_slice.ensures.value (sym c.in_ok-plan.ensures.plan) in
     fault-weaker c.read_planned.result
     (λ why. IfSome mid (λ left. planned (span_bytes buf spans.path) (drop spans.len (buf ++ left)) c.in_ok-plan.plan ≡ Err why))
     (λ why. IfSome known (λ all. AsksOnly all (Err why)))
@@ -89,10 +81,7 @@ returns-clause-reads g c =
     let spans = c.in-Some.spans in
     let looked = c.in_ok-spans.ensures.reads in
     let found = rw c.in-Some.is at c.in_ok-spans.ensures.found in
-    let method : c.of.result.now ≡ span_bytes buf spans.method = c.of.ensures ∙ ap (λ (t : List ℕ). slice_range t spans.method.start spans.method.end) c.as_slice.ensures.value in
-    let target : c.of-2.result.now ≡ span_bytes buf spans.path = c.of-2.ensures ∙ ap (λ (t : List ℕ). slice_range t spans.path.start spans.path.end) c.as_slice-2.ensures.value in
-    let firsts = take spans.headers headers in
-    let plan = plan-is buf headers spans c.of.result.now c.of-2.result.now c.as_slice-3.result.now firsts (Ok c.in_ok-plan.plan) method target c.as_slice-3.ensures.value refl c.in_ok-plan.ensures.plan in
+    let plan = subst (λ (t : List ℕ). plan_in t headers spans ≡ Ok c.in_ok-plan.plan) c.as_slice.ensures.value (sym c.in_ok-plan.ensures.plan) in
     body-only left gives c.args.source.now c.read_head.new.source c.read_planned.new.source buf looked.bytes headers spans c.in_ok-plan.plan looked.reads looked.buffer found plan c.read_planned.ensures.reads
 
 pub returns-clause-stops : goal.returns-clause-stops

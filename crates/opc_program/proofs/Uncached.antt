@@ -39,7 +39,7 @@ module _ {T C : Type 0} (tables : C → T) (is_sure : T → Type 0) (represents 
   cut rs before written fault w = record {
     told = w.told;
     request = w.request;
-    after = w.after;
+    later = w.later;
     are = w.are;
     answers = w.answers;
     each = w.each;

@@ -1,11 +1,10 @@
-//! Tables of version 1 and 2 are opened: copied to this version.
-use super::disks::{Fused, closed, fused, opened};
-use super::{adopted, same, tell_query};
-use sqlite::{Alter, Connection, Files, MemStore, Options};
-use sqlite_disk::{Crash, Memory};
+//! Tables of version 1 and 2, which are copied to this version when they are opened.
+use crate::queries::{adopted, line_of};
+use crate::room::Fresh;
+use anyhow::{Result, bail};
+use opc_store::store::Store;
+use sqlite::{Alter, Connection};
 use std::alloc::Global;
-use std::rt::HostRuntime;
-use std::test::Fail;
 
 /// The tables that versions 1 and 2 have alike, with rows of every kind.
 const ALIKE: &str = "CREATE TABLE meta (version INTEGER NOT NULL) STRICT;
@@ -52,9 +51,6 @@ const ENTRIES: &str =
     "CREATE TABLE entries (class TEXT NOT NULL, pattern TEXT NOT NULL, id TEXT NOT NULL, level INTEGER NOT NULL, PRIMARY KEY (class, pattern, id), FOREIGN KEY (class, pattern) REFERENCES profiles ON DELETE CASCADE) STRICT;
 INSERT INTO entries VALUES ('OPERCMDS', 'MVS.**', 'OPS', 2), ('OPERCMDS', 'MVS.**', 'CARL', 4), ('OPERCMDS', 'MVS.DISPLAY.*', '*', 1);";
 
-const COPIED: &str =
-    "version 3 \nCARL/00100 IBMUSER/110032 \nCARL/OPS IBMUSER/SYS \nMVS.DISPLAY.*/CARL10MVS.DISPLAY. MVS.**/IBMUSER01MVS \nMVS.**/CARL//4 MVS.**/OPS//2 MVS.DISPLAY.*/*//1 \nC1/2R1IBMUSER C2/9O0- \nPAYROLLJ-- WTRSWTRSTOP \n0A80VOL001PAYROLL \nREPLY GO OR CANCEL \nGO \nNOTE \nHELLO \n1E12 \n7kind,class,name,id,value,owner,flags,digest,when,restricted\ngroup,,OPS,,,,,,,\n \nconsoles_by_authority consoles_by_user devices_by_unit \n";
-
 /// All that the tables hold, but for what is the same in all versions: a line for each query.
 const QUERIES: [&str; 15] = [
     "SELECT 'version ' || version FROM meta",
@@ -74,127 +70,33 @@ const QUERIES: [&str; 15] = [
     "SELECT name FROM sqlite_schema WHERE type = 'index' AND sql IS NOT NULL ORDER BY name",
 ];
 
-fn tell_all<S: Alter>(lines: &mut String, conn: &mut Connection<S>) -> Result<(), Fail> {
-    for query in QUERIES {
-        tell_query(lines, conn, query)?;
-    }
-    Ok(())
-}
-
-/// Makes older tables, with these profiles.
-fn fill<S: Alter>(conn: &mut Connection<S>, profiles: &str) -> Result<(), Fail> {
+/// Makes tables of version 1 or 2.
+pub fn fill<S: Alter>(conn: &mut Connection<S>, version: &str) -> Result<()> {
     conn.execute_batch(ALIKE)?;
-    conn.execute_batch(profiles)?;
+    conn.execute_batch(if version == "1" { FIRST } else { SECOND })?;
     conn.execute_batch(ENTRIES)?;
     Ok(())
 }
 
-/// What the tables hold after an opening, and after another.
-fn told(alloc: Global, profiles: &str) -> Result<(String, String), Fail> {
-    let mut conn: Connection<MemStore> = Connection::open_in_memory(alloc)?;
-    fill(&mut conn, profiles)?;
+/// A store that is opened over tables of an older version.
+pub fn older<S: Fresh>(alloc: Global, version: &str) -> Result<Store<S>> {
+    let mut conn = S::database(alloc)?;
+    fill(&mut conn, version)?;
     if !conn.is_autocommit() {
-        return Err("a transaction is open")?;
+        bail!("a transaction is open");
     }
-    let mut conn = adopted(conn)?.into_connection();
-    let mut once = String::new(alloc);
-    tell_all(&mut once, &mut conn)?;
+    adopted(conn)
+}
+
+/// What the tables hold, a line for each query, and the store again, which is opened anew.
+pub fn tell_tables<S: Alter + Drop>(alloc: Global, store: Store<S>) -> Result<(Store<S>, String)> {
+    let mut conn = store.into_connection();
+    let mut lines = String::new(alloc);
+    for query in QUERIES {
+        lines.push_str(line_of(alloc, &mut conn, query)?.as_str())?;
+    }
     if !conn.is_autocommit() {
-        return Err("a transaction is open")?;
+        bail!("a transaction is open");
     }
-    let mut conn = adopted(conn)?.into_connection();
-    let mut twice = String::new(alloc);
-    tell_all(&mut twice, &mut conn)?;
-    Ok((once, twice))
-}
-
-#[test]
-fn older_tables_are_copied_once(rt: HostRuntime) -> Result<(), Fail> {
-    for profiles in [FIRST, SECOND] {
-        let (once, twice) = told(rt.alloc(), profiles)?;
-        same(&rt, once.as_str(), COPIED);
-        same(&rt, twice.as_str(), COPIED);
-    }
-    Ok(())
-}
-
-/// Files with the tables of version 2.
-fn second(alloc: Global) -> Result<Files<Memory>, Fail> {
-    let files = Files {
-        log: Memory::new(alloc),
-        db: Memory::new(alloc),
-    };
-    let Ok(mut conn) = Connection::open_files(alloc, files, Options::new(7)) else {
-        return Err("not opened")?;
-    };
-    fill(&mut conn, SECOND)?;
-    match conn.close_files() {
-        Ok(files) => Ok(files),
-        Err((_, left)) => Ok(left.close()),
-    }
-}
-
-/// What the files hold when the machine comes back without what was not synced.
-fn left(alloc: Global, mut files: Files<Fused>) -> Result<String, Fail> {
-    files.log.crash();
-    files.db.crash();
-    let Ok(mut conn) = Connection::open_files(alloc, files, Options::new(7)) else {
-        return Err("not opened again")?;
-    };
-    let mut text = String::new(alloc);
-    tell_query(
-        &mut text,
-        &mut conn,
-        "SELECT (SELECT version FROM meta) || ' ' || (SELECT count(*) FROM usr) || (SELECT count(*) FROM connects) || (SELECT count(*) FROM profiles) || (SELECT count(*) FROM entries) || (SELECT count(*) FROM batches)",
-    )?;
-    Ok(text)
-}
-
-/// Whether an opening over disks that pass so many calls on was done, and what a crash leaves of it.
-fn stopped(alloc: Global, log_calls: u64, db_calls: u64) -> Result<(bool, String), Fail> {
-    match opened(alloc, fused(second(alloc)?, log_calls, db_calls)) {
-        Ok(store) => Ok((true, left(alloc, closed(store))?)),
-        Err(files) => Ok((false, left(alloc, files)?)),
-    }
-}
-
-const OLD: &str = "2 22231 \n";
-
-const NEW: &str = "3 22231 \n";
-
-/// Whether a crash leaves the old tables or the new ones, where the opening was done the new ones alone; and whether it was.
-fn holds(alloc: Global, log_calls: u64, db_calls: u64) -> Result<(bool, bool), Fail> {
-    let (done, text) = stopped(alloc, log_calls, db_calls)?;
-    let whole = text.as_str() == NEW || !done && text.as_str() == OLD;
-    Ok((whole, done))
-}
-
-#[test]
-fn a_log_that_stops_leaves_old_tables_or_new(rt: HostRuntime) -> Result<(), Fail> {
-    let mut most = false;
-    for calls in 0..300 {
-        let (whole, done) = holds(rt.alloc(), calls, u64::MAX)?;
-        assert!(rt; whole, "after {calls} calls");
-        most = done;
-        if done {
-            break;
-        }
-    }
-    assert!(rt; most);
-    Ok(())
-}
-
-#[test]
-fn a_database_file_that_stops_leaves_old_tables_or_new(rt: HostRuntime) -> Result<(), Fail> {
-    let mut most = false;
-    for calls in 0..300 {
-        let (whole, done) = holds(rt.alloc(), u64::MAX, calls)?;
-        assert!(rt; whole, "after {calls} calls");
-        most = done;
-        if done {
-            break;
-        }
-    }
-    assert!(rt; most);
-    Ok(())
+    Ok((adopted(conn)?, lines))
 }

@@ -1,0 +1,89 @@
+//! Files of a store, as a machine that starts finds them.
+ghost use Rattle.std.specs.Prelude.{◌≡◌, false, IfOk};
+
+use crate::queries::line_of;
+use anyhow::Result;
+use opc_store::store::Store;
+use sqlite::{Alter, Connection, FileStore, Files, Options};
+use sqlite_disk::{Crash, Disk, Fuse, Memory};
+use std::alloc::Global;
+
+/// What stops while it is written to.
+#[derive(Clone, Copy)]
+pub enum Stop {
+    Log,
+    Database,
+    Nothing,
+}
+
+/// Files that have nothing.
+pub fn new_files(alloc: Global) -> Files<Memory> {
+    Files {
+        log: Memory::new(alloc),
+        db: Memory::new(alloc),
+    }
+}
+
+/// Files of which one passes so many calls on.
+pub fn stopping<D: Disk>(files: Files<D>, stop: Stop, calls: u64) -> Files<Fuse<D>> {
+    let (log_calls, db_calls) = match stop {
+        Stop::Log => (calls, u64::MAX),
+        Stop::Database => (u64::MAX, calls),
+        Stop::Nothing => (u64::MAX, u64::MAX),
+    };
+    Files {
+        log: Fuse::new(files.log, log_calls),
+        db: Fuse::new(files.db, db_calls),
+    }
+}
+
+/// Opens files after a crash, and hands them back where that failed.
+pub fn connected<D: Crash + Drop>(
+    alloc: Global,
+    mut files: Files<D>,
+) -> Result<Connection<FileStore<D>>, Files<D>>
+    ensures outside { IfOk result (λ conn. conn.in_transaction ≡ false) }
+{
+    files.log.crash();
+    files.db.crash();
+    match Connection::open_files(alloc, files, Options::new(7)) {
+        Ok(conn) => Ok(conn),
+        Err((_, left)) => Err(left.into_files()),
+    }
+}
+
+/// Opens a store over files, and hands them back where that failed.
+pub fn opened<D: Crash + Drop>(
+    alloc: Global,
+    files: Files<D>,
+) -> Result<Store<FileStore<D>>, Files<D>> {
+    let conn = match connected(alloc, files) {
+        Ok(conn) => conn,
+        Err(files) => return Err(files),
+    };
+    match Store::open_files(conn) {
+        Ok(store) => Ok(store),
+        Err((_, conn)) => Err(parted(conn)),
+    }
+}
+
+/// The files of a connection that is closed.
+pub fn parted<D: Disk + Drop>(conn: Connection<FileStore<D>>) -> Files<D> {
+    match conn.close_files() {
+        Ok(files) => files,
+        Err((_, left)) => left.close(),
+    }
+}
+
+/// The files of a store that is closed.
+pub fn closed<D: Disk + Drop>(store: Store<FileStore<D>>) -> Files<D> {
+    match store.close() {
+        Ok(files) => files,
+        Err((_, left)) => left.close(),
+    }
+}
+
+/// What a query gives of a store.
+pub fn line_in<S: Alter + Drop>(alloc: Global, store: Store<S>, sql: &str) -> Result<String> {
+    line_of(alloc, &mut store.into_connection(), sql)
+}

@@ -1,5 +1,0 @@
-//! Tests of `opc_store` by its public calls.
-#![tactic(auto)]
-
-#[cfg(test)]
-mod tests;

@@ -235,7 +235,7 @@ fn edits_on<T: Tables>(tables: &mut T, alloc: Global, rows: &[Row]) -> Result<Ve
 }
 
 // Writes the edits of a first policy, if there are any.
-fn found<T: Tables>(tables: &mut T, alloc: Global, edits: Vec<Edit>) -> Result<(), Fault>
+fn write_first<T: Tables>(tables: &mut T, alloc: Global, edits: Vec<Edit>) -> Result<(), Fault>
     ensures sure { T.is_sure tables.new → T.is_sure tables.old }
     ensures idle { edits.items ≡ [] → (left : State) → T.may_leave tables.new left → T.may_leave tables.old left }
     ensures founds { T.is_sure tables.new → (s : State) → T.represents tables.old s → (rows : List TheRow) → bootstrapped rows s ≡ Ok (all_edited edits.items s)
@@ -265,5 +265,5 @@ pub fn bootstrap<T: Tables>(tables: &mut T, alloc: Global, rows: &[Row]) -> Resu
     ensures idle { T.is_sure tables.new → (s : State) → T.represents tables.old s → HaveNothingNew rows.now s → (left : State) → T.may_leave tables.new left → T.may_leave tables.old left }
 {
     let edits = edits_on(tables, alloc, rows)?;
-    found(tables, alloc, edits)
+    write_first(tables, alloc, edits)
 }

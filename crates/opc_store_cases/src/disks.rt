@@ -1,5 +1,5 @@
 //! Stores over files: closed and opened again, and over disks that stop.
-use crate::files::{Stop, closed, line_in, new_files, opened, stopping};
+use crate::files::{Stop, closed, crashed, line_in, new_files, opened, stopping};
 use crate::loads::refusal;
 use crate::older_disks::older_tables;
 use anyhow::{Result, bail};
@@ -8,7 +8,7 @@ use opc_state::change::{Change, Edit};
 use opc_state::tables::Tables;
 use opc_store::store::Store;
 use sqlite::{Alter, Files, Options};
-use sqlite_disk::Crash;
+use sqlite_disk::{Crash, Disk};
 use std::alloc::Global;
 use std::fs;
 
@@ -39,12 +39,12 @@ fn change(alloc: Global, group: &str) -> Result<Change> {
     Ok(Change { edits, account })
 }
 
-/// Whether each stop, after one call more, leaves whole changes, up to one after which both were done.
+/// Whether each stop, after one call more, leaves whole changes, from one at the first call up to one after both.
 fn whole_changes(alloc: Global, stop: Stop) -> Result<String> {
-    for calls in 0..40u64 {
+    for calls in 0..2000u64 {
         let (whole, done) = trial(alloc, stopping(new_files(alloc), stop, calls))?;
-        if !whole {
-            bail!("no whole changes after {calls} calls");
+        if !whole || calls == 0 && done > 0 {
+            bail!("no whole changes after {calls} calls, of which {done} done");
         }
         if done == 2 {
             return Ok(String::from_str(alloc, "whole changes at each stop, and both at last\n")?);
@@ -72,7 +72,7 @@ fn is_after(text: &str, done: usize) -> bool {
 }
 
 /// How many changes were acknowledged before the disk stopped, and the files.
-fn stopped<D: Crash + Drop>(alloc: Global, files: Files<D>) -> Result<(usize, Files<D>)> {
+fn stopped<D: Disk + Drop>(alloc: Global, files: Files<D>) -> Result<(usize, Files<D>)> {
     match opened(alloc, files) {
         Ok(mut store) => {
             let done = acknowledged(alloc, &mut store)?;
@@ -95,7 +95,7 @@ fn acknowledged<T: Tables>(alloc: Global, tables: &mut T) -> Result<usize> {
 
 /// What the tables hold when the machine comes back without what was not synced: the groups, and the account.
 fn recovered<D: Crash + Drop>(alloc: Global, files: Files<D>) -> Result<Option<String>> {
-    match opened(alloc, files) {
+    match opened(alloc, crashed(files)) {
         Ok(store) => {
             let sql = "SELECT name FROM grp UNION ALL SELECT code FROM account ORDER BY 1";
             Ok(Some(line_in(alloc, store, sql)?))
@@ -109,7 +109,7 @@ fn over_memory(alloc: Global) -> Result<String> {
     opened_again(alloc, stopping(new_files(alloc), Stop::Nothing, 0))
 }
 
-fn opened_again<D: Crash + Drop>(alloc: Global, files: Files<D>) -> Result<String> {
+fn opened_again<D: Disk + Drop>(alloc: Global, files: Files<D>) -> Result<String> {
     let Ok(store) = opened(alloc, files) else {
         bail!("not opened");
     };

@@ -1,4 +1,4 @@
-//! Files of a store, as a machine that starts finds them.
+//! Files of a store, of which one may stop.
 ghost use Rattle.std.specs.Prelude.{◌≡◌, false, IfOk};
 
 use crate::queries::line_of;
@@ -37,23 +37,31 @@ pub fn stopping<D: Disk>(files: Files<D>, stop: Stop, calls: u64) -> Files<Fuse<
     }
 }
 
-/// Opens files after a crash, and hands them back where that failed.
-pub fn connected<D: Crash + Drop>(
+/// Files as a machine that comes back finds them: without what was not synced, and none of them stops.
+pub fn crashed<D: Crash>(mut files: Files<D>) -> Files<D> {
+    files.log.crash();
+    files.db.crash();
+    files
+}
+
+/// A connection over files, or the files again.
+pub fn connected<D: Disk + Drop>(
     alloc: Global,
-    mut files: Files<D>,
+    files: Files<D>,
 ) -> Result<Connection<FileStore<D>>, Files<D>>
     ensures outside { IfOk result (λ conn. conn.in_transaction ≡ false) }
 {
-    files.log.crash();
-    files.db.crash();
+    if !files.may_be_used() {
+        return Err(files);
+    }
     match Connection::open_files(alloc, files, Options::new(7)) {
         Ok(conn) => Ok(conn),
         Err((_, left)) => Err(left.into_files()),
     }
 }
 
-/// Opens a store over files, and hands them back where that failed.
-pub fn opened<D: Crash + Drop>(
+/// A store over files, or the files again.
+pub fn opened<D: Disk + Drop>(
     alloc: Global,
     files: Files<D>,
 ) -> Result<Store<FileStore<D>>, Files<D>> {

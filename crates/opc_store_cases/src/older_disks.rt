@@ -1,10 +1,10 @@
 //! Tables of version 2, opened over disks that stop.
-use crate::files::{Stop, closed, connected, new_files, opened, parted, stopping};
+use crate::files::{Stop, closed, connected, crashed, new_files, opened, parted, stopping};
 use crate::older::fill;
 use crate::queries::line_of;
 use anyhow::{Result, bail};
 use sqlite::Files;
-use sqlite_disk::Crash;
+use sqlite_disk::{Crash, Disk};
 use std::alloc::Global;
 
 /// The version, and how many users, connects, profiles, entries and batches there are.
@@ -17,10 +17,10 @@ const NEW: &str = "3 22231\n";
 
 /// Whether each stop of an opening, after one call more, leaves the old tables or the new ones, up to one that was done.
 pub fn older_tables(alloc: Global, stop: Stop) -> Result<String> {
-    for calls in 0..300u64 {
+    for calls in 0..2000u64 {
         let files = with_older(alloc, new_files(alloc))?;
         let (whole, done) = trial(alloc, stopping(files, stop, calls))?;
-        if !whole {
+        if !whole || calls == 0 && done {
             bail!("no whole tables after {calls} calls");
         }
         if done {
@@ -34,7 +34,7 @@ pub fn older_tables(alloc: Global, stop: Stop) -> Result<String> {
 }
 
 /// Files with the tables of version 2.
-fn with_older<D: Crash + Drop>(alloc: Global, files: Files<D>) -> Result<Files<D>> {
+fn with_older<D: Disk + Drop>(alloc: Global, files: Files<D>) -> Result<Files<D>> {
     let Ok(mut conn) = connected(alloc, files) else {
         bail!("not opened");
     };
@@ -52,7 +52,7 @@ fn trial<D: Crash + Drop>(alloc: Global, files: Files<D>) -> Result<(bool, bool)
 }
 
 /// Whether an opening was done, and the files.
-fn tried<D: Crash + Drop>(alloc: Global, files: Files<D>) -> (bool, Files<D>) {
+fn tried<D: Disk + Drop>(alloc: Global, files: Files<D>) -> (bool, Files<D>) {
     match opened(alloc, files) {
         Ok(store) => (true, closed(store)),
         Err(files) => (false, files),
@@ -61,7 +61,7 @@ fn tried<D: Crash + Drop>(alloc: Global, files: Files<D>) -> (bool, Files<D>) {
 
 /// What the files hold when the machine comes back without what was not synced.
 fn left<D: Crash + Drop>(alloc: Global, files: Files<D>) -> Result<String> {
-    let Ok(mut conn) = connected(alloc, files) else {
+    let Ok(mut conn) = connected(alloc, crashed(files)) else {
         bail!("not opened again");
     };
     line_of(alloc, &mut conn, SQL)

@@ -44,7 +44,7 @@ fn whole_changes(alloc: Global, stop: Stop) -> Result<String> {
     for calls in 0..2000u64 {
         let (whole, done) = trial(alloc, stopping(new_files(alloc), stop, calls))?;
         if !whole || calls == 0 && done > 0 {
-            bail!("no whole changes after {calls} calls, of which {done} done");
+            bail!("no whole changes after {calls} calls, {done} acknowledged");
         }
         if done == 2 {
             return Ok(String::from_str(alloc, "whole changes at each stop, and both at last\n")?);

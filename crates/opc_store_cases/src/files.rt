@@ -71,12 +71,12 @@ pub fn opened<D: Disk + Drop>(
     };
     match Store::open_files(conn) {
         Ok(store) => Ok(store),
-        Err((_, conn)) => Err(parted(conn)),
+        Err((_, conn)) => Err(disconnected(conn)),
     }
 }
 
 /// The files of a connection that is closed.
-pub fn parted<D: Disk + Drop>(conn: Connection<FileStore<D>>) -> Files<D> {
+pub fn disconnected<D: Disk + Drop>(conn: Connection<FileStore<D>>) -> Files<D> {
     match conn.close_files() {
         Ok(files) => files,
         Err((_, left)) => left.close(),

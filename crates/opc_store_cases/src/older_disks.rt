@@ -1,5 +1,5 @@
 //! Tables of version 2, opened over disks that stop.
-use crate::files::{Stop, closed, connected, crashed, new_files, opened, parted, stopping};
+use crate::files::{Stop, closed, connected, crashed, disconnected, new_files, opened, stopping};
 use crate::older::fill;
 use crate::queries::line_of;
 use anyhow::{Result, bail};
@@ -39,7 +39,7 @@ fn with_older<D: Disk + Drop>(alloc: Global, files: Files<D>) -> Result<Files<D>
         bail!("not opened");
     };
     fill(&mut conn, "2")?;
-    Ok(parted(conn))
+    Ok(disconnected(conn))
 }
 
 /// Whether a crash leaves the old tables or the new ones, where the opening was done the new ones alone; and whether it

@@ -1,8 +1,9 @@
 -- What a step of a transaction does to a connection.
-use Rattle.std.specs.Prelude.{◌≡◌, ◌≢◌, ℕ, List, [], ◌∷◌, IsTrue, Result, Ok, OnOk}
+use Rattle.std.specs.Prelude.{◌≡◌, ◌≢◌, ℕ, List, [], ◌∷◌, IsTrue, Result, Ok, IfOk, OnOk}
+use Rattle.std.proofs.Common.{Global, Vec}
 use Rattle.sqlite_trees.specs.declared.store.Store.{Ghosts}
 use Rattle.sqlite.specs.Order.{Row}
-use Rattle.sqlite.specs.State.{HasCleanDisk, Survives, KeepsCommit, Executes}
+use Rattle.sqlite.specs.State.{HasCleanDisk, Survives, KeepsCommit, Executes, Shown}
 use Rattle.sqlite.specs.Held.{Held, state}
 use Rattle.sqlite.specs.Schema.{Schema}
 use Rattle.sqlite.specs.Given.{Returns}
@@ -45,3 +46,7 @@ module _ {S : Type 0} (g : Ghosts S) where
     pub opened : HasCleanDisk (state g new) → OnOk result (IsTrue (state g new).is_open)
     pub was_open : HasCleanDisk (state g new) → IsTrue (state g new).is_open → IsTrue (state g old).is_open
     pub same : HasCleanDisk (state g new) → IsTrue (state g new).is_open → (state g new).now ≡ (state g old).now
+
+  -- a query that succeeds gives the rows of its statement
+  abbrev pub Reads : {E : Type 0} → List ℕ → Row → Held S → Held S → Result (Vec Row Global) E → Type 0
+  Reads sql params old new result = HasCleanDisk (state g new) → IfOk result (λ rows. Shown sql params (state g old) (state g new) rows.items)

@@ -6,8 +6,8 @@ pub mod numbers;
 ghost use Rattle.std.specs.Prelude.{◌≡◌, false, map, IfOk, IfErr, OnOk};
 ghost use Rattle.sqlite.specs.Held.{state};
 ghost use Rattle.sqlite.specs.Values.{bound};
-ghost use Rattle.sqlite.specs.State.{HasCleanDisk, Shown, FailsToQuery};
-ghost use Rattle.opc_statements.specs.Steps.{Stays, Ran, RanAll, Puts, Looks, NeverWrites};
+ghost use Rattle.sqlite.specs.State.{HasCleanDisk, FailsToQuery};
+ghost use Rattle.opc_statements.specs.Steps.{Stays, Ran, RanAll, Puts, Looks, Reads, NeverWrites};
 
 use sqlite::types::ValueRef;
 use sqlite::{Alter, Connection, Error, Row, Transaction};
@@ -65,7 +65,7 @@ pub fn read<S: Alter>(
     requires mode { conn.old.in_transaction ≡ false }
     ensures mode { conn.new.in_transaction ≡ false }
     ensures looks { Looks S.Store conn.old conn.new result }
-    ensures shown { HasCleanDisk (state S.Store conn.new) → IfOk result (λ rows. Shown sql.now (bound params.now) (state S.Store conn.old) (state S.Store conn.new) rows.items) }
+    ensures shown { Reads S.Store sql.now (bound params.now) conn.old conn.new result }
     ensures failed { HasCleanDisk (state S.Store conn.new) → IfErr result (FailsToQuery sql.now (bound params.now) (state S.Store conn.old) (state S.Store conn.new)) }
 {
     let _settled = conn.is_autocommit();

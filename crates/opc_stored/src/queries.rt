@@ -2,8 +2,8 @@
 ghost use Rattle.std.specs.Prelude.{◌≡◌, false, Bool, List, filter, IfOk};
 ghost use Rattle.std.specs.List.{find};
 ghost use Rattle.sqlite.specs.Held.{state};
-ghost use Rattle.sqlite.specs.State.{HasCleanDisk, Shown};
-ghost use Rattle.opc_statements.specs.Steps.{Looks, NeverWrites};
+ghost use Rattle.sqlite.specs.State.{HasCleanDisk};
+ghost use Rattle.opc_statements.specs.Steps.{Looks, Reads, NeverWrites};
 ghost use Rattle.sqlite.specs.Values.{bound};
 ghost use Rattle.opc_stored.specs.Asked.{Tells};
 
@@ -25,7 +25,7 @@ pub fn read<S: Alter>(
     requires mode { conn.old.in_transaction ≡ false }
     ensures mode { conn.new.in_transaction ≡ false }
     ensures looks { Looks S.Store conn.old conn.new result }
-    ensures shown { HasCleanDisk (state S.Store conn.new) → IfOk result (λ rows. Shown sql.now (bound params.now) (state S.Store conn.old) (state S.Store conn.new) rows.items) }
+    ensures shown { Reads S.Store sql.now (bound params.now) conn.old conn.new result }
 {
     match opc_statements::read(conn, sql, params) {
         Ok(rows) => Ok(rows),

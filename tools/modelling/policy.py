@@ -57,7 +57,7 @@ def source(policy, name, entries):
 
 def held(policy, profile, name, console):
     """The level that a user has in a profile at a console, or at none: the higher of what the entries that count everywhere
-    give, with the universal access behind them, and of what those for the console give."""
+    give, with the universal access after them, and of what those for the console give."""
     plain = source(policy, name, {id: level for (id, when), level in profile.entries.items() if when is None})
     if plain is None:
         restricted = policy.users[name].restricted

@@ -17,7 +17,7 @@ pub fn answer(alloc: Global, line: &str) -> Result<String> {
         "#" => Ok(String::from_str(alloc, line)?),
         "file" => file(alloc, &unescaped(alloc, rest)?),
         "record" => record(alloc, &unescaped(alloc, rest)?),
-        "behind" => behind(alloc, &unescaped(alloc, rest)?),
+        "after" => after(alloc, &unescaped(alloc, rest)?),
         _ => bail!("no subject"),
     }
 }
@@ -55,7 +55,7 @@ fn record(alloc: Global, text: &str) -> Result<String> {
 }
 
 /// How many rows a file has: a number of rows, and a text after them.
-fn behind(alloc: Global, text: &str) -> Result<String> {
+fn after(alloc: Global, text: &str) -> Result<String> {
     let (count, last) = text.split_once(' ').context("no number")?;
     let file = file_of(alloc, count.parse()?, last)?;
     match read_policy(alloc, file.as_str()) {

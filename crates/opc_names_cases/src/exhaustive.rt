@@ -42,14 +42,14 @@ pub fn before(alloc: Global, extent: &str) -> Result<String> {
     patterns.retain(|text| Pattern::read(text).is_ok());
     let mut pairs = 0usize;
     for pattern in &patterns {
-        pairs = pairs.saturating_add(behind(alloc, pattern, &patterns)?);
+        pairs = pairs.saturating_add(count_later(alloc, pattern, &patterns)?);
     }
     let patterns = patterns.len();
     Ok(format!(in alloc; "{patterns} patterns, {pairs} pairs in order")?)
 }
 
 /// How many patterns a pattern is before.
-fn behind(alloc: Global, text: &str, others: &[String]) -> Result<usize> {
+fn count_later(alloc: Global, text: &str, others: &[String]) -> Result<usize> {
     let pattern = Pattern::read(text)?;
     let key = pattern.sort_key();
     let ranks = plain::ranks(alloc, text)?;

@@ -69,7 +69,7 @@ impl ProfileSource for FailingBelow {
 }
 
 #[test]
-fn no_head_behind_the_deciding_one_is_asked_for(rt: HostRuntime) -> Result<(), Fail> {
+fn no_head_after_the_deciding_one_is_asked_for(rt: HostRuntime) -> Result<(), Fail> {
     for (name, pattern, head, ranges, rows) in [
         ("MVS.CANCEL.JOB.PAYROLL", "MVS.CANCEL.JOB.PAY*", 18, 5, 1),
         ("MVS.CANCEL.JOB.BACKUP", "MVS.CANCEL.JOB.*", 15, 7, 1),

@@ -8,10 +8,10 @@ pub fn line(alloc: Global, spelled: &str) -> Result<String> {
     let mut pieces = spelled.split('«');
     line.push_str(pieces.next().unwrap_or(""))?;
     for piece in pieces {
-        let (meant, behind) = piece.split_once('»').context("no end")?;
+        let (meant, after) = piece.split_once('»').context("no end")?;
         let (times, text) = meant.split_once('*').unwrap_or(("1", meant));
         push(&mut line, times.parse()?, text)?;
-        line.push_str(behind)?;
+        line.push_str(after)?;
     }
     Ok(line)
 }

@@ -101,7 +101,7 @@ static void ten_commands(void) {
     line();
     /* C1 D A,PAY */
     ROWS(CONSOLE, "t", "C1"), ruling("MVS.DISPLAY.JOB", "MVS.DISPLAY.**");
-    ROWS(UNIT, "t", "PAY"), ruling("MVS.DISPLAY.JOB.PAY", "MVS.DISPLAY.**");
+    ROWS(UNIT, "t", "PAY"), held("MVS.DISPLAY.JOB.PAY", "MVS.DISPLAY.**");
     /* C1 FORCE PAY */
     ROWS(CONSOLE, "t", "C1"), ROWS(UNIT, "t", "PAY"), ruling("MVS.FORCE.JOB.PAY", "MVS.**");
     begin(), account("C1", "ANNA", "E20", "PROFILE OPERCMDS MVS.** HELD READ NEEDED CONTROL"), commit();

@@ -12,6 +12,7 @@ ghost use Rattle.opc_machine.specs.Commands.{board_command as board_outcome, com
 ghost use Rattle.opc_machine.specs.Deeds.{IsOutcome};
 ghost use Rattle.opc_machine.specs.Faults.{board_fault};
 ghost use Rattle.opc_machine.specs.Outcome.{does};
+ghost use Rattle.opc_rulings.specs.Standing.{IsStanding};
 
 use crate::displays::{display_on, is_display};
 use crate::effects::{act_on, come_on, log_off, log_on};
@@ -27,7 +28,7 @@ use opc_policy::user::User;
 use opc_reader::command::{Command, Password};
 use opc_reader::line::{ReadFault, read_command};
 use opc_rulings::asking::console_for;
-use opc_rulings::ruling::{logon_ruling_on, ruling_on, shown_lines};
+use opc_rulings::ruling::{Standing, logon_ruling_on, ruling_on, shown_lines, standing_at};
 use opc_sights::sight::{console_sight_on, event_sight_on, sight_on};
 use opc_state::tables::Tables;
 use opc_terms::fault::Fault;
@@ -102,6 +103,7 @@ fn refusal(fault: BoardFault) -> Result<Fault, StoreFault>
 fn deed_on<T: Tables>(
     tables: &mut T,
     alloc: Global,
+    standing: &Standing,
     console: &ConsoleRow,
     command: &Command<'_>,
     rule: Rule,
@@ -109,14 +111,14 @@ fn deed_on<T: Tables>(
     requires session { is_session_command command.now ≡ false }
     requires display { is_display command.now ≡ false }
     ensures kept { IsKept T.is_sure T.represents T.may_leave tables.old tables.new }
-    ensures outcome { Answers (T.is_sure tables.new) (T.represents tables.old) result (λ s o. console_at s.board console.now.name ≡ Some console.now → IsOutcome s (allowed_command s console.now command.now rule) o) }
+    ensures outcome { Answers (T.is_sure tables.new) (T.represents tables.old) result (λ s o. console_at s.board console.now.name ≡ Some console.now → IsStanding s console.now standing.now → IsOutcome s (allowed_command s console.now command.now rule) o) }
 {
     let board = sight_on(tables, alloc, command, console)?;
     let acted = match act_on(alloc, board, command, &console.name) {
         Ok(acted) => acted,
         Err(fault) => return denied(refusal(fault)?, Some(rule)),
     };
-    let lines = shown_lines(tables, alloc, console, acted.lines)?;
+    let lines = shown_lines(tables, alloc, standing, console, acted.lines)?;
     Ok(Ok(Deed {
         edits: acted.edits,
         lines,
@@ -135,14 +137,15 @@ fn board_command<T: Tables>(
     ensures kept { IsKept T.is_sure T.represents T.may_leave tables.old tables.new }
     ensures outcome { Answers (T.is_sure tables.new) (T.represents tables.old) result (λ s o. console_at s.board console.now.name ≡ Some console.now → IsOutcome s (board_outcome s console.now command.now need.now) o) }
 {
-    let rule = match ruling_on(tables, alloc, console, need)? {
+    let standing = standing_at(tables, alloc, console)?;
+    let rule = match ruling_on(tables, alloc, &standing, console, need)? {
         Ruling::Allowed(rule) => rule,
         Ruling::Denied(rule) => return denied(denial_fault(&rule), Some(rule)),
     };
     if is_display(command) {
-        display_on(tables, alloc, console, command, rule)
+        display_on(tables, alloc, &standing, console, command, rule)
     } else {
-        deed_on(tables, alloc, console, command, rule)
+        deed_on(tables, alloc, &standing, console, command, rule)
     }
 }
 

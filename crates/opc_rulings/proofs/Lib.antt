@@ -1,6 +1,5 @@
 pub mod Connected
 pub mod Found
-pub mod Free
 pub mod HeldIn
 pub mod Named
 pub mod OwnUsers

@@ -1,6 +1,5 @@
 //! Rulings, from what is loaded for them.
 ghost use Rattle.std.specs.Prelude.{◌≡◌, ◌≤◌, Some, IfOk, IsTrue, true, filter, length};
-ghost use Rattle.std.specs.List.{list_all};
 ghost use Rattle.std.specs.Option.{option_and_then};
 ghost use Rattle.opc_names.specs.Names.{is_plain, is_resource};
 ghost use Rattle.opc_names.specs.declared.class.Class.TheVariants.{Opercmds};
@@ -10,7 +9,7 @@ ghost use Rattle.opc_state.specs.Asked.{Answers};
 ghost use Rattle.opc_state.specs.State.{deciding_in};
 ghost use Rattle.opc_state.specs.Changes.{IsKept};
 ghost use Rattle.opc_rulings.specs.Held.{class_ruling};
-ghost use Rattle.opc_rulings.specs.Standing.{IsStanding, is_free};
+ghost use Rattle.opc_rulings.specs.Standing.{IsStanding};
 ghost use Rattle.opc_machine.specs.Rulings.{acting, acting_user, is_auto, is_required, is_allowed, logon_ruling, own_user, need_to_show, ruling, shown, to_show};
 
 use crate::held::level_on;
@@ -28,7 +27,7 @@ use opc_terms::mode::Mode;
 use opc_terms::need::Need;
 use opc_terms::rule::Rule;
 use opc_terms::store_fault::StoreFault;
-use std::alloc::{AllocError, Global};
+use std::alloc::Global;
 
 fn is_required(mode: Mode) -> bool
     ensures { result ≡ is_required mode }
@@ -152,18 +151,19 @@ pub(crate) fn acting_on<T: Tables>(
     }
 }
 
-// How needs are ruled on at a console, whatever is needed.
+/// How needs are ruled on at a console, whatever is needed.
 #[derive(Clone, Copy)]
-pub(crate) enum Standing {
-    // The logon rule denies everything.
+pub enum Standing {
+    /// The logon rule denies everything.
     Denied(Rule),
-    // Profiles decide for this user.
+    /// Profiles decide for this user.
     User(User),
-    // Nobody acts, or the class is inactive: the console's authority decides.
+    /// Nobody acts, or the class is inactive: the console's authority decides.
     Console,
 }
 
-fn standing_at<T: Tables>(
+/// How needs are ruled on at a console: who acts is loaded once for all of them.
+pub fn standing_at<T: Tables>(
     tables: &mut T,
     alloc: Global,
     console: &ConsoleRow,
@@ -186,8 +186,8 @@ fn standing_at<T: Tables>(
     Ok(Standing::User(user))
 }
 
-// The ruling on a need where it is known how needs are ruled on.
-fn ruling_by<T: Tables>(
+/// The ruling on a need at a console, where it is known how needs are ruled on.
+pub fn ruling_on<T: Tables>(
     tables: &mut T,
     alloc: Global,
     standing: &Standing,
@@ -202,20 +202,6 @@ fn ruling_by<T: Tables>(
         Standing::User(user) => by_profile(tables, alloc, user, console, need),
         Standing::Console => Ok(console_ruling(console.auth, need)),
     }
-}
-
-/// The ruling on a need at a console.
-pub fn ruling_on<T: Tables>(
-    tables: &mut T,
-    alloc: Global,
-    console: &ConsoleRow,
-    need: &Need,
-) -> Result<Ruling, StoreFault>
-    ensures kept { IsKept T.is_sure T.represents T.may_leave tables.old tables.new }
-    ensures ruling { Answers (T.is_sure tables.new) (T.represents tables.old) result (λ s r. r ≡ ruling s console.now need.now) }
-{
-    let standing = standing_at(tables, alloc, console)?;
-    ruling_by(tables, alloc, &standing, console, need)
 }
 
 fn resource_of(name: &ConsoleName) -> Resource
@@ -301,69 +287,26 @@ fn is_shown<T: Tables>(
     match need_to_show(line.item) {
         None => Ok(true),
         Some(need) => {
-            let ruling = ruling_by(tables, alloc, standing, console, &need)?;
+            let ruling = ruling_on(tables, alloc, standing, console, &need)?;
             Ok(is_allowed(ruling))
         }
     }
 }
 
-// Whether a line is about no unit and no console, and so may be shown to everybody.
-fn is_free(line: &Line) -> bool
-    ensures { result ≡ is_free line.now }
-{
-    match line.item {
-        Item::Plain => true,
-        Item::Unit(_) | Item::Console(_) => false,
-    }
-}
-
-fn are_free(lines: &[Line]) -> bool
-    ensures { result ≡ list_all is_free lines.now }
-{
-    lines.iter().all(|line| is_free(line))
-}
-
-fn all_of(alloc: Global, lines: Vec<Line>) -> Result<Rows<Line>, AllocError>
-    ensures { IfOk result (λ all. all ≡ lines.items) }
-{
-    let mut all = Rows::new(alloc);
-    for line in lines {
-        all.push(line)?;
-    }
-    Ok(all)
-}
-
-/// Those lines that may be shown. Who acts is loaded once for all of them, and not where none needs a ruling.
-#[tactic(auto, using(crate::proofs::Free::free_lines_are_shown))]
+/// Those lines that may be shown at a console, where it is known how needs are ruled on.
 pub fn shown_lines<T: Tables>(
     tables: &mut T,
     alloc: Global,
+    standing: &Standing,
     console: &ConsoleRow,
     lines: Vec<Line>,
 ) -> Result<Rows<Line>, StoreFault>
     ensures kept { IsKept T.is_sure T.represents T.may_leave tables.old tables.new }
-    ensures lines { Answers (T.is_sure tables.new) (T.represents tables.old) result (λ s kept. kept ≡ filter (shown s console.now) lines.items) }
+    ensures lines { Answers (T.is_sure tables.new) (T.represents tables.old) result (λ s kept. IsStanding s console.now standing.now → kept ≡ filter (shown s console.now) lines.items) }
 {
-    if are_free(lines.as_slice()) {
-        return Ok(all_of(alloc, lines)?);
-    }
-    ruled_lines(tables, alloc, console, lines)
-}
-
-// The same where some line may need a ruling.
-fn ruled_lines<T: Tables>(
-    tables: &mut T,
-    alloc: Global,
-    console: &ConsoleRow,
-    lines: Vec<Line>,
-) -> Result<Rows<Line>, StoreFault>
-    ensures kept { IsKept T.is_sure T.represents T.may_leave tables.old tables.new }
-    ensures lines { Answers (T.is_sure tables.new) (T.represents tables.old) result (λ s kept. kept ≡ filter (shown s console.now) lines.items) }
-{
-    let standing = standing_at(tables, alloc, console)?;
     let mut kept = Rows::new(alloc);
     for line in lines {
-        if is_shown(tables, alloc, &standing, console, &line)? {
+        if is_shown(tables, alloc, standing, console, &line)? {
             kept.push(line)?;
         }
     }

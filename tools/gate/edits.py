@@ -1,4 +1,4 @@
-"""Edits that must fail: crates/NAME/must-fail/*.edit, in the form that rt ci reads."""
+"""Must-fail edits: crates/NAME/must-fail/*.edit, in the form that rt ci reads."""
 import os, re
 
 from .kit import PARTS
@@ -12,7 +12,7 @@ class BadEdit(Exception):
 
 
 class Edit:
-    """One edit. `function` is the one function in whose body all of it lies, as it was, and `wrong` as the edit makes it."""
+    """One must-fail edit. `function` is the one function in whose body all of it lies, as it was, and `wrong` as the edit makes it."""
 
     def __init__(self, crate, file, texts):
         self.crate, self.name = crate, os.path.basename(file)
@@ -92,7 +92,7 @@ def texts_of(folder):
 
 
 def edits_in(folder, crate, texts):
-    """The crate's edits, and the files of its must-fail/ that are none."""
+    """The crate's must-fail edits, and the files of its must-fail/ that are none."""
     at = f"{folder}/must-fail"
     names = sorted(os.listdir(at)) if os.path.isdir(at) else []
     good = [it for it in names if NAMED.fullmatch(it) and os.path.isfile(f"{at}/{it}")]

@@ -1,4 +1,4 @@
-"""A crate's edits, tried: as twins beside a control, else in place, else alone."""
+"""A crate's must-fail edits, tried: as twins beside a control, else in place, else alone."""
 import itertools, os, re, shutil, tempfile
 
 from . import kit, verdicts
@@ -57,7 +57,7 @@ class InPlace:
 
 
 class Trial:
-    """The edits of one crate, in a folder of the run's own."""
+    """The must-fail edits of one crate, in a folder of the run's own."""
 
     def __init__(self, top, name, room, log, is_left_by_ci=False):
         self.name, self.log, self.number = name, log, itertools.count(1)

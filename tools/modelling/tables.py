@@ -5,7 +5,7 @@ from . import files, names
 
 VERSION = 3
 AUTHS = {"INFO": 0, "ALL": 1, "MASTER": 2}
-# what the columns of each table are called where nothing but their order matters is not asked: rows compare by place
+# the columns of each table, in the order in which its rows are compared
 COLUMNS = {
     "meta": "version", "classes": "class, active", "usr": "id, special, auditor, revoked, digest, restricted", "grp": "name",
     "connects": "usr, grp", "profiles": "class, pattern, owner, uacc, warning, skey, head", "entries": "class, pattern, id, console, level",

@@ -1,5 +1,5 @@
 //! Commands and events on a board.
-ghost use Rattle.std.specs.Prelude.{◌≡◌, ◌≢◌, IfErr, IfOk, IsSome, Err, OnErr, OnOk, false, string_bytes};
+ghost use Rattle.std.specs.Prelude.{◌≡◌, ◌≢◌, IfErr, IfOk, IsSome, Err, OnErr, OnOk, false};
 ghost use Rattle.opc_reader.specs.Quotes.{text_value};
 ghost use Rattle.opc_board.specs.declared.fault.BoardFault.TheVariants.{NoMemory};
 ghost use Rattle.opc_board.specs.Facts.{console_at, unit_at};

@@ -103,6 +103,7 @@ fn rows_of<R: Told + Drop>(alloc: Global, text: &str) -> Result<Rows<R>> {
     Ok(rows)
 }
 
+/// The rows of a board, as a text tells them; its histories are empty.
 pub fn gathered(alloc: Global, text: &str) -> Result<BoardRows> {
     Ok(BoardRows {
         units: rows_of(alloc, text)?,

@@ -1,11 +1,11 @@
 //! The first policy.
-ghost use Rattle.std.specs.Prelude.{◌≡◌, ◌≢◌, ◌⊎◌, ◌++◌, List, [], IfErr, IfOk, OnErr, OnOk, MatchOption, Ok, Err, true, false};
+ghost use Rattle.std.specs.Prelude.{◌≡◌, ◌≢◌, ◌⊎◌, ◌++◌, List, [], IfErr, IfOk, OnErr, OnOk, Ok, Err, true, false};
 ghost use Rattle.std.specs.List.{cons_option};
 ghost use Rattle.opc_terms.specs.declared.fault.Fault.TheVariants as why;
 ghost use Rattle.opc_policy.specs.declared.row.Row.{Row as TheRow};
 ghost use Rattle.opc_board.specs.Sight.{IsInOrder};
 ghost use Rattle.opc_state.specs.Asked.{Answers};
-ghost use Rattle.opc_state.specs.State.{Fits, State, has_users};
+ghost use Rattle.opc_state.specs.State.{State, has_users};
 ghost use Rattle.opc_state.specs.Changes.{IsKept, all_edited};
 ghost use Rattle.opc_bootstrap.specs.RowEdits.{AreEditsOf, consoles_alone, HaveNothingNew, IsBootstrap, IsToldWhy, edit_of, edits_of};
 ghost use Rattle.opc_machine.specs.Bootstrap.{bootstrapped, console_after, consoles_after, with_rows, loses_master, policy_after};

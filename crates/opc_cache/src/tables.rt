@@ -1,5 +1,4 @@
 //! The tables that the machine asks, with the cache before them.
-ghost use Rattle.opc_state.specs.State.{State};
 
 use crate::cached::{Cached, known};
 use opc_board::rows::{ConsoleRow, DeviceRow, ReplyRow, UnitRow};

@@ -15,7 +15,7 @@ use Rattle.opc_state.specs.declared.change.Edit.{Edit}
 use Rattle.opc_state.specs.Changes.{all_edited, with_board}
 use Rattle.opc_state.specs.Sights.{AreSights}
 use Rattle.opc_state.specs.State.{State}
-use Rattle.opc_sights.specs.Sighted.{IsConsoleSight, IsEventSight, IsPart, IsSight}
+use Rattle.opc_sights.specs.Sighted.{IsConsoleSight, IsEventSight, IsSight}
 use Rattle.opc_commands.specs.Acted.{IsActed}
 
 live_order : (b : BoardRows) → IsInOrder b → IsInOrder (without_history b)

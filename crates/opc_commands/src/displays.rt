@@ -1,7 +1,7 @@
 //! Commands that only show.
 ghost use Rattle.std.specs.Prelude.{◌≡◌, Some, true};
 ghost use Rattle.opc_board.specs.Effect.{effect};
-ghost use Rattle.opc_board.specs.Facts.{Name, console_at};
+ghost use Rattle.opc_board.specs.Facts.{Name};
 ghost use Rattle.opc_board.specs.Outcome.{done_with};
 ghost use Rattle.opc_commands.specs.Acted.{allowed_command};
 ghost use Rattle.opc_machine.specs.Commands.{is_display};

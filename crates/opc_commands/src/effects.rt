@@ -1,5 +1,5 @@
 //! What commands, logons and events make of what they see of the board, as edits of the state.
-ghost use Rattle.std.specs.Prelude.{◌≡◌, ◌≢◌, IfErr, IfOk, IsSome, Some, None, Err, OnOk, [], true, false};
+ghost use Rattle.std.specs.Prelude.{◌≡◌, ◌≢◌, IfErr, IfOk, IsSome, Some, None, Err, [], false};
 ghost use Rattle.opc_board.specs.declared.fault.BoardFault.TheVariants.{NoMemory};
 ghost use Rattle.opc_board.specs.Consoles.{logged_on, logged_off};
 ghost use Rattle.opc_board.specs.Effect.{effect, event_effect, is_session_command};

@@ -16,6 +16,7 @@ pub struct FailingReader<'a> {
 }
 
 impl<'a> FailingReader<'a> {
+    /// A reader of these bytes, so many a read at most; so many reads do not fail.
     pub fn new(bytes: &'a [u8], piece: usize, reads: usize) -> Self
         ensures piece { result.piece ≡ piece }
         ensures reads { result.reads ≡ reads }

@@ -1,6 +1,6 @@
 -- A run whose answers are heard goes on by one request.
 use Rattle.std.proofs.Common.{◌≡◌, inr, inl, ℕ, ◌+◌, ◌<◌, List, [], ◌∷◌, ◌++◌, length, take, drop, get_or, refl, subst, sym, ap, ◌∙◌}
-use Rattle.std.proofs.lemmas.List.{append_assoc, take-append-drop, take_all, take_more}
+use Rattle.std.proofs.lemmas.List.{append_assoc, take-append-drop, take_more}
 use Rattle.opc_state.specs.State.{State}
 use Rattle.opc_machine.specs.declared.request.Request.{Request}
 use Rattle.opc_machine.specs.declared.request.Answer.{Answer}

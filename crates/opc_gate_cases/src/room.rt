@@ -16,6 +16,7 @@ use std::mem;
 
 type InMemory = Store<MemStore>;
 
+/// A gate over tables in memory, and what its next room begins with: the rows of a policy, and requests with their moments.
 #[derive(Drop)]
 pub struct Room {
     gate: Gate<Cached<InMemory>>,
@@ -38,6 +39,7 @@ fn gate_of(alloc: Global, store: InMemory) -> Result<Gate<Cached<InMemory>>> {
 }
 
 impl Room {
+    /// A gate without a policy, which begins with nothing.
     pub fn new(alloc: Global) -> Result<Self> {
         Ok(Room {
             gate: empty_gate(alloc)?,

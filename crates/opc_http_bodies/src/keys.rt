@@ -2,7 +2,6 @@
 ghost use Rattle.std.specs.Prelude.{◌≡◌};
 ghost use Rattle.std.specs.Option.{option_map};
 ghost use Rattle.opc_import.specs.Fields.{digest_of};
-ghost use Rattle.opc_names.specs.Names.{pattern_rule};
 ghost use Rattle.opc_names.specs.Spellings.{auths, classes, levels};
 ghost use Rattle.opc_terms.specs.Modes.{modes};
 ghost use Rattle.serde_json.specs.View.{view};

@@ -29,6 +29,7 @@ const MOST_ROWS: u32 = 1000;
 
 type InMemory = Store<MemStore>;
 
+/// The routes, a gate over tables in memory, and what its next room begins with: a policy file, and a script.
 #[derive(Drop)]
 pub struct Room {
     routes: Routes,
@@ -45,6 +46,7 @@ pub struct Outcome {
 }
 
 impl Outcome {
+    /// What came of this exchange, which wrote these bytes.
     pub fn of(alloc: Global, outcome: Result<Served, LinkFault>, written: Vec<u8>) -> Result<Self> {
         Ok(Outcome {
             told: told_of(alloc, outcome)?,
@@ -68,6 +70,7 @@ fn gate_of(alloc: Global, store: InMemory) -> Result<Gate<Cached<InMemory>>> {
 }
 
 impl Room {
+    /// A gate without a policy, which begins with nothing.
     pub fn new(alloc: Global) -> Result<Self> {
         Ok(Room {
             routes: routes(alloc)?,

@@ -1,5 +1,5 @@
 //! How long the body of a request is.
-ghost use Rattle.std.specs.Prelude.{◌≡◌, ◌≤◌, All, IfErr, IfOk, IfSome, Err, Ok, length, map};
+ghost use Rattle.std.specs.Prelude.{◌≡◌, All, IfErr, IfOk, IfSome, Err, Ok, length, map};
 ghost use Rattle.std.specs.Char.{to_ascii_lowercase};
 ghost use Rattle.std.specs.Option.{option_map};
 ghost use Rattle.std.specs.Str.{bytes_eq};

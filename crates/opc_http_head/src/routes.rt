@@ -1,5 +1,5 @@
 //! The routes.
-ghost use Rattle.std.specs.Prelude.{◌≡◌, IfOk, codes};
+ghost use Rattle.std.specs.Prelude.{◌≡◌, IfOk};
 ghost use Rattle.opc_http_head.specs.Routes.{route_of, the_routes};
 
 use matchit::{InsertError, Router};

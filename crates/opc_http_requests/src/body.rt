@@ -1,5 +1,5 @@
 //! The body of a request, read from a source.
-ghost use Rattle.std.specs.Prelude.{◌≡◌, ◌≤◌, ◌<◌, ◌-◌, IfOk, if◌then◌else◌, false, true, vec_len};
+ghost use Rattle.std.specs.Prelude.{◌≡◌, ◌<◌, ◌-◌, IfOk, if◌then◌else◌, false, true, vec_len};
 ghost use Rattle.opc_http_link.specs.Reads.{ReadsInto, TakesAtMost, is_read};
 ghost use Rattle.opc_http_requests.specs.Bodies.{MayFill, ReadsTo};
 

@@ -1,5 +1,5 @@
 //! The columns of a policy file.
-ghost use Rattle.std.specs.Prelude.{◌≡◌, codes};
+ghost use Rattle.std.specs.Prelude.{◌≡◌};
 ghost use Rattle.csv.specs.Records.{fields_of};
 ghost use Rattle.opc_import.specs.Columns.{column_name, field_in, has_names, is_header, reason, unused, width_of};
 

@@ -11,6 +11,7 @@ const HEADER: &str = "kind,class,name,id,value,owner,flags,digest,when,restricte
 
 const ROW: &str = "group,,DAY,,,,,,,\n";
 
+/// The answer to a line: a subject, and what is asked of it. A subject that there is not ends the program.
 pub fn answer(alloc: Global, line: &str) -> Result<String> {
     let (subject, rest) = line.split_once(' ').unwrap_or((line, ""));
     match subject {

@@ -3,7 +3,7 @@ use Rattle.std.proofs.Common.{◌≡◌, inl, inr, ℕ, false, ◌&&◌, ◌||�
 use Rattle.std.specs.Option.{is_none, option_and_then, option_or}
 use Rattle.std.proofs.lemmas.Bool.{and_right}
 use Rattle.opc_terms.specs.declared.mode.Mode.{Mode}
-use Rattle.opc_terms.specs.declared.mode.Mode.TheVariants.{Optional, Auto, Required}
+use Rattle.opc_terms.specs.declared.mode.Mode.TheVariants.{Optional, Auto}
 use Rattle.opc_terms.specs.declared.need.Need.{Need}
 use Rattle.opc_terms.specs.declared.rule.Rule.{Rule}
 use Rattle.opc_terms.specs.declared.rule.Rule.TheVariants as rule

@@ -1,11 +1,10 @@
 -- Who may administer, see profiles and the account, and import.
-use Rattle.std.proofs.Common.{◌≡◌, ◌⊎◌, inl, inr, ℕ, Bool, true, false, ◌||◌, List, Option, Some, None, Decides, refl, rules, sym, ap, ◌∙◌}
+use Rattle.std.proofs.Common.{◌≡◌, ◌⊎◌, Bool, true, false, ◌||◌, Option, Some, None, Decides, refl, rules, sym, ap, ◌∙◌}
 use Rattle.std.specs.Str.{bytes_eq}
 use Rattle.std.proofs.lemmas.Bool.{false≢true}
 use Rattle.std.proofs.lemmas.Bool.Decides.{Decides-or}
 use Rattle.std.proofs.lemmas.Slice.Eq.{bytes_eq-Decides}
 use Rattle.opc_names.specs.Authority.{includes}
-use Rattle.opc_names.specs.declared.class.Class.{Class}
 use Rattle.opc_names.specs.declared.level.Level.TheVariants.{Read}
 use Rattle.opc_policy.specs.declared.policy.Policy.{Policy}
 use Rattle.opc_policy.specs.declared.profile.Profile.{Profile}
@@ -15,7 +14,7 @@ use Rattle.opc_board.specs.declared.rows.ConsoleRow.{ConsoleRow}
 use Rattle.opc_state.specs.State.{State}
 use Rattle.opc_machine.specs.declared.operation.Operation.{Operation}
 use Rattle.opc_machine.specs.declared.operation.Operation.TheVariants as operation
-use Rattle.opc_machine.specs.Rights.{account_shown, holds_read, is_owner, is_special, may_change, owns_changed, profile_shown, sees_all}
+use Rattle.opc_machine.specs.Rights.{holds_read, is_owner, is_special, owns_changed, sees_all}
 use Rattle.opc_machine.specs.Rulings.{acting}
 use Rattle.opc_laws.specs.RightLaws.{AccountIsSeenByAuditors, ImportsAreOfSpecial, MayChange, MaySeeProfile, Owns, ProfilesAreSeenByReaders, RightsAreOfSpecialAndOwners, SeesAll, changed_profile}
 use Rattle.opc_laws.specs.RulingLaws.{held_at}

@@ -10,7 +10,7 @@ use Rattle.opc_machine.specs.declared.request.Answer.{Answer}
 use Rattle.opc_machine.specs.Commands.{command_in, command_outcome, console_for, need_of, typed}
 use Rattle.opc_machine.specs.Outcome.{◌>>=◌}
 use Rattle.opc_machine.proofs.Inversion.{bind_ok, command_is, console_is, done_is, not_given_up}
-use Rattle.opc_laws.specs.Laws.{GivenUpForWantOfMemoryOrStore, IsSession, NothingAskedChangesNothing, OnlyWhatIsHeardIsDone, RequestsAreJudgedInTurn}
+use Rattle.opc_laws.specs.Laws.{GivenUpWithoutMemoryOrStore, IsSession, NothingAskedChangesNothing, OnlyWhatIsHeardIsDone, RequestsAreJudgedInTurn}
 use Rattle.opc_laws.specs.NeedLaws.{NeedsAreOfTheTable}
 
 -- each command but LOGON and LOGOFF needs something
@@ -108,5 +108,5 @@ pub nothing_asked : NothingAskedChangesNothing
 nothing_asked s [] new runs = (refl, runs)
 nothing_asked s (answer ∷ answers) new runs = absurd runs
 
-pub gives_up_for : GivenUpForWantOfMemoryOrStore
+pub gives_up_for : GivenUpWithoutMemoryOrStore
 gives_up_for answer gives_up = gives_up

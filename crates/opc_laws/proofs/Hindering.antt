@@ -1,7 +1,7 @@
 -- What is in the way of an operation of administration.
-use Rattle.std.proofs.Common.{◌≡◌, inl, inr, ℕ, Bool, true, false, not, ◌&&◌, ◌||◌, if◌then◌else◌, is_some, List, [], ◌∷◌, Option, Some, None, Result, Ok, Err, refl, rules, ap, ◌∙◌}
+use Rattle.std.proofs.Common.{◌≡◌, inl, inr, ℕ, Bool, true, false, not, ◌&&◌, is_some, List, [], ◌∷◌, Some, None, Result, Ok, Err, refl, rules, ap, ◌∙◌}
 use Rattle.opc_terms.specs.declared.fault.Fault.{Fault}
-use Rattle.opc_terms.specs.declared.fault.Fault.TheVariants.{Exists, InUse, LastMaster, Missing}
+use Rattle.opc_terms.specs.declared.fault.Fault.TheVariants.{Exists, InUse, Missing}
 use Rattle.opc_policy.specs.declared.policy.Policy.{Policy}
 use Rattle.opc_policy.specs.Profiles.{profile_of}
 use Rattle.opc_policy.specs.Taken.{has_group, has_holder, has_user, needing, unless}
@@ -13,7 +13,7 @@ use Rattle.opc_machine.specs.declared.operation.Operation.TheVariants as operati
 use Rattle.opc_machine.specs.Administration.{board_changed, changed, has_name, is_in_use, is_permitted, policy_changed, unless_in_use}
 use Rattle.opc_machine.specs.Bootstrap.{loses_master, mastered, with_rows_of}
 use Rattle.opc_laws.specs.ObstacleLaws.{IsDoneOrLastMaster, ObstaclesAreFaults, OperationsAreDoneWithoutObstacle, first_obstacle, obstacles}
-use Rattle.opc_laws.specs.TakingLaws.{IsDoneTo, KeepsMaster}
+use Rattle.opc_laws.specs.TakingLaws.{IsDoneTo}
 use Rattle.opc_laws.proofs.Taking.{done_to, kept_master}
 
 -- these are all that is in the way

@@ -1,13 +1,11 @@
 -- Which fault is answered.
-use Rattle.std.proofs.Common.{◌≡◌, inl, inr, ℕ, Bool, true, false, not, if◌then◌else◌, List, [], ◌∷◌, Option, Some, None, Ok, Err, filter, map, refl, rules, sym, ap, ◌∙◌, codes}
+use Rattle.std.proofs.Common.{◌≡◌, inl, inr, ℕ, Bool, true, false, not, if◌then◌else◌, List, [], ◌∷◌, Some, None, Ok, Err, filter, map, refl, rules, sym, ap, ◌∙◌, codes}
 use Rattle.std.specs.Option.{is_none}
 use Rattle.opc_terms.specs.declared.fault.Fault.{Fault}
 use Rattle.opc_terms.specs.declared.fault.Fault.TheVariants as fault
-use Rattle.opc_policy.specs.declared.row.Row.{Row}
 use Rattle.opc_policy.specs.Profiles.{of_class}
 use Rattle.opc_reader.specs.declared.command.Command.TheVariants as command
 use Rattle.opc_reader.proofs.Exact.{fault_so}
-use Rattle.opc_board.specs.declared.rows.ConsoleRow.{ConsoleRow}
 use Rattle.opc_board.specs.Consoles.{logged_off, logged_on}
 use Rattle.opc_board.specs.Facts.{console_at}
 use Rattle.opc_state.specs.Loads.{asked_for}
@@ -16,7 +14,6 @@ use Rattle.opc_state.specs.State.{State}
 use Rattle.opc_machine.specs.declared.operation.Operation.{Operation}
 use Rattle.opc_machine.specs.declared.operation.Operation.TheVariants as operation
 use Rattle.opc_machine.specs.Administration.{admin_outcome, changed}
-use Rattle.opc_machine.specs.Bootstrap.{with_rows}
 use Rattle.opc_machine.specs.Commands.{command_in, command_or, console_for, known_by, let_on, need_of, nobody_on, typed}
 use Rattle.opc_machine.specs.Faults.{line_fault}
 use Rattle.opc_machine.specs.Imports.{batch_line, batch_of, batch_outcome, import_outcome, same_rows}

@@ -1,25 +1,23 @@
 -- What operations of administration and rows of an import make of the state.
-use Rattle.std.proofs.Common.{◌≡◌, ℕ, Bool, true, false, not, ◌&&◌, ◌||◌, ◌==◌, if◌then◌else◌, is_some, List, [], ◌∷◌, Option, Some, None, Result, Ok, Err, Contains, find, zero, suc, arith, refl, rules, sym, ap, ◌∙◌, codes}
+use Rattle.std.proofs.Common.{◌≡◌, ℕ, Bool, true, false, not, ◌&&◌, ◌==◌, if◌then◌else◌, is_some, List, [], ◌∷◌, Some, None, Result, Ok, Err, Contains, zero, suc, arith, refl, rules, sym, ap, ◌∙◌}
 use Rattle.std.proofs.lemmas.Bool.Decides.{nat_tests}
 use Rattle.opc_terms.specs.declared.fault.Fault.{Fault}
 use Rattle.opc_policy.specs.declared.policy.Policy.{Policy}
 use Rattle.opc_policy.specs.declared.row.Row.{Row}
 use Rattle.opc_policy.specs.declared.row.Row.TheVariants as rows
-use Rattle.opc_policy.specs.Members.{with_connect, with_group, with_user}
-use Rattle.opc_policy.specs.Profiles.{profile_of, with_definition, with_permission}
-use Rattle.opc_policy.specs.Taken.{after_row, has_group, has_holder, has_user, needing, unless, with_active}
+use Rattle.opc_policy.specs.Profiles.{profile_of}
+use Rattle.opc_policy.specs.Taken.{after_row, has_group, has_holder, has_user, needing, unless}
 use Rattle.opc_board.specs.declared.board.BoardRows.{BoardRows}
 use Rattle.opc_board.specs.Facts.{has_master}
 use Rattle.opc_state.specs.declared.change.Batch.{Batch}
 use Rattle.opc_state.specs.Loads.{is_connected}
-use Rattle.opc_state.specs.Members.{without_connect, without_permission, without_profile, without_user}
 use Rattle.opc_state.specs.State.{State}
 use Rattle.opc_machine.specs.declared.operation.Operation.{Operation}
 use Rattle.opc_machine.specs.declared.operation.Operation.TheVariants as operation
-use Rattle.opc_machine.specs.Administration.{board_changed, changed, definition, has_name, is_in_use, is_permitted, policy_changed, unless_in_use}
+use Rattle.opc_machine.specs.Administration.{board_changed, has_name, is_in_use, is_permitted, policy_changed, unless_in_use}
 use Rattle.opc_machine.specs.Bootstrap.{console_after, consoles_after, loses_master, mastered, policy_after, then_policy, with_rows_of}
 use Rattle.opc_machine.specs.Imports.{batch_of}
-use Rattle.opc_laws.specs.TakingLaws.{AreDefined, AreTaken, AreTakenWhole, BatchesAreFoundByNumber, IsDoneTo, IsFoundByNumber, KeepsMaster, OperationsDoWhatTheySay, OperationsKeepAMaster, RowsAreTakenInTurn, with_console_of}
+use Rattle.opc_laws.specs.TakingLaws.{AreDefined, AreTaken, AreTakenWhole, BatchesAreFoundByNumber, IsDoneTo, KeepsMaster, OperationsDoWhatTheySay, OperationsKeepAMaster, RowsAreTakenInTurn, with_console_of}
 
 -- the state that is made of a policy and a board, where no last master is lost
 pub record IsMade (s : State) (board : BoardRows) (r : Result Policy Fault) (new : State) : Type 0 where

@@ -157,8 +157,8 @@ abbrev pub GivenUpChangesNothing : Type 0
 GivenUpChangesNothing = (s : State) (moment : ℕ) (r : Input) (fault : Fault) (why : Option Rule) (new : State) → IsGivenUp (Refused fault why) → Step s moment r (Refused fault why) new → new ≡ s
 
 -- Only two answers give a request up: there was no memory, or the store failed.
-abbrev pub GivenUpForWantOfMemoryOrStore : Type 0
-GivenUpForWantOfMemoryOrStore = (answer : Answer) → IsGivenUp answer → (answer ≡ Refused fault.NoMemory None) ⊎ (answer ≡ Refused fault.Store None)
+abbrev pub GivenUpWithoutMemoryOrStore : Type 0
+GivenUpWithoutMemoryOrStore = (answer : Answer) → IsGivenUp answer → (answer ≡ Refused fault.NoMemory None) ⊎ (answer ≡ Refused fault.Store None)
 
 -- the refusals of authority
 abbrev pub IsOfAuthority : Fault → Type 0

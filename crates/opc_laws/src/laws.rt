@@ -4,7 +4,7 @@ ghost use Rattle.opc_laws.specs.ChangingLaws.{AdministersOnlyWhereAllowed, Admin
 ghost use Rattle.opc_laws.specs.DisplayLaws.{LinesAreAboutWhatTheyList, ListsEachConsoleOnce, ListsEachUnitOnce, ListsEveryConsole, ListsEveryUnit, ListsTheUnit, ListsTheUnitOnce};
 ghost use Rattle.opc_laws.specs.FaultLaws.{AdministrationFaultsAreAnswered, BadLinesAreAnswered, ChangedBatchesAreAnswered, ImportFaultsAreAnswered, LogonFaultsAreAnswered, MissingConsolesAreAnswered, MissingRightsAreAnswered, OfflineConsolesAreAnswered};
 ghost use Rattle.opc_laws.specs.HoldingLaws.{ConsoleEntriesRaise, ConsolesNeverLower, EntriesCountAtTheirConsole, LevelsAreGiven, RestrictedUsersAreNamed};
-ghost use Rattle.opc_laws.specs.Laws.{ActsOnlyWhereAllowed, ActsWhereverAllowed, BoardFaultsAreAnswered, DenialsAreAnswered, GivenUpChangesNothing, GivenUpForWantOfMemoryOrStore, ListsExactlyWhatMayBeShown, LogsOffOnlyWhereSomebodyIsOn, LogsOffWhereverSomebodyIsOn, LogsOnOnlyWhereAllowed, LogsOnWhereverAllowed, NothingAskedChangesNothing, OnlyWhatIsHeardIsDone, RefusalsChangeNothing, RefusalsNameNoOtherRule, RefusalsOfAuthorityNameTheirRule, RequestsAreJudgedInTurn};
+ghost use Rattle.opc_laws.specs.Laws.{ActsOnlyWhereAllowed, ActsWhereverAllowed, BoardFaultsAreAnswered, DenialsAreAnswered, GivenUpChangesNothing, GivenUpWithoutMemoryOrStore, ListsExactlyWhatMayBeShown, LogsOffOnlyWhereSomebodyIsOn, LogsOffWhereverSomebodyIsOn, LogsOnOnlyWhereAllowed, LogsOnWhereverAllowed, NothingAskedChangesNothing, OnlyWhatIsHeardIsDone, RefusalsChangeNothing, RefusalsNameNoOtherRule, RefusalsOfAuthorityNameTheirRule, RequestsAreJudgedInTurn};
 ghost use Rattle.opc_laws.specs.LeavingLaws.{AccountRowsTell, EventFaultsAreAnswered, EventsHappenWhereverPossible, EventsOnlyDoTheirEffect, RequestsNameTheirConsole, WhatIsDoneLeavesRest};
 ghost use Rattle.opc_laws.specs.NeedLaws.{NeedsAreOfTheTable};
 ghost use Rattle.opc_laws.specs.ObstacleLaws.{ObstaclesAreFaults, OperationsAreDoneWithoutObstacle};
@@ -206,8 +206,8 @@ pub fn given_up_changes_nothing()
 {}
 
 /// A request is given up where memory is refused (E90) or because the store failed (E91), and is answered so.
-pub fn given_up_for_want_of_memory_or_store()
-    ensures { GivenUpForWantOfMemoryOrStore }
+pub fn given_up_without_memory_or_store()
+    ensures { GivenUpWithoutMemoryOrStore }
 {}
 
 /// A refusal of authority names its rule, a profile, a console's group or the logon rule, and that rule denies by the

@@ -2,7 +2,6 @@
 ghost use Rattle.std.specs.Prelude.{◌≡◌, ◌∷◌, ◌||◌, [], IfOk, Some, codes, filter, map, string_bytes};
 ghost use Rattle.opc_board.specs.Facts.{Name, console_at};
 ghost use Rattle.opc_board.specs.Texts.{columns};
-ghost use Rattle.opc_names.specs.Spellings.{level_text};
 ghost use Rattle.opc_policy.specs.Profiles.{of_class};
 ghost use Rattle.opc_policy.specs.Members.{groups_of};
 ghost use Rattle.opc_state.specs.Asked.{Answers};

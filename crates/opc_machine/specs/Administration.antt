@@ -1,12 +1,10 @@
 -- What an operation of administration makes of policy and consoles, or what is in its way.
-use Rattle.std.specs.Prelude.{ℕ, Bool, false, not, ◌||◌, ◌&&◌, if◌then◌else◌, List, [], Option, None, Result, Ok, Err, is_some}
+use Rattle.std.specs.Prelude.{ℕ, Bool, false, not, ◌||◌, if◌then◌else◌, List, [], Option, None, Result, Ok, Err, is_some}
 use Rattle.std.specs.List.{list_any}
 use Rattle.std.specs.Option.{option_map_or}
-use Rattle.std.specs.Str.{bytes_eq}
 use Rattle.opc_names.specs.declared.class.Class.{Class}
 use Rattle.opc_names.specs.declared.level.Level.{Level}
 use Rattle.opc_policy.specs.declared.connect.Connect.{Connect}
-use Rattle.opc_policy.specs.declared.entry.Entry.{Entry}
 use Rattle.opc_terms.specs.declared.fault.Fault.{Fault}
 use Rattle.opc_terms.specs.declared.fault.Fault.TheVariants.{InUse}
 use Rattle.opc_policy.specs.declared.policy.Policy.{Policy}

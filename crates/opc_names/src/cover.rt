@@ -1,11 +1,11 @@
 //! What a pattern covers.
-ghost use Rattle.std.specs.Prelude.{◌≡◌, ℕ, ◌+◌, ◌≤◌, ◌<◌, ◌↔◌, ◌==◌, ◌&&◌, ◌||◌, List, [], ◌∷◌, map, length, IsTrue, Some, count_by};
-ghost use Rattle.std.specs.List.{position, AllByRecursion, list_any};
+ghost use Rattle.std.specs.Prelude.{◌≡◌, ◌+◌, ◌<◌, ◌↔◌, ◌==◌, ◌&&◌, ◌||◌, [], ◌∷◌, map, length, IsTrue, Some};
+ghost use Rattle.std.specs.List.{AllByRecursion, list_any};
 ghost use Rattle.std.specs.Option.{option_copied};
 ghost use Rattle.opc_names.specs.Patterns.{tokens, matches, ends_in_star, covers, covers_text, CoversText};
 ghost use Rattle.opc_names.specs.Walk.{StarOnlyLast, IsQualifier};
 ghost use Rattle.opc_names.specs.Names.{qualifiers};
-ghost use Rattle.opc_names.specs.Walk.{qualifiers_left, left_len, covered_suffixes, any_from_here};
+ghost use Rattle.opc_names.specs.Walk.{qualifiers_left, covered_suffixes, any_from_here};
 
 use crate::qualifier::{is_stars, split_qualifier};
 

@@ -1,5 +1,5 @@
 //! The tokens of a pattern.
-ghost use Rattle.std.specs.Prelude.{◌≡◌, ◌∷◌, ◌++◌, [], List, ℕ, ◌<◌, length, MatchOption, IsTrue, ◌↔◌, ◌≤◌, take};
+ghost use Rattle.std.specs.Prelude.{◌≡◌, ◌∷◌, ◌++◌, [], ◌<◌, length, MatchOption, IsTrue, ◌↔◌, ◌≤◌, take};
 ghost use Rattle.opc_names.specs.Patterns.{tokens, spelling};
 ghost use Rattle.opc_names.specs.Order.{Earlier, is_open, key_byte, begins_with_stars, head};
 

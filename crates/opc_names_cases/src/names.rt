@@ -6,7 +6,7 @@ use std::alloc::Global;
 use std::fmt::Display;
 
 /// The longest resource that a further name may follow.
-const LONGEST_FRONT: usize = 30;
+const LONGEST_PREFIX: usize = 30;
 
 /// The name that was read, or the fault.
 pub fn read<N: Display + Drop>(alloc: Global, outcome: Result<N, NameFault>) -> Result<String> {
@@ -25,6 +25,7 @@ pub fn compare<K: NameKind<N>, const N: usize>(alloc: Global, names: &str) -> Re
     Ok(format!(in alloc; "{order:?}, equal {equal}")?)
 }
 
+/// A name as `Display` pads it, and as `Debug` shows it.
 pub fn shown(alloc: Global, name: &UserId) -> Result<String> {
     Ok(format!(in alloc; "{name:>10}|{name:?}")?)
 }
@@ -41,7 +42,7 @@ pub fn with(alloc: Global, words: &str) -> Result<String> {
 }
 
 fn longer(resource: &Resource, kind: &str, name: &str) -> Result<Resource> {
-    if resource.text().len() > LONGEST_FRONT {
+    if resource.text().len() > LONGEST_PREFIX {
         return Err(anyhow!("no room after {resource}"));
     }
     match kind {

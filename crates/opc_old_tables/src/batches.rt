@@ -1,6 +1,5 @@
 //! The kept batches of older tables, whose texts have fewer columns.
 ghost use Rattle.std.specs.Prelude.{◌≡◌, ℕ, List, false, map, Ok, IfOk};
-ghost use Rattle.sqlite.specs.Held.{state};
 ghost use Rattle.opc_import.specs.Files.{policy_of};
 ghost use Rattle.opc_state.specs.declared.change.Batch.{Batch as TheBatch};
 ghost use Rattle.opc_statements.specs.Steps.{Looks};

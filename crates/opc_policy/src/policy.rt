@@ -1,6 +1,5 @@
 //! A policy, and what the rows of a written one make of it.
 ghost use Rattle.std.specs.Prelude.{◌≡◌, ◌≢◌, OnOk, OnErr, IfErr, IsOk, Ok, Err};
-ghost use Rattle.opc_terms.specs.declared.fault.Fault.{Fault as TheFault};
 
 use crate::connect::{Connect, Connects};
 use crate::entries::Entries;

@@ -21,7 +21,7 @@ pub struct Profiles {
 }
 
 impl Model for Profiles {
-    ghost use Rattle.std.specs.Prelude.{List, ℕ};
+    ghost use Rattle.std.specs.Prelude.{List};
     ghost use Rattle.std.specs.BTreeMap.{values};
     ghost use Rattle.opc_policy.specs.declared.profile.Profile.{Profile};
     ghost use Rattle.opc_policy.specs.Stored.{AreByKey};

@@ -18,7 +18,7 @@ pub struct Users {
 }
 
 impl Model for Users {
-    ghost use Rattle.std.specs.Prelude.{List, ℕ};
+    ghost use Rattle.std.specs.Prelude.{List};
     ghost use Rattle.std.specs.BTreeMap.{values};
     ghost use Rattle.opc_policy.specs.declared.user.User.{User};
     ghost use Rattle.opc_policy.specs.Stored.{AreById};

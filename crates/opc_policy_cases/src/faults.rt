@@ -3,6 +3,7 @@ use anyhow::{Result, bail};
 use opc_names::name::UserId;
 use opc_terms::fault::{Fault, Subject};
 
+/// The fault of a code.
 pub fn fault_of(code: &str) -> Result<Fault> {
     Ok(match code {
         "E31" => Fault::NonCancelable,

@@ -1,3 +1,4 @@
+//! Sources of profiles that fail, and memory that is refused.
 use opc_decisions::search::search;
 use opc_decisions::source::{ProfileSource, Taken};
 use opc_import::fault::ImportFault;

@@ -1,5 +1,4 @@
 //! Commands as they were typed.
-ghost use Rattle.std.specs.Prelude.{◌≡◌};
 ghost use Rattle.std.proofs.Common.{lit≤};
 ghost use Rattle.opc_names.specs.Names.{user_rule};
 

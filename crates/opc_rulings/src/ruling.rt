@@ -1,5 +1,5 @@
 //! Rulings, from what is loaded for them.
-ghost use Rattle.std.specs.Prelude.{◌≡◌, ◌≤◌, Some, IfOk, IsTrue, true, filter, length};
+ghost use Rattle.std.specs.Prelude.{◌≡◌, ◌≤◌, Some, IsTrue, true, filter, length};
 ghost use Rattle.std.specs.Option.{option_and_then};
 ghost use Rattle.opc_names.specs.Names.{is_plain, is_resource};
 ghost use Rattle.opc_names.specs.declared.class.Class.TheVariants.{Opercmds};

@@ -1,5 +1,5 @@
 -- What the queries of the search read: the profiles of a class, of all heads or of one, in the order of their keys.
-use Rattle.std.proofs.Common.{◌≡◌, inl, inr, ℕ, List, [], ◌∷◌, ◌++◌, map, filter, find, Bool, true, refl, sym, ap₂, subst, ◌∙◌, ◌&&◌, append_assoc, Some, None, is_eq}
+use Rattle.std.proofs.Common.{◌≡◌, inl, inr, ℕ, List, [], ◌∷◌, ◌++◌, filter, find, Bool, true, refl, sym, ap₂, subst, ◌∙◌, ◌&&◌, append_assoc, Some, None}
 use Rattle.std.specs.Str.{bytes_eq}
 use Rattle.sqlite_trees.specs.declared.store.Store.{Ghosts}
 use Rattle.sqlite.specs.Order.{Row}
@@ -14,16 +14,13 @@ use Rattle.sqlite_sql.specs.declared.ops.CompareOp.TheVariants.{Eq}
 use Rattle.sqlite_value.specs.declared.keys.Collation.TheVariants.{Binary}
 use Rattle.sqlite_tied.specs.Compute.{everything}
 use Rattle.sqlite.specs.Listing.{understood}
-use Rattle.sqlite.specs.State.{State as SqlState, Shown, Begins, IsUnchanged}
-use Rattle.opc_statements.specs.Order.{text_cmp}
+use Rattle.sqlite.specs.State.{Shown, Begins, IsUnchanged}
 use Rattle.opc_statements.specs.Steps.{NeverWrites}
 use Rattle.opc_statements.specs.Taken.{taken_for}
 use Rattle.opc_statements.proofs.Asked.{Asked, IsAsked, told, told_first}
-use Rattle.opc_statements.proofs.Keyed.{same_columns}
 use Rattle.opc_statements.proofs.Values.{equal_texts, and_true, same_texts}
 use Rattle.opc_statements.proofs.Streams.{HasTaken, TakesOn, takes_on, taken_all}
 use Rattle.opc_names.specs.declared.class.Class.{Class}
-use Rattle.opc_names.specs.declared.class.Class.TheVariants.{Console, Opercmds}
 use Rattle.opc_names.specs.Authority.{same_class}
 use Rattle.opc_names.specs.Spellings.{class_text}
 use Rattle.opc_policy.specs.declared.profile.Profile.{Profile}

@@ -1,5 +1,5 @@
 //! Clients served one after another.
-ghost use Rattle.std.specs.Prelude.{◌≡◌, ◌≤◌, ◌<◌, ℕ, IfErr, OnErr, OnOk, true};
+ghost use Rattle.std.specs.Prelude.{◌≡◌, ◌<◌, ℕ, OnErr, OnOk, true};
 ghost use Rattle.opc_serve.specs.Serving.{AreServed, IsServed};
 
 use crate::arrivals::{Arrival, Arrivals, Door, ServeFault};

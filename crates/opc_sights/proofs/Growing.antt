@@ -1,5 +1,5 @@
 -- Parts of a state's board that grow.
-use Rattle.std.proofs.Common.{◌≡◌, ◌≢◌, ℕ, Bool, true, false, ◌||◌, ◌==◌, nat_eq, List, [], filter, take, Option, Some, None, Result, Ok, Err, OnOk, IsSome, refl, ap, sym, subst, ◌∙◌, arith}
+use Rattle.std.proofs.Common.{◌≡◌, ◌≢◌, ℕ, Bool, true, false, ◌||◌, ◌==◌, List, [], filter, take, Option, Some, Result, Ok, Err, OnOk, IsSome, refl, ap, sym, ◌∙◌, arith}
 use Rattle.std.specs.List.{AllByRecursion, find, list_any}
 use Rattle.std.specs.Option.{is_some}
 use Rattle.std.specs.Ordering.{nat_cmp, is_lt}
@@ -15,7 +15,7 @@ use Rattle.opc_board.specs.declared.rows.UnitRow.{UnitRow}
 use Rattle.opc_board.specs.Enough.{has, no_rows}
 use Rattle.opc_board.specs.Facts.{Name, console_at, console_before, device_at, device_before, earlier, is, is_master, reply_at, reply_before, unit_at, unit_before}
 use Rattle.opc_board.specs.History.{without_history}
-use Rattle.opc_board.specs.Sight.{IsInOrder, Seen, SeesLeaving, only, sees_console, sees_device, sees_reply, sees_unit}
+use Rattle.opc_board.specs.Sight.{Seen, SeesLeaving, sees_console, sees_device, sees_reply, sees_unit}
 use Rattle.opc_board.specs.Units.{is_holder}
 use Rattle.opc_board.proofs.Kept.{apart_names}
 use Rattle.opc_board.proofs.Names.{earlier_on, is_itself, is_mirrored, not_earlier}
@@ -24,7 +24,7 @@ use Rattle.opc_state.specs.Loads.{consoles_of, devices_of, masters}
 use Rattle.opc_state.specs.State.{State}
 use Rattle.opc_sights.specs.Joined.{joined}
 use Rattle.opc_sights.specs.Named.{SeesMasters, SeesOn}
-use Rattle.opc_sights.specs.Sighted.{Begins, Grown, Grows, IsPart, IsWithin}
+use Rattle.opc_sights.specs.Sighted.{Begins, Grows, IsPart, IsWithin}
 use Rattle.opc_sights.proofs.Joining.{joins, there_joined}
 use Rattle.opc_sights.proofs.Taken.{each_at, first_by_keys, nothing_seen}
 

@@ -1,5 +1,5 @@
 -- A row that joins those that are seen.
-use Rattle.std.proofs.Common.{◌≡◌, Bool, true, false, cond, if◌then◌else◌, ◌||◌, List, [], ◌∷◌, filter, Option, Some, None, Ordering, refl, ap, ap₂, sym, ◌∙◌}
+use Rattle.std.proofs.Common.{◌≡◌, Bool, true, false, cond, ◌||◌, List, [], ◌∷◌, filter, Option, Some, None, Ordering, refl, ap, ap₂, sym, ◌∙◌}
 use Rattle.std.specs.Cmp.{IsTotalOrder}
 use Rattle.std.specs.List.{AllByRecursion, IsAllAdjacentAnswer, find}
 use Rattle.std.specs.Option.{is_some}

@@ -1,5 +1,5 @@
 -- What is named is what a command sees.
-use Rattle.std.proofs.Common.{◌≡◌, true, take}
+use Rattle.std.proofs.Common.{◌≡◌, true}
 use Rattle.opc_board.specs.declared.board.BoardRows.{BoardRows}
 use Rattle.opc_board.specs.Facts.{Name, console_before, is, is_master}
 use Rattle.opc_board.specs.Replies.{is_on}

@@ -1,9 +1,9 @@
 -- Members that are put one after another, in whatever order they come: they are the list in the order of their keys.
-use Rattle.std.proofs.Common.{◌≡◌, List, [], ◌∷◌, ◌++◌, false, filter, not, sym, ap, subst, ◌∙◌, IsPermutation, Ordering, is_eq}
+use Rattle.std.proofs.Common.{◌≡◌, List, [], ◌∷◌, ◌++◌, false, not, sym, ap, subst, ◌∙◌, IsPermutation, Ordering, is_eq}
 use Rattle.std.specs.List.{AllByRecursion}
 use Rattle.std.specs.Cmp.{IsTotalOrder}
 use Rattle.std.specs.BTreeSet.{replace_key}
-use Rattle.std.proofs.lemmas.List.Sorted.{IsPermutation-sym, IsPermutation-trans, IsPermutation-refl, IsPermutation-cons, IsPermutation-middle, IsPermutation-append}
+use Rattle.std.proofs.lemmas.List.Sorted.{IsPermutation-sym, IsPermutation-trans, IsPermutation-refl, IsPermutation-middle, IsPermutation-append}
 use Rattle.sqlite_keyed.proofs.ListLemmas.{all_both, all_weaker, filter_all}
 use Rattle.sqlite_keyed.proofs.SortLemmas.{HasNoTies}
 use Rattle.opc_statements.specs.Order.{Rises}

@@ -1,8 +1,6 @@
 -- What a query of one table answers.
 use Rattle.std.proofs.Common.{◌≡◌, ℕ, ◌-◌, ◌^◌, nat_le, pos, negsuc, List, [], ◌∷◌, ◌++◌, map, filter, Bool, true, false, cond, None, refl, ap, subst, ◌∙◌, IsPermutation, IsSorted, slice_get}
-use Rattle.std.specs.List.{AllByRecursion, list_all, flat_map}
-use Rattle.std.specs.Option.{option_or}
-use Rattle.std.specs.Cmp.{IsTotalOrder}
+use Rattle.std.specs.List.{list_all, flat_map}
 use Rattle.sqlite_value.specs.declared.value.Value.TheVariants.{Null, Int}
 use Rattle.sqlite_value.specs.declared.keys.Key.{Key}
 use Rattle.sqlite_value.specs.Order.{Row}

@@ -37,7 +37,7 @@ pub fn stopping<D: Disk>(files: Files<D>, stop: Stop, calls: u64) -> Files<Fuse<
     }
 }
 
-/// Files as a machine that comes back finds them: without what was not synced, and none of them stops.
+/// Files as a computer that comes back finds them: without what was not synced, and none of them stops.
 pub fn crashed<D: Crash>(mut files: Files<D>) -> Files<D> {
     files.log.crash();
     files.db.crash();

@@ -44,6 +44,7 @@ pub struct Room<S: Fresh> {
 }
 
 impl<S: Fresh> Room<S> {
+    /// No store yet, and the head of a policy file.
     pub fn new(alloc: Global) -> Result<Self> {
         Ok(Room {
             store: None,

@@ -5,7 +5,7 @@ use Rattle.opc_decisions.specs.Deciding.{deciding}
 use Rattle.opc_decisions.specs.Examined.{read_until}
 use Rattle.opc_state.specs.Loads.{bare}
 use Rattle.opc_search.specs.Search.{chosen}
-use Rattle.opc_search.proofs.SearchFound.{asked, decided, on_success}
+use Rattle.opc_search.proofs.SearchFound.{decided, on_success}
 use Rattle.opc_search.proofs.SearchLoads.{by_head_asked, chosen_by_head, selects_chosen}
 use Rattle.opc_search.proofs.search.first_with_head_on.Goals as goal
 

@@ -1,7 +1,4 @@
-use Rattle.std.proofs.Common.{Some, sym, ap, ◌∙◌, subst, IsSome}
-use Rattle.opc_board.specs.Facts.{console_before, is}
-use Rattle.opc_board.specs.declared.rows.ConsoleRow.{ConsoleRow}
-use Rattle.opc_board.proofs.Names.{is_itself}
+use Rattle.std.proofs.Common.{Some, sym}
 use Rattle.opc_sights.proofs.Growing.{on_ok, some_there, with_console}
 use Rattle.opc_sights.proofs.part.see_row.Goals as goal
 

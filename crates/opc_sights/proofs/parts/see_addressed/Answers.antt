@@ -1,5 +1,3 @@
-use Rattle.std.proofs.Common.{sym, subst}
-use Rattle.opc_sights.specs.Sighted.{Grows}
 use Rattle.opc_sights.proofs.Growing.{addresses, on_ok}
 use Rattle.opc_sights.proofs.parts.see_addressed.Goals as goal
 

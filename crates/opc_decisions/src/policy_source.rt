@@ -90,9 +90,13 @@ impl ProfileSource for Policy {
     ghost use Rattle.std.proofs.Common.{◌∙◌};
     ghost use Rattle.opc_terms.specs.declared.store_fault.StoreFault.TheVariants.{NoMemory};
 
-    ghost content = { λ policy. policy.profiles };
+    ghost has = { λ policy profiles. profiles ≡ policy.profiles };
+
+    ghost is_ready = { λ _. ⊤ };
 
     ghost is_faithful = { λ _. ⊤ };
+
+    ghost has_answered = { λ _. ⊤ };
 
     // Asking changes nothing in a policy, its classes included.
     ghost is_kept = { λ old new. new ≡ old };

@@ -1,7 +1,8 @@
 //! The search for the deciding profile.
-ghost use Rattle.std.specs.Prelude.{◌≡◌, ◌≤◌, ◌+◌, ◌^◌, ◌⊎◌, IfOk, IfErr, MatchResult, length};
+ghost use Rattle.std.specs.Prelude.{◌≡◌, ◌≤◌, ◌+◌, ◌^◌, ◌⊎◌, IfOk, IfErr, List, MatchResult, length};
 ghost use Rattle.opc_terms.specs.declared.store_fault.StoreFault.TheVariants.{Store};
 ghost use Rattle.opc_policy.specs.Profiles.{AreProfiles, of_class};
+ghost use Rattle.opc_policy.specs.declared.profile.Profile.{Profile as TheProfile};
 ghost use Rattle.opc_decisions.specs.Deciding.{IsDeciding, deciding};
 ghost use Rattle.opc_decisions.specs.Examined.{examined, head_length};
 
@@ -26,20 +27,23 @@ pub fn search<S: ProfileSource>(
     class: Class,
     resource: &Resource,
 ) -> Result<Found, StoreFault>
+    requires { S.is_ready source.old }
+    ensures ready { S.is_ready source.new }
     ensures kept { S.is_kept source.old source.new }
-    ensures profiles { S.is_faithful source.new → AreProfiles (S.content source.old) }
-    ensures most_specific { IfOk result (λ found. S.is_faithful source.new →
-        IsDeciding (of_class class (S.content source.old)) resource.now found.profile) }
-    ensures deciding { IfOk result (λ found. S.is_faithful source.new →
-        found.profile ≡ deciding (of_class class (S.content source.old)) resource.now) }
-    ensures ranges { IfOk result (λ found. S.is_faithful source.new →
+    ensures answered { IfOk result (λ _. S.has_answered source.new) }
+    ensures profiles { (profiles : List TheProfile) → S.has source.old profiles → S.is_faithful source.new → AreProfiles profiles }
+    ensures most_specific { (profiles : List TheProfile) → S.has source.old profiles → IfOk result (λ found. S.is_faithful source.new →
+        IsDeciding (of_class class profiles) resource.now found.profile) }
+    ensures deciding { (profiles : List TheProfile) → S.has source.old profiles → IfOk result (λ found. S.is_faithful source.new →
+        found.profile ≡ deciding (of_class class profiles) resource.now) }
+    ensures ranges { (profiles : List TheProfile) → S.has source.old profiles → IfOk result (λ found. S.is_faithful source.new →
         found.ranges + head_length found.profile ≡ length resource.now + 1) }
-    ensures rows { IfOk result (λ found. S.is_faithful source.new →
-        found.rows ≡ length (examined found.profile resource.now (of_class class (S.content source.old)))) }
+    ensures rows { (profiles : List TheProfile) → S.has source.old profiles → IfOk result (λ found. S.is_faithful source.new →
+        found.rows ≡ length (examined found.profile resource.now (of_class class profiles))) }
     // Besides the faults of the source: the count of what was read does not fit.
-    ensures fault { S.is_faithful source.new → IfErr result (λ fault.
-        S.can_fail_with fault ⊎ ((fault ≡ Store) × (2 ^ 64 ≤ length (S.content source.old)))) }
-    ensures same { S.is_faithful source.new → S.content source.new ≡ S.content source.old }
+    ensures fault { (profiles : List TheProfile) → S.has source.old profiles → S.is_faithful source.new → IfErr result (λ fault.
+        S.can_fail_with fault ⊎ ((fault ≡ Store) × (2 ^ 64 ≤ length profiles))) }
+    ensures same { (profiles : List TheProfile) → S.has source.old profiles → IfOk result (λ _. S.is_faithful source.new → S.has source.new profiles) }
     ensures faithful { S.is_faithful source.new → S.is_faithful source.old }
 {
     let name = resource.text();

@@ -34,14 +34,20 @@ impl Taken {
 /// Where profiles come from: of one class and with one head at a time. A source over files may fail for good while it
 /// is asked, so what it answers is known where it is faithful afterwards.
 pub trait ProfileSource {
-    /// The profiles.
-    ghost content: { Self → List TheProfile };
+    /// That these are the profiles, as it gives them.
+    ghost has: { Self → List TheProfile → Type 0 };
 
-    /// Where this holds after a call, the answer is of the profiles that were there before, and they are there still.
+    /// That it may be asked.
+    ghost is_ready: { Self → Type 0 };
+
+    /// Where this holds after a call, an answer is of the profiles that were there before, and they are there still.
     ghost is_faithful: { Self → Type 0 };
 
     /// What asking leaves of the source as it was before, whatever comes of it.
     ghost is_kept: { Self → Self → Type 0 };
+
+    /// What holds besides of a source that has answered.
+    ghost has_answered: { Self → Type 0 };
 
     /// The faults that asking may end in.
     ghost can_fail_with: { TheFault → Type 0 };
@@ -54,14 +60,17 @@ pub trait ProfileSource {
         head: &str,
         resource: &Resource,
     ) -> Result<Taken, StoreFault>
+        requires { is_ready self.old }
+        ensures ready { is_ready self.new }
         ensures kept { is_kept self.old self.new }
-        ensures profiles { is_faithful self.new → AreProfiles (content self.old) }
-        ensures first { IfOk result (λ taken. is_faithful self.new →
-            taken.profile ≡ deciding (with_head head.now (of_class class (content self.old))) resource.now) }
-        ensures rows { IfOk result (λ taken. is_faithful self.new →
-            taken.rows ≡ length (read_until taken.profile (with_head head.now (of_class class (content self.old))))) }
+        ensures answered { IfOk result (λ _. has_answered self.new) }
+        ensures profiles { (profiles : List TheProfile) → has self.old profiles → is_faithful self.new → AreProfiles profiles }
+        ensures first { (profiles : List TheProfile) → has self.old profiles → IfOk result (λ taken. is_faithful self.new →
+            taken.profile ≡ deciding (with_head head.now (of_class class profiles)) resource.now) }
+        ensures rows { (profiles : List TheProfile) → has self.old profiles → IfOk result (λ taken. is_faithful self.new →
+            taken.rows ≡ length (read_until taken.profile (with_head head.now (of_class class profiles)))) }
         ensures fault { IfErr result can_fail_with }
-        ensures same { is_faithful self.new → content self.new ≡ content self.old }
+        ensures same { (profiles : List TheProfile) → has self.old profiles → IfOk result (λ _. is_faithful self.new → has self.new profiles) }
         ensures faithful { is_faithful self.new → is_faithful self.old };
 
     /// Not to ask keeps the source, and so does to ask again.

@@ -42,13 +42,17 @@ struct FailingBelow {
 }
 
 impl ProfileSource for FailingBelow {
-    ghost use Rattle.std.specs.Prelude.{⊤, []};
+    ghost use Rattle.std.specs.Prelude.{⊤};
 
-    ghost content = { λ _. [] };
+    ghost has = { λ _ _. ⊥ };
+
+    ghost is_ready = { λ _. ⊤ };
 
     ghost is_faithful = { λ _. ⊥ };
 
     ghost is_kept = { λ _ _. ⊤ };
+
+    ghost has_answered = { λ _. ⊤ };
 
     ghost kept_itself = { λ _. tt };
 

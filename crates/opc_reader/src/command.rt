@@ -59,7 +59,7 @@ pub enum Command<'a> {
     DisplayReplies,
     /// `C name`: a job or a started task.
     Cancel(Operand<'a, UnitName>),
-    /// `C U=user`: a logged-on user.
+    /// `C U=user`: a user's session.
     CancelUser(Operand<'a, UserId>),
     /// `FORCE name`: a unit that C doesn't end.
     Force(Operand<'a, UnitName>),

@@ -1,6 +1,6 @@
 -- The first profile that covers, of those of a class in their order, is the most specific one.
 use Rattle.std.proofs.Common.{◌≡◌, ◌⊎◌, inl, inr, ℕ, ◌+◌, List, [], ◌∷◌, ◌++◌, find, length, Bool, true, false, cond, Some, None, refl, sym, ap, ◌∙◌, subst, arith, Ordering, Less, Equal}
-use Rattle.std.specs.List.{AllPairs, slice_index_or}
+use Rattle.std.specs.List.{AllByRecursion, AllPairs, slice_index_or}
 use Rattle.std.specs.Ordering.{ordering_then, is_lt}
 use Rattle.std.proofs.lemmas.Cmp.{tied_itself, nat_list_cmp_total}
 use Rattle.std.proofs.lemmas.List.Elements.{All-from_recursion, All-cons}
@@ -15,9 +15,7 @@ use Rattle.opc_policy.specs.Profiles.{AreProfiles, AreMostSpecificFirst, class_c
 use Rattle.opc_decisions.specs.Deciding.{deciding}
 use Rattle.opc_decisions.specs.Examined.{read_until}
 use Rattle.opc_decisions.proofs.FirstCovering.{AreBefore, NoneCovers, found_first, read_first, none_found}
-use Rattle.opc_state.specs.State.{State}
 use Rattle.opc_search.specs.Search.{covers}
-use Rattle.opc_stored.specs.State.{IsOrdered}
 use Rattle.opc_stored.proofs.Keys.{class_total}
 
 -- ---- the order of the keys, pair by pair
@@ -43,12 +41,11 @@ not_tied o less tie = let e = sym less ∙ tie in cc
 apart : (p q : Profile) → p.class ≡ q.class → profile_cmp p q ≡ Less → p.pattern ≡ q.pattern → ⊥
 apart p q same less text = not_tied (pattern_cmp p.pattern q.pattern) (one_class p q same less) (ap (pattern_cmp p.pattern) (sym text) ∙ tied_itself nat_list_cmp_total (sort_key p.pattern))
 
-pub are_profiles : (s : State) → IsOrdered s → AreProfiles s.policy.profiles
-are_profiles s ordered =
-    let ps = s.policy.profiles in
+pub are_profiles : (ps : List Profile) → AllByRecursion (λ (p : Profile). IsPattern p.pattern) ps → Rises profile_cmp ps → AreProfiles ps
+are_profiles ps patterns up =
     record {
-      patterns = All-from_recursion (λ (p : Profile). IsPattern p.pattern) ps ordered.patterns;
-      distinct = λ i j d less low same. apart (slice_index_or ps i d) (slice_index_or ps j d) same (all_pairs Below ps ordered.profiles i j d less low);
+      patterns = All-from_recursion (λ (p : Profile). IsPattern p.pattern) ps patterns;
+      distinct = λ i j d less low same. apart (slice_index_or ps i d) (slice_index_or ps j d) same (all_pairs Below ps up i j d less low);
     }
 
 -- ---- the first that covers

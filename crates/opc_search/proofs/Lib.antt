@@ -1,3 +1,4 @@
+pub mod Bare
 pub mod FirstDeciding
 pub mod SearchFound
 pub mod SearchLoads

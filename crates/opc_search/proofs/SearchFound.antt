@@ -1,5 +1,5 @@
 -- What the search found for one head, with its access list.
-use Rattle.std.proofs.Common.{◌≡◌, ◌∙◌, ℕ, List, find, filter, length, Option, Some, None, option_map, is_some, Result, Ok, Err, IfOk, refl, sym, ap, subst}
+use Rattle.std.proofs.Common.{◌≡◌, ◌∙◌, ℕ, List, find, filter, length, Option, Some, None, option_map, Result, Ok, Err, IfOk, refl, sym, ap, subst}
 use Rattle.sqlite_keyed.proofs.ListLemmas.{all-filter}
 use Rattle.opc_statements.specs.Taken.{taken_for}
 use Rattle.opc_statements.proofs.Parts.{found_one}
@@ -7,7 +7,7 @@ use Rattle.opc_names.specs.declared.class.Class.{Class}
 use Rattle.opc_policy.specs.declared.entry.Entry.{Entry}
 use Rattle.opc_policy.specs.declared.profile.Profile.{Profile}
 use Rattle.opc_decisions.specs.Deciding.{deciding}
-use Rattle.opc_decisions.specs.Examined.{examined, head_length, is_chosen, read_until}
+use Rattle.opc_decisions.specs.Examined.{is_chosen, read_until}
 use Rattle.opc_policy.specs.Profiles.{profile_of}
 use Rattle.opc_decisions.proofs.FirstCovering.{chosen_order}
 use Rattle.opc_state.specs.Loads.{bare}
@@ -17,24 +17,19 @@ use Rattle.opc_stored.specs.State.{IsOrdered}
 use Rattle.opc_stored.proofs.Decoded.{each_found}
 use Rattle.opc_search.proofs.FirstDeciding.{Decides, first_decides, most_specific_first}
 
--- ---- an access list tells nothing of the search
-
-pub bare_some : (o : Option Profile) → is_some (option_map bare o) ≡ is_some o
-bare_some None = refl
-bare_some (Some p) = refl
-
-pub bare_head : (o : Option Profile) → head_length (option_map bare o) ≡ head_length o
-bare_head None = refl
-bare_head (Some p) = refl
-
-pub bare_examined : (o : Option Profile) (name : List ℕ) (ps : List Profile) → examined (option_map bare o) name ps ≡ examined o name ps
-bare_examined None name ps = refl
-bare_examined (Some p) name ps = refl
-
 -- what holds of a success
 pub on_success : {T E : Type 0} {P Q : T → Type 0} (r : Result T E) → IfOk r P → ((x : T) → P x → Q x) → IfOk r Q
 on_success (Ok x) h more = more x h
 on_success (Err e) h more = tt
+
+-- on a condition that a success may ask for
+pub on_clean : {T E : Type 0} {P Q : T → Type 0} (r : Result T E) (clean : Type 0) → (clean → IfOk r P) → ((x : T) → P x → Q x) → IfOk r (λ x. clean → Q x)
+on_clean (Ok x) clean h more = λ c. more x (h c)
+on_clean (Err e) clean h more = tt
+
+pub on_clean_both : {T E : Type 0} {P Q R : T → Type 0} (r : Result T E) (clean : Type 0) → (clean → IfOk r P) → (clean → IfOk r Q) → ((x : T) → P x → Q x → R x) → IfOk r (λ x. clean → R x)
+on_clean_both (Ok x) clean p q more = λ c. more x (p c) (q c)
+on_clean_both (Err e) clean p q more = tt
 
 -- ---- the profiles of a class, of all heads or with one
 

@@ -1,5 +1,5 @@
 -- What a search over the tables takes.
-use Rattle.std.specs.Prelude.{◌≡◌, ◌++◌, ℕ, Bool, List, Some, filter, map}
+use Rattle.std.specs.Prelude.{◌≡◌, ◌++◌, ℕ, Bool, List, Some, Result, Err, filter, map}
 use Rattle.sqlite_trees.specs.declared.store.Store.{Ghosts}
 use Rattle.sqlite.specs.Order.{Row}
 use Rattle.sqlite.specs.Held.{Held, state}
@@ -22,3 +22,7 @@ covers resource p = covers_text p.pattern resource
 pub record Selects {S : Type 0} (g : Ghosts S) (sql : List ℕ) (params : Row) (select : State → List Profile) : Type 0 where
   pub begins : (h : Held S) (s : State) → Represents (state g h).now s → (rows : List Row) → Begins sql params (state g h) rows → (tail : List Row) × (map profile_row (select s) ≡ rows ++ tail)
   pub shows : (h k : Held S) (s : State) → Represents (state g h).now s → (rows : List Row) → Shown sql params (state g h) (state g k) rows → rows ≡ map profile_row (select s)
+
+-- what asking leaves of tables, whatever comes of it, is what a query leaves that gave nothing
+abbrev pub unanswered : Result (Unit {0}) (Unit {0})
+unanswered = Err tt

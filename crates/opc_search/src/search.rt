@@ -16,7 +16,8 @@ ghost use Rattle.opc_stored.specs.Asked.{Finds};
 ghost use Rattle.opc_stored.specs.Represented.{Represents};
 ghost use Rattle.opc_search.specs.Search.{Selects, covers};
 
-use opc_decisions::search::Found;
+use crate::source::TableProfiles;
+use opc_decisions::search::{Found, search};
 use opc_decisions::source::Taken;
 use opc_names::class::Class;
 use opc_names::name::Resource;
@@ -78,7 +79,7 @@ fn first_covering_on<S: Alter>(
 
 /// The first profile that covers a resource, in the order of the patterns, of those of a class with this very head, but
 /// for its access list, and how many were read for it.
-fn first_with_head_on<S: Alter>(
+pub(crate) fn first_with_head_on<S: Alter>(
     alloc: Global,
     conn: &mut Connection<S>,
     class: Class,
@@ -157,17 +158,8 @@ pub fn first_on<S: Alter>(
     })
 }
 
-fn sum(rows: u64, read: u64) -> Result<u64, StoreFault>
-    ensures { IfOk result (λ sum. sum ≡ rows + read) }
-{
-    match rows.checked_add(read) {
-        Some(sum) => Ok(sum),
-        None => Err(StoreFault::Store),
-    }
-}
-
-/// The profile of a class that decides a resource, but for its access list: the tables are asked for the prefixes of
-/// the name as heads, from the whole name down to the empty one, and no more once a profile covers.
+/// The profile of a class that decides a resource, but for its access list: the search by heads asks the tables for the
+/// prefixes of the name, from the whole name down to the empty one, and no more once a profile covers.
 pub fn deciding_on<S: Alter>(
     alloc: Global,
     conn: &mut Connection<S>,
@@ -184,24 +176,5 @@ pub fn deciding_on<S: Alter>(
     ensures rows { Finds S.Store conn.old conn.new result (λ s found.
         found.rows ≡ length (examined found.profile resource.now (of_class class s.policy.profiles))) }
 {
-    let name = resource.text();
-    let mut rows = 0;
-    let mut length = name.len();
-    'heads: loop {
-        let taken = first_with_head_on(alloc, conn, class, &name[..length], resource)?;
-        let Taken {
-            profile,
-            rows: read,
-        } = taken;
-        rows = sum(rows, read)?;
-        if profile.is_some() || length == 0 {
-            let ranges = (name.len() + 1 - length) as u32;
-            return Ok(Found {
-                profile,
-                ranges,
-                rows,
-            });
-        }
-        length -= 1;
-    }
+    search(&mut TableProfiles { alloc, conn }, class, resource)
 }

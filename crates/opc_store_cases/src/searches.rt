@@ -93,14 +93,10 @@ fn decided<T: Tables>(alloc: Global, tables: &mut T, name: &Resource) -> Result<
 }
 
 /// What the search of policies finds in both classes.
-fn searched_in_memory<P: ProfileSource>(
-    alloc: Global,
-    source: &mut P,
-    name: &Resource,
-) -> Result<String> {
+fn searched_in_memory(alloc: Global, policy: &mut Policy, name: &Resource) -> Result<String> {
     let mut told = String::new(alloc);
     for class in [Class::Opercmds, Class::Console] {
-        add_found(&mut told, &search(source, class, name)?)?;
+        add_found(&mut told, &search(policy, class, name)?)?;
     }
     Ok(told)
 }

@@ -1,6 +1,5 @@
 -- The order of profiles in a state.
 use Rattle.std.proofs.Common.{◌≡◌, true, List, [], ◌∷◌, arith, refl, sym, ap, ◌∙◌, is_lt}
-use Rattle.std.specs.List.{All, AllPairs}
 use Rattle.std.specs.Ordering.{ordering_then}
 use Rattle.std.specs.declared.cmp.Ordering.TheVariants.{Equal}
 use Rattle.std.proofs.lemmas.List.Elements.{All-from_recursion}

@@ -1,5 +1,5 @@
 -- Listings of profiles and of the account.
-use Rattle.std.specs.Prelude.{ℕ, ◌-◌, Bool, true, false, not, List, [], ◌∷◌, None, codes, filter, map}
+use Rattle.std.specs.Prelude.{ℕ, Bool, true, false, not, List, [], ◌∷◌, None, codes, filter, map}
 use Rattle.std.specs.Fmt.{decimal}
 use Rattle.opc_names.specs.Spellings.{level_text}
 use Rattle.opc_names.specs.declared.class.Class.{Class}

@@ -210,9 +210,6 @@ impl Process {
     }
 
     fn moment(&self) -> Result<u64, Failure> {
-        match moment(&self.rt) {
-            Ok(moment) => Ok(moment),
-            Err(error) => Err(Failure::at(Place::Clock, error)),
-        }
+        moment(&self.rt).map_err(|error| Failure::at(Place::Clock, error))
     }
 }

@@ -36,10 +36,7 @@ fn lines_of(alloc: Global, rows: &[Row]) -> Result<Vec<u8>, AllocError>
         fill(&mut line, row)?;
         put_line(&mut writer, &line)?;
     }
-    match writer.into_inner() {
-        Ok(bytes) => Ok(bytes),
-        Err(_) => Err(AllocError),
-    }
+    writer.into_inner().map_err(|_| AllocError)
 }
 
 /// The policy file that has these rows. One of at most 10,000 rows reads back as they are.

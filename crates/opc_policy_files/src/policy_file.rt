@@ -68,10 +68,7 @@ fn rows_in(alloc: Global, place: Place, bytes: &[u8]) -> Result<Vec<Row>, Failur
     };
     // Named for the prover, which else does not find the type of a row's console.
     let _nowhere: Option<ConsoleName> = None;
-    match read_policy(alloc, text) {
-        Ok(rows) => Ok(rows),
-        Err(fault) => Err(fault_in(alloc, place, text, fault)),
-    }
+    read_policy(alloc, text).map_err(|fault| fault_in(alloc, place, text, fault))
 }
 
 /// The rows of the policy file that a reader gives.

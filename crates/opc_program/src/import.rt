@@ -131,10 +131,7 @@ fn export_over<T: Tables, K: Sink>(
     ensures kept { IsKept T.is_sure T.represents T.may_leave gate.old gate.new }
     ensures exports { IsExport T.is_sure T.represents T.may_leave gate.old gate.new result K.held K.has_failed output.old output.new }
 {
-    let rows = match gate.export(alloc) {
-        Ok(rows) => rows,
-        Err(fault) => return Err(Failure::of_gate(fault)),
-    };
+    let rows = gate.export(alloc).map_err(Failure::of_gate)?;
     let Ok(text) = write_policy(alloc, rows.as_slice()) else {
         return Err(Failure::from(Fault::NoMemory));
     };

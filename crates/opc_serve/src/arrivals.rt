@@ -59,14 +59,9 @@ impl<'a, C: Clock, L: OpenListener> Door<'a, C, L> {
         L::Stream: Connection,
         ensures { IfOk result (λ arrival. arrival.moment ≤ LAST_MOMENT) }
     {
-        let connection = match self.listener.accept() {
-            Ok((connection, _)) => connection,
-            Err(error) => return Err(ServeFault::Accept(error)),
-        };
-        match moment(self.clock) {
-            Ok(moment) => Ok(Arrival { connection, moment }),
-            Err(error) => Err(ServeFault::Clock(error)),
-        }
+        let (connection, _) = self.listener.accept().map_err(ServeFault::Accept)?;
+        let moment = moment(self.clock).map_err(ServeFault::Clock)?;
+        Ok(Arrival { connection, moment })
     }
 }
 

@@ -79,10 +79,7 @@ fn seen_of<T: Tables>(tables: &mut T, alloc: Global, named: Named) -> Result<Boa
 fn board_of(part: BoardRows) -> Result<Board, StoreFault>
     ensures { IfOk result (λ board. board ≡ part) }
 {
-    match Board::of(part) {
-        Ok(board) => Ok(board),
-        Err(_) => Err(StoreFault::Store),
-    }
+    Board::of(part).map_err(|_| StoreFault::Store)
 }
 
 /// What a command sees that does more than show, typed at a console whose row is loaded. A board that breaks a fact there fails.

@@ -178,9 +178,11 @@ impl Process {
         errors: &mut E,
     ) -> Result<Status, Failure> {
         let tables = self.open_tables(import.path)?;
-        let moment = self.moment()?;
         let mut output = Watched::new(output);
-        let (end, tables) = import_on(self.rt.alloc(), tables, moment, import, input, &mut output);
+        let (end, tables) = match self.moment() {
+            Ok(moment) => import_on(self.rt.alloc(), tables, moment, import, input, &mut output),
+            Err(failure) => (Err(failure), tables),
+        };
         closed(end, tables, paths, errors)
     }
 

@@ -96,7 +96,7 @@ impl ProfileSource for Policy {
 
     ghost is_faithful = { λ _. ⊤ };
 
-    ghost has_answered = { λ _. ⊤ };
+    ghost is_open = { λ _. ⊤ };
 
     // Asking changes nothing in a policy, its classes included.
     ghost is_kept = { λ old new. new ≡ old };

@@ -30,7 +30,7 @@ pub fn search<S: ProfileSource>(
     requires { S.is_ready source.old }
     ensures ready { S.is_ready source.new }
     ensures kept { S.is_kept source.old source.new }
-    ensures answered { IfOk result (λ _. S.has_answered source.new) }
+    ensures answered { IfOk result (λ _. S.is_open source.new) }
     ensures profiles { (profiles : List TheProfile) → S.has source.old profiles → S.is_faithful source.new → AreProfiles profiles }
     ensures most_specific { (profiles : List TheProfile) → S.has source.old profiles → IfOk result (λ found. S.is_faithful source.new →
         IsDeciding (of_class class profiles) resource.now found.profile) }
@@ -43,7 +43,7 @@ pub fn search<S: ProfileSource>(
     // Besides the faults of the source: the count of what was read does not fit.
     ensures fault { (profiles : List TheProfile) → S.has source.old profiles → S.is_faithful source.new → IfErr result (λ fault.
         S.can_fail_with fault ⊎ ((fault ≡ Store) × (2 ^ 64 ≤ length profiles))) }
-    ensures same { (profiles : List TheProfile) → S.has source.old profiles → IfOk result (λ _. S.is_faithful source.new → S.has source.new profiles) }
+    ensures same { (profiles : List TheProfile) → S.has source.old profiles → S.is_faithful source.new → S.is_open source.new → S.has source.new profiles }
     ensures faithful { S.is_faithful source.new → S.is_faithful source.old }
 {
     let name = resource.text();

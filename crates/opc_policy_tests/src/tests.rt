@@ -52,7 +52,7 @@ impl ProfileSource for FailingBelow {
 
     ghost is_kept = { λ _ _. ⊤ };
 
-    ghost has_answered = { λ _. ⊤ };
+    ghost is_open = { λ _. ⊤ };
 
     ghost kept_itself = { λ _. tt };
 

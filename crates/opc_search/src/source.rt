@@ -35,7 +35,7 @@ impl<S: Alter> ProfileSource for TableProfiles<'_, S> {
     // The same connection, whose tables are looked at and not changed.
     ghost is_kept = { λ old new. (new.conn.ghost_name ≡ old.conn.ghost_name) × Looks S.Store old.conn.now new.conn.now unanswered };
 
-    ghost has_answered = { λ source. HasCleanDisk (state S.Store source.conn.now) → IsTrue (state S.Store source.conn.now).is_open };
+    ghost is_open = { λ source. HasCleanDisk (state S.Store source.conn.now) → IsTrue (state S.Store source.conn.now).is_open };
 
     ghost can_fail_with = { λ _. ⊤ };
 

@@ -77,7 +77,7 @@ heads-preserved g c = record {
       let asked = rw c.text-name.ensures.text at (told.asked sound) in
       let less : c.heads.length ≡ (c.heads.length - 1) + 1 = omega (arith, c.if-length-eq0.false) in
       record {
-        same = c.in_ok-taken.ensures.same profiles told.same faithful;
+        same = c.in_ok-taken.ensures.same profiles told.same faithful c.in_ok-taken.ensures.answered;
         asked = λ _. rw (c.text-name.ensures.text, c.in_ok-rows.ensures) (asked_next profiles c.args.class c.args.resource.now sound c.heads.length c.heads.rows c.in_ok-taken.taken.rows asked c.in_ok-taken.taken.profile first rows (c.heads.length - 1) less (sym c.is_some.ensures ∙ c.if-is_some.false));
       };
 }

@@ -28,7 +28,7 @@ pub const NO_PATHS: Paths<'static> = Paths {
 };
 
 /// What the program reads, writes or opens.
-#[derive(Clone, Copy, Debug, PartialEq, Eq)]
+#[derive(Clone, Copy, PartialEq, Eq)]
 pub enum Place {
     Input,
     Output,

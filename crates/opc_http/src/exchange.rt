@@ -20,7 +20,7 @@ use std::alloc::Global;
 use thiserror::Error;
 
 /// A response was written, whole: its status, and whether a request was handled.
-#[derive(Clone, Copy, Debug, PartialEq, Eq)]
+#[derive(Clone, Copy, PartialEq, Eq)]
 pub struct Served {
     pub status: u16,
     pub handled: bool,

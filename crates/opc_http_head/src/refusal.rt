@@ -25,7 +25,7 @@ pub enum Refusal {
 }
 
 /// Why no request was read: it is refused, or out of memory.
-#[derive(Clone, Copy, Debug, PartialEq, Eq)]
+#[derive(Clone, Copy, PartialEq, Eq)]
 pub enum AskFault {
     Refused(Refusal),
     NoMemory,

@@ -22,7 +22,7 @@ pub trait Sink {
 }
 
 /// A write failed, or took no byte.
-#[derive(Clone, Copy, Debug, PartialEq, Eq)]
+#[derive(Clone, Copy, PartialEq, Eq)]
 pub struct WriteFault;
 
 /// Writes the bytes, or, where a write fails, a prefix of them.

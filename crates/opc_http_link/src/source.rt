@@ -29,7 +29,7 @@ pub trait Source {
 }
 
 /// Why a part of a message was not read.
-#[derive(Clone, Copy, Debug, PartialEq, Eq)]
+#[derive(Clone, Copy, PartialEq, Eq)]
 pub enum ReadFault {
     Read,
     NoMemory,

@@ -8,7 +8,7 @@ use opc_terms::mode::Mode;
 
 /// What is done to users, groups and connects; to profiles and their access lists; to classes and consoles (RACF guide:
 /// the commands of these names).
-#[derive(Clone, Copy, Debug)]
+#[derive(Clone, Copy)]
 pub enum Operation {
     /// A user who is not revoked. Without a digest the user cannot log on.
     AddUser {

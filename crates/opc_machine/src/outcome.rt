@@ -18,7 +18,7 @@ pub struct Deed {
 }
 
 /// Why nothing is done.
-#[derive(Clone, Copy, Debug, PartialEq, Eq)]
+#[derive(Clone, Copy, PartialEq, Eq)]
 pub struct Denial {
     pub fault: Fault,
     pub rule: Option<Rule>,

@@ -5,6 +5,7 @@ ghost use Rattle.opc_names.specs.Spellings.{lookup, auths, auth_text};
 ghost use Rattle.opc_names.specs.Authority.{enters};
 
 use crate::group::Group;
+use crate::spellings::spelled_in;
 use std::fmt;
 
 /// The command authority of a console: MASTER, ALL, INFO, or some of SYS, IO and CONS.
@@ -27,24 +28,27 @@ impl Auth {
     pub fn read(text: &str) -> Option<Self>
         ensures { result ≡ lookup auths text.now }
     {
-        match text {
-            "MASTER" => Some(Auth::Master),
-            "ALL" => Some(Auth::All),
-            "INFO" => Some(Auth::Info),
-            "SYS" => Some(Auth::Sys),
-            "IO" => Some(Auth::Io),
-            "CONS" => Some(Auth::Cons),
-            "SYS,IO" | "IO,SYS" => Some(Auth::SysIo),
-            "SYS,CONS" | "CONS,SYS" => Some(Auth::SysCons),
-            "IO,CONS" | "CONS,IO" => Some(Auth::IoCons),
-            "SYS,IO,CONS"
-            | "SYS,CONS,IO"
-            | "IO,SYS,CONS"
-            | "IO,CONS,SYS"
-            | "CONS,SYS,IO"
-            | "CONS,IO,SYS" => Some(Auth::SysIoCons),
-            _ => None,
-        }
+        let spellings = [
+            ("MASTER", Auth::Master),
+            ("ALL", Auth::All),
+            ("INFO", Auth::Info),
+            ("SYS", Auth::Sys),
+            ("IO", Auth::Io),
+            ("CONS", Auth::Cons),
+            ("SYS,IO", Auth::SysIo),
+            ("IO,SYS", Auth::SysIo),
+            ("SYS,CONS", Auth::SysCons),
+            ("CONS,SYS", Auth::SysCons),
+            ("IO,CONS", Auth::IoCons),
+            ("CONS,IO", Auth::IoCons),
+            ("SYS,IO,CONS", Auth::SysIoCons),
+            ("SYS,CONS,IO", Auth::SysIoCons),
+            ("IO,SYS,CONS", Auth::SysIoCons),
+            ("IO,CONS,SYS", Auth::SysIoCons),
+            ("CONS,SYS,IO", Auth::SysIoCons),
+            ("CONS,IO,SYS", Auth::SysIoCons),
+        ];
+        spelled_in(&spellings, text)
     }
 
     /// Its text, which reads back.

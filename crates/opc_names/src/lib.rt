@@ -14,4 +14,5 @@ mod qualifier;
 pub mod reply_id;
 mod resource;
 pub mod rule;
+pub mod spellings;
 pub mod token;

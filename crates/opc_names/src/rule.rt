@@ -23,7 +23,7 @@ pub enum NameFault {
 }
 
 /// The characters of a kind of name, and where they may stand.
-#[derive(Clone, Copy, Debug, PartialEq, Eq)]
+#[derive(Clone, Copy, PartialEq, Eq)]
 pub enum Alphabet {
     /// `A` to `Z`, `0` to `9`, `#`, `$`, `@`.
     NameCharacters,
@@ -38,7 +38,7 @@ pub enum Alphabet {
 }
 
 /// What a kind of name asks of a text: how many characters, and which.
-#[derive(Clone, Copy, Debug, PartialEq, Eq)]
+#[derive(Clone, Copy, PartialEq, Eq)]
 pub struct NameRule {
     pub least: usize,
     pub most: usize,

@@ -4,7 +4,7 @@ ghost use Rattle.opc_names.specs.Patterns.{tokens, spelling};
 ghost use Rattle.opc_names.specs.Order.{Earlier, is_open, key_byte, begins_with_stars, head};
 
 /// A character or period that stands for itself, `%`, `*` or `**`, in their order.
-#[derive(Clone, Copy, Debug, PartialEq, Eq, PartialOrd, Ord)]
+#[derive(Clone, Copy, PartialEq, Eq, PartialOrd, Ord)]
 pub enum Token {
     Literal(u8),
     Percent,

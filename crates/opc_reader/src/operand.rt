@@ -13,6 +13,7 @@ use crate::quote::{is_quoted, opens_quote, quoted_len};
 use opc_names::auth::Auth;
 use opc_names::name::{Name, NameKind};
 use opc_names::reply_id::ReplyId;
+use opc_names::spellings::spelled_in;
 
 fn in_name(byte: u8) -> bool
     ensures { result ≡ in_name byte }
@@ -86,24 +87,30 @@ pub(crate) fn number_prefix<'a>(s: &Piece<'a>) -> Option<(Operand<'a, ReplyId>, 
 fn authority_of(text: &str) -> Option<Auth>
     ensures { result ≡ lookup authorities text.now }
 {
-    match text {
-        "MASTER" => Some(Auth::Master),
-        "ALL" => Some(Auth::All),
-        "INFO" => Some(Auth::Info),
-        "SYS" | "(SYS)" => Some(Auth::Sys),
-        "IO" | "(IO)" => Some(Auth::Io),
-        "CONS" | "(CONS)" => Some(Auth::Cons),
-        "(SYS,IO)" | "(IO,SYS)" => Some(Auth::SysIo),
-        "(SYS,CONS)" | "(CONS,SYS)" => Some(Auth::SysCons),
-        "(IO,CONS)" | "(CONS,IO)" => Some(Auth::IoCons),
-        "(SYS,IO,CONS)"
-        | "(SYS,CONS,IO)"
-        | "(IO,SYS,CONS)"
-        | "(IO,CONS,SYS)"
-        | "(CONS,SYS,IO)"
-        | "(CONS,IO,SYS)" => Some(Auth::SysIoCons),
-        _ => None,
-    }
+    let spellings = [
+        ("MASTER", Auth::Master),
+        ("ALL", Auth::All),
+        ("INFO", Auth::Info),
+        ("SYS", Auth::Sys),
+        ("(SYS)", Auth::Sys),
+        ("IO", Auth::Io),
+        ("(IO)", Auth::Io),
+        ("CONS", Auth::Cons),
+        ("(CONS)", Auth::Cons),
+        ("(SYS,IO)", Auth::SysIo),
+        ("(IO,SYS)", Auth::SysIo),
+        ("(SYS,CONS)", Auth::SysCons),
+        ("(CONS,SYS)", Auth::SysCons),
+        ("(IO,CONS)", Auth::IoCons),
+        ("(CONS,IO)", Auth::IoCons),
+        ("(SYS,IO,CONS)", Auth::SysIoCons),
+        ("(SYS,CONS,IO)", Auth::SysIoCons),
+        ("(IO,SYS,CONS)", Auth::SysIoCons),
+        ("(IO,CONS,SYS)", Auth::SysIoCons),
+        ("(CONS,SYS,IO)", Auth::SysIoCons),
+        ("(CONS,IO,SYS)", Auth::SysIoCons),
+    ];
+    spelled_in(&spellings, text)
 }
 
 /// An authority that is all of the piece.

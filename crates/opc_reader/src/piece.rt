@@ -4,13 +4,20 @@ ghost use Rattle.std.specs.Str.{IsAscii};
 ghost use Rattle.opc_reader.specs.Stretches.{folded, prefix, after, word};
 
 use crate::folded::Folded;
+use std::fmt;
 use std::marker::Model;
 
 /// A piece of a line as it was typed, and where it begins.
-#[derive(Debug, Drop)]
+#[derive(Drop)]
 pub struct Piece<'a> {
     text: &'a str,
     from: usize,
+}
+
+impl fmt::Debug for Piece<'_> {
+    fn fmt<W: fmt::Write>(&self, f: &mut fmt::Formatter<W>) -> fmt::Result {
+        write!(f, "Piece {{ text: {:?}, from: {} }}", self.text, self.from)
+    }
 }
 
 impl<'a> Model for Piece<'a> {

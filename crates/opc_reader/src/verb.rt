@@ -3,8 +3,10 @@ ghost use Rattle.std.specs.Prelude.{◌≡◌};
 ghost use Rattle.opc_names.specs.Spellings.{lookup};
 ghost use Rattle.opc_reader.specs.Verbs.{verbs};
 
+use opc_names::spellings::spelled_in;
+
 /// The verb of a command (MVS System Commands), and LOGON and LOGOFF.
-#[derive(Clone, Copy, Debug, PartialEq, Eq)]
+#[derive(Clone, Copy, PartialEq, Eq)]
 pub enum Verb {
     Display,
     Cancel,
@@ -32,27 +34,43 @@ impl Verb {
     pub(crate) fn spelled(text: &str) -> Option<Verb>
         ensures { result ≡ lookup verbs text.now }
     {
-        match text {
-            "DISPLAY" | "D" => Some(Verb::Display),
-            "CANCEL" | "C" => Some(Verb::Cancel),
-            "FORCE" => Some(Verb::Force),
-            "START" | "S" => Some(Verb::Start),
-            "STOP" | "P" => Some(Verb::Stop),
-            "MODIFY" | "F" => Some(Verb::Modify),
-            "REPLY" | "R" => Some(Verb::Reply),
-            "VARY" | "V" => Some(Verb::Vary),
-            "MOUNT" | "M" => Some(Verb::Mount),
-            "UNLOAD" | "U" => Some(Verb::Unload),
-            "SWAP" | "G" => Some(Verb::Swap),
-            "RESET" | "E" => Some(Verb::Reset),
-            "SEND" | "SE" => Some(Verb::Send),
-            "LOG" | "L" => Some(Verb::Log),
-            "MONITOR" | "MN" => Some(Verb::Monitor),
-            "STOPMN" | "PM" => Some(Verb::StopMonitor),
-            "HALT" | "Z" => Some(Verb::Halt),
-            "LOGON" => Some(Verb::Logon),
-            "LOGOFF" => Some(Verb::Logoff),
-            _ => None,
-        }
+        let spellings = [
+            ("DISPLAY", Verb::Display),
+            ("D", Verb::Display),
+            ("CANCEL", Verb::Cancel),
+            ("C", Verb::Cancel),
+            ("FORCE", Verb::Force),
+            ("START", Verb::Start),
+            ("S", Verb::Start),
+            ("STOP", Verb::Stop),
+            ("P", Verb::Stop),
+            ("MODIFY", Verb::Modify),
+            ("F", Verb::Modify),
+            ("REPLY", Verb::Reply),
+            ("R", Verb::Reply),
+            ("VARY", Verb::Vary),
+            ("V", Verb::Vary),
+            ("MOUNT", Verb::Mount),
+            ("M", Verb::Mount),
+            ("UNLOAD", Verb::Unload),
+            ("U", Verb::Unload),
+            ("SWAP", Verb::Swap),
+            ("G", Verb::Swap),
+            ("RESET", Verb::Reset),
+            ("E", Verb::Reset),
+            ("SEND", Verb::Send),
+            ("SE", Verb::Send),
+            ("LOG", Verb::Log),
+            ("L", Verb::Log),
+            ("MONITOR", Verb::Monitor),
+            ("MN", Verb::Monitor),
+            ("STOPMN", Verb::StopMonitor),
+            ("PM", Verb::StopMonitor),
+            ("HALT", Verb::Halt),
+            ("Z", Verb::Halt),
+            ("LOGON", Verb::Logon),
+            ("LOGOFF", Verb::Logoff),
+        ];
+        spelled_in(&spellings, text)
     }
 }

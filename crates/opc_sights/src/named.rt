@@ -13,7 +13,7 @@ use opc_names::reply_id::ReplyId;
 use opc_reader::command::Command;
 
 /// What a command or an event names on the board or asks about, besides the console where it is typed.
-#[derive(Clone, Copy, Debug)]
+#[derive(Clone, Copy)]
 pub enum Named {
     Nothing,
     Unit(UnitName),

@@ -3,7 +3,7 @@ use opc_board::text::KeptText;
 
 /// A row of the account; its number is its place in it, from 1. The console is `*` for an event, and the user `-` where
 /// nobody acted. The code is a fault's, or `WARN`; the rule is the text of the rule that decided, or `-`.
-#[derive(Debug, Drop)]
+#[derive(Drop)]
 pub struct AccountRow {
     pub moment: u64,
     pub console: KeptText,

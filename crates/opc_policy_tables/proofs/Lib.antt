@@ -7,6 +7,7 @@ pub mod EntryLoads
 pub mod EntryRows
 pub mod GroupLoads
 pub mod GroupRows
+pub mod Kept
 pub mod ListLoads
 pub mod ProfileLoads
 pub mod ProfileRows

@@ -16,8 +16,8 @@ use opc_names::name::{GroupName, UserId};
 use opc_policy::connect::Connect;
 use opc_rows::Rows;
 use opc_statements::{put, run};
-use opc_stored::columns::{Keeps, all_in, name_in};
-use opc_stored::queries::read;
+use opc_stored::columns::{Keeps, name_in};
+use opc_stored::queries::{members_on, read};
 use opc_terms::store_fault::StoreFault;
 use sqlite::{Alter, Connection, Error, Row, Transaction, params};
 use std::alloc::Global;
@@ -81,8 +81,12 @@ pub fn connects_on<S: Alter>(
     ensures looks { Looks S.Store conn.old conn.new result }
     ensures found { Finds S.Store conn.old conn.new result (λ s v. v ≡ s.policy.connects) }
 {
-    let rows = read(conn, "SELECT usr, grp FROM connects ORDER BY usr, grp", &[])?;
-    all_in::<_, ConnectTable>(alloc, rows.as_slice())
+    members_on::<_, _, ConnectTable>(
+        alloc,
+        conn,
+        "SELECT usr, grp FROM connects ORDER BY usr, grp",
+        &[],
+    )
 }
 
 fn groups_in(alloc: Global, rows: &[Row]) -> Result<Vec<GroupName>, StoreFault>

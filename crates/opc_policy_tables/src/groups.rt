@@ -12,8 +12,8 @@ use crate::there::is_there_on;
 use opc_names::name::GroupName;
 use opc_rows::Rows;
 use opc_statements::{put, run};
-use opc_stored::columns::{Keeps, all_in, name_in};
-use opc_stored::queries::read;
+use opc_stored::columns::{Keeps, name_in};
+use opc_stored::queries::members_on;
 use opc_terms::store_fault::StoreFault;
 use sqlite::{Alter, Connection, Error, Row, Transaction, params};
 use std::alloc::Global;
@@ -77,6 +77,5 @@ pub fn groups_on<S: Alter>(
     ensures looks { Looks S.Store conn.old conn.new result }
     ensures found { Finds S.Store conn.old conn.new result (λ s v. v ≡ s.policy.groups) }
 {
-    let rows = read(conn, "SELECT name FROM grp ORDER BY name", &[])?;
-    all_in::<_, GroupTable>(alloc, rows.as_slice())
+    members_on::<_, _, GroupTable>(alloc, conn, "SELECT name FROM grp ORDER BY name", &[])
 }

@@ -17,9 +17,9 @@ use opc_names::name::UserId;
 use opc_policy::user::User;
 use opc_rows::Rows;
 use opc_statements::{put, run};
-use opc_stored::columns::{Keeps, all_in, name_in, value_in};
+use opc_stored::columns::{Keeps, name_in, value_in};
 use opc_stored::faults::unreadable;
-use opc_stored::queries::read;
+use opc_stored::queries::{member_on, members_on};
 use opc_terms::store_fault::StoreFault;
 use sqlite::{Alter, Connection, Error, Row, Transaction, params};
 use std::alloc::Global;
@@ -109,15 +109,11 @@ pub fn user_on<S: Alter>(conn: &mut Connection<S>, id: &UserId) -> Result<Option
     ensures looks { Looks S.Store conn.old conn.new result }
     ensures found { Finds S.Store conn.old conn.new result (λ s v. v ≡ user_of s.policy.users id.now) }
 {
-    let rows = read(
+    member_on::<_, _, UserTable>(
         conn,
         "SELECT id, special, auditor, revoked, digest, restricted FROM usr WHERE id = ?1 ORDER BY id",
         params![id.text()],
-    )?;
-    match rows.as_slice().get(0) {
-        Some(row) => Ok(Some(user_in(row)?)),
-        None => Ok(None),
-    }
+    )
 }
 
 /// Whether a user has this name.
@@ -151,10 +147,10 @@ pub fn users_on<S: Alter>(alloc: Global, conn: &mut Connection<S>) -> Result<Row
     ensures looks { Looks S.Store conn.old conn.new result }
     ensures found { Finds S.Store conn.old conn.new result (λ s v. v ≡ s.policy.users) }
 {
-    let rows = read(
+    members_on::<_, _, UserTable>(
+        alloc,
         conn,
         "SELECT id, special, auditor, revoked, digest, restricted FROM usr ORDER BY id",
         &[],
-    )?;
-    all_in::<_, UserTable>(alloc, rows.as_slice())
+    )
 }

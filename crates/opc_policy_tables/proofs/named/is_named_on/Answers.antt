@@ -5,7 +5,7 @@ use Rattle.sqlite.specs.Effect.{Database}
 use Rattle.sqlite.specs.Held.{state}
 use Rattle.sqlite.specs.State.{HasCleanDisk}
 use Rattle.opc_statements.proofs.Limited.{any_or}
-use Rattle.opc_statements.proofs.Looking.{looked}
+use Rattle.opc_statements.proofs.Looking.{looked, looks_as, looks_then}
 use Rattle.opc_policy.specs.declared.connect.Connect.{Connect}
 use Rattle.opc_policy.specs.declared.policy.Policy.{Policy}
 use Rattle.opc_policy.specs.declared.profile.Profile.{Profile}
@@ -34,3 +34,13 @@ returns-clause-found g c clean s was =
     let owner = sym (c.in_ok-owner.ensures.found late s mid) ∙ c.if-owner.false in
     let same = three s.policy c.args.user.now ∙ ap₂ (λ a b. a || (b || list_any (has_entry c.args.user.now) s.policy.profiles)) connected owner in
     subst (λ b. IfOk c.has_entry_on.result (λ v. v ≡ b)) (sym same) (c.has_entry_on.ensures.found clean s last)
+
+pub returns-then-owner-clause-looks : goal.returns-then-owner-clause-looks
+returns-then-owner-clause-looks g c =
+    let both = looks_then g.S.Store _ _ _ _ _ _ _ c.has_connect_on.new.conn _ c.in_ok-connected.ensures.looks c.in_ok-owner.ensures.looks in
+    looks_as g.S.Store _ _ _ _ _ _ _ _ both
+
+pub returns-clause-looks : goal.returns-clause-looks
+returns-clause-looks g c =
+    let both = looks_then g.S.Store _ _ _ _ _ _ _ c.has_connect_on.new.conn _ c.in_ok-connected.ensures.looks c.in_ok-owner.ensures.looks in
+    looks_then g.S.Store _ _ _ _ _ _ _ c.has_owner_on.new.conn _ both c.has_entry_on.ensures.looks

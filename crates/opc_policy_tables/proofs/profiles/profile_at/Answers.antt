@@ -5,7 +5,7 @@ use Rattle.sqlite.specs.Held.{state}
 use Rattle.sqlite.specs.State.{HasCleanDisk}
 use Rattle.opc_statements.proofs.Asked.{never_writes}
 use Rattle.opc_statements.proofs.Decoded.{first_is, none_found}
-use Rattle.opc_statements.proofs.Looking.{looked}
+use Rattle.opc_statements.proofs.Looking.{looked, looks_as, looks_then}
 use Rattle.opc_policy.specs.Profiles.{is_of}
 use Rattle.opc_stored.specs.Represented.{Represents, profile_row}
 use Rattle.opc_policy_tables.proofs.ProfileLoads.{profile_asked, profile_told, own_key}
@@ -34,3 +34,8 @@ returns-clause-found g c clean s was =
     let shown = rw (c.params-to_sql.ensures, c.params-to_sql-2.ensures, c.text.ensures.text, c.text-2.ensures.text) at (c.in_ok-rows.ensures.shown clean) in
     let are = profile_told _ _ s was class pattern _ shown in
     none_found profile_row (λ p. p) (is_of class pattern) s.policy.profiles c.as_slice.result.now (c.as_slice.ensures.value ∙ are) (slice_get_past c.as_slice.result.now 0 c.in-None.ensures.lookup.3)
+
+pub returns-in-Some-clause-looks : goal.returns-in-Some-clause-looks
+returns-in-Some-clause-looks g c =
+    let both = looks_then g.S.Store _ _ _ _ _ _ _ c.read.new.conn _ c.in_ok-rows.ensures.looks c.in_ok-profile_on-in-Some.ensures.looks in
+    looks_as g.S.Store _ _ _ _ _ _ _ _ both

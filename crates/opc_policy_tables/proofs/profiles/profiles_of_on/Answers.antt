@@ -3,7 +3,7 @@ use Rattle.sqlite.specs.Effect.{Database}
 use Rattle.sqlite.specs.Held.{state}
 use Rattle.sqlite.specs.State.{HasCleanDisk}
 use Rattle.opc_statements.proofs.Asked.{never_writes}
-use Rattle.opc_statements.proofs.Looking.{looked}
+use Rattle.opc_statements.proofs.Looking.{looked, looks_on}
 use Rattle.opc_policy.specs.Profiles.{of_class}
 use Rattle.opc_stored.specs.Represented.{Represents}
 use Rattle.opc_policy_tables.proofs.ProfileLoads.{by_class_asked, class_told}
@@ -20,3 +20,6 @@ returns-clause-found g c clean s was =
     let mid = looked g.S.Store _ _ _ _ _ c.in_ok-rows.ensures.looks early (λ (d : Database). Represents d s) was in
     let lists = next.found clean s mid in
     c.whole_in.ensures (of_class c.args.class s.policy.profiles) (rw c.as_slice-2.ensures.value lists) (c.as_slice.ensures.value ∙ class_told c.args.class _ _ s was _ shown)
+
+pub returns-clause-looks : goal.returns-clause-looks
+returns-clause-looks g c = looks_on g.S.Store _ _ c.read.new.conn _ c.in_ok-rows.ensures.looks _ c.whole_in.result c.in_ok-entries.ensures.looks

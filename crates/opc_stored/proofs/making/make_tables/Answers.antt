@@ -31,6 +31,24 @@ returns-clause-ran g c clean =
     let done = transacted g.S.Store old tx two end c.transaction-tx.ensures.begun P inside did c.commit.ensures.survives c.commit.result (c.commit.ensures.ok late) late in
     subst (λ (h : Held _). OnOk c.commit.result (P (state g.S.Store h).now)) same done
 
+pub returns-clause-made : goal.returns-clause-made
+returns-clause-made g c clean =
+    let old = c.args.conn.now in
+    let tx = c.transaction-tx.result.conn.now in
+    let one = c.create_tables.new.tx.conn.now in
+    let two = c.fill.new.tx.conn.now in
+    let end = c.commit.new.self.0 in
+    let P = λ (d : Database). old.schema ≡ no_schema → Represents d empty in
+    let first = c.in_ok-create_tables.ensures in
+    let second = c.in_ok-fill.ensures in
+    let did : HasCleanDisk (state g.S.Store two) → P (state g.S.Store two).now = λ fine none.
+    second.filled fine (first.made (omega (arith, second.stays.survives.clean)) (rw c.transaction-tx.ensures.begun none)) in
+    let inside = survives_then (state g.S.Store tx) (state g.S.Store one) (state g.S.Store two) _ _ (λ _. ⊥) (λ _ db none. none) (λ _ db none. none) first.stays.survives second.stays.survives in
+    let same : end ≡ c.conn-2-1.given.0 = search rules in
+    let late : HasCleanDisk (state g.S.Store end) = search rules in
+    let done = transacted g.S.Store old tx two end c.transaction-tx.ensures.begun P inside did c.commit.ensures.survives c.commit.result (c.commit.ensures.ok late) late in
+    subst (λ (h : Held _). OnOk c.commit.result (P (state g.S.Store h).now)) same done
+
 pub returns-clause-survives : goal.returns-clause-survives
 returns-clause-survives g c =
     let old = c.args.conn.now in

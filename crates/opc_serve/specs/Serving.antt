@@ -19,7 +19,7 @@ module _ {T : Type 0} (is_sure : T → Type 0) (represents may_leave : T → Sta
     pub answer : Answer
     pub handled : is_sure new → (s : State) → represents old s → IsHandled represents may_leave old new s moment (input_of request) answer
 
-  -- What one client makes of the tables: they are as they were, or a request of it was handled.
+  -- What serving one client makes of the tables: they are as they were, or one request was handled.
   abbrev pub IsServed : ℕ → Type 0
   IsServed moment = (new ≡ old) ⊎ HandlesOne moment
 

@@ -1,11 +1,12 @@
-"""Operations and listings, asked of one service over HTTP."""
+"""Requests of all kinds, asked of one service over HTTP."""
 import select, shutil, tempfile
 from typing import NamedTuple
 
 from serving import clients
-from serving.answers import done, refused
+from serving.answers import done, refused, unread
 from serving.requests import (
-    MOMENT, account, add_user, alt_user, class_active, define, define_console, delete, operation, permit, permit_delete, profiles,
+    MOMENT, Step, account, add_user, alt_user, class_active, command, define, define_console, delete, imported, operation, permit, permit_delete,
+    profiles,
 )
 from serving.rows import timeless
 from serving.service import FIRST, Service
@@ -19,7 +20,10 @@ ALL = [
     "MVS.CANCEL.JOB.PAY* UACC NONE OWNER SECADM", "MVS.CANCEL.JOB.* UACC NONE OWNER SECADM", "MVS.DISPLAY.JOB.SECRET UACC NONE OWNER SECADM",
     "MVS.DISPLAY.** UACC READ OWNER SECADM", "MVS.VARY.DEV UACC NONE OWNER SECADM WARNING", "MVS.** UACC NONE OWNER SECADM",
 ]
-# By title, with SECADM on at C2 and ANNA at C1: each operation done, and in each list some refused; and both listings.
+HELD = "PROFILE OPERCMDS {} HELD {} NEEDED {}".format
+DAY = ["group,,DAY,,,,,"]
+# By title, with SECADM on at C2, ANNA at C1, a job and a device: each operation done, and in each list some refused; both
+# listings; commands, batches, and what is no request.
 LISTS = {
     "users and groups": [
         add_user("C2", "DORA", done(), auditor=True, restricted=True),
@@ -49,6 +53,34 @@ LISTS = {
         define_console("C2", "C1", "MASTER", "AUTO", done()),
         account("C1", 1, 10, refused("E50", "NotSpecial")),
         account("C2", 1, 10, done(f"1 {MOMENT} C2 SECADM E41 -", f"2 {MOMENT} C1 ANNA E50 -")),
+    ],
+    "commands": [
+        command("C1", "C PAYROLL", refused("E20", "DeniedProfile", HELD("MVS.CANCEL.JOB.PAY*", "NONE", "UPDATE"))),
+        command("C3", "D U", refused("E12", "LogonRequired", "LOGONREQUIRED")),
+        command("C3", "LOGON CARL,ABC", done(rule="NOPROFILE")),
+        command("C3", "V 0A80,OFFLINE", done(rule=HELD("MVS.VARY.DEV", "NONE", "UPDATE") + " WARNED")),
+        command("C1", "L 'a line'", done(rule=HELD("MVS.**", "READ", "READ"))),
+        command("C1", "D A,L", done("BACKUP   JOB ACTIVE", rule=HELD("MVS.DISPLAY.**", "READ", "READ"))),
+        command("C1", "C BACKUP", done(rule=HELD("MVS.CANCEL.JOB.*", "UPDATE", "UPDATE"))),
+        command("C1", "C BACKUP", refused("E30", "NoUnit", HELD("MVS.CANCEL.JOB.*", "UPDATE", "UPDATE"))),
+        command("C3", "XYZ 1", refused("E04", "UnknownVerb 0 3")),
+        command("C3", "LOGOFF", done()),
+    ],
+    "batches": [
+        imported("C2", 7, DAY, done("BATCH 7 KEPT")),
+        imported("C2", 7, DAY, done("BATCH 7 AGAIN")),
+        imported("C2", 7, ["group,,LATE,,,,,"], refused("E56", "BatchChanged")),
+        imported("C2", 8, ["group,,NOON,,,,,", "connect,,ANNA,LATE,,,,"], refused("E53", "Missing LATE")),
+        imported("C1", 8, DAY, refused("E50", "NotSpecial")),
+    ],
+    "what is no request": [
+        Step("POST", "/nowhere", b"{}", unread(404)),
+        Step("GET", "/consoles/C1/command", None, unread(405, "POST")),
+        Step("POST", "/consoles/C1/command", b'{"text":1}', unread(400)),
+        Step("POST", "/consoles/C1/command", b"x" * 65_537, unread(413)),
+        Step("POST", "/consoles/C2/admin", b'{"op":"AddGroup","name":"9X"}', unread(400)),
+        imported("C2", 7, ["group,,9X,,,,,"], refused("E60", "RowFault 1 Name")),
+        operation("C2", done(), "AddGroup", name="DAY"),
     ],
 }
 GIVEN_UP = {refused("E90", "NoMemory"): ("alloc",), refused("E91", "Store"): ("alloc", "read", "write", "sync")}
@@ -150,5 +182,5 @@ class Operations:
 
 def works(room):
     stored = f"{room}/administered"
-    files.script(["1 C2 LOGON SECADM,ABC\n", "2 C1 LOGON ANNA,ABC\n"], stored)
+    files.script(["1 * JOBIN BACKUP JOB\n", "1 * ATTACH 0A80\n", "1 C2 LOGON SECADM,ABC\n", "2 C1 LOGON ANNA,ABC\n"], stored)
     return [Operations(room, stored, title, steps) for title, steps in LISTS.items()]

@@ -1,5 +1,5 @@
-"""The Rattle kit that `rt` on the path belongs to: its crates, and one run of its prover."""
-import contextlib, functools, importlib.machinery, importlib.util, os, shutil, subprocess, sys, tempfile, threading
+"""The Rattle kit that `rt` on the path belongs to, and its crates."""
+import contextlib, functools, importlib.machinery, importlib.util, os, shutil, subprocess, sys, threading
 
 PARTS = ("src", "specs", "proofs")
 
@@ -80,18 +80,3 @@ def linked(was, to):
     if subprocess.run(["cp", "-al", was, to], stderr=subprocess.DEVNULL).returncode:
         shutil.rmtree(to, ignore_errors=True)
         shutil.copytree(was, to)
-
-
-class Ran:
-    """What a command printed, its status, and the seconds of a processor that it and what it started took."""
-
-    def __init__(self, words, folder):
-        with tempfile.TemporaryFile("w+", errors="replace") as out:
-            how = {"cwd": folder, "stdin": subprocess.DEVNULL, "stdout": out, "stderr": subprocess.STDOUT}
-            started = subprocess.Popen([*rtlib().guarded(), *words], **how)
-            _, status, used = os.wait4(started.pid, 0)
-            started.returncode = os.waitstatus_to_exitcode(status)
-            out.seek(0)
-            self.text = out.read()
-        self.status, self.seconds = started.returncode, used.ru_utime + used.ru_stime
-        self.lines = self.text.rstrip("\n").split("\n")

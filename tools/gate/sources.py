@@ -44,6 +44,21 @@ def without_parameters(head):
     return head
 
 
+def has_concrete(arguments, head):
+    """Whether an impl is for some arguments of a type alone: one of them is no parameter of the impl."""
+    given = re.match(r"<(.*)>", head)
+    named = set(re.findall(r"(?:^|,)\s*(?:const )?('?\w+)", given[1][: len(given[1]) - len(without_parameters(head))] if given else ""))
+    words = [it.strip() for it in arguments.strip("<>").split(",") if it.strip()]
+    return any(it not in named and it != "'_" for it in words)
+
+
+def is_of_some(function):
+    """Whether a function stands in a type's own impl for some arguments of it alone, as in Store<MemStore>."""
+    kind, head = BLOCK.match(function.block).groups() if function.block else ("", "")
+    of = re.match(r"\s*\w+(<.*>)?", without_parameters(head)) if kind == "impl" and " for " not in head else None
+    return of is not None and has_concrete(of[1] or "", head)
+
+
 def attributes(lines):
     """The attributes among the lines above a function, each as its lines."""
     found = []
@@ -72,7 +87,7 @@ def body_of(lines, at, indent):
         line = lines[here]
         if not line.startswith(indent) or line[len(indent) : len(indent) + 1] in (" ", ""):
             continue
-        if line.endswith("{") or here == at and line.endswith("}"):
+        if line.endswith("{") or line == indent + "{}" or here == at and line.endswith("}"):
             return here
         if here > at and not re.match(r"(\)|where\b)", line[len(indent) :]) or line.endswith(";"):
             return None
@@ -90,8 +105,8 @@ def functions(text):
         body = body_of(lines, at, head[1]) if head else None
         if body is None:
             continue
-        one_line = body == at and line.endswith("}")
-        end = at if one_line else next((it for it in range(body + 1, len(lines)) if lines[it] == head[1] + "}"), None)
+        one_line = lines[body].endswith("}")
+        end = body if one_line else next((it for it in range(body + 1, len(lines)) if lines[it] == head[1] + "}"), None)
         if end is not None:
             found.append(Function(lines, above(lines, at), at, body, end, head[2], block if head[1] else ""))
     return found

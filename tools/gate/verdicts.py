@@ -1,10 +1,14 @@
 """What a check says of the functions that stand in it."""
 import re
 
-LAST = re.compile(r"logic=(not-)?proved\b|only=\d+ proved=|rattle: no verdict")
+LAST = re.compile(r"logic=(not-)?proved\b|only=\d+ (proved|holes)=|rattle: no verdict")
+NOT_PROVED = re.compile(r"logic=not-proved|only=(\d+) proved=(?!\1\b)")
 SYMBOL = re.compile(r"fn (\S+): (.*)")
 # not for the sake of something that it calls, as the kit's rt plant reads it
 OWN = re.compile(r"(not proved|no proof)(?!.*(it calls|it passes|a call of))")
+CALLS = re.compile(r"(?:; |: )?it calls ((?:`[^`]*`(?:, and |, | and )?)+), which (?:is|are) not proved")
+HOLES = "depends on a hole in "
+SAME_HOLES = re.compile(HOLES + r"the same \d+ declarations as `([^`]*)`")
 PLACED = re.compile(r"(?:\./)?(\S+?):(\d+):\d+: error(?:\[[\w-]*\])?: (.*)")
 NOTED = re.compile(r"note: (?:\./)?(src/\S+?):(\d+):\d+: (.*)")
 # a proof file that names what an edit took away, and what cites that proof
@@ -14,6 +18,21 @@ NAMES = re.compile(rf"{UNREAD}|has no `|was not admitted")
 STALE = re.compile(r"module .Rattle-(\w+)-.*Run the lower steps again")
 
 
+def rests_on(what, said, holes):
+    """Whether what is said of a function is that it is proved, but for these holes."""
+    if what in ("proved", "no holes"):
+        return True
+    same = SAME_HOLES.fullmatch(what)
+    named = re.findall("`([^`]*)`", said.get(same[1], "") if same else what)
+    return what.startswith(HOLES) and bool(named) and all(it in holes for it in named)
+
+
+def without_calls(what, sound):
+    """What is said of a function, but for its calls of functions that are as good as proved."""
+    are_sound = lambda it: all(name in sound for name in re.findall(r"`([^`]*)`", it[1]))
+    return CALLS.sub(lambda it: "" if are_sound(it) else it[0], what)
+
+
 def without_quoted(text):
     return re.sub(r"`[^`]*`", "", text)
 
@@ -21,9 +40,13 @@ def without_quoted(text):
 class Verdict:
     """One check, read."""
 
-    def __init__(self, ran):
-        self.ran = ran
-        self.said = dict(found.groups() for found in map(SYMBOL.fullmatch, ran.lines) if found)
+    def __init__(self, ran, stubs=None):
+        """`stubs`: the names of functions whose proofs are holes, with the names of the holes. They are no reason against what
+        calls them: rt ci proved what they stand for."""
+        self.ran, self.holes, stubs = ran, {*(stubs or {}).values()}, stubs or {}
+        self.whole = dict(found.groups() for found in map(SYMBOL.fullmatch, ran.lines) if found)
+        sound = {*stubs, *(name for name, what in self.whole.items() if rests_on(what, self.whole, self.holes))}
+        self.said = {name: without_calls(what, sound) for name, what in self.whole.items() if name not in stubs}
         self.errors = [(at[1], int(at[2]), at[3]) for at in map(PLACED.match, ran.lines) if at]
         self.notes = [(at[1], int(at[2]), at[3]) for at in map(NOTED.match, ran.lines) if at]
         self.is_judged = bool(self.said) and any(map(LAST.match, ran.lines)) and not STALE.search(ran.text)
@@ -39,7 +62,7 @@ class Verdict:
 
     def proves(self, subject):
         said = self.of(subject)
-        return bool(said) and all(it == "proved" for it in said)
+        return bool(said) and all(rests_on(it, self.whole, self.holes) for it in said)
 
     def refusal(self, subject):
         """Why the subject is refused in its own right by a goal that is not proved, and whether that is so."""
@@ -79,7 +102,7 @@ def must_fail(ran, changed):
     if ran.status == 0:
         return False, "NOT REFUSED: the crate is still proved with this edit"
     # (rt, unlike rattle, says more after that line)
-    if ran.status != 1 or not any(it.startswith("logic=not-proved") for it in ran.lines):
+    if ran.status != 1 or not any(map(NOT_PROVED.match, ran.lines)):
         return False, "it did not reach the prover: " + " ".join(ran.lines[:4])
     told = [it for it in ran.lines if re.match(r"(note: )?\S+:\d+:\d+:", it)]
     told = [it for it in told if ": error" in it or it.startswith("note: ")] or told

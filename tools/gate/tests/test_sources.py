@@ -1,0 +1,72 @@
+"""How the functions of a .rt file are found."""
+import unittest
+
+from gate.sources import functions
+
+TEXT = """\
+/// Doubles.
+#[tactic(auto)]
+pub fn double(number: u32) -> u32
+    ensures { result ≡ number + number }
+{
+    number + number
+}
+
+impl<'a> Board<'a> {
+    // of one line
+    fn none(&self) -> bool { false }
+
+    pub(crate) fn next(
+        &self,
+        at: usize,
+    ) -> usize {
+        match at {
+            0 => 1,
+            _ => at,
+        }
+    }
+}
+
+impl Drop for Board<'_> {
+    fn drop(&mut self) {
+        self.close();
+    }
+}
+
+trait Tables {
+    fn rows(&self) -> u32;
+}
+"""
+
+
+class Functions(unittest.TestCase):
+    def setUp(self):
+        self.found = {it.name: it for it in functions(TEXT)}
+
+    def test_all_with_a_body_and_no_other(self):
+        self.assertEqual(list(self.found), ["double", "none", "next", "drop"])
+
+    def test_lines_from_the_comment_to_the_end(self):
+        it = self.found["double"]
+        self.assertEqual((it.first, it.at, it.body, it.end), (0, 2, 4, 6))
+        self.assertEqual(it.attributes, [["#[tactic(auto)]"]])
+
+    def test_a_body_on_one_line(self):
+        it = self.found["none"]
+        self.assertEqual((it.at, it.body, it.end), (10, 10, 10))
+
+    def test_a_head_of_several_lines(self):
+        it = self.found["next"]
+        self.assertEqual((it.at, it.body, it.end), (12, 15, 20))
+
+    def test_owners(self):
+        owners = {name: it.owner() for name, it in self.found.items()}
+        self.assertEqual(owners, {"double": "", "none": "Board", "next": "Board", "drop": None})
+
+    def test_another_name_without_comments(self):
+        lines = self.found["double"].renamed("double_twin1")
+        self.assertEqual(lines[:3], ["", "#[tactic(auto)]", "pub fn double_twin1(number: u32) -> u32"])
+
+
+if __name__ == "__main__":
+    unittest.main()

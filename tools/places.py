@@ -2,16 +2,17 @@
 import os, subprocess, sys
 
 TOP = os.path.dirname(os.path.dirname(os.path.abspath(__file__)))
-# OPCMDS names another program than the one that ./opcmds built.
+# OPCMDS names another program than the one that tools/build proved.
 PROGRAM = os.environ.get("OPCMDS") or f"{TOP}/crates/opc_cli/out/opc_cli"
 POLICY = f"{TOP}/examples/base-policy.csv"
 HEADER = "kind,class,name,id,value,owner,flags,digest"
+WIDE_HEADER = f"{HEADER},when,restricted"
 
 
 def built():
     """The program, which has to be there."""
     if not os.path.isfile(PROGRAM):
-        sys.exit("no program is built: run ./opcmds --help first")
+        sys.exit("no proved program is there: tools/build proves and builds it; OPCMDS names another program")
     return PROGRAM
 
 
@@ -22,9 +23,9 @@ def compiled(name, folder, *libraries):
     return made
 
 
-def preload(folder):
-    """Compiles tools/faults.c, to be loaded before a program's libraries."""
-    made = f"{folder}/faults.so"
-    words = [os.environ.get("CC", "cc"), "-shared", "-fPIC", "-O1", "-o", made, f"{TOP}/tools/faults.c", "-ldl"]
+def preload(folder, name="faults"):
+    """Compiles tools/NAME.c, to be loaded before a program's libraries."""
+    made = f"{folder}/{name}.so"
+    words = [os.environ.get("CC", "cc"), "-shared", "-fPIC", "-O1", "-o", made, f"{TOP}/tools/{name}.c", "-ldl"]
     subprocess.run(words, check=True)
     return made

@@ -2,6 +2,7 @@
 import os, re, resource, shutil, statistics, subprocess, sys, tempfile, time
 from typing import NamedTuple
 
+from gate import setup
 from places import built
 
 
@@ -44,11 +45,12 @@ def options(arguments):
     arguments.add_argument("--folder", default="/dev/shm")
 
 
-def chosen(arguments):
-    """The words that were given; one run suffices to count instructions."""
+def chosen(arguments, *needed):
+    """The words that were given, once what the bench needs is there; one run suffices to count instructions."""
     global counting
     given = arguments.parse_args()
     counting = given.instructions
+    setup.needs(*needed, *["valgrind"] * counting)
     given.runs = 1 if counting else given.runs
     return given
 

@@ -31,13 +31,18 @@ class Said:
         return [it[:300] for it in lines if not USUAL.match(it)][-number:] or lines[-number:]
 
 
-class Progress:
-    def __init__(self, what, names, out=sys.stderr):
-        self.what, self.names, self.out = what, names, out
-        self.ready, self.running = set(), {}
-        self.started, self.told, self.shown = time.monotonic(), 0.0, 0
+class Clock:
+    """A line on standard error that says what goes on, and since when."""
+
+    def __init__(self, what, out=sys.stderr):
+        self.what, self.now, self.out = what, "", out
+        self.started, self.shown = time.monotonic(), 0
         self.turn, self.ended = threading.Lock(), threading.Event()
         self.is_terminal = out.isatty()
+
+    def goes_on(self, what):
+        self.now = what
+        self.show()
 
     def __enter__(self):
         self.thread = threading.Thread(target=self.watch, daemon=True)
@@ -54,22 +59,12 @@ class Progress:
         while not self.ended.wait(0.5 if self.is_terminal else EVERY):
             self.show()
 
-    def begins(self, name, said):
-        with self.turn:
-            self.running[name] = said
-        self.show()
-
-    def ends(self, name, is_well):
-        with self.turn:
-            self.running.pop(name, None)
-            self.ready |= {name} if is_well else set()
-        self.show()
+    def minutes(self):
+        minutes, seconds = divmod(int(time.monotonic() - self.started), 60)
+        return f"{minutes}:{seconds:02} minutes"
 
     def line(self):
-        with self.turn:
-            parts = [f"{name} {it.done} of {it.all} functions" if it.all else name for name, it in self.running.items()]
-        minutes, seconds = divmod(int(time.monotonic() - self.started), 60)
-        return f"{self.what}: {len(self.ready)} of {len(self.names)} crates proved, {minutes}:{seconds:02} minutes; now {', '.join(parts) or 'compiling and linking'}"
+        return f"{self.what}: {self.minutes()}; now {self.now}"
 
     def show(self):
         text = self.line()
@@ -84,3 +79,27 @@ class Progress:
     def write(self, text):
         self.out.write(text)
         self.out.flush()
+
+
+class Progress(Clock):
+    """A clock that says how many of some crates are proved, and how far those that are being proved."""
+
+    def __init__(self, what, names, out=sys.stderr):
+        super().__init__(what, out)
+        self.names, self.ready, self.running = names, set(), {}
+
+    def begins(self, name, said):
+        with self.turn:
+            self.running[name] = said
+        self.show()
+
+    def ends(self, name, is_well):
+        with self.turn:
+            self.running.pop(name, None)
+            self.ready |= {name} if is_well else set()
+        self.show()
+
+    def line(self):
+        with self.turn:
+            parts = [f"{name} {it.done} of {it.all} functions" if it.all else name for name, it in self.running.items()]
+        return f"{self.what}: {len(self.ready)} of {len(self.names)} crates proved, {self.minutes()}; now {', '.join(parts) or 'compiling and linking'}"

@@ -7,7 +7,7 @@ use opc_rows::Keyed;
 use opc_terms::mode::Mode;
 
 /// What a unit is: a job, a started task of a member, or a user's session.
-#[derive(Clone, Copy, Debug)]
+#[derive(Clone, Copy)]
 pub enum UnitKind {
     Job,
     Stc { member: UnitName },
@@ -15,7 +15,7 @@ pub enum UnitKind {
 }
 
 /// A unit of work.
-#[derive(Debug, Drop)]
+#[derive(Drop)]
 pub struct UnitRow {
     pub name: UnitName,
     pub kind: UnitKind,
@@ -36,7 +36,7 @@ impl Keyed for UnitRow {
 }
 
 /// A device, with the volume that is mounted on it and the unit that has it.
-#[derive(Clone, Copy, Debug)]
+#[derive(Clone, Copy)]
 pub struct DeviceRow {
     pub number: Device,
     pub online: bool,
@@ -55,7 +55,7 @@ impl Keyed for DeviceRow {
 }
 
 /// A console, with the user who is logged on there.
-#[derive(Clone, Copy, Debug)]
+#[derive(Clone, Copy)]
 pub struct ConsoleRow {
     pub name: ConsoleName,
     pub auth: Auth,
@@ -77,7 +77,7 @@ impl Keyed for ConsoleRow {
 }
 
 /// An open reply with the text that it asks, or an answered one with the answer.
-#[derive(Debug, Drop)]
+#[derive(Drop)]
 pub struct ReplyRow {
     pub id: ReplyId,
     pub text: KeptText,
@@ -94,7 +94,7 @@ impl Keyed for ReplyRow {
 }
 
 /// A message for a user.
-#[derive(Debug, Drop)]
+#[derive(Drop)]
 pub struct MessageRow {
     pub user: UserId,
     pub text: KeptText,

@@ -12,7 +12,7 @@ use std::alloc::{AllocError, Global};
 use std::marker::Model;
 
 /// An access list: one entry for an id and a console, in the order of the ids and then of the consoles.
-#[derive(Debug, Drop)]
+#[derive(Drop)]
 pub struct Entries {
     list: Vec<Entry>,
 }

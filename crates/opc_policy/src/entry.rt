@@ -7,7 +7,7 @@ use opc_terms::entry_id::EntryId;
 use std::cmp::Ordering;
 
 /// One entry of an access list: at every console, or at one console alone.
-#[derive(Clone, Copy, Debug)]
+#[derive(Clone, Copy)]
 pub struct Entry {
     pub id: EntryId,
     pub when: Option<ConsoleName>,

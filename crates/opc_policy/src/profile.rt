@@ -10,7 +10,7 @@ use opc_names::name::{ConsoleName, GroupName, Pattern, UserId};
 
 /// What a class says of the resources that a pattern covers: who owns the profile, the universal access,
 /// whether it only warns, and the access list (RACF guide: general resource profile).
-#[derive(Clone, Debug, Drop)]
+#[derive(Clone, Drop)]
 pub struct Profile {
     pub class: Class,
     pub pattern: Pattern,

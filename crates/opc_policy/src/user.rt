@@ -3,7 +3,7 @@ use opc_names::name::UserId;
 
 /// A user of the policy. The digest is the SHA-256 of the password; without one the user cannot log on. A
 /// RESTRICTED user has nothing of what a profile gives everyone.
-#[derive(Clone, Copy, Debug, PartialEq, Eq)]
+#[derive(Clone, Copy, PartialEq, Eq)]
 pub struct User {
     pub id: UserId,
     pub special: bool,

@@ -116,12 +116,6 @@ impl Ord for EntryId {
     }
 }
 
-impl fmt::Debug for EntryId {
-    fn fmt<W: fmt::Write>(&self, f: &mut fmt::Formatter<W>) -> fmt::Result {
-        fmt::Debug::fmt(self.text(), f)
-    }
-}
-
 impl fmt::Display for EntryId {
     ghost use Rattle.std.specs.Prelude.{Some};
 

@@ -8,7 +8,7 @@ use std::fmt;
 
 /// Whether a user has to be logged on at a console before commands are entered there, or the console acts for the
 /// user of its own name where nobody is on (MVS Planning: Operations, LOGON).
-#[derive(Clone, Copy, Debug, PartialEq, Eq)]
+#[derive(Clone, Copy, PartialEq, Eq)]
 pub enum Mode {
     Optional,
     Required,

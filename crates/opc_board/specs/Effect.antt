@@ -78,6 +78,18 @@ is_session_command Halt = false
 is_session_command (Logon user password) = true
 is_session_command Logoff = true
 
+-- the commands that change the board or meet a fault, and give no lines
+abbrev pub is_change : Command → Bool
+is_change DisplayUnits = false
+is_change (DisplayUnit name) = false
+is_change DisplayDevices = false
+is_change DisplayConsoles = false
+is_change DisplayReplies = false
+is_change (Reply id text) = false
+is_change (Logon user password) = false
+is_change Logoff = false
+is_change command = true
+
 -- an event, which gives no line
 abbrev pub event_effect : BoardRows → Event → Outcome
 event_effect b (JobIn name kind cancelable) = job_in name kind cancelable b

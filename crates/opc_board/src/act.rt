@@ -1,11 +1,11 @@
 //! Commands and events on a board.
-ghost use Rattle.std.specs.Prelude.{◌≡◌, ◌≢◌, IfErr, IfOk, IsSome, Err, OnErr, OnOk, false};
+ghost use Rattle.std.specs.Prelude.{◌≡◌, ◌≢◌, IfErr, IfOk, IsSome, Err, OnErr, OnOk, true, false};
 ghost use Rattle.opc_reader.specs.Quotes.{text_value};
 ghost use Rattle.opc_board.specs.declared.fault.BoardFault.TheVariants.{NoMemory};
 ghost use Rattle.opc_board.specs.Facts.{console_at, unit_at};
 ghost use Rattle.opc_board.specs.Texts.{lines_of};
-ghost use Rattle.opc_board.specs.Outcome.{done, done_with};
-ghost use Rattle.opc_board.specs.Effect.{effect, event_effect, is_session_command};
+ghost use Rattle.opc_board.specs.Outcome.{ComesToOrNoMemory, done, done_with};
+ghost use Rattle.opc_board.specs.Effect.{effect, event_effect, is_change, is_session_command};
 
 use crate::board::Board;
 use crate::event::Event;
@@ -47,45 +47,61 @@ impl Board {
         ensures unchanged { OnErr result (self.new ≡ self.old) }
     {
         match command {
-            Command::DisplayUnits => return Ok(unit_lines(alloc, self.rows.units.as_slice())?),
-            Command::DisplayUnit(name) => return Ok(self.line_at(alloc, &name.value)?),
-            Command::DisplayDevices => return Ok(device_lines(
-                alloc,
-                self.rows.devices.as_slice(),
-            )?),
-            Command::DisplayConsoles => return Ok(console_lines(
-                alloc,
-                self.rows.consoles.as_slice(),
-            )?),
-            Command::DisplayReplies => return Ok(reply_lines(alloc, self.rows.replies.as_slice())?),
-            Command::Cancel(name) => self.cancel(&name.value)?,
-            Command::CancelUser(user) => self.cancel_user(&session_of(&user.value))?,
-            Command::Force(name) => self.force(&name.value)?,
-            Command::Start(member) => self.start(member.value, member.value)?,
-            Command::StartAs(member, id) => self.start(member.value, id.value)?,
-            Command::Stop(name) => self.stop(&name.value)?,
-            Command::Modify(name, text) => self.modify(&name.value, kept(alloc, text)?)?,
-            Command::Reply(id, text) => return self.reply(alloc, id.value, kept(alloc, text)?),
-            Command::VaryDeviceOnline(device) => self.vary_online(&device.value)?,
-            Command::VaryDeviceOffline(device) => self.vary_offline(&device.value)?,
-            Command::VaryConsoleOnline(name) => self.vary_console_online(&name.value)?,
-            Command::VaryConsoleOffline(name) => self.vary_console_offline(&name.value)?,
-            Command::VaryConsoleAuth(name, auth) => self.vary_console_auth(
-                &name.value,
-                auth.value,
-            )?,
-            Command::Mount(device, volume) => self.mount(&device.value, volume.value)?,
-            Command::Unload(device) => self.unload(&device.value)?,
-            Command::Swap(from, to) => self.swap(&from.value, &to.value)?,
-            Command::ResetConsole(name) => self.reset_console(&name.value)?,
-            Command::Send(text, user) => self.send(user.value, kept(alloc, text)?)?,
-            Command::Log(text) => self.log_line(kept(alloc, text)?)?,
-            Command::Monitor => self.monitor(console, true),
-            Command::StopMonitor => self.monitor(console, false),
-            Command::Halt => self.halt()?,
+            Command::DisplayUnits => Ok(unit_lines(alloc, self.rows.units.as_slice())?),
+            Command::DisplayUnit(name) => Ok(self.line_at(alloc, &name.value)?),
+            Command::DisplayDevices => Ok(device_lines(alloc, self.rows.devices.as_slice())?),
+            Command::DisplayConsoles => Ok(console_lines(alloc, self.rows.consoles.as_slice())?),
+            Command::DisplayReplies => Ok(reply_lines(alloc, self.rows.replies.as_slice())?),
+            Command::Reply(id, text) => self.reply(alloc, id.value, kept(alloc, text)?),
             Command::Logon(..) | Command::Logoff => unreachable!(),
+            _ => {
+                self.change(alloc, command, console)?;
+                Ok(Vec::new(alloc))
+            }
         }
-        Ok(Vec::new(alloc))
+    }
+
+    // Runs a command that changes the board or meets a fault, and gives no lines.
+    fn change(
+        &mut self,
+        alloc: Global,
+        command: &Command<'_>,
+        console: &ConsoleName,
+    ) -> Result<(), BoardFault>
+        requires console { IsSome (console_at self.old console.now) }
+        requires command { is_change command.now ≡ true }
+        ensures { ComesToOrNoMemory self.old self.new (effect self.old command.now console.now) result }
+    {
+        match command {
+            Command::Cancel(name) => self.cancel(&name.value),
+            Command::CancelUser(user) => self.cancel_user(&session_of(&user.value)),
+            Command::Force(name) => self.force(&name.value),
+            Command::Start(member) => self.start(member.value, member.value),
+            Command::StartAs(member, id) => self.start(member.value, id.value),
+            Command::Stop(name) => self.stop(&name.value),
+            Command::Modify(name, text) => self.modify(&name.value, kept(alloc, text)?),
+            Command::VaryDeviceOnline(device) => self.vary_online(&device.value),
+            Command::VaryDeviceOffline(device) => self.vary_offline(&device.value),
+            Command::VaryConsoleOnline(name) => self.vary_console_online(&name.value),
+            Command::VaryConsoleOffline(name) => self.vary_console_offline(&name.value),
+            Command::VaryConsoleAuth(name, auth) => self.vary_console_auth(&name.value, auth.value),
+            Command::Mount(device, volume) => self.mount(&device.value, volume.value),
+            Command::Unload(device) => self.unload(&device.value),
+            Command::Swap(from, to) => self.swap(&from.value, &to.value),
+            Command::ResetConsole(name) => self.reset_console(&name.value),
+            Command::Send(text, user) => self.send(user.value, kept(alloc, text)?),
+            Command::Log(text) => self.log_line(kept(alloc, text)?),
+            Command::Monitor => {
+                self.monitor(console, true);
+                Ok(())
+            }
+            Command::StopMonitor => {
+                self.monitor(console, false);
+                Ok(())
+            }
+            Command::Halt => self.halt(),
+            _ => unreachable!(),
+        }
     }
 
     /// Lets an event happen. After a fault, memory too, the board is as it was.

@@ -1,6 +1,6 @@
 //! The operands of each verb.
 ghost use Rattle.std.specs.Prelude.{◌≡◌};
-ghost use Rattle.opc_reader.specs.Reading.{fixed, only, display, cancel, start, modify, reply, vary_device, vary_console, vary, mount, swap, reset, send, logon, command};
+ghost use Rattle.opc_reader.specs.Reading.{fixed, only, display, cancel, force, start, stop, modify, reply, vary_device, vary_console, vary, mount, unload, swap, reset, send, log, logon, command};
 
 use crate::command::Command;
 use crate::operand::{
@@ -57,6 +57,13 @@ fn cancel<'a>(s: &Piece<'a>) -> Option<Command<'a>>
     }
 }
 
+#[tactic(auto, unfolding(crate::specs::Reading::force))]
+fn force<'a>(s: &Piece<'a>) -> Option<Command<'a>>
+    ensures { result ≡ force s.now }
+{
+    Some(Command::Force(last_name(s)?))
+}
+
 #[tactic(auto, unfolding(crate::specs::Reading::start))]
 fn start<'a>(s: &Piece<'a>) -> Option<Command<'a>>
     ensures { result ≡ start s.now }
@@ -66,6 +73,13 @@ fn start<'a>(s: &Piece<'a>) -> Option<Command<'a>>
         Some(rest) => Some(Command::StartAs(member, last_name(&rest)?)),
         None => only(&rest, Command::Start(member)),
     }
+}
+
+#[tactic(auto, unfolding(crate::specs::Reading::stop))]
+fn stop<'a>(s: &Piece<'a>) -> Option<Command<'a>>
+    ensures { result ≡ stop s.now }
+{
+    Some(Command::Stop(last_name(s)?))
 }
 
 #[tactic(auto, unfolding(crate::specs::Reading::modify))]
@@ -132,6 +146,13 @@ fn mount<'a>(s: &Piece<'a>) -> Option<Command<'a>>
     Some(Command::Mount(device, volume))
 }
 
+#[tactic(auto, unfolding(crate::specs::Reading::unload))]
+fn unload<'a>(s: &Piece<'a>) -> Option<Command<'a>>
+    ensures { result ≡ unload s.now }
+{
+    Some(Command::Unload(last_name(s)?))
+}
+
 #[tactic(auto, unfolding(crate::specs::Reading::swap))]
 fn swap<'a>(s: &Piece<'a>) -> Option<Command<'a>>
     ensures { result ≡ swap s.now }
@@ -158,6 +179,13 @@ fn send<'a>(s: &Piece<'a>) -> Option<Command<'a>>
     only(&rest.word(")")?, Command::Send(text, user))
 }
 
+#[tactic(auto, unfolding(crate::specs::Reading::log))]
+fn log<'a>(s: Piece<'a>) -> Option<Command<'a>>
+    ensures { result ≡ log s.entry }
+{
+    Some(Command::Log(quoted_text(s)?))
+}
+
 #[tactic(auto, unfolding(crate::specs::Reading::logon))]
 fn logon<'a>(s: &Piece<'a>) -> Option<Command<'a>>
     ensures { result ≡ logon s.now }
@@ -168,25 +196,25 @@ fn logon<'a>(s: &Piece<'a>) -> Option<Command<'a>>
 }
 
 /// The command of a verb with these operands.
-#[tactic(auto, unfolding(crate::specs::Reading::command, crate::specs::Reading::force, crate::specs::Reading::stop, crate::specs::Reading::unload, crate::specs::Reading::log))]
+#[tactic(auto, unfolding(crate::specs::Reading::command))]
 pub(crate) fn command<'a>(verb: Verb, s: Piece<'a>) -> Option<Command<'a>>
     ensures { result ≡ command verb s.entry }
 {
     match verb {
         Verb::Display => display(&s),
         Verb::Cancel => cancel(&s),
-        Verb::Force => Some(Command::Force(last_name(&s)?)),
+        Verb::Force => force(&s),
         Verb::Start => start(&s),
-        Verb::Stop => Some(Command::Stop(last_name(&s)?)),
+        Verb::Stop => stop(&s),
         Verb::Modify => modify(&s),
         Verb::Reply => reply(&s),
         Verb::Vary => vary(&s),
         Verb::Mount => mount(&s),
-        Verb::Unload => Some(Command::Unload(last_name(&s)?)),
+        Verb::Unload => unload(&s),
         Verb::Swap => swap(&s),
         Verb::Reset => reset(&s),
         Verb::Send => send(&s),
-        Verb::Log => Some(Command::Log(quoted_text(s)?)),
+        Verb::Log => log(s),
         Verb::Monitor => fixed(&s, "JOBNAMES", Command::Monitor),
         Verb::StopMonitor => fixed(&s, "JOBNAMES", Command::StopMonitor),
         Verb::Halt => fixed(&s, "EOD", Command::Halt),

@@ -1,3 +1,4 @@
 pub mod Runs
 pub mod Services
 pub mod Imports
+pub mod Works

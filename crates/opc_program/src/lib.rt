@@ -5,3 +5,4 @@ pub mod import;
 mod printing;
 pub mod run;
 pub mod serve;
+pub mod work;

@@ -1,0 +1,28 @@
+-- What a work of the program does over tables.
+use Rattle.std.specs.Prelude.{◌≡◌, ◌≤◌, ◌⊎◌, ℕ, List, Option, Result, IsErrAnd}
+use Rattle.opc_state.specs.State.{State}
+use Rattle.opc_failures.specs.declared.failure.Failure.{Failure}
+use Rattle.opc_failures.specs.declared.status.Status.{Status}
+use Rattle.opc_failures.specs.Statuses.{IsFailure, status_of_end}
+use Rattle.opc_http_link.specs.declared.watched.Watched.{Watched}
+use Rattle.opc_serve.specs.declared.clock.TheConstants.{LAST_MOMENT}
+use Rattle.opc_words.specs.declared.import.Import.{Import}
+use Rattle.opc_program.specs.Imports.{IsExport, IsImport}
+use Rattle.opc_program.specs.Runs.{IsProgramRun}
+use Rattle.opc_program.specs.Services.{IsService}
+use Rattle.opc_program.specs.declared.work.Work.{Work}
+use Rattle.opc_program.specs.declared.work.Work.TheVariants as work
+
+module _ {T : Type 0} (is_sure : T → Type 0) (represents may_leave : T → State → Type 0) {W : Type 0} (contents : W → Option (List ℕ)) (old new : T) (left : Option (List ℕ)) (before written : Watched W) (end : Result Status Failure) where
+  -- The clock failed and nothing was done, or the policy file was imported at a moment.
+  abbrev pub IsImportNow : Import → Type 0
+  IsImportNow import =
+      (IsErrAnd end (λ failure. IsFailure failure.fault) × (new ≡ old) × (written ≡ before))
+      ⊎ ((moment : ℕ) × (moment ≤ LAST_MOMENT) × IsImport is_sure represents may_leave old new end (λ (w : Watched W). contents w.inner) (λ (w : Watched W). w.failed) before written left moment import)
+
+  -- Each work does what is said of it alone.
+  abbrev pub IsDone : Work → Type 0
+  IsDone (work.Run policy) = IsProgramRun is_sure represents may_leave (λ (w : Watched W). contents w.inner) (λ (w : Watched W). w.failed) old new policy left before written end
+  IsDone (work.Import import) = IsImportNow import
+  IsDone work.Export = IsExport is_sure represents may_leave old new end (λ (w : Watched W). contents w.inner) (λ (w : Watched W). w.failed) before written
+  IsDone (work.Serve serve) = IsService is_sure represents may_leave old new serve.count (status_of_end end)

@@ -1,4 +1,5 @@
-use Rattle.std.proofs.Common.{◌≡◌, ◌∙◌, sym, ap, subst, true, false, rules, inl}
+use Rattle.std.proofs.Common.{◌≡◌, ◌∙◌, Bool, sym, ap, subst, true, false, rules, inl}
+use Rattle.std.proofs.lemmas.Result.{IfErr-weaker}
 use Rattle.sqlite.proofs.StateLemmas.{survives_weaker}
 use Rattle.sqlite.specs.Effect.{Database}
 use Rattle.sqlite.specs.Held.{state}
@@ -10,21 +11,22 @@ use Rattle.opc_old_tables.proofs.VersionLoads.{names_own}
 use Rattle.opc_store.proofs.Older.{never_older, older_between, copied, unharmed, unnamed, found, known, refused, crash, crash_at_fault}
 use Rattle.opc_store.proofs.store.Store.open_files.Goals as goal
 
+both : (b : Bool) → b ≡ true → b ≡ false → ⊥
+both b is is_not = cc
+
 pub returns-in-Ok-clause-found : goal.returns-in-Ok-clause-found
 returns-in-Ok-clause-found g c clean is_open s alone =
     let again = found_again (state g.S.Store c.args.conn).now s (c.schema.ensures.live is_open).0 alone in
     let yes : has_our_name c.schema.result.now ≡ true = named _ (c.schema.ensures.value ∙ again.rows.schema) in
-    let was = c.has_our_name.ensures in
-    let no = c.if-not-has_our_name.true in
-    absurd cc
+    let no : c.has_our_name.result ≡ false = search rules in
+    absurd (both _ (c.has_our_name.ensures ∙ yes) no)
 
 pub returns-in-Ok-clause-copied : goal.returns-in-Ok-clause-copied
 returns-in-Ok-clause-copied g c clean is_open version s alone =
     let was_old = found_old version (state g.S.Store c.args.conn).now s (c.schema.ensures.live is_open).0 alone in
     let yes : has_our_name c.schema.result.now ≡ true = old_named version _ (c.schema.ensures.value ∙ was_old.tables.schema_is) in
-    let was = c.has_our_name.ensures in
-    let no = c.if-not-has_our_name.true in
-    absurd cc
+    let no : c.has_our_name.result ≡ false = search rules in
+    absurd (both _ (c.has_our_name.ensures ∙ yes) no)
 
 pub returns-in-Ok-eq3-clause-found : goal.returns-in-Ok-eq3-clause-found
 returns-in-Ok-eq3-clause-found g c clean is_open s alone =
@@ -84,3 +86,36 @@ returns-in-Ok-eq1-clause-crash g c = crash g.S.Store c.in-Ok-eq1.field-0 c.args.
 
 pub returns-in-Ok-eq1-clause-crash_at_fault : goal.returns-in-Ok-eq1-clause-crash_at_fault
 returns-in-Ok-eq1-clause-crash_at_fault g c = crash_at_fault g.S.Store c.in-Ok-eq1.field-0 c.args.conn c.version_on.new.conn c.schema.ensures.live c.in-Ok-eq1.ensures.looks c.copied.result (λ e. e.0) (λ e. e.1) (older_between c.in-Ok-eq1.field-0 (search rules) (search rules)) c.in-Ok-eq1.ensures.names (search rules) c.copied.ensures.crash_at_fault c.copied.ensures.told
+
+-- ---- where it was only asked for its version, nothing is left that was not
+
+pub returns-in-Ok-eq3-clause-crash : goal.returns-in-Ok-eq3-clause-crash
+returns-in-Ok-eq3-clause-crash g c = survives_weaker (state g.S.Store c.args.conn) (state g.S.Store c.version_on.new.conn) _ _ (λ _ db none. absurd none) c.version_on.ensures.looks.survives
+
+pub returns-in-Ok-version_on-clause-crash_at_fault : goal.returns-in-Ok-version_on-clause-crash_at_fault
+returns-in-Ok-version_on-clause-crash_at_fault g c = survives_weaker (state g.S.Store c.args.conn) (state g.S.Store c.version_on.new.conn) _ _ (λ _ db none. absurd none) c.version_on.ensures.looks.survives
+
+pub returns-in-Err-version_on-clause-crash_at_fault : goal.returns-in-Err-version_on-clause-crash_at_fault
+returns-in-Err-version_on-clause-crash_at_fault g c = survives_weaker (state g.S.Store c.args.conn) (state g.S.Store c.version_on.new.conn) _ _ (λ _ db none. absurd none) c.version_on.ensures.looks.survives
+
+-- ---- where a name is ours, no clause speaks of one without
+
+pub returns-in-Ok-eq3-clause-unnamed : goal.returns-in-Ok-eq3-clause-unnamed
+returns-in-Ok-eq3-clause-unnamed g c clean none = absurd (both _ (let is : has_our_name c.args.conn.schema ≡ true = search rules in is) none)
+
+pub returns-in-Ok-eq1-clause-unmade : goal.returns-in-Ok-eq1-clause-unmade
+returns-in-Ok-eq1-clause-unmade g c = IfErr-weaker c.copied.result _ _ (λ e told none. told) c.copied.ensures.told
+
+pub returns-in-Ok-version_on-clause-unmade : goal.returns-in-Ok-version_on-clause-unmade
+returns-in-Ok-version_on-clause-unmade g c none = absurd (both _ (let is : has_our_name c.args.conn.schema ≡ true = search rules in is) none)
+
+pub returns-in-Err-version_on-clause-unmade : goal.returns-in-Err-version_on-clause-unmade
+returns-in-Err-version_on-clause-unmade g c none = absurd (both _ (let is : has_our_name c.args.conn.schema ≡ true = search rules in is) none)
+
+-- ---- where none is, none speaks of one with
+
+pub returns-in-Ok-clause-ours : goal.returns-in-Ok-clause-ours
+returns-in-Ok-clause-ours g c clean named = absurd (both _ named (let is_not : has_our_name c.args.conn.schema ≡ false = search rules in is_not))
+
+pub returns-in-Err-clause-refused : goal.returns-in-Err-clause-refused
+returns-in-Err-clause-refused g c clean named = absurd (both _ named (let is_not : has_our_name c.args.conn.schema ≡ false = search rules in is_not))

@@ -27,7 +27,7 @@ use Rattle.opc_state.specs.Loads.{access_list}
 use Rattle.opc_state.specs.State.{State}
 use Rattle.opc_stored.specs.Represented.{entry_row, entry_rows}
 use Rattle.opc_stored.proofs.ProfileTexts.{has_profile, profile_key}
-use Rattle.opc_policy_tables.proofs.EntryLoads.{list_ordered, list_rows}
+use Rattle.opc_profile_tables.proofs.EntryLoads.{list_ordered, list_rows}
 use Rattle.opc_old_tables.specs.Tables.{Older, First, Second, old_schema, old_at}
 use Rattle.opc_old_tables.specs.Old.{RepresentsOld, IsPlain, old_entry_row, old_entry_rows}
 use Rattle.opc_old_tables.proofs.Held.{held}

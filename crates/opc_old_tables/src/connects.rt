@@ -5,10 +5,10 @@ ghost use Rattle.opc_statements.specs.Steps.{Looks};
 ghost use Rattle.opc_stored.specs.Represented.{connect_row};
 ghost use Rattle.opc_old_tables.specs.Read.{FindsOld, connect_puts};
 
-use opc_policy_tables::connects::connect_in;
 use opc_state::change::Edit;
 use opc_stored::queries::read;
 use opc_terms::store_fault::StoreFault;
+use opc_user_tables::connects::connect_in;
 use sqlite::{Alter, Connection, Row};
 use std::alloc::Global;
 

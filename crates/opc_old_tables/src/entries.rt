@@ -7,7 +7,7 @@ ghost use Rattle.opc_old_tables.specs.Read.{FindsOld};
 use opc_names::class::Class;
 use opc_names::name::Pattern;
 use opc_policy::entries::Entries;
-use opc_policy_tables::entries::entries_in;
+use opc_profile_tables::entries::entries_in;
 use opc_stored::queries::read;
 use opc_terms::store_fault::StoreFault;
 use sqlite::{Alter, Connection, params};

@@ -11,7 +11,7 @@ ghost use Rattle.opc_old_tables.specs.Read.{AreAmong, FindsOld, by_text, profile
 
 use crate::entries::access_list_on;
 use opc_policy::profile::Profile;
-use opc_policy_tables::profiles::definition_in;
+use opc_profile_tables::profiles::definition_in;
 use opc_state::change::Edit;
 use opc_stored::queries::read;
 use opc_terms::store_fault::StoreFault;

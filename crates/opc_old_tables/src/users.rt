@@ -5,10 +5,10 @@ ghost use Rattle.opc_statements.specs.Steps.{Looks};
 ghost use Rattle.opc_stored.specs.Represented.{user_row};
 ghost use Rattle.opc_old_tables.specs.Read.{FindsOld, user_puts};
 
-use opc_policy_tables::users::user_in;
 use opc_state::change::Edit;
 use opc_stored::queries::read;
 use opc_terms::store_fault::StoreFault;
+use opc_user_tables::users::user_in;
 use sqlite::{Alter, Connection, Row};
 use std::alloc::Global;
 

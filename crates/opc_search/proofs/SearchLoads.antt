@@ -27,7 +27,7 @@ use Rattle.opc_policy.specs.declared.profile.Profile.{Profile}
 use Rattle.opc_policy.specs.Profiles.{of_class, profile_cmp}
 use Rattle.opc_decisions.specs.Examined.{head_of, with_head, is_chosen}
 use Rattle.opc_decisions.proofs.FirstCovering.{filter_both}
-use Rattle.opc_policy_tables.proofs.ProfileLoads.{by_class, by_class_asked, class_is, class_params, class_told, in_class, profiles_rise}
+use Rattle.opc_profile_tables.proofs.ProfileLoads.{by_class, by_class_asked, class_is, class_params, class_told, in_class, profiles_rise}
 use Rattle.opc_state.specs.State.{State}
 use Rattle.opc_search.specs.declared.search.TheConstants.{BY_HEAD}
 use Rattle.opc_search.specs.Search.{chosen, Selects}

@@ -3,6 +3,7 @@ pub mod Cast
 pub mod Decoded
 pub mod Filled
 pub mod KeyOrder
+pub mod Kept
 pub mod Keys
 pub mod Made
 pub mod Opened

@@ -7,4 +7,5 @@ pub mod laws;
 pub mod making;
 pub mod names;
 pub mod queries;
+pub mod there;
 pub mod version;

@@ -2,5 +2,6 @@
 #![tactic(auto)]
 
 pub mod lists;
+pub mod named;
 pub mod policy;
 pub mod rows;

@@ -9,13 +9,13 @@ use opc_policy::connect::Connect;
 use opc_policy::policy::ActiveClasses;
 use opc_policy::profile::Profile;
 use opc_policy::user::User;
-use opc_policy_tables::classes::actives_on;
-use opc_policy_tables::connects::connects_on;
-use opc_policy_tables::groups::groups_on;
-use opc_policy_tables::profiles::profiles_on;
-use opc_policy_tables::users::users_on;
+use opc_profile_tables::profiles::profiles_on;
 use opc_rows::Rows;
 use opc_terms::store_fault::StoreFault;
+use opc_user_tables::classes::actives_on;
+use opc_user_tables::connects::connects_on;
+use opc_user_tables::groups::groups_on;
+use opc_user_tables::users::users_on;
 use sqlite::{Alter, Connection};
 use std::alloc::Global;
 

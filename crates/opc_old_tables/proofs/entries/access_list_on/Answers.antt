@@ -1,7 +1,7 @@
 use Rattle.std.proofs.Common.{◌∙◌, []}
 use Rattle.opc_statements.proofs.Asked.{never_writes}
 use Rattle.opc_state.specs.Changes.{with_batches}
-use Rattle.opc_policy_tables.proofs.EntryLoads.{list_ordered}
+use Rattle.opc_profile_tables.proofs.EntryLoads.{list_ordered}
 use Rattle.opc_old_tables.specs.Tables.{First}
 use Rattle.opc_old_tables.proofs.EntryLoads.{entries_asked, entries_told}
 use Rattle.opc_old_tables.proofs.entries.access_list_on.Goals as goal

@@ -12,7 +12,7 @@ use Rattle.opc_state.specs.State.{State}
 use Rattle.opc_stored.specs.Represented.{Represents}
 use Rattle.opc_search.proofs.SearchFound.{found_none, found_some, whole}
 use Rattle.opc_search.proofs.SearchLoads.{selects_class}
-use Rattle.opc_policy_tables.proofs.ProfileLoads.{by_class_asked}
+use Rattle.opc_profile_tables.proofs.ProfileLoads.{by_class_asked}
 use Rattle.opc_search.proofs.search.first_on.Goals as goal
 
 pub first_covering_on-requires-clause-quiet : goal.first_covering_on-requires-clause-quiet

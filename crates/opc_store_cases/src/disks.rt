@@ -1,32 +1,24 @@
-//! Stores over files: closed and opened again, and over disks that stop.
-use crate::files::{Stop, closed, crashed, line_in, new_files, opened, stopping};
-use crate::loads::refusal;
+//! Stores over disks that stop, and a store that is closed and opened again.
+use crate::files::{Stop, closed, crashed, made, opened, stopping};
 use crate::older_disks::older_tables;
 use anyhow::{Result, bail};
 use opc_names::name::GroupName;
 use opc_state::change::{Change, Edit};
 use opc_state::tables::Tables;
-use opc_store::store::Store;
-use sqlite::{Alter, Files, Options};
+use opc_tables_trials::edits::refusal;
+use opc_tables_trials::words::add_word;
+use sqlite::{Files, Options};
 use sqlite_disk::{Crash, Disk};
 use std::alloc::Global;
-use std::fs;
 
-/// The codes of the account.
-const CODES: &str = "SELECT code FROM account";
-
-const NAME: &str = "opc_store_cases.db";
-
-/// What is told of stores over files.
-pub fn tell(rt: &HostRuntime, words: &str) -> Result<String> {
-    let alloc = rt.alloc();
+/// What comes of stores over files; the statements make tables of an older version.
+pub fn answer(alloc: Global, older: &str, words: &str) -> Result<String> {
     match words {
         "log" => whole_changes(alloc, Stop::Log),
         "database" => whole_changes(alloc, Stop::Database),
-        "older log" => older_tables(alloc, Stop::Log),
-        "older database" => older_tables(alloc, Stop::Database),
-        "closed" => over_memory(alloc),
-        "file" => over_a_file(rt),
+        "older log" => older_tables(alloc, older, Stop::Log),
+        "older database" => older_tables(alloc, older, Stop::Database),
+        "closed" => opened_again(alloc, stopping(made(alloc, "")?, Stop::Nothing, 0)),
         _ => bail!("no disk: {words}"),
     }
 }
@@ -42,7 +34,7 @@ fn change(alloc: Global, group: &str) -> Result<Change> {
 /// Whether each stop, after one call more, leaves whole changes, from one at the first call up to one after both.
 fn whole_changes(alloc: Global, stop: Stop) -> Result<String> {
     for calls in 0..2000u64 {
-        let (whole, done) = trial(alloc, stopping(new_files(alloc), stop, calls))?;
+        let (whole, done) = trial(alloc, stopping(made(alloc, "")?, stop, calls))?;
         if !whole || calls == 0 && done > 0 {
             bail!("no whole changes after {calls} calls, {done} acknowledged");
         }
@@ -53,22 +45,22 @@ fn whole_changes(alloc: Global, stop: Stop) -> Result<String> {
     bail!("never both changes")
 }
 
-/// Whether the tables hold what was acknowledged, or one change more, and how much was acknowledged.
+/// Whether a crash leaves what was acknowledged, or one change more, and how much was acknowledged.
 fn trial<D: Crash + Drop>(alloc: Global, files: Files<D>) -> Result<(bool, usize)> {
     let (done, files) = stopped(alloc, files)?;
-    let Some(text) = recovered(alloc, files)? else {
-        return Ok((false, done));
-    };
-    Ok((is_after(text.as_str(), done), done))
+    match opened(alloc, crashed(files)) {
+        Ok(mut store) => Ok((is_after(held(alloc, &mut store)?.as_str(), done), done)),
+        Err(_) => Ok((false, done)),
+    }
 }
 
 /// Whether the tables hold so many changes, or one more.
-fn is_after(text: &str, done: usize) -> bool {
-    ["nothing\n", "DAY DAY\n", "DAY DAY NIGHT NIGHT\n"]
+fn is_after(held: &str, done: usize) -> bool {
+    ["", "DAY DAY", "DAY NIGHT DAY NIGHT"]
         .iter()
         .skip(done)
         .take(2)
-        .any(|wanted| text == *wanted)
+        .any(|wanted| held == *wanted)
 }
 
 /// How many changes were acknowledged before the disk stopped, and the files.
@@ -93,49 +85,28 @@ fn acknowledged<T: Tables>(alloc: Global, tables: &mut T) -> Result<usize> {
     Ok(done)
 }
 
-/// What the tables hold when the machine comes back without what was not synced: the groups, and the account.
-fn recovered<D: Crash + Drop>(alloc: Global, files: Files<D>) -> Result<Option<String>> {
-    match opened(alloc, crashed(files)) {
-        Ok(store) => {
-            let sql = "SELECT name FROM grp UNION ALL SELECT code FROM account ORDER BY 1";
-            Ok(Some(line_in(alloc, store, sql)?))
+/// The groups that tables hold, and the codes of their account.
+fn held<T: Tables>(alloc: Global, tables: &mut T) -> Result<String> {
+    let mut held = String::new(alloc);
+    for group in ["DAY", "NIGHT"] {
+        if tables.has_group(group)? {
+            add_word(&mut held, group)?;
         }
-        Err(_) => Ok(None),
     }
+    for (_, row) in tables.account(alloc, 1, 9)?.as_slice() {
+        add_word(&mut held, row.code.as_str())?;
+    }
+    Ok(held)
 }
 
-/// The account of a store over files in memory that was closed and opened again.
-fn over_memory(alloc: Global) -> Result<String> {
-    opened_again(alloc, stopping(new_files(alloc), Stop::Nothing, 0))
-}
-
+/// What a store holds that was closed and opened again after one change.
 fn opened_again<D: Disk + Drop>(alloc: Global, files: Files<D>) -> Result<String> {
-    let Ok(store) = opened(alloc, files) else {
+    let Ok(mut store) = opened(alloc, files) else {
         bail!("not opened");
     };
-    match filled(alloc, store)?.reopen(alloc, Options::new(7)) {
-        Some(again) => line_in(alloc, again, CODES),
+    store.commit(alloc, &change(alloc, "DAY")?)?;
+    match store.reopen(alloc, Options::new(7)) {
+        Some(mut again) => held(alloc, &mut again),
         None => bail!("not opened again"),
     }
-}
-
-/// Takes the file away, if it is there, and its log.
-fn remove(rt: &HostRuntime) {
-    drop(fs::remove_file(rt, NAME));
-    drop(fs::remove_file(rt, "opc_store_cases.db-wal"));
-}
-
-/// The store after one change.
-fn filled<S: Alter + Drop>(alloc: Global, mut store: Store<S>) -> Result<Store<S>> {
-    store.commit(alloc, &change(alloc, "DAY")?)?;
-    Ok(store)
-}
-
-/// The account of a store over a file that was closed and opened again.
-fn over_a_file(rt: &HostRuntime) -> Result<String> {
-    remove(rt);
-    drop(closed(filled(rt.alloc(), Store::open_from(rt, NAME)?)?));
-    let line = line_in(rt.alloc(), Store::open_from(rt, NAME)?, CODES)?;
-    remove(rt);
-    Ok(line)
 }

@@ -1,10 +1,9 @@
-//! Files of a store, of which one may stop.
+//! Files of a store in memory, of which one may stop.
 ghost use Rattle.std.specs.Prelude.{◌≡◌, false, IfOk};
 
-use crate::queries::line_of;
-use anyhow::Result;
+use anyhow::{Result, bail};
 use opc_store::store::Store;
-use sqlite::{Alter, Connection, FileStore, Files, Options};
+use sqlite::{Connection, FileStore, Files, Options};
 use sqlite_disk::{Crash, Disk, Fuse, Memory};
 use std::alloc::Global;
 
@@ -16,15 +15,23 @@ pub enum Stop {
     Nothing,
 }
 
-/// Files that have nothing.
-pub fn new_files(alloc: Global) -> Files<Memory> {
-    Files {
+/// The files of a database that these statements made.
+pub fn made(alloc: Global, statements: &str) -> Result<Files<Memory>> {
+    let files = Files {
         log: Memory::new(alloc),
         db: Memory::new(alloc),
+    };
+    if statements.is_empty() {
+        return Ok(files);
     }
+    let Ok(mut conn) = connected(alloc, files) else {
+        bail!("not opened");
+    };
+    conn.execute_batch(statements)?;
+    Ok(disconnected(conn))
 }
 
-/// Files of which one passes so many calls on.
+/// Files of which one passes so many further calls on.
 pub fn stopping<D: Disk>(files: Files<D>, stop: Stop, calls: u64) -> Files<Fuse<D>> {
     let (log_calls, db_calls) = match stop {
         Stop::Log => (calls, u64::MAX),
@@ -60,6 +67,14 @@ pub fn connected<D: Disk + Drop>(
     }
 }
 
+/// The files of a connection that is closed.
+pub fn disconnected<D: Disk + Drop>(conn: Connection<FileStore<D>>) -> Files<D> {
+    match conn.close_files() {
+        Ok(files) => files,
+        Err((_, left)) => left.close(),
+    }
+}
+
 /// A store over files, or the files again.
 pub fn opened<D: Disk + Drop>(
     alloc: Global,
@@ -75,23 +90,10 @@ pub fn opened<D: Disk + Drop>(
     }
 }
 
-/// The files of a connection that is closed.
-pub fn disconnected<D: Disk + Drop>(conn: Connection<FileStore<D>>) -> Files<D> {
-    match conn.close_files() {
-        Ok(files) => files,
-        Err((_, left)) => left.close(),
-    }
-}
-
 /// The files of a store that is closed.
 pub fn closed<D: Disk + Drop>(store: Store<FileStore<D>>) -> Files<D> {
     match store.close() {
         Ok(files) => files,
         Err((_, left)) => left.close(),
     }
-}
-
-/// What a query gives of a store.
-pub fn line_in<S: Alter + Drop>(alloc: Global, store: Store<S>, sql: &str) -> Result<String> {
-    line_of(alloc, &mut store.into_connection(), sql)
 }

@@ -1,25 +1,22 @@
-//! Tables of version 2, opened over disks that stop.
-use crate::files::{Stop, closed, connected, crashed, disconnected, new_files, opened, stopping};
-use crate::older::fill;
-use crate::queries::line_of;
+//! Tables of an older version, opened over disks that stop.
+use crate::files::{Stop, closed, connected, crashed, made, opened, stopping};
 use anyhow::{Result, bail};
 use sqlite::Files;
 use sqlite_disk::{Crash, Disk};
 use std::alloc::Global;
 
 /// The version, and how many users, connects, profiles, entries and batches there are.
-const SQL: &str =
+const COUNTS: &str =
     "SELECT (SELECT version FROM meta) || ' ' || (SELECT count(*) FROM usr) || (SELECT count(*) FROM connects) || (SELECT count(*) FROM profiles) || (SELECT count(*) FROM entries) || (SELECT count(*) FROM batches)";
 
-const OLD: &str = "2 22231\n";
+const OLD: &str = "2 22231";
 
-const NEW: &str = "3 22231\n";
+const NEW: &str = "3 22231";
 
 /// Whether each stop of an opening, after one call more, leaves the old tables or the new ones, up to one that was done.
-pub fn older_tables(alloc: Global, stop: Stop) -> Result<String> {
+pub fn older_tables(alloc: Global, statements: &str, stop: Stop) -> Result<String> {
     for calls in 0..2000u64 {
-        let files = with_older(alloc, new_files(alloc))?;
-        let (whole, done) = trial(alloc, stopping(files, stop, calls))?;
+        let (whole, done) = trial(alloc, stopping(made(alloc, statements)?, stop, calls))?;
         if !whole || calls == 0 && done {
             bail!("no whole tables after {calls} calls");
         }
@@ -33,21 +30,12 @@ pub fn older_tables(alloc: Global, stop: Stop) -> Result<String> {
     bail!("never new tables")
 }
 
-/// Files with the tables of version 2.
-fn with_older<D: Disk + Drop>(alloc: Global, files: Files<D>) -> Result<Files<D>> {
-    let Ok(mut conn) = connected(alloc, files) else {
-        bail!("not opened");
-    };
-    fill(&mut conn, "2")?;
-    Ok(disconnected(conn))
-}
-
 /// Whether a crash leaves the old tables or the new ones, where the opening was done the new ones alone; and whether it
 /// was.
 fn trial<D: Crash + Drop>(alloc: Global, files: Files<D>) -> Result<(bool, bool)> {
     let (done, files) = tried(alloc, files);
-    let text = left(alloc, files)?;
-    let whole = text.as_str() == NEW || !done && text.as_str() == OLD;
+    let counts = counts_in(alloc, crashed(files))?;
+    let whole = counts.as_str() == NEW || !done && counts.as_str() == OLD;
     Ok((whole, done))
 }
 
@@ -59,10 +47,14 @@ fn tried<D: Disk + Drop>(alloc: Global, files: Files<D>) -> (bool, Files<D>) {
     }
 }
 
-/// What the files hold when the machine comes back without what was not synced.
-fn left<D: Crash + Drop>(alloc: Global, files: Files<D>) -> Result<String> {
-    let Ok(mut conn) = connected(alloc, crashed(files)) else {
+/// The version and the counts, read without opening the files as a store.
+fn counts_in<D: Disk + Drop>(alloc: Global, files: Files<D>) -> Result<String> {
+    let Ok(mut conn) = connected(alloc, files) else {
         bail!("not opened again");
     };
-    line_of(alloc, &mut conn, SQL)
+    let rows = conn.query_all(COUNTS, &[])?;
+    match rows.as_slice() {
+        [row] => Ok(row.get(0)?),
+        _ => bail!("not one row"),
+    }
 }

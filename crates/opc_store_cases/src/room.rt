@@ -1,66 +1,46 @@
-//! A store, and what each line does to it.
-use crate::edits::{edit_in, edits_of, many};
-use crate::loads::{refusal, tell, told_fault};
-use crate::older::{older, tell_tables};
-use crate::queries::{after_each, limited, queried};
+//! Tables in memory, a gate over such tables, and what each line does to them.
+use crate::disks;
+use crate::memory::Fresh;
 use crate::searches::searched;
-use crate::strange::opened;
 use anyhow::{Context, Result};
-use opc_state::change::{Change, Edit};
-use opc_state::tables::Tables;
-use opc_store::store::Store;
-use sqlite::{Alter, Connection, MemStore};
+use opc_http_trials::room::Room as Exchanges;
+use opc_state::change::Edit;
+use opc_tables_trials::edits::{after_each, committed, edit_in, fill, many};
+use opc_tables_trials::loads::loaded;
+use opc_tables_trials::records::HEADER;
 use std::alloc::Global;
 use std::mem;
 
-/// The first row of a policy file.
-pub const HEADER: &str = "kind,class,name,id,value,owner,flags,digest,when,restricted\n";
-
-/// What keeps tables, and is made anew for each case.
-pub trait Fresh: Alter + Drop + Sized {
-    /// A new store.
-    fn store(alloc: Global) -> Result<Store<Self>>;
-
-    /// A connection to a database that has nothing.
-    fn database(alloc: Global) -> Result<Connection<Self>>;
-}
-
-impl Fresh for MemStore {
-    fn store(alloc: Global) -> Result<Store<Self>> {
-        Ok(Store::in_memory(alloc)?)
-    }
-
-    fn database(alloc: Global) -> Result<Connection<Self>> {
-        Ok(Connection::open_in_memory(alloc)?)
-    }
-}
-
-/// A store, the base policy, and the edits of the next change.
+/// Tables, the base policy, the edits of the next change, the statements of older tables, and exchanges with a gate.
 #[derive(Drop)]
-pub struct Room<S: Fresh> {
-    store: Option<Store<S>>,
+pub struct Room<T: Fresh> {
+    tables: Option<T>,
     base: String,
     edits: Vec<Edit>,
+    older: String,
+    exchanges: Exchanges<T>,
 }
 
-impl<S: Fresh> Room<S> {
-    /// No store yet, and the head of a policy file.
+impl<T: Fresh> Room<T> {
+    /// No tables yet, and the head of a policy file.
     pub fn new(alloc: Global) -> Result<Self> {
         Ok(Room {
-            store: None,
+            tables: None,
             base: String::from_str(alloc, HEADER)?,
             edits: Vec::new(alloc),
+            older: String::new(alloc),
+            exchanges: Exchanges::new(alloc)?,
         })
     }
 
-    /// What is told of a line.
+    /// What comes of a line.
     pub fn answer(&mut self, alloc: Global, line: &str) -> Result<String> {
         let (verb, words) = line.split_once(' ').unwrap_or((line, ""));
         match verb {
             "" | "#" => Ok(String::new(alloc)),
-            "open" => opened::<S>(alloc, words),
-            "commit" | "search" | "tell" => self.asked(alloc, verb, words),
-            "each" | "query" | "tables" | "limit" => self.opened_again(alloc, verb, words),
+            "commit" | "each" | "load" | "search" => self.asked(alloc, verb, words),
+            "disk" => disks::answer(alloc, self.older.as_str(), words),
+            "http" => self.exchanged(alloc, words),
             _ => {
                 self.gather(alloc, verb, words)?;
                 Ok(String::new(alloc))
@@ -68,81 +48,61 @@ impl<S: Fresh> Room<S> {
         }
     }
 
-    /// A line of which nothing is told.
+    /// A line of which nothing is printed.
     fn gather(&mut self, alloc: Global, verb: &str, words: &str) -> Result<()> {
         match verb {
-            "base" => {
-                self.base.push_str(words)?;
-                self.base.push('\n')?;
+            "base" => add_line(&mut self.base, words)?,
+            "older" => {
+                let statement = words.replace(alloc, "\\n", "\n")?;
+                add_line(&mut self.older, statement.as_str())?;
             }
-            "new" | "older" => self.store = Some(begun(alloc, verb, words, self.base.as_str())?),
+            "new" => self.tables = Some(begun(alloc, words, self.base.as_str())?),
+            "limit" => {
+                let tables = self.tables.take().context("no tables")?;
+                self.tables = Some(tables.limited(words.parse::<u64>()?)?);
+            }
             "many" => many(alloc, &mut self.edits, words)?,
             _ => self.edits.push(edit_in(alloc, verb, words)?)?,
         }
         Ok(())
     }
 
-    /// A line that the store answers.
+    /// A line that the tables answer.
     fn asked(&mut self, alloc: Global, verb: &str, words: &str) -> Result<String> {
-        let store = self.store.as_mut().context("no store")?;
+        let tables = self.tables.as_mut().context("no tables")?;
         match verb {
-            "commit" => {
-                let edits = mem::replace(&mut self.edits, Vec::new(alloc));
-                committed(alloc, store, edits, words)
-            }
-            "search" => searched(alloc, store, self.base.as_str(), words),
-            _ => tell(alloc, store, words),
+            "search" => return searched(alloc, tables, self.base.as_str(), words),
+            "load" => return loaded(alloc, tables, words),
+            _ => {}
+        }
+        let edits = mem::replace(&mut self.edits, Vec::new(alloc));
+        if verb == "each" {
+            after_each(alloc, tables, edits, words)
+        } else {
+            committed(alloc, tables, edits, words)
         }
     }
 
-    /// A line that the connection of the store answers, over which the store is opened again.
-    fn opened_again(&mut self, alloc: Global, verb: &str, words: &str) -> Result<String> {
-        let store = self.store.take().context("no store")?;
-        let (store, told) = match verb {
-            "each" => {
-                let edits = mem::replace(&mut self.edits, Vec::new(alloc));
-                after_each(alloc, store, edits, words)?
-            }
-            "query" => queried(alloc, store, words)?,
-            "tables" => tell_tables(alloc, store)?,
-            _ => (limited(store, words.parse::<u64>()?)?, String::new(alloc)),
-        };
-        self.store = Some(store);
-        Ok(told)
+    /// A line about exchanges.
+    fn exchanged(&mut self, alloc: Global, line: &str) -> Result<String> {
+        match line {
+            "new" => self.exchanges.begin(alloc, T::fresh(alloc)?),
+            line => self.exchanges.answer(alloc, line),
+        }
     }
 }
 
-/// The store that a case begins with.
-fn begun<S: Fresh>(alloc: Global, verb: &str, words: &str, base: &str) -> Result<Store<S>> {
-    match (verb, words) {
-        ("older", version) => older(alloc, version),
-        (_, "base") => with_base(alloc, base),
-        _ => S::store(alloc),
+/// The tables that a case begins with.
+fn begun<T: Fresh>(alloc: Global, words: &str, base: &str) -> Result<T> {
+    let mut tables = T::fresh(alloc)?;
+    if words == "base" {
+        fill(alloc, &mut tables, base)?;
     }
+    Ok(tables)
 }
 
-/// A store with the base policy, and a row of the account.
-fn with_base<S: Fresh>(alloc: Global, base: &str) -> Result<Store<S>> {
-    let mut store = S::store(alloc)?;
-    let edits = edits_of(alloc, base)?;
-    let account = Some(refusal(alloc, "E12")?);
-    store.commit(alloc, &Change { edits, account })?;
-    Ok(store)
-}
-
-/// What a commit answers, if it is a fault.
-fn committed<T: Tables>(
-    alloc: Global,
-    tables: &mut T,
-    edits: Vec<Edit>,
-    code: &str,
-) -> Result<String> {
-    let account = match code {
-        "" => None,
-        code => Some(refusal(alloc, code)?),
-    };
-    match tables.commit(alloc, &Change { edits, account }) {
-        Ok(()) => Ok(String::new(alloc)),
-        Err(fault) => told_fault(alloc, fault),
-    }
+fn add_line(text: &mut String, line: &str) -> Result<()> {
+    text.push_str(line)?;
+    text.push('\n')?;
+    Ok(())
 }

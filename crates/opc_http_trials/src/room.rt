@@ -11,80 +11,87 @@ use opc_http_head::routes::Routes;
 use opc_http_link::watched::Watched;
 use opc_import::fault::ImportFault;
 use opc_import::read::read_policy;
-use opc_import::write::write_policy;
 use opc_script::run::run_script;
-use opc_store::store::Store;
+use opc_state::tables::Tables;
 use opc_terms::fault::Fault;
-use sqlite::MemStore;
 use std::alloc::Global;
-use std::mem;
 
 const HEADER: &str = "kind,class,name,id,value,owner,flags,digest,when,restricted\n";
 
 /// What ends the program where a request is given up.
-pub const GIVEN_UP: &str = "the tables failed, or out of memory";
+pub(crate) const GIVEN_UP: &str = "the tables failed, or out of memory";
 
 /// The most rows of the account that are counted.
 const MOST_ROWS: u32 = 1000;
 
-type InMemory = Store<MemStore>;
-
-/// The routes, a gate over tables in memory, and what its next room begins with: a policy file, and a script.
+/// The routes, a gate, and what the next gate begins with: a policy file, and a script.
 #[derive(Drop)]
-pub struct Room {
+pub struct Room<T: Tables + Drop> {
     routes: Routes,
-    gate: Gate<Cached<InMemory>>,
+    gate: Option<Gate<Cached<T>>>,
     policy: String,
     beginning: String,
 }
 
 /// What came of an exchange, in words, and the bytes that were written.
 #[derive(Drop)]
-pub struct Outcome {
-    pub told: String,
-    pub written: Vec<u8>,
+pub(crate) struct Outcome {
+    pub(crate) words: String,
+    pub(crate) written: Vec<u8>,
 }
 
 impl Outcome {
     /// What came of this exchange, which wrote these bytes.
-    pub fn of(alloc: Global, outcome: Result<Served, LinkFault>, written: Vec<u8>) -> Result<Self> {
+    pub(crate) fn of(
+        alloc: Global,
+        outcome: Result<Served, LinkFault>,
+        written: Vec<u8>,
+    ) -> Result<Self> {
         Ok(Outcome {
-            told: told_of(alloc, outcome)?,
+            words: words_of(alloc, outcome)?,
             written,
         })
     }
 }
 
-fn empty_gate(alloc: Global) -> Result<Gate<Cached<InMemory>>> {
-    match Store::in_memory(alloc) {
-        Ok(store) => gate_of(alloc, store),
-        Err(fault) => given_up(Fault::from(fault)),
-    }
-}
-
-fn gate_of(alloc: Global, store: InMemory) -> Result<Gate<Cached<InMemory>>> {
-    match Gate::new(alloc, store) {
+fn gate_over<T: Tables + Drop>(alloc: Global, tables: T) -> Result<Gate<Cached<T>>> {
+    match Gate::new(alloc, tables) {
         Ok(gate) => Ok(gate),
-        Err((fault, _store)) => given_up(fault),
+        Err((fault, _tables)) => given_up(fault),
     }
 }
 
-impl Room {
-    /// A gate without a policy, which begins with nothing.
+impl<T: Tables + Drop> Room<T> {
+    /// No gate yet, and nothing to begin with.
     pub fn new(alloc: Global) -> Result<Self> {
         Ok(Room {
             routes: routes(alloc)?,
-            gate: empty_gate(alloc)?,
+            gate: None,
             policy: String::from_str(alloc, HEADER)?,
             beginning: String::new(alloc),
         })
+    }
+
+    /// A new gate over these tables, which takes the first policy and runs the script of the beginning.
+    pub fn begin(&mut self, alloc: Global, tables: T) -> Result<String> {
+        let mut gate = gate_over(alloc, tables)?;
+        let rows = match read_policy(alloc, self.policy.as_str()) {
+            Ok(rows) => rows,
+            Err(ImportFault::NoMemory) => bail!("out of memory"),
+            Err(_) => bail!("no policy"),
+        };
+        if let Err(fault) = gate.bootstrap(alloc, rows.as_slice()) {
+            return given_up(fault);
+        }
+        let printed = ran(alloc, &mut gate, self.beginning.as_str())?;
+        self.gate = Some(gate);
+        Ok(printed)
     }
 
     /// What comes of a line.
     pub fn answer(&mut self, alloc: Global, line: &str) -> Result<String> {
         let (word, rest) = line.split_once(' ').unwrap_or((line, ""));
         match word {
-            "" | "#" => Ok(String::new(alloc)),
             "row" => {
                 add_line(&mut self.policy, rest)?;
                 Ok(String::new(alloc))
@@ -93,52 +100,36 @@ impl Room {
                 add_line(&mut self.beginning, rest)?;
                 Ok(String::new(alloc))
             }
-            "new" => self.begin(alloc),
-            "policy" => self.written_policy(alloc),
+            "script" => self.script(alloc, rest),
+            "many" => self.script(alloc, many(alloc, rest)?.as_str()),
+            "cached" => Ok(format!(in alloc; "{}\n", self.cached()?)?),
             "rows" => Ok(format!(in alloc; "{}\n", self.account_length(alloc)?)?),
-            _ => trials::tell(alloc, self, word.parse::<u64>()?, rest),
+            _ => trials::exchanged(alloc, self, word.parse::<u64>()?, rest),
         }
     }
 
-    fn begin(&mut self, alloc: Global) -> Result<String> {
-        self.gate = empty_gate(alloc)?;
-        let rows = match read_policy(alloc, self.policy.as_str()) {
-            Ok(rows) => rows,
-            Err(ImportFault::NoMemory) => bail!("out of memory"),
-            Err(_) => bail!("no policy"),
-        };
-        if let Err(fault) = self.gate.bootstrap(alloc, rows.as_slice()) {
-            return given_up(fault);
-        }
-        let mut printed = Watched::new(Vec::new(alloc));
-        match run_script(&mut self.gate, alloc, self.beginning.as_str(), &mut printed) {
-            Ok(Status::Failed) => bail!(GIVEN_UP),
-            Ok(_) => Ok(String::from_utf8(printed.inner)?),
-            Err(fault) => bail!("no beginning: {fault}"),
-        }
+    fn script(&mut self, alloc: Global, lines: &str) -> Result<String> {
+        ran(alloc, self.gate.as_mut().context("no gate")?, lines)
     }
 
-    fn written_policy(&mut self, alloc: Global) -> Result<String> {
-        match self.gate.export(alloc) {
-            Ok(rows) => Ok(write_policy(alloc, rows.as_slice())?),
-            Err(fault) => given_up(fault),
-        }
+    fn cached(&self) -> Result<u32> {
+        Ok(self.gate.as_ref().context("no gate")?.cached())
     }
 
-    /// How many rows the account has, up to `MOST_ROWS`.
-    pub fn account_length(&mut self, alloc: Global) -> Result<usize> {
-        let gate = mem::replace(&mut self.gate, empty_gate(alloc)?);
-        let mut store = gate.into_store();
-        let rows = store.account(alloc, 1, MOST_ROWS);
-        self.gate = gate_of(alloc, store)?;
+    /// How many rows the account has, up to `MOST_ROWS`. The gate goes on with an empty cache.
+    pub(crate) fn account_length(&mut self, alloc: Global) -> Result<usize> {
+        let gate = self.gate.take().context("no gate")?;
+        let mut tables = gate.into_store();
+        let rows = tables.account(alloc, 1, MOST_ROWS);
+        self.gate = Some(gate_over(alloc, tables)?);
         match rows {
-            Ok(rows) => Ok(rows.as_slice().len()),
+            Ok(rows) => Ok(rows.len()),
             Err(fault) => given_up(Fault::from(fault)),
         }
     }
 
-    /// One exchange with the gate: what it tells of itself, and the bytes that were written.
-    pub fn tried(
+    /// One exchange with the gate: what it returns, and the bytes that were written.
+    pub(crate) fn tried(
         &mut self,
         alloc: Global,
         moment: u64,
@@ -147,14 +138,8 @@ impl Room {
     ) -> Result<(Result<Served, LinkFault>, Vec<u8>)> {
         let mut source = Watched::new(reader);
         let mut sink = Watched::new(writer);
-        let outcome = exchange(
-            alloc,
-            &self.routes,
-            &mut source,
-            &mut sink,
-            &mut self.gate,
-            moment,
-        );
+        let gate = self.gate.as_mut().context("no gate")?;
+        let outcome = exchange(alloc, &self.routes, &mut source, &mut sink, gate, moment);
         let writer = sink.inner;
         if writer.lacks_memory {
             bail!("out of memory");
@@ -163,7 +148,7 @@ impl Room {
     }
 
     /// One exchange with the gate, in words. Where memory is refused it is an error.
-    pub fn exchange(
+    pub(crate) fn exchange(
         &mut self,
         alloc: Global,
         moment: u64,
@@ -175,8 +160,8 @@ impl Room {
     }
 }
 
-/// What an exchange tells of itself.
-fn told_of(alloc: Global, outcome: Result<Served, LinkFault>) -> Result<String> {
+/// What an exchange returns, in words.
+fn words_of(alloc: Global, outcome: Result<Served, LinkFault>) -> Result<String> {
     let (what, handled) = match outcome {
         Ok(Served { status: 500, .. }) => bail!(GIVEN_UP),
         Ok(served) => (served.status.to_string(alloc)?, served.handled),
@@ -186,6 +171,31 @@ fn told_of(alloc: Global, outcome: Result<Served, LinkFault>) -> Result<String> 
     };
     let handled = if handled { "handled" } else { "not handled" };
     Ok(format!(in alloc; "{what} {handled}")?)
+}
+
+/// What a gate answers to the lines of a script.
+fn ran<T: Tables + Drop>(alloc: Global, gate: &mut Gate<Cached<T>>, lines: &str) -> Result<String> {
+    let mut printed = Watched::new(Vec::new(alloc));
+    match run_script(gate, alloc, lines, &mut printed) {
+        Ok(Status::Failed) => bail!(GIVEN_UP),
+        Ok(_) => Ok(String::from_utf8(printed.inner)?),
+        Err(fault) => bail!("no script: {fault}"),
+    }
+}
+
+/// A line for each number of a range.
+fn many(alloc: Global, words: &str) -> Result<String> {
+    let (from, rest) = words.split_once(' ').context("no range")?;
+    let (to, line) = rest.split_once(' ').context("no range")?;
+    let mut lines = String::new(alloc);
+    for number in from.parse::<u32>()?..to.parse::<u32>()? {
+        let number = format!(in alloc; "{number}")?;
+        add_line(
+            &mut lines,
+            line.replace(alloc, "#", number.as_str())?.as_str(),
+        )?;
+    }
+    Ok(lines)
 }
 
 fn routes(alloc: Global) -> Result<Routes> {

@@ -1,12 +1,11 @@
-//! Cases of requests over HTTP, over a gate whose tables are in memory.
+//! Exchanges over HTTP whose reader or writer fails, and the names that a gate has cached, over tables of any kind.
 //!
-//! Each line of the input is printed again, and after it what comes of it, two spaces in. The lines:
+//! A program of cases says which tables a room begins with, and gives it the lines:
 //!
-//! - `# TEXT`, and an empty line: nothing comes of it.
 //! - `row RECORD`: one more row of the first policy, written as in a policy file.
 //! - `begin LINE`: one more line of the script of the beginning.
-//! - `new`: a new gate takes the first policy, and runs the script of the beginning.
-//! - `policy`: the written policy.
+//! - `script LINE`: a line of a script. `many FROM TO LINE`: one for each number from FROM up to TO, for which `#` stands.
+//! - `cached`: for how many names the gate has cached which profile decides.
 //! - `rows`: how many rows the account has.
 //! - MOMENT REQUEST: one exchange. Status, whether a request was handled, and the response; `\r` stands for a carriage
 //!   return.
@@ -18,25 +17,10 @@
 //!   whose writer takes nothing. Then how many rows of the account come of each.
 //!
 //! A REQUEST is `POST PATH BODY`, `GET PATH` or `BYTES TEXT`. In a body or a text `\r`, `\n` and `\t` stand for their
-//! characters, `\x` and two digits for a byte, and `\[COUNT TEXT]` for a text so many times.
+//! characters, and `\x` and two digits for a byte.
 #![tactic(auto)]
 
 mod message;
-mod room;
+pub mod room;
+mod spans;
 mod trials;
-
-use crate::room::Room;
-use anyhow::Result;
-
-fn main(rt: HostRuntime) -> Result<()> {
-    let mut room = Room::new(rt.alloc())?;
-    for line in rt.lines(rt.alloc()) {
-        let line = line?;
-        let told = room.answer(rt.alloc(), line.as_str())?;
-        println!(rt; "{line}")?;
-        for told in told.lines() {
-            println!(rt; "  {told}")?;
-        }
-    }
-    Ok(())
-}

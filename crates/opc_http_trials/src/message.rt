@@ -3,7 +3,7 @@ use anyhow::{Context, Result, bail};
 use std::alloc::Global;
 
 /// The bytes of a request.
-pub fn bytes_of(alloc: Global, request: &str) -> Result<Vec<u8>> {
+pub(crate) fn bytes_of(alloc: Global, request: &str) -> Result<Vec<u8>> {
     let (form, rest) = request.split_once(' ').context("no request")?;
     match form {
         "BYTES" => unescaped(alloc, rest),
@@ -25,7 +25,6 @@ fn posted(alloc: Global, path: &str, body: &[u8]) -> Result<Vec<u8>> {
 }
 
 fn unescaped(alloc: Global, text: &str) -> Result<Vec<u8>> {
-    let text = written_out(alloc, text)?;
     let mut pieces = text.split('\\');
     let mut bytes = Vec::new(alloc);
     if let Some(plain) = pieces.next() {
@@ -37,24 +36,6 @@ fn unescaped(alloc: Global, text: &str) -> Result<Vec<u8>> {
         bytes.extend_from_slice(rest.as_bytes())?;
     }
     Ok(bytes)
-}
-
-/// A text without its repetitions.
-fn written_out(alloc: Global, text: &str) -> Result<String> {
-    let mut pieces = text.split("\\[");
-    let mut whole = String::new(alloc);
-    if let Some(plain) = pieces.next() {
-        whole.push_str(plain)?;
-    }
-    for piece in pieces {
-        let (repeated, rest) = piece.split_once(']').context("no end of what is repeated")?;
-        let (count, part) = repeated.split_once(' ').context("no count")?;
-        for _ in 0..count.parse::<u32>()? {
-            whole.push_str(part)?;
-        }
-        whole.push_str(rest)?;
-    }
-    Ok(whole)
 }
 
 /// The byte of what stands after a backslash, and the rest.

@@ -1,15 +1,22 @@
 //! Exchanges that succeed, that are cut off, and whose reader or writer fails.
 use crate::message::bytes_of;
 use crate::room::{GIVEN_UP, Outcome, Room};
+use crate::spans::Spans;
 use anyhow::{Result, bail};
 use opc_failing::reader::FailingReader;
 use opc_failing::writer::FailingWriter;
 use opc_http::exchange::LinkFault;
+use opc_state::tables::Tables;
 use std::alloc::Global;
 use std::str;
 
 /// What comes of a request, in one of the ways of asking it.
-pub fn tell(alloc: Global, room: &mut Room, moment: u64, text: &str) -> Result<String> {
+pub(crate) fn exchanged<T: Tables + Drop>(
+    alloc: Global,
+    room: &mut Room<T>,
+    moment: u64,
+    text: &str,
+) -> Result<String> {
     let (way, request) = match text.split_once(' ') {
         Some((way, request)) if is_way(way) => (way, request),
         _ => ("", text),
@@ -38,7 +45,12 @@ fn one_byte_a_write(alloc: Global, writes: usize) -> FailingWriter {
 }
 
 /// An exchange in which nothing fails.
-fn asked(alloc: Global, room: &mut Room, moment: u64, bytes: &[u8]) -> Result<Outcome> {
+fn asked<T: Tables + Drop>(
+    alloc: Global,
+    room: &mut Room<T>,
+    moment: u64,
+    bytes: &[u8],
+) -> Result<Outcome> {
     let writer = FailingWriter::new(alloc, usize::MAX, usize::MAX);
     room.exchange(alloc, moment, never_failing(bytes), writer)
 }
@@ -46,16 +58,26 @@ fn asked(alloc: Global, room: &mut Room, moment: u64, bytes: &[u8]) -> Result<Ou
 /// What came of an exchange, and the whole response.
 fn served(alloc: Global, outcome: &Outcome) -> Result<String> {
     let response = str::from_utf8(outcome.written.as_slice())?.replace(alloc, "\r", "\\r")?;
-    Ok(format!(in alloc; "{}\n{response}\n", outcome.told)?)
+    Ok(format!(in alloc; "{}\n{response}\n", outcome.words)?)
 }
 
-fn drip(alloc: Global, room: &mut Room, moment: u64, bytes: &[u8]) -> Result<String> {
+fn drip<T: Tables + Drop>(
+    alloc: Global,
+    room: &mut Room<T>,
+    moment: u64,
+    bytes: &[u8],
+) -> Result<String> {
     let reader = FailingReader::by_bytes(bytes, usize::MAX);
     let writer = one_byte_a_write(alloc, usize::MAX);
     served(alloc, &room.exchange(alloc, moment, reader, writer)?)
 }
 
-fn cut(alloc: Global, room: &mut Room, moment: u64, bytes: &[u8]) -> Result<String> {
+fn cut<T: Tables + Drop>(
+    alloc: Global,
+    room: &mut Room<T>,
+    moment: u64,
+    bytes: &[u8],
+) -> Result<String> {
     let first = asked(alloc, room, moment, &[])?;
     let mut spans = Spans::after(served(alloc, &first)?);
     for length in 1..bytes.len() {
@@ -68,13 +90,18 @@ fn cut(alloc: Global, room: &mut Room, moment: u64, bytes: &[u8]) -> Result<Stri
         spans.add(
             alloc,
             length,
-            format!(in alloc; "{}, {response}", outcome.told)?,
+            format!(in alloc; "{}, {response}", outcome.words)?,
         )?;
     }
     spans.ended(alloc)
 }
 
-fn failing_reads(alloc: Global, room: &mut Room, moment: u64, bytes: &[u8]) -> Result<String> {
+fn failing_reads<T: Tables + Drop>(
+    alloc: Global,
+    room: &mut Room<T>,
+    moment: u64,
+    bytes: &[u8],
+) -> Result<String> {
     let mut spans = Spans::after(String::new(alloc));
     for reads in 0..bytes.len() + 1 {
         let reader = FailingReader::by_bytes(bytes, reads);
@@ -88,7 +115,7 @@ fn failing_reads(alloc: Global, room: &mut Room, moment: u64, bytes: &[u8]) -> R
         spans.add(
             alloc,
             reads,
-            format!(in alloc; "{}, {response}", outcome.told)?,
+            format!(in alloc; "{}, {response}", outcome.words)?,
         )?;
     }
     spans.ended(alloc)
@@ -96,9 +123,9 @@ fn failing_reads(alloc: Global, room: &mut Room, moment: u64, bytes: &[u8]) -> R
 
 /// An exchange whose writer may fail, after which the account has so many rows, unless the request is given up. Where
 /// memory is refused for the response, nothing is written, and the request stays done.
-fn written_to(
+fn written_to<T: Tables + Drop>(
     alloc: Global,
-    room: &mut Room,
+    room: &mut Room<T>,
     moment: u64,
     bytes: &[u8],
     writer: FailingWriter,
@@ -116,7 +143,12 @@ fn written_to(
     Outcome::of(alloc, outcome, written)
 }
 
-fn failing_writes(alloc: Global, room: &mut Room, moment: u64, bytes: &[u8]) -> Result<String> {
+fn failing_writes<T: Tables + Drop>(
+    alloc: Global,
+    room: &mut Room<T>,
+    moment: u64,
+    bytes: &[u8],
+) -> Result<String> {
     let before = room.account_length(alloc)?;
     let whole = asked(alloc, room, moment, bytes)?;
     let rows = room.account_length(alloc)?.saturating_sub(before);
@@ -130,8 +162,8 @@ fn failing_writes(alloc: Global, room: &mut Room, moment: u64, bytes: &[u8]) -> 
         } else {
             "other bytes"
         };
-        let told = format!(in alloc; "{}, {response}", outcome.told)?;
-        spans.add(alloc, writes, told)?;
+        let words = format!(in alloc; "{}, {response}", outcome.words)?;
+        spans.add(alloc, writes, words)?;
     }
     // Each exchange brings the same number of rows, unless it is given up.
     let after = rows_after(before, rows, whole.written.len().saturating_add(3));
@@ -140,63 +172,14 @@ fn failing_writes(alloc: Global, room: &mut Room, moment: u64, bytes: &[u8]) -> 
     if room.account_length(alloc)? != after {
         bail!(GIVEN_UP);
     }
-    let told = spans.ended(alloc)?;
+    let printed = spans.ended(alloc)?;
     Ok(format!(in alloc;
-        "{told}taking nothing: {}\nrows for each: {rows}\n",
-        outcome.told
+        "{printed}taking nothing: {}\nrows for each: {rows}\n",
+        outcome.words
     )?)
 }
 
 /// How many rows the account has after so many exchanges that bring as many each.
 fn rows_after(before: usize, rows: usize, exchanges: usize) -> usize {
     before.saturating_add(rows.saturating_mul(exchanges))
-}
-
-/// What is told of trials one after another; those that came out alike are told together.
-#[derive(Drop)]
-struct Spans {
-    told: String,
-    now: Option<Span>,
-}
-
-#[derive(Drop)]
-struct Span {
-    first: usize,
-    last: usize,
-    outcome: String,
-}
-
-impl Spans {
-    fn after(told: String) -> Self {
-        Spans { told, now: None }
-    }
-
-    fn add(&mut self, alloc: Global, at: usize, outcome: String) -> Result<()> {
-        if let Some(span) = &mut self.now {
-            if span.outcome.as_str() == outcome.as_str() {
-                span.last = at;
-                return Ok(());
-            }
-        }
-        self.end_span(alloc)?;
-        self.now = Some(Span {
-            first: at,
-            last: at,
-            outcome,
-        });
-        Ok(())
-    }
-
-    fn end_span(&mut self, alloc: Global) -> Result<()> {
-        if let Some(span) = self.now.take() {
-            let line = format!(in alloc; "{} to {}: {}\n", span.first, span.last, span.outcome)?;
-            self.told.push_str(line.as_str())?;
-        }
-        Ok(())
-    }
-
-    fn ended(mut self, alloc: Global) -> Result<String> {
-        self.end_span(alloc)?;
-        Ok(self.told)
-    }
 }

@@ -1,9 +1,7 @@
 //! Edits of the policy, as records of a policy file.
-use crate::room::HEADER;
+use crate::records::row_in;
 use anyhow::{Context, Result, bail};
 use opc_board::rows::ConsoleRow;
-use opc_import::fault::ImportFault;
-use opc_import::read::read_policy;
 use opc_names::level::Level;
 use opc_policy::connect::Connect;
 use opc_policy::entries::Entries;
@@ -13,25 +11,6 @@ use opc_policy::row::Row;
 use opc_state::change::Edit;
 use opc_terms::entry_id::EntryId;
 use std::alloc::Global;
-
-/// The rows of a policy file.
-pub fn rows_in(alloc: Global, file: &str) -> Result<Vec<Row>> {
-    match read_policy(alloc, file) {
-        Ok(rows) => Ok(rows),
-        Err(ImportFault::NoMemory) => bail!("out of memory"),
-        Err(_) => bail!("no policy: {file}"),
-    }
-}
-
-/// The row of a record.
-pub fn row_in(alloc: Global, record: &str) -> Result<Row> {
-    let file = format!(in alloc; "{HEADER}{record}\n")?;
-    rows_in(alloc, file.as_str())?
-        .as_slice()
-        .first()
-        .copied()
-        .context("no row")
-}
 
 /// The edit that puts a row, a profile without an access list.
 pub fn put(alloc: Global, row: Row) -> Edit {

@@ -1,0 +1,70 @@
+//! Tables in memory.
+use anyhow::Result;
+use opc_decisions::source::Taken;
+use opc_names::class::Class;
+use opc_names::name::Resource;
+use opc_state::tables::Tables;
+use opc_store::store::Store;
+use opc_terms::store_fault::StoreFault;
+use sqlite::MemStore;
+use std::alloc::Global;
+
+/// Tables that are made anew for each case, whose queries may be limited, and which say how they search.
+pub trait Fresh: Tables + Drop + Sized {
+    /// New tables.
+    fn fresh(alloc: Global) -> Result<Self>;
+
+    /// The tables, under a limit on the steps of each query.
+    fn limited(self, steps: u64) -> Result<Self>;
+
+    /// The first profile that covers a name, of those of a class with this very head, and how many were read.
+    fn first_with_head(
+        &mut self,
+        alloc: Global,
+        class: Class,
+        head: &str,
+        name: &Resource,
+    ) -> Result<Taken, StoreFault>;
+
+    /// The first profile of a class that covers a name, in the order of the patterns, and how many were read.
+    fn first_in_order(
+        &mut self,
+        alloc: Global,
+        class: Class,
+        name: &Resource,
+    ) -> Result<Taken, StoreFault>;
+}
+
+impl Fresh for Store<MemStore> {
+    fn fresh(alloc: Global) -> Result<Self> {
+        Ok(Store::in_memory(alloc)?)
+    }
+
+    fn limited(self, steps: u64) -> Result<Self> {
+        let mut conn = self.into_connection();
+        conn.set_step_limit(Some(steps));
+        match Store::open_files(conn) {
+            Ok(store) => Ok(store),
+            Err((fault, _)) => Err(fault)?,
+        }
+    }
+
+    fn first_with_head(
+        &mut self,
+        alloc: Global,
+        class: Class,
+        head: &str,
+        name: &Resource,
+    ) -> Result<Taken, StoreFault> {
+        self.first_in(alloc, class, head, name)
+    }
+
+    fn first_in_order(
+        &mut self,
+        alloc: Global,
+        class: Class,
+        name: &Resource,
+    ) -> Result<Taken, StoreFault> {
+        self.first(alloc, class, name)
+    }
+}

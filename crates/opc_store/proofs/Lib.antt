@@ -1,2 +1,3 @@
 pub mod StoreTablesLemmas
 mod Older
+mod StoreLawsLemmas

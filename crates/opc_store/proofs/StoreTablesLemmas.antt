@@ -14,7 +14,6 @@ use Rattle.opc_state.specs.State.{State, Fits}
 use Rattle.opc_stored.specs.Changes.{Becomes}
 use Rattle.opc_stored.specs.Represented.{Represents, AreTablesOf}
 use Rattle.opc_store.specs.StoreTables.{RepresentsIfOpen, IsSure, MayLeave}
-use Rattle.opc_stored.proofs.Decoded.{one_state}
 use Rattle.opc_stored.proofs.KeyOrder.{is_keyed}
 
 -- no number of what tables represent passes what they can hold
@@ -85,7 +84,7 @@ module _ {S : Type 0} (g : Ghosts S) where
 
         pub commit_acknowledged : OnOk r ((db : Trees) → (state g c).may_leave db → (s : State) → Represents (state g b).now s → AreTablesOf db (changed_by change s))
             → OnOk r ((left : State) → MayLeave g c left → left ≡ changed_by change s)
-        commit_acknowledged = on_ok_weaker r (λ told left it. one_state it.1 left (changed_by change s) it.3 (told it.1 it.2 s mid))
+        commit_acknowledged = on_ok_weaker r (λ told left it. sym (it.3 (changed_by change s) (told it.1 it.2 s mid)))
 
         pub commit_crash : (left : State) → MayLeave g c left → MayLeave g a left ⊎ (left ≡ changed_by change s)
         commit_crash left it = go (survives.crash clean it.1 it.2)
@@ -96,4 +95,4 @@ module _ {S : Type 0} (g : Ghosts S) where
 
             go : (state g b).may_leave it.1 ⊎ Leaves it.1 → MayLeave g a left ⊎ (left ≡ changed_by change s)
             go (inl leaves) = inl (before (looks.survives.crash (mid_sure clean) it.1 leaves))
-            go (inr new) = inr (one_state it.1 left (changed_by change s) it.3 (new s mid))
+            go (inr new) = inr (sym (it.3 (changed_by change s) (new s mid)))

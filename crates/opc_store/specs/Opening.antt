@@ -14,6 +14,8 @@ use Rattle.sqlite.specs.declared.file.Leftover.{Leftover}
 use Rattle.sqlite.specs.declared.error.Error.{Error}
 use Rattle.sqlite.specs.declared.error.Error.TheVariants.{SqlInputError, SqliteFailure}
 use Rattle.sqlite.specs.declared.error.ErrorCode.TheVariants.{CannotOpen, DatabaseBusy, OutOfMemory}
+use Rattle.opc_terms.specs.declared.fault.Fault.{Fault}
+use Rattle.opc_terms.specs.declared.fault.Fault.TheVariants as the_fault
 use Rattle.opc_terms.specs.declared.store_fault.StoreFault.{StoreFault}
 use Rattle.opc_terms.specs.declared.store_fault.StoreFault.TheVariants as store_fault
 use Rattle.opc_store.specs.declared.opening.OpenFault.{OpenFault}
@@ -34,6 +36,12 @@ new_files = record { log = []; db = [] }
 abbrev pub of_store : StoreFault → OpenFault
 of_store store_fault.NoMemory = fault.NoMemory
 of_store store_fault.Store = fault.Store
+
+-- the fault of the gate that an opening comes to: E90, E91 or E92
+abbrev pub opening_fault : OpenFault → Fault
+opening_fault fault.NoMemory = the_fault.NoMemory
+opening_fault fault.Store = the_fault.Store
+opening_fault (fault.NotOurs version) = the_fault.NotOurs version
 
 -- out of memory is told apart from every other cause
 abbrev pub open_fault : Error → OpenFault
@@ -110,7 +118,10 @@ pub record FailsToAdopt {S : Type 0} (g : Ghosts S) (image : Image) (told : Open
   -- where a version is told, a crash leaves what it would have left before the question
   pub survives : Survives (state g opened) (state g left) (λ db. IsNoVersion told × MayLeave g opened db)
 
--- An opening at a path fails since the files are not opened, or since what they held is not adopted.
+-- Why an opening at a path fails: the files are not opened, or what they held is not adopted.
+abbrev pub IsNotOpened : {D : Type 0} (g : disk.Ghosts D) → (Bool → D → Type 0) → Image → OpenFault → Type 0
+IsNotOpened {D} g is_fresh image told =
+    FailsToOpen g is_fresh told ⊎ ((opened : Held (FileStore D g)) × (left : Held (FileStore D g)) × FailsToAdopt over_files image told opened left)
+
 abbrev pub FailsAtPath : {D : Type 0} {g : disk.Ghosts D} → (Bool → D → Type 0) → Image → Result (Held (FileStore D g)) OpenFault → Type 0
-FailsAtPath {D = D} {g = g} is_fresh image result =
-    IfErr result (λ told. FailsToOpen g is_fresh told ⊎ ((opened : Held (FileStore D g)) × (left : Held (FileStore D g)) × FailsToAdopt over_files image told opened left))
+FailsAtPath {g = g} is_fresh image result = IfErr result (IsNotOpened g is_fresh image)

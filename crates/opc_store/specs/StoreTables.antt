@@ -1,5 +1,5 @@
 -- What a connection is to the machine that keeps its state by it.
-use Rattle.std.specs.Prelude.{IsTrue}
+use Rattle.std.specs.Prelude.{◌≡◌, IsTrue}
 use Rattle.sqlite_trees.specs.declared.store.Store.{Ghosts}
 use Rattle.sqlite_trees.specs.Tree.{Trees}
 use Rattle.sqlite.specs.Held.{Held, state}
@@ -16,6 +16,7 @@ module _ {S : Type 0} (g : Ghosts S) where
   abbrev pub IsSure : Held S → Type 0
   IsSure h = HasCleanDisk (state g h)
 
-  -- a crash may leave tables of the state, where the disk returns what was written
+  -- A crash may leave tables of no other state, where the disk returns what was written: tables of this one, or of none. So what is
+  -- no state counts as each, and where a crash leaves one state alone, it leaves tables of that.
   abbrev pub MayLeave : Held S → State → Type 0
-  MayLeave h s = IsSure h × (trees : Trees) × (state g h).may_leave trees × AreTablesOf trees s
+  MayLeave h s = IsSure h × (trees : Trees) × (state g h).may_leave trees × ((t : State) → AreTablesOf trees t → t ≡ s)

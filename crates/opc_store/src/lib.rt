@@ -1,6 +1,7 @@
 //! The store: the tables of the gate as its machine asks for them, opened, committed to and read.
 #![tactic(auto)]
 
+pub mod laws;
 pub mod opening;
 pub mod store;
 mod tables;

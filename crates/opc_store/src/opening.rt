@@ -25,6 +25,7 @@ use opc_stored::faults::fault;
 use opc_stored::making::make_tables;
 use opc_stored::names::has_our_name;
 use opc_stored::version::version_on;
+use opc_terms::fault::Fault;
 use opc_terms::store_fault::StoreFault;
 use sqlite::{Alter, Connection, Error, FileFrom, FileStore, Files, Options, Start, Wary};
 use sqlite_disk::Disk;
@@ -56,6 +57,21 @@ impl From<StoreFault> for OpenFault {
         match fault {
             StoreFault::NoMemory => OpenFault::NoMemory,
             StoreFault::Store => OpenFault::Store,
+        }
+    }
+}
+
+impl From<OpenFault> for Fault {
+    ghost use Rattle.std.specs.Prelude.{◌≡◌};
+    ghost use Rattle.opc_store.specs.Opening.{opening_fault};
+
+    ghost from_gives = { λ fault told. told ≡ opening_fault fault };
+
+    fn from(fault: OpenFault) -> Self {
+        match fault {
+            OpenFault::NoMemory => Fault::NoMemory,
+            OpenFault::Store => Fault::Store,
+            OpenFault::NotOurs(version) => Fault::NotOurs { version },
         }
     }
 }
@@ -176,8 +192,11 @@ impl<D: Disk + Drop> Store<FileStore<D>> {
     pub fn close(self) -> Result<Files<D>, (Error, FileStore<D>)>
         ensures copied { IfOk result (λ files. AreClean D.Disk files.log files.db → IsCopied self files) }
         ensures usable { IfOk result (λ files. IsTrue (D.Disk.is_usable files.log) × IsTrue (D.Disk.is_usable files.db)) }
+        ensures settled { IsTrue (file_state self).is_open → (file_state self).now ≡ (file_state self).committed }
     {
-        self.into_connection().close_files()
+        let conn = self.into_connection();
+        let _settled = conn.is_autocommit();
+        conn.close_files()
     }
 
     /// Closes the store and opens its files again: they represent the state that was committed last.

@@ -1,0 +1,27 @@
+-- What a crash leaves of tables, beneath the states that it may leave.
+use Rattle.std.proofs.Common.{◌≡◌, ◌∙◌, true, false, sym, ap, subst}
+use Rattle.sqlite_trees.specs.declared.store.Store.{Ghosts}
+use Rattle.sqlite_trees.specs.Tree.{Trees}
+use Rattle.sqlite.specs.Held.{Held, state}
+use Rattle.opc_state.specs.State.{State, empty}
+use Rattle.opc_state.specs.Changes.{with_halted}
+use Rattle.opc_stored.specs.Represented.{Represents, AreTablesOf}
+use Rattle.opc_stored.proofs.Decoded.{one_state}
+use Rattle.opc_stored.proofs.Opened.{alone_from}
+use Rattle.opc_store.specs.StoreTables.{MayLeave}
+use Rattle.opc_store.specs.StoreLaws.{LeavesTables, LeavesWhatIsThere}
+
+module _ {S : Type 0} (g : Ghosts S) where
+  pub leaves_tables : LeavesTables g (MayLeave g)
+  leaves_tables h s alone clean trees may never =
+      let one = alone empty (clean, trees, may, λ t are. absurd (none t are)) in
+      let two = alone (with_halted true empty) (clean, trees, may, λ t are. absurd (none t are)) in
+      let same : false ≡ true = ap (λ (t : State). t.board.halted) (one ∙ sym two) in
+      absurd (cc)
+    where
+      none : (t : State) → AreTablesOf trees t → ⊥
+      none t are = never (subst (AreTablesOf trees) (alone t (clean, trees, may, λ u those. one_state trees u t those are)) are)
+
+  pub leaves_what_is_there : LeavesWhatIsThere g (MayLeave g)
+  leaves_what_is_there h s itself was left it =
+      sym (it.3 s (subst (λ (t : Trees). AreTablesOf t s) (sym (itself it.0 it.1 it.2)) (alone_from (state g h).now s was)))

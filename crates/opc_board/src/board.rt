@@ -2,11 +2,12 @@
 ghost use Rattle.std.specs.Prelude.{◌≡◌, ◌&&◌, MatchResult};
 ghost use Rattle.std.specs.List.{list_all};
 ghost use Rattle.opc_rows.specs.Ordered.{Ascends};
-ghost use Rattle.opc_board.specs.Facts.{IsBoard, held_rightly, unit_before, kind_found, has_master, is_master};
+ghost use Rattle.opc_board.specs.Facts.{IsBoard, held_rightly, unit_before, kind_at, kind_found, has_master, is_master};
 
 use crate::rows::{ConsoleRow, DeviceRow, MessageRow, ReplyRow, UnitKind, UnitRow};
 use crate::text::KeptText;
 use opc_names::auth::Auth;
+use opc_names::name::UnitName;
 use opc_rows::Rows;
 use opc_terms::unit_kind::UnitKindAt;
 use std::marker::Model;
@@ -144,6 +145,16 @@ impl Board {
         ensures facts { IsBoard self.now }
     {
         &self.rows
+    }
+
+    /// What a unit of this name is, or that none is there.
+    pub fn kind_at(&self, name: &UnitName) -> UnitKindAt
+        ensures { result ≡ kind_at self.now name.now }
+    {
+        match self.rows.units.find(name) {
+            Some(unit) => unit.kind.found(),
+            None => UnitKindAt::Absent,
+        }
     }
 
     /// Whether an online console has AUTH MASTER.

@@ -1,8 +1,9 @@
 //! Rulings on commands.
 ghost use Rattle.std.specs.Prelude.{◌≡◌, Some, true};
 ghost use Rattle.std.specs.Option.{option_copied};
-ghost use Rattle.opc_decisions.specs.Rulings.{profile_ruling, profile_rule, rule_at, ruling_at, verdict, verdict_of, rule_of, console_ruling};
+ghost use Rattle.opc_decisions.specs.Rulings.{profile_ruling, profile_rule, rule_at, ruling_at, verdict, verdict_of, rule_of, ruling, console_ruling};
 
+use crate::search::Found;
 use crate::verdict::Verdict;
 use opc_names::auth::Auth;
 use opc_names::level::Level;
@@ -87,5 +88,27 @@ pub fn console_ruling(auth: Auth, need: &Need) -> Ruling
         Ruling::Allowed(rule)
     } else {
         Ruling::Denied(rule)
+    }
+}
+
+/// The ruling on a command at a console, where logon is no question: by the profile that decides, if the class is active and
+/// the console acts for a user, else by the authority of the console. The groups are the user's connect groups; without a
+/// user they are not looked at.
+pub fn rule_on(
+    found: &Found,
+    active: bool,
+    user: Option<&User>,
+    console: Option<&ConsoleName>,
+    groups: &[GroupName],
+    auth: Auth,
+    need: &Need,
+) -> Ruling
+    ensures { result ≡ ruling active found.now.profile (option_copied user.entry) (option_copied console.entry) groups.now auth need.now }
+{
+    match (user, &found.profile) {
+        (Some(user), Some(profile)) if active => {
+            profile_ruling(profile, user, console, groups, need.level)
+        }
+        _ => console_ruling(auth, need),
     }
 }

@@ -26,7 +26,7 @@ use Rattle.opc_policy.specs.contracts.user.UserPartialEq.TheImpl as of_user
 use Rattle.opc_state.specs.Difference.{same_flag, same_text}
 use Rattle.opc_state.proofs.SameRows.{name_itself}
 use Rattle.opc_machine.specs.Imports.{same_row, same_rows, same_user}
-use Rattle.opc_laws.proofs.SameBatches.{row_is}
+use Rattle.opc_machine.proofs.SameBatches.{row_is}
 
 class_told : (c d : Class) → of_class.eq-value.it c d ≡ true → same_class c d ≡ true
 class_told Console Console h = refl

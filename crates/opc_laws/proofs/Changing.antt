@@ -31,7 +31,7 @@ use Rattle.opc_machine.specs.Outcome.{Deed, ◌>>=◌, does, or_refused, refuse_
 use Rattle.opc_machine.specs.Rights.{account_shown, console_asking, is_special, may_change, profile_shown, right_fault, unless_denied}
 use Rattle.opc_machine.specs.Rulings.{acting, logon_denial}
 use Rattle.opc_laws.proofs.Acting.{console_back}
-use Rattle.opc_laws.proofs.SameBatches.{same_are_equal}
+use Rattle.opc_machine.proofs.SameBatches.{same_are_equal}
 use Rattle.opc_machine.proofs.Inversion.{bind_ok, console_is, done_is, is_on, not_given_up, ok_is, refuse_if_ok}
 
 unless_denied_ok : (o : Option Rule) (u : Unit {0}) → unless_denied o ≡ Ok u → o ≡ None

@@ -21,14 +21,14 @@ pub record AreInTheWay (all : List (Bool × Fault)) (r : Result Policy Fault) : 
   pub refused : (f : Fault) → first_obstacle all ≡ Some f → r ≡ Err f
   pub done : first_obstacle all ≡ None → (p : Policy) × (r ≡ Ok p)
 
-nothing : (p : Policy) → AreInTheWay [] (Ok p)
+pub nothing : (p : Policy) → AreInTheWay [] (Ok p)
 nothing p = record { refused = λ f h. absurd (search (rules, h)); done = λ _. (p, refl) }
 
-unless_way : (b : Bool) (name : List ℕ) (all : List (Bool × Fault)) (r : Result Policy Fault) → AreInTheWay all r → AreInTheWay ((b, Exists name) ∷ all) (unless b name r)
+pub unless_way : (b : Bool) (name : List ℕ) (all : List (Bool × Fault)) (r : Result Policy Fault) → AreInTheWay all r → AreInTheWay ((b, Exists name) ∷ all) (unless b name r)
 unless_way true name all r way = record { refused = λ f h. ap Err (search (rules, h)); done = λ h. absurd (search (rules, h)) }
 unless_way false name all r way = record { refused = way.refused; done = way.done }
 
-needing_way : (b : Bool) (name : List ℕ) (all : List (Bool × Fault)) (r : Result Policy Fault) → AreInTheWay all r → AreInTheWay ((not b, Missing name) ∷ all) (needing b name r)
+pub needing_way : (b : Bool) (name : List ℕ) (all : List (Bool × Fault)) (r : Result Policy Fault) → AreInTheWay all r → AreInTheWay ((not b, Missing name) ∷ all) (needing b name r)
 needing_way true name all r way = record { refused = way.refused; done = way.done }
 needing_way false name all r way = record { refused = λ f h. ap Err (search (rules, h)); done = λ h. absurd (search (rules, h)) }
 
@@ -60,7 +60,7 @@ ways s (operation.DefineConsole name auth mode) = nothing _
 pub obstacles_are_faults : ObstaclesAreFaults
 obstacles_are_faults s o f h = ap (with_rows_of s (board_changed o s.board)) ((ways s o).refused f h)
 
-lost_master : (old new : Bool) → (old && not new) ≡ true → (old ≡ true → new ≡ true) → ⊥
+pub lost_master : (old new : Bool) → (old && not new) ≡ true → (old ≡ true → new ≡ true) → ⊥
 lost_master true true lost kept = search (rules, lost)
 lost_master true false lost kept = let no : false ≡ true = kept refl in search (rules, no)
 lost_master false new lost kept = search (rules, lost)

@@ -30,7 +30,7 @@ use Rattle.opc_laws.proofs.Acting.{console_back}
 use Rattle.opc_laws.proofs.Answering.{heard_so}
 use Rattle.opc_laws.proofs.Changing.{asking_back, import_right}
 use Rattle.opc_laws.proofs.Knowing.{unknown}
-use Rattle.opc_laws.proofs.SameBatches.{same_are_equal}
+use Rattle.opc_machine.proofs.SameBatches.{same_are_equal}
 
 -- what comes to a refusal is answered by it
 abbrev refusal : Fault → Outcome

@@ -2,22 +2,24 @@
 use Rattle.std.proofs.Common.{◌≡◌, ℕ, Bool, true, false, not, ◌&&◌, ◌==◌, if◌then◌else◌, is_some, List, [], ◌∷◌, Some, None, Result, Ok, Err, Contains, zero, suc, arith, refl, rules, sym, ap, ◌∙◌}
 use Rattle.std.proofs.lemmas.Bool.Decides.{nat_tests}
 use Rattle.opc_terms.specs.declared.fault.Fault.{Fault}
+use Rattle.opc_terms.specs.declared.fault.Fault.TheVariants.{NotEmpty}
 use Rattle.opc_policy.specs.declared.policy.Policy.{Policy}
 use Rattle.opc_policy.specs.declared.row.Row.{Row}
 use Rattle.opc_policy.specs.declared.row.Row.TheVariants as rows
+use Rattle.opc_policy.specs.declared.user.User.{User}
 use Rattle.opc_policy.specs.Profiles.{profile_of}
 use Rattle.opc_policy.specs.Taken.{after_row, has_group, has_holder, has_user, needing, unless}
 use Rattle.opc_board.specs.declared.board.BoardRows.{BoardRows}
 use Rattle.opc_board.specs.Facts.{has_master}
 use Rattle.opc_state.specs.declared.change.Batch.{Batch}
 use Rattle.opc_state.specs.Loads.{is_connected}
-use Rattle.opc_state.specs.State.{State}
+use Rattle.opc_state.specs.State.{State, is_some_user}
 use Rattle.opc_machine.specs.declared.operation.Operation.{Operation}
 use Rattle.opc_machine.specs.declared.operation.Operation.TheVariants as operation
 use Rattle.opc_machine.specs.Administration.{board_changed, has_name, is_in_use, is_permitted, policy_changed, unless_in_use}
-use Rattle.opc_machine.specs.Bootstrap.{console_after, consoles_after, loses_master, mastered, policy_after, then_policy, with_rows_of}
+use Rattle.opc_machine.specs.Bootstrap.{console_after, consoles_after, loses_master, mastered, policy_after, then_policy, with_rows, with_rows_of}
 use Rattle.opc_machine.specs.Imports.{batch_of}
-use Rattle.opc_laws.specs.TakingLaws.{AreDefined, AreTaken, AreTakenWhole, BatchesAreFoundByNumber, IsDoneTo, KeepsMaster, OperationsDoWhatTheySay, OperationsKeepAMaster, RowsAreTakenInTurn, with_console_of}
+use Rattle.opc_laws.specs.TakingLaws.{AreDefined, AreTaken, AreTakenWhole, BatchesAreFoundByNumber, FirstPoliciesAreFirst, IsDoneTo, KeepsMaster, OperationsDoWhatTheySay, OperationsKeepAMaster, RowsAreTakenInTurn, with_console_of}
 
 -- the state that is made of a policy and a board, where no last master is lost
 pub record IsMade (s : State) (board : BoardRows) (r : Result Policy Fault) (new : State) : Type 0 where
@@ -45,11 +47,11 @@ keeps_master s board r new made was =
 
 -- operations
 
-unless_ok : (b : Bool) (name : List ℕ) (made : Result Policy Fault) (p : Policy) → unless b name made ≡ Ok p → made ≡ Ok p
+pub unless_ok : (b : Bool) (name : List ℕ) (made : Result Policy Fault) (p : Policy) → unless b name made ≡ Ok p → made ≡ Ok p
 unless_ok true name made p h = absurd (search (rules, h))
 unless_ok false name made p h = h
 
-needing_ok : (b : Bool) (name : List ℕ) (made : Result Policy Fault) (p : Policy) → needing b name made ≡ Ok p → made ≡ Ok p
+pub needing_ok : (b : Bool) (name : List ℕ) (made : Result Policy Fault) (p : Policy) → needing b name made ≡ Ok p → made ≡ Ok p
 needing_ok true name made p h = h
 needing_ok false name made p h = absurd (search (rules, h))
 
@@ -106,7 +108,7 @@ taken_so (row ∷ more) old new h = go (after_row row old) refl h (λ q. taken_s
     go (Ok q) is k later = (q, is, later q k)
     go (Err f) is k later = absurd (search (rules, k))
 
-taken_back : (all : List Row) (old new : Policy) → AreTaken all old new → policy_after all old ≡ Ok new
+pub taken_back : (all : List Row) (old new : Policy) → AreTaken all old new → policy_after all old ≡ Ok new
 taken_back [] old new is = ap Ok (sym is)
 taken_back (row ∷ more) old new (next, takes, later) = ap (λ r. then_policy r (λ q. policy_after more q)) takes ∙ taken_back more next new later
 
@@ -118,7 +120,7 @@ defined_so : (all : List Row) (old new : BoardRows) → new ≡ consoles_after a
 defined_so [] old new is = is
 defined_so (row ∷ more) old new is = defined_so more (with_console_of row old) new (is ∙ ap (consoles_after more) (console_is row old))
 
-defined_back : (all : List Row) (old new : BoardRows) → AreDefined all old new → new ≡ consoles_after all old
+pub defined_back : (all : List Row) (old new : BoardRows) → AreDefined all old new → new ≡ consoles_after all old
 defined_back [] old new is = is
 defined_back (row ∷ more) old new is = defined_back more (with_console_of row old) new is ∙ sym (ap (consoles_after more) (console_is row old))
 
@@ -148,6 +150,18 @@ module _ (all : List Row) (s new : State) where
 
 pub rows_in_turn : RowsAreTakenInTurn
 rows_in_turn all s new = (λ h. taken_whole all s new (made_of s (consoles_after all s.board) (policy_after all s.policy) new h), whole_back all s new)
+
+-- first policies
+
+some_stored : (users : List User) (user : User) → Contains users user → is_some_user users ≡ true
+some_stored [] user (k, low, is) = absurd (omega (arith, low))
+some_stored (u ∷ users) user there = refl
+
+pub first_policies : FirstPoliciesAreFirst
+first_policies all s = record {
+  stored = λ user there. ap (λ b. if b then Err NotEmpty else with_rows all s) (some_stored s.policy.users user there);
+  empty = λ none. ap (λ b. if b then Err NotEmpty else with_rows all s) (ap is_some_user none);
+}
 
 -- batches
 

@@ -1,5 +1,6 @@
 -- What the access machine means to those who administer, list and import.
-use Rattle.std.specs.Prelude.{◌≡◌, ◌⊎◌, ◌↔◌, ℕ, true, List, [], ◌∷◌, Option, Some, None, Ok, Contains, codes, filter, map}
+use Rattle.std.specs.Prelude.{◌≡◌, ◌⊎◌, ◌↔◌, ℕ, ◌+◌, ◌-◌, ◌<◌, ◌≤◌, true, List, [], ◌∷◌, Option, Some, None, Ok, Contains, codes, filter, map}
+use Rattle.std.specs.List.{slice_get}
 use Rattle.opc_names.specs.declared.class.Class.{Class}
 use Rattle.opc_policy.specs.declared.profile.Profile.{Profile}
 use Rattle.opc_policy.specs.declared.row.Row.{Row}
@@ -8,6 +9,7 @@ use Rattle.opc_policy.specs.Profiles.{AreMostSpecificFirst, of_class}
 use Rattle.opc_board.specs.declared.line.Line.{Line}
 use Rattle.opc_board.specs.declared.rows.ConsoleRow.{ConsoleRow}
 use Rattle.opc_board.specs.Facts.{console_at}
+use Rattle.opc_state.specs.declared.account.AccountRow.{AccountRow}
 use Rattle.opc_state.specs.declared.change.Batch.{Batch}
 use Rattle.opc_state.specs.Facts.{IsKeyed}
 use Rattle.opc_state.specs.Members.{with_batch}
@@ -77,6 +79,18 @@ ListsAccountWhereverShown =
     (s : State) (moment : ℕ) (name : List ℕ) (from count : ℕ) (console : ConsoleRow) (answer : Answer) (new : State)
     → MayAsk s name console → account_shown s console ≡ true → Step s moment (input.ListAccount name from count) answer new
     → IsGivenUp answer ⊎ ((answer ≡ Done (map account_line (asked_for from count s.account)) None) × (new ≡ s))
+
+-- The first line is the row that was asked for, by its number, and each next line the next row; 0 asks for the first row,
+-- as 1 does. There is a line for each row up to the count, and no other.
+pub record IsPage (from count : ℕ) (account : List AccountRow) (lines : List Line) : Type 0 where
+  pub within : (k : ℕ) (row : AccountRow) → k < count → slice_get account (from - 1 + k) ≡ Some row → slice_get lines k ≡ Some (account_line (from - 1 + k + 1, row))
+  pub past_count : (k : ℕ) → count ≤ k → slice_get lines k ≡ None
+  pub past_account : (k : ℕ) → slice_get account (from - 1 + k) ≡ None → slice_get lines k ≡ None
+
+abbrev pub AccountIsPaged : Type 0
+AccountIsPaged =
+    (s : State) (moment : ℕ) (name : List ℕ) (from count : ℕ) (lines : List Line) (why : Option Rule) (new : State) → Step s moment (input.ListAccount name from count) (Done lines why) new
+    → IsPage from count s.account lines
 
 -- The batch is kept with these very rows, and nothing changes.
 pub record IsKeptAgain (s : State) (batch : ℕ) (rows : List Row) (lines : List Line) (new : State) : Type 0 where

@@ -9,7 +9,7 @@ use Rattle.opc_names.specs.Authority.{includes}
 use Rattle.opc_policy.specs.declared.entry.Entry.{Entry}
 use Rattle.opc_policy.specs.declared.profile.Profile.{Profile}
 use Rattle.opc_policy.specs.declared.user.User.{User}
-use Rattle.opc_policy.specs.Access.{first_level}
+use Rattle.opc_policy.specs.Access.{entry_level, first_level, highest_level}
 use Rattle.opc_policy.specs.Held.{held}
 
 -- An entry is for the user, for a group of the user, or for everyone, which is for nobody who is RESTRICTED.
@@ -60,3 +60,15 @@ abbrev pub RestrictedUsersAreNamed : Type 0
 RestrictedUsersAreNamed =
     (p : Profile) (u : User) (console : Option (List ℕ)) (groups : List (List ℕ)) → u.restricted ≡ true
     → held (record p { uacc = level.None; entries = filter (is_named u groups) p.entries }) u console groups ≡ held p u console groups
+
+-- The first source that has a level decides, also where it is NONE.
+-- Without the entries for a console: the user's own entry, then the highest for a group, then that for everyone, then the
+-- universal access. None of the later ones raises it, and none lowers it.
+pub record IsByFirstSource (p : Profile) (u : User) (groups : List (List ℕ)) : Type 0 where
+  pub own : (l : Level) → entry_level p.entries None u.id ≡ Some l → held p u None groups ≡ l
+  pub group : (l : Level) → entry_level p.entries None u.id ≡ None → highest_level p.entries None groups ≡ Some l → held p u None groups ≡ l
+  pub everyone : (l : Level) → u.restricted ≡ false → entry_level p.entries None u.id ≡ None → highest_level p.entries None groups ≡ None → entry_level p.entries None (codes "*") ≡ Some l → held p u None groups ≡ l
+  pub universal : u.restricted ≡ false → entry_level p.entries None u.id ≡ None → highest_level p.entries None groups ≡ None → entry_level p.entries None (codes "*") ≡ None → held p u None groups ≡ p.uacc
+
+abbrev pub FirstSourceDecides : Type 0
+FirstSourceDecides = (p : Profile) (u : User) (groups : List (List ℕ)) → IsByFirstSource p u groups

@@ -20,6 +20,7 @@ use Rattle.opc_machine.specs.Imports.{batch_of}
 use Rattle.opc_machine.specs.Inputs.{Input, console_of}
 use Rattle.opc_machine.specs.Inputs as input
 use Rattle.opc_machine.specs.Machine.{IsGivenUp, Step, account_row}
+use Rattle.opc_laws.specs.TakingLaws.{KeepsMaster}
 
 -- a warning alone let it pass
 abbrev pub IsWarned : Option Rule → Type 0
@@ -92,3 +93,7 @@ abbrev pub EventFaultsAreAnswered : Type 0
 EventFaultsAreAnswered =
     (s : State) (moment : ℕ) (e : Event) (fault : BoardFault) (answer : Answer) (new : State) → event_effect s.board e ≡ Err fault → Step s moment (input.Event e) answer new
     → IsGivenUp answer ⊎ (answer ≡ Refused (board_fault fault) None)
+
+-- Whatever is asked and whatever happens: where an online console has AUTH MASTER, one has it afterwards.
+abbrev pub StepsKeepAMaster : Type 0
+StepsKeepAMaster = (s : State) (moment : ℕ) (r : Input) (answer : Answer) (new : State) → Step s moment r answer new → KeepsMaster s new

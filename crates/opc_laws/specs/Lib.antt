@@ -1,12 +1,17 @@
 pub mod ActingLaws
 pub mod ChangingLaws
 pub mod DisplayLaws
+pub mod EffectLaws
 pub mod FaultLaws
+pub mod HindranceLaws
 pub mod HoldingLaws
 pub mod Laws
 pub mod LeavingLaws
 pub mod NeedLaws
+pub mod NumberLaws
 pub mod ObstacleLaws
+pub mod OperationLaws
 pub mod RightLaws
+pub mod RowLaws
 pub mod RulingLaws
 pub mod TakingLaws

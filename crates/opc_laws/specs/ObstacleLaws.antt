@@ -44,7 +44,7 @@ obstacles s (operation.PermitDelete class pattern id when) = (not (is_defined s.
 obstacles s (operation.ClassActive class active) = []
 obstacles s (operation.DefineConsole name auth mode) = []
 
-abbrev pub first_obstacle : List (Bool × Fault) → Option Fault
+abbrev pub first_obstacle : {F : Type 0} → List (Bool × F) → Option F
 first_obstacle [] = None
 first_obstacle (obstacle ∷ more) = if obstacle.0 then Some obstacle.1 else first_obstacle more
 

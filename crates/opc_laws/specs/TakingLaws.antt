@@ -1,5 +1,6 @@
 -- What operations of administration and rows of an import make of the state, to those who send them.
-use Rattle.std.specs.Prelude.{◌≡◌, ◌≢◌, ◌↔◌, ℕ, true, false, List, [], ◌∷◌, Option, Some, None, Ok, Contains}
+use Rattle.std.specs.Prelude.{◌≡◌, ◌≢◌, ◌↔◌, ℕ, true, false, List, [], ◌∷◌, Option, Some, None, Ok, Err, Contains}
+use Rattle.opc_terms.specs.declared.fault.Fault.TheVariants.{NotEmpty}
 use Rattle.opc_policy.specs.declared.policy.Policy.{Policy}
 use Rattle.opc_policy.specs.declared.profile.Profile.{Profile}
 use Rattle.opc_policy.specs.declared.row.Row.{Row}
@@ -17,7 +18,7 @@ use Rattle.opc_state.specs.State.{State}
 use Rattle.opc_machine.specs.declared.operation.Operation.{Operation}
 use Rattle.opc_machine.specs.declared.operation.Operation.TheVariants as operation
 use Rattle.opc_machine.specs.Administration.{changed}
-use Rattle.opc_machine.specs.Bootstrap.{with_rows}
+use Rattle.opc_machine.specs.Bootstrap.{bootstrapped, with_rows}
 use Rattle.opc_machine.specs.Imports.{batch_of}
 
 -- The state has these users and is else as it was, and so for other parts of it.
@@ -89,3 +90,11 @@ pub record IsFoundByNumber (batches : List Batch) (number : ℕ) (kept : Option 
 
 abbrev pub BatchesAreFoundByNumber : Type 0
 BatchesAreFoundByNumber = (batches : List Batch) (number : ℕ) → IsFoundByNumber batches number (batch_of batches number)
+
+-- A first policy is taken as the rows of an import are, and only where no user is stored.
+pub record IsFirst (all : List Row) (s : State) : Type 0 where
+  pub stored : (user : User) → Contains s.policy.users user → bootstrapped all s ≡ Err NotEmpty
+  pub empty : s.policy.users ≡ [] → bootstrapped all s ≡ with_rows all s
+
+abbrev pub FirstPoliciesAreFirst : Type 0
+FirstPoliciesAreFirst = (all : List Row) (s : State) → IsFirst all s

@@ -1,16 +1,17 @@
 //! What the access machine means to those who use it, each law as what a call without a body ensures.
 ghost use Rattle.opc_laws.specs.ActingLaws.{AutoConsolesActForTheirOwn, OptionalConsolesActAlone, OtherAutoConsolesActAlone, OthersAreAccountedToNobody, RequiredConsolesActForNobody, WhoIsOnComesFirst};
-ghost use Rattle.opc_laws.specs.ChangingLaws.{AdministersOnlyWhereAllowed, AdministersWhereverAllowed, ImportsOnlyWhereAllowed, ImportsWhereverAllowed, ListsAccountOnlyWhereShown, ListsAccountWhereverShown, ListsExactlyProfilesShown, ListsProfilesWhereverAsked, MoreSpecificProfilesComeFirst, RepeatsWhereverAllowed, SameRowsAreEqual};
+ghost use Rattle.opc_laws.specs.ChangingLaws.{AccountIsPaged, AdministersOnlyWhereAllowed, AdministersWhereverAllowed, ImportsOnlyWhereAllowed, ImportsWhereverAllowed, ListsAccountOnlyWhereShown, ListsAccountWhereverShown, ListsExactlyProfilesShown, ListsProfilesWhereverAsked, MoreSpecificProfilesComeFirst, RepeatsWhereverAllowed, SameRowsAreEqual};
 ghost use Rattle.opc_laws.specs.DisplayLaws.{LinesAreAboutWhatTheyList, ListsEachConsoleOnce, ListsEachUnitOnce, ListsEveryConsole, ListsEveryUnit, ListsTheUnit, ListsTheUnitOnce};
 ghost use Rattle.opc_laws.specs.FaultLaws.{AdministrationFaultsAreAnswered, BadLinesAreAnswered, ChangedBatchesAreAnswered, ImportFaultsAreAnswered, LogonFaultsAreAnswered, MissingConsolesAreAnswered, MissingRightsAreAnswered, OfflineConsolesAreAnswered};
-ghost use Rattle.opc_laws.specs.HoldingLaws.{ConsoleEntriesRaise, ConsolesNeverLower, EntriesCountAtTheirConsole, LevelsAreGiven, RestrictedUsersAreNamed};
+ghost use Rattle.opc_laws.specs.HoldingLaws.{ConsoleEntriesRaise, ConsolesNeverLower, EntriesCountAtTheirConsole, FirstSourceDecides, LevelsAreGiven, RestrictedUsersAreNamed};
 ghost use Rattle.opc_laws.specs.Laws.{ActsOnlyWhereAllowed, ActsWhereverAllowed, BoardFaultsAreAnswered, DenialsAreAnswered, GivenUpChangesNothing, GivenUpWithoutMemoryOrStore, ListsExactlyWhatMayBeShown, LogsOffOnlyWhereSomebodyIsOn, LogsOffWhereverSomebodyIsOn, LogsOnOnlyWhereAllowed, LogsOnWhereverAllowed, NothingAskedChangesNothing, OnlyWhatIsHeardIsDone, RefusalsChangeNothing, RefusalsNameNoOtherRule, RefusalsOfAuthorityNameTheirRule, RequestsAreJudgedInTurn};
 ghost use Rattle.opc_laws.specs.LeavingLaws.{AccountRowsTell, EventFaultsAreAnswered, EventsHappenWhereverPossible, EventsOnlyDoTheirEffect, RequestsNameTheirConsole, WhatIsDoneLeavesRest};
-ghost use Rattle.opc_laws.specs.NeedLaws.{NeedsAreOfTheTable};
+ghost use Rattle.opc_laws.specs.NeedLaws.{AuthoritiesEnterTheirGroups, NeedsAreOfTheTable};
+ghost use Rattle.opc_laws.specs.NumberLaws.{BoardFaultsAreToldApart, LineFaultsAreToldApart};
 ghost use Rattle.opc_laws.specs.ObstacleLaws.{ObstaclesAreFaults, OperationsAreDoneWithoutObstacle};
 ghost use Rattle.opc_laws.specs.RightLaws.{AccountIsSeenByAuditors, ImportsAreOfSpecial, ProfilesAreSeenByReaders, RightsAreOfSpecialAndOwners};
 ghost use Rattle.opc_laws.specs.RulingLaws.{LogonRuleSaysWhy, LogonRulingsSayWhy, RulingsSayWhy};
-ghost use Rattle.opc_laws.specs.TakingLaws.{BatchesAreFoundByNumber, OperationsDoWhatTheySay, OperationsKeepAMaster, RowsAreTakenInTurn};
+ghost use Rattle.opc_laws.specs.TakingLaws.{BatchesAreFoundByNumber, FirstPoliciesAreFirst, OperationsDoWhatTheySay, OperationsKeepAMaster, RowsAreTakenInTurn};
 
 /// A command acts only where the written policy of that moment allows it.
 pub fn acts_only_where_allowed()
@@ -31,6 +32,11 @@ pub fn only_what_is_heard_is_done()
 /// What a command needs is that of the table, and goes by the kind of the unit that C, FORCE, P and F name.
 pub fn needs_are_of_the_table()
     ensures { NeedsAreOfTheTable }
+{}
+
+/// A console enters the command groups of its authority's row in the table, and no other.
+pub fn authorities_enter_their_groups()
+    ensures { AuthoritiesEnterTheirGroups }
 {}
 
 /// Each request of a list is judged by the state that those before it leave.
@@ -155,6 +161,12 @@ pub fn lists_account_wherever_shown()
     ensures { ListsAccountWhereverShown }
 {}
 
+/// The n-th line of such a list is the row that was asked for or the n-th from there, with its number; there are as many as
+/// were asked for, or as there are rows.
+pub fn account_is_paged()
+    ensures { AccountIsPaged }
+{}
+
 /// The account may be shown to SPECIAL and AUDITOR.
 pub fn account_is_seen_by_auditors()
     ensures { AccountIsSeenByAuditors }
@@ -188,6 +200,11 @@ pub fn same_rows_are_equal()
 /// The rows of an import are taken one after another, each by what those before it leave, and all of them.
 pub fn rows_are_taken_in_turn()
     ensures { RowsAreTakenInTurn }
+{}
+
+/// A first policy is taken as these rows are, and only where no user is stored (E57).
+pub fn first_policies_are_first()
+    ensures { FirstPoliciesAreFirst }
 {}
 
 /// The batch of a number is found exactly where one is kept.
@@ -240,6 +257,12 @@ pub fn missing_consoles_are_answered()
 /// A line that is no command is refused by its first fault.
 pub fn bad_lines_are_answered()
     ensures { BadLinesAreAnswered }
+{}
+
+/// What is in the way on the board, and what is wrong with a line, is told by its number, and no two are told alike.
+pub fn faults_are_told_apart()
+    ensures board { BoardFaultsAreToldApart }
+    ensures line { LineFaultsAreToldApart }
 {}
 
 /// A LOGON is refused where somebody is on (E15), then where the password is not the user's (E14); LOGOFF where nobody is on
@@ -332,6 +355,12 @@ pub fn entries_count_at_their_console()
 /// A RESTRICTED user has nothing of what is given everyone: neither by `*` nor by universal access.
 pub fn restricted_users_are_named()
     ensures { RestrictedUsersAreNamed }
+{}
+
+/// The user's own entry decides, then those for the user's groups, then that for everyone, then the universal access: the
+/// first that is there, also where it says NONE.
+pub fn the_first_source_decides()
+    ensures { FirstSourceDecides }
 {}
 
 /// An AUTO console where nobody is on acts for the user of its own name,

@@ -1,4 +1,6 @@
 //! What the access machine means to those who use it.
 #![tactic(auto)]
 
+pub mod effects;
 pub mod laws;
+pub mod rows;

@@ -1,5 +1,5 @@
 -- Two batches are the same exactly where their rows are equal.
-use Rattle.std.proofs.Common.{◌≡◌, ◌&&◌, ℕ, Bool, true, false, List, [], ◌∷◌, Option, Some, None, refl, sym, ap, ap₂, subst, ◌∙◌, rules}
+use Rattle.std.proofs.Common.{◌≡◌, ◌&&◌, ◌↔◌, ℕ, Bool, true, false, List, [], ◌∷◌, Option, Some, None, refl, sym, ap, ap₂, subst, ◌∙◌, rules}
 use Rattle.std.specs.Str.{bytes_eq}
 use Rattle.std.proofs.lemmas.Slice.Eq.{bytes_eq-Decides}
 use Rattle.opc_names.specs.Authority.{same_class}
@@ -18,7 +18,6 @@ use Rattle.opc_policy.specs.declared.row.Row.TheVariants as rows
 use Rattle.opc_policy.specs.declared.user.User.{User}
 use Rattle.opc_terms.specs.Modes.{mode_text, modes}
 use Rattle.opc_state.specs.Difference.{same_flag, same_text}
-use Rattle.opc_laws.specs.ChangingLaws.{SameRowsAreEqual}
 use Rattle.opc_machine.specs.Imports.{same_row, same_rows, same_user}
 
 first : (a b : Bool) → (a && b) ≡ true → a ≡ true
@@ -174,5 +173,5 @@ rows_itself : (one : List Row) → same_rows one one ≡ true
 rows_itself [] = refl
 rows_itself (r ∷ one) = both _ _ (row_itself r) (rows_itself one)
 
-pub same_are_equal : SameRowsAreEqual
+pub same_are_equal : (one other : List Row) → (same_rows one other ≡ true) ↔ (one ≡ other)
 same_are_equal one other = (rows_are one other, λ h. subst (λ x. same_rows one x ≡ true) h (rows_itself one))

@@ -1,13 +1,12 @@
 -- A run whose answers are heard goes on by one request.
-use Rattle.std.proofs.Common.{◌≡◌, inr, inl, ℕ, ◌+◌, ◌<◌, List, [], ◌∷◌, ◌++◌, length, take, drop, get_or, refl, subst, sym, ap, ◌∙◌}
+use Rattle.std.proofs.Common.{◌≡◌, ℕ, ◌+◌, ◌<◌, List, [], ◌∷◌, ◌++◌, length, take, drop, get_or, refl, subst, sym, ap, ◌∙◌}
 use Rattle.std.proofs.lemmas.List.{append_assoc, take-append-drop, take_more}
 use Rattle.opc_state.specs.State.{State}
 use Rattle.opc_machine.specs.declared.request.Request.{Request}
 use Rattle.opc_machine.specs.declared.request.Answer.{Answer}
-use Rattle.opc_machine.specs.Inputs.{input_of}
-use Rattle.opc_gate.specs.Handling.{IsHandled, IsRun}
+use Rattle.opc_gate.specs.Handling.{IsRun}
 use Rattle.opc_gate.specs.Listening.{AreHeard, IsEndedRun, IsHeardRun}
-use Rattle.opc_gate.proofs.Running.{run_more}
+use Rattle.opc_gate.proofs.Running.{IsNext, run_none, sure_more}
 
 pub heard_more : {L : Type 0} (heard : L → ℕ → Answer → L → Type 0) (rs : List (ℕ × Request)) (answers : List Answer) (from mid to : L) (r : ℕ × Request) (answer : Answer)
     → AreHeard heard rs answers from mid → heard mid r.0 answer to → AreHeard heard (rs ++ r ∷ []) (answers ++ answer ∷ []) from to
@@ -22,36 +21,25 @@ module _ {T L : Type 0} (is_sure : T → Type 0) (represents may_leave : T → S
   begins now listener =
       record {
         answers = [];
-        run = λ sure s represented. record { last = s; runs = refl; represented = represented; crash = λ left h. inl h; acknowledged = λ _. inr (refl, λ left h. h) };
+        run = λ sure s represented. run_none represents may_leave now s represented;
         heard_all = refl;
       }
 
-  -- what one more request comes to, and what the tables are sure of
-  abbrev pub IsNext : T → T → ℕ × Request → Answer → Type 0
-  IsNext mid new r answer = (is_sure new → is_sure mid) × (is_sure new → (s : State) → represents mid s → IsHandled represents may_leave mid new s r.0 (input_of r.1) answer)
-
-  more : (rs : List (ℕ × Request)) (i : ℕ) (r : ℕ × Request) (old mid new : T) (answers : List Answer) (answer : Answer) → i < length rs → r ≡ get_or rs i r
-      → (is_sure mid → (s : State) → represents old s → IsRun represents may_leave old mid s (take i rs) answers) → IsNext mid new r answer
-      → is_sure new → (s : State) → represents old s → IsRun represents may_leave old new s (take (i + 1) rs) (answers ++ answer ∷ [])
-  more rs i r old mid new answers answer low is far next sure s represented =
-      let was = far (next.0 sure) s represented in
-      run_more represents may_leave rs i r old mid new s answers answer low is was (next.1 sure was.last was.represented)
-
   -- one more answer, heard
   pub goes_on : (rs : List (ℕ × Request)) (i : ℕ) (r : ℕ × Request) (old mid new : T) (from met to : L) (answer : Answer) → i < length rs → r ≡ get_or rs i r
-      → IsHeardRun is_sure represents may_leave heard old mid (take i rs) from met → IsNext mid new r answer → heard met r.0 answer to
+      → IsHeardRun is_sure represents may_leave heard old mid (take i rs) from met → IsNext is_sure represents may_leave mid new r answer → heard met r.0 answer to
       → IsHeardRun is_sure represents may_leave heard old new (take (i + 1) rs) from to
   goes_on rs i r old mid new from met to answer low is far next one =
       let all : take (i + 1) rs ≡ take i rs ++ r ∷ [] = take_more rs i r low ∙ ap (λ x. take i rs ++ x ∷ []) (sym is) in
       record {
         answers = far.answers ++ answer ∷ [];
-        run = more rs i r old mid new far.answers answer low is far.run next;
+        run = sure_more is_sure represents may_leave rs i r old mid new far.answers answer low is far.run next;
         heard_all = subst (λ qs. AreHeard heard qs (far.answers ++ answer ∷ []) from to) (sym all) (heard_more heard (take i rs) far.answers from met to r answer far.heard_all one);
       }
 
   -- one more answer, not heard
   pub ends : {F : Type 0} (missed : L → ℕ → Answer → L → F → Type 0) (rs : List (ℕ × Request)) (i : ℕ) (r : ℕ × Request) (old mid new : T) (from met to : L) (answer : Answer) (fault : F) → i < length rs → r ≡ get_or rs i r
-      → IsHeardRun is_sure represents may_leave heard old mid (take i rs) from met → IsNext mid new r answer → missed met r.0 answer to fault
+      → IsHeardRun is_sure represents may_leave heard old mid (take i rs) from met → IsNext is_sure represents may_leave mid new r answer → missed met r.0 answer to fault
       → IsEndedRun is_sure represents may_leave heard missed old new rs from to fault
   ends missed rs i r old mid new from met to answer fault low is far next one =
       let all : take (i + 1) rs ≡ take i rs ++ r ∷ [] = take_more rs i r low ∙ ap (λ x. take i rs ++ x ∷ []) (sym is) in
@@ -62,7 +50,7 @@ module _ {T L : Type 0} (is_sure : T → Type 0) (represents may_leave : T → S
         are = sym (take-append-drop (i + 1) rs) ∙ ap (λ qs. qs ++ drop (i + 1) rs) all ∙ append_assoc (take i rs) (r ∷ []) (drop (i + 1) rs);
         answers = far.answers;
         answer = answer;
-        run = λ sure s represented. subst (λ qs. IsRun represents may_leave old new s qs (far.answers ++ answer ∷ [])) all (more rs i r old mid new far.answers answer low is far.run next sure s represented);
+        run = λ sure s represented. subst (λ qs. IsRun represents may_leave old new s qs (far.answers ++ answer ∷ [])) all (sure_more is_sure represents may_leave rs i r old mid new far.answers answer low is far.run next sure s represented);
         met = met;
         heard_before = far.heard_all;
         missed_last = one;

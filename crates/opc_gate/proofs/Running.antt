@@ -79,3 +79,22 @@ module _ {T : Type 0} (represents may_leave : T → State → Type 0) where
             let each = All-pop IsAnswered (answers ++ answer ∷ []) answers (Some answer) refl answered in
             acknowledged_more old mid new s run.last handled.next (run.acknowledged each.0) (handled.acknowledged each.1);
       })
+
+  -- nothing is handled yet
+  pub run_none : (now : T) (s : State) → represents now s → IsRun represents may_leave now now s [] []
+  run_none now s represented = record { last = s; runs = refl; represented = represented; crash = λ left h. inl h; acknowledged = λ _. inr (refl, λ left h. h) }
+
+module _ {T : Type 0} (is_sure : T → Type 0) (represents may_leave : T → State → Type 0) where
+  -- where the tables are sure, these are the answers of a run
+  abbrev pub IsSureRun : T → T → List (ℕ × Request) → List Answer → Type 0
+  IsSureRun old new requests answers = is_sure new → (s : State) → represents old s → IsRun represents may_leave old new s requests answers
+
+  -- what one more request comes to, and what the tables are sure of
+  abbrev pub IsNext : T → T → ℕ × Request → Answer → Type 0
+  IsNext mid new r answer = (is_sure new → is_sure mid) × (is_sure new → (s : State) → represents mid s → IsHandled represents may_leave mid new s r.0 (input_of r.1) answer)
+
+  pub sure_more : (rs : List (ℕ × Request)) (i : ℕ) (r : ℕ × Request) (old mid new : T) (answers : List Answer) (answer : Answer) → i < length rs → r ≡ get_or rs i r
+      → IsSureRun old mid (take i rs) answers → IsNext mid new r answer → IsSureRun old new (take (i + 1) rs) (answers ++ answer ∷ [])
+  sure_more rs i r old mid new answers answer low is far next sure s represented =
+      let was = far (next.0 sure) s represented in
+      run_more represents may_leave rs i r old mid new s answers answer low is was (next.1 sure was.last was.represented)

@@ -1,7 +1,8 @@
 //! The gate.
-ghost use Rattle.std.specs.Prelude.{◌≡◌, ◌≢◌, ◌≤◌, ◌⊎◌, [], IfErr, IfOk, IfSome, OnErr, OnOk, Ok, Err, length, ℕ};
+ghost use Rattle.std.specs.Prelude.{◌≡◌, ◌≢◌, ◌≤◌, ◌⊎◌, [], IfErr, IfOk, IfSome, None, OnErr, OnOk, Ok, Err, length, ℕ};
 ghost use Rattle.opc_terms.specs.declared.fault.Fault.TheVariants as why;
 ghost use Rattle.std.specs.Option.{option_and_then};
+ghost use Rattle.opc_terms.specs.Faults.{store_fault};
 ghost use Rattle.opc_board.specs.Facts.{console_at};
 ghost use Rattle.opc_board.specs.Texts.{text_or};
 ghost use Rattle.opc_state.specs.Asked.{Answers};
@@ -16,10 +17,8 @@ ghost use Rattle.opc_machine.specs.Inputs.{Input, console_of, input_of};
 ghost use Rattle.opc_machine.specs.Rulings.{acting_user};
 ghost use Rattle.opc_machine.specs.Machine.{IsGivenUp, account_row, is_warned, outcome as outcome_of, user_acting};
 ghost use Rattle.opc_gate.specs.Handling.{IsDecision, IsHandled, IsNothingWhereSame};
-ghost use Rattle.opc_gate.specs.Listening.{IsEndedRun, IsHeardRun};
 ghost use Rattle.opc_machine.specs.Deeds.{IsOutcome};
 
-use crate::listener::Listener;
 use opc_admin::administration::admin_on;
 use opc_board::rows::ConsoleRow;
 use opc_board::text::KeptText;
@@ -186,7 +185,8 @@ fn decide(
 }
 
 fn given_up(fault: StoreFault) -> Answer
-    ensures { IsGivenUp result }
+    ensures gives_up { IsGivenUp result }
+    ensures told { result ≡ Answer.Refused (store_fault fault) None }
 {
     Answer::Refused {
         fault: Fault::from(fault),
@@ -351,39 +351,4 @@ impl<T: Tables> Gate<T> {
     {
         handle(&mut self.tables, alloc, moment, request)
     }
-
-    /// Answers requests, with their moments, one after another, and lets a listener hear each answer before the next
-    /// request is handled. The answers, and the state that the tables represent afterwards, are those of the access
-    /// machine. A crash leaves what it might have left before them or a state that one of them makes, in whole; once
-    /// all are answered, the last state alone, where anything was changed. Where an answer is not heard, the run ends
-    /// with that request, which is handled.
-    pub fn run<L: Listener>(
-        &mut self,
-        alloc: Global,
-        requests: &[(u64, Request)],
-        listener: &mut L,
-    ) -> Result<(), L::Fault>
-        ensures sure { T.is_sure self.new → T.is_sure self.old }
-        ensures heard { OnOk result (IsHeardRun T.is_sure T.represents T.may_leave L.heard self.old self.new requests.now listener.old listener.new) }
-        ensures ended { IfErr result (IsEndedRun T.is_sure T.represents T.may_leave L.heard L.missed self.old self.new requests.now listener.old listener.new) }
-    {
-        run(&mut self.tables, alloc, requests, listener)
-    }
-}
-
-fn run<T: Tables, L: Listener>(
-    tables: &mut T,
-    alloc: Global,
-    requests: &[(u64, Request)],
-    listener: &mut L,
-) -> Result<(), L::Fault>
-    ensures sure { T.is_sure tables.new → T.is_sure tables.old }
-    ensures heard { OnOk result (IsHeardRun T.is_sure T.represents T.may_leave L.heard tables.old tables.new requests.now listener.old listener.new) }
-    ensures ended { IfErr result (IsEndedRun T.is_sure T.represents T.may_leave L.heard L.missed tables.old tables.new requests.now listener.old listener.new) }
-{
-    for request in requests {
-        let answer = handle(tables, alloc, request.0, &request.1);
-        listener.hear(request.0, &answer)?;
-    }
-    Ok(())
 }

@@ -3,5 +3,6 @@
 
 pub mod gate;
 pub mod listener;
+pub mod run;
 
 pub use opc_machine::{outcome, request};

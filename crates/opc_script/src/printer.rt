@@ -56,7 +56,7 @@ impl<K: Sink> Printer<'_, K> {
         ensures cut { IfErr result (IsCut T.is_sure T.represents T.may_leave gate.old gate.new requests.now (K.held self.old.output.now) (K.held self.new.output.now)) }
         ensures failed { K.has_failed self.new.output.now ≡ (if is_cut_by_output result then true else K.has_failed self.old.output.now) }
     {
-        gate.run(self.alloc, requests, self)
+        gate.run_heard(self.alloc, requests, self)
     }
 }
 

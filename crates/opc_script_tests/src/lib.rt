@@ -1,4 +1,4 @@
-//! Tests of `opc_script` by its public calls, over tables and writers that fail.
+//! Tests of `opc_script`, and of a list that the gate runs, by their public calls, over tables and writers that fail.
 #![tactic(auto)]
 
 #[cfg(test)]

@@ -1,3 +1,4 @@
-//! Scripts over tables that fail, to writers that fail.
+//! Scripts over tables that fail, to writers that fail, and lists of requests.
 mod failing_tables;
+mod lists;
 mod runs;

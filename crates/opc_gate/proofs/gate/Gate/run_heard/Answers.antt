@@ -1,7 +1,7 @@
 use Rattle.std.proofs.Common.{arith}
 use Rattle.std.proofs.lemmas.Result.{err_from_is_err_and}
 use Rattle.opc_gate.proofs.Listening.{begins, ends, goes_on}
-use Rattle.opc_gate.proofs.gate.run.Goals as goal
+use Rattle.opc_gate.proofs.gate.Gate.run_heard.Goals as goal
 
 pub loop-request-init : goal.loop-request-init
 loop-request-init g c = ((λ sure. sure), begins g.T.Tables.is_sure g.T.Tables.represents g.T.Tables.may_leave g.L.Listener.heard _ _)

@@ -1,8 +1,0 @@
-use Rattle.std.proofs.Common.{take}
-use Rattle.opc_gate.specs.Listening.{IsHeardRun}
-use Rattle.opc_gate.proofs.gate.run.Given as goal
-
-abbrev pub invariant-loop-request : goal.invariant-loop-request
-invariant-loop-request g l =
-    (g.T.Tables.is_sure l.tables → g.T.Tables.is_sure l.fn.tables)
-    × IsHeardRun g.T.Tables.is_sure g.T.Tables.represents g.T.Tables.may_leave g.L.Listener.heard l.fn.tables l.tables (take l.request-index l.requests) l.fn.listener l.listener

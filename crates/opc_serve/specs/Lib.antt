@@ -1,2 +1,4 @@
 pub mod Moments
+pub mod Arriving
 pub mod Serving
+pub mod Handled

@@ -1,34 +1,47 @@
--- What clients, served one after another, make of the tables.
-use Rattle.std.specs.Prelude.{◌≡◌, ◌≤◌, ◌⊎◌, ℕ, List, [], length, Option}
-use Rattle.std.specs.List.{All, filter_map}
-use Rattle.opc_state.specs.State.{State}
-use Rattle.opc_machine.specs.declared.request.Request.{Request}
-use Rattle.opc_machine.specs.declared.request.Answer.{Answer}
-use Rattle.opc_machine.specs.Inputs.{input_of}
-use Rattle.opc_gate.specs.Handling.{IsHandled, IsRun}
-use Rattle.opc_serve.specs.declared.clock.TheConstants.{LAST_MOMENT}
+-- Clients, served one after another.
+use Rattle.std.specs.Prelude.{◌≡◌, ◌<◌, ◌⊎◌, ℕ, zero, suc, List, Option, Result, Err, IsSome, ⊤}
+use Rattle.std.specs.declared.io.Error.{Error}
+use Rattle.std.specs.declared.time.Duration.{Duration}
+use Rattle.opc_http.specs.declared.exchange.LinkFault.{LinkFault}
+use Rattle.opc_http.specs.declared.exchange.Served.{Served}
+use Rattle.opc_serve.specs.declared.arrival.Arrival.{Arrival}
+use Rattle.opc_serve.specs.declared.arrival.ServeFault.{ServeFault}
+use Rattle.opc_serve.specs.Arriving.{Arrives, IsArrival}
 
--- the requests that were handled, of the clients that had one handled
-abbrev pub handled_of : List (Option (ℕ × Request)) → List (ℕ × Request)
-handled_of clients = filter_map (λ client. client) clients
+module _ {C G : Type 0} (is_unlimited : C → Type 0) (remaining contents : C → Option (List ℕ))
+    (exchanged : G → Option (List ℕ) → ℕ → Option (List ℕ) → Option (List ℕ) → Result Served LinkFault → G → Type 0) (timeout : Option Duration) where
+  -- One exchange was made over the client's connection, at its moment, and nothing else was written to it.
+  pub record IsExchanged (came gone : Arrival C) (old new : G) : Type 0 where
+    pub ended : Result Served LinkFault
+    pub made : exchanged old (remaining came.reader.inner) came.moment (contents came.writer.inner) (contents gone.writer.inner) ended new
 
-module _ {T : Type 0} (is_sure : T → Type 0) (represents may_leave : T → State → Type 0) (old new : T) where
-  -- A request was handled, in one step of the machine.
-  pub record HandlesOne (moment : ℕ) : Type 0 where
-    pub request : Request
-    pub answer : Answer
-    pub handled : is_sure new → (s : State) → represents old s → IsHandled represents may_leave old new s moment (input_of request) answer
+  -- Waits were to be limited and could not be. Nothing was done.
+  pub record IsUnlimited (came gone : Arrival C) (old new : G) : Type 0 where
+    pub asked : IsSome timeout
+    pub failed : is_unlimited came.reader.inner
+    pub same : gone ≡ came
+    pub idle : new ≡ old
 
-  -- What serving one client makes of the tables: they are as they were, or one request was handled.
-  abbrev pub IsServed : ℕ → Type 0
-  IsServed moment = (new ≡ old) ⊎ HandlesOne moment
+  -- What serving a client is.
+  abbrev pub IsServed : (came gone : Arrival C) → (old new : G) → Type 0
+  IsServed came gone old new = IsExchanged came gone old new ⊎ IsUnlimited came gone old new
 
-  -- What so many clients make of the tables. For each of them one request at most was handled, at a moment that may be
-  -- one, and these requests are a run of the machine. Where none was handled, nothing changed.
-  pub record AreServed (count : ℕ) : Type 0 where
-    pub clients : List (Option (ℕ × Request))
-    pub each : length clients ≡ count
-    pub moments : All (λ (r : ℕ × Request). r.0 ≤ LAST_MOMENT) (handled_of clients)
-    pub answers : List Answer
-    pub run : is_sure new → (s : State) → represents old s → IsRun represents may_leave old new s (handled_of clients) answers
-    pub idle : handled_of clients ≡ [] → new ≡ old
+  module _ {D : Type 0} (accepts : D → Result (C × C) Error → D → Type 0) (tells : D → Result Duration Error → D → Type 0) (first : D) (old : G) where
+    -- So many clients came and were served, in the order in which they came.
+    abbrev pub AreServed : ℕ → D → G → Type 0
+    AreServed zero last new = (last ≡ first) × (new ≡ old)
+    AreServed (suc n) last new =
+        (met : D) × (was : G) × (came : Arrival C) × (gone : Arrival C)
+        × AreServed n met was × IsArrival accepts tells met came last × IsServed came gone was new
+
+    -- Some were, and then no client came.
+    pub record IsCutShort (count : ℕ) (fault : ServeFault) (last : D) (new : G) : Type 0 where
+      pub done : ℕ
+      pub fewer : done < count
+      pub met : D
+      pub served : AreServed done met new
+      pub failed : Arrives accepts tells met (Err fault) last
+
+  -- So many clients were served, wherever they came from.
+  abbrev pub ServesClients : G → ℕ → G → Type 0
+  ServesClients old count new = AreServed {D = ⊤} (λ _ _ _. ⊤) (λ _ _ _. ⊤) tt old count tt new

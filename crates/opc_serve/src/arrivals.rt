@@ -1,81 +1,49 @@
 //! Clients that come, one after another.
-ghost use Rattle.std.specs.Prelude.{◌≡◌, ◌≤◌, Bool, IfOk, is_err, if◌then◌else◌, true};
+ghost use Rattle.opc_serve.specs.Arriving.{Arrives};
 
-use crate::clock::{LAST_MOMENT, moment};
+use crate::arrival::{Arrival, ServeFault};
+use crate::clock::moment_of;
 use crate::connection::Connection;
+use opc_http_link::watched::Watched;
 use std::io;
-use std::net::OpenListener;
-use std::rt::Clock;
-use thiserror::Error;
+use std::time::Duration;
 
-/// Why no further client is served.
-#[derive(Clone, Copy, Debug, Error)]
-pub enum ServeFault {
-    #[error("no connection is accepted: {0}")]
-    Accept(io::Error),
-    #[error("the clock is not read: {0}")]
-    Clock(io::Error),
-}
-
-/// A client that came: its connection, and when.
-#[derive(Drop)]
-pub struct Arrival<C: Connection> {
-    pub connection: C,
-    pub moment: u64,
-}
-
-/// Where clients come from, one after another.
+/// Where clients come from, and the clock there.
 pub trait Arrivals {
+    ghost use Rattle.std.specs.Prelude.{Result};
+    ghost use Rattle.std.specs.declared.io.Error.{Error};
+    ghost use Rattle.std.specs.declared.time.Duration.{Duration};
+
     type Connection: Connection;
 
-    /// Whether one could not be taken.
-    ghost has_failed: { Self → Bool };
+    /// That a client came, with a handle to read its connection and one to write it, or why none did. What a function over
+    /// any arrivals says by it can only be shown by the calls that the function makes.
+    ghost accepts: { Self → Result (Self.Connection × Self.Connection) Error → Self → Type 0 };
 
-    fn next(&mut self) -> Result<Arrival<Self::Connection>, ServeFault>
-        ensures moment { IfOk result (λ arrival. arrival.moment ≤ LAST_MOMENT) }
-        ensures failed { has_failed self.new ≡ (if is_err result then true else has_failed self.old) };
+    /// That the clock was read, and what it said.
+    ghost tells: { Self → Result Duration Error → Self → Type 0 };
+
+    fn accept(&mut self) -> io::Result<(Self::Connection, Self::Connection)>
+        ensures { accepts self.old result self.new };
+
+    fn since_1970(&mut self) -> io::Result<Duration>
+        ensures { tells self.old result self.new };
 }
 
-/// A listener and a clock, and whether one of them failed.
-#[derive(Drop)]
-pub struct Door<'a, C: Clock, L: OpenListener> {
-    clock: &'a C,
-    listener: &'a L,
-    failed: bool,
-}
-
-impl<'a, C: Clock, L: OpenListener> Door<'a, C, L> {
-    /// Nothing has failed yet.
-    pub fn new(clock: &'a C, listener: &'a L) -> Self {
-        Door {
-            clock,
-            listener,
-            failed: false,
-        }
-    }
-
-    fn take(&self) -> Result<Arrival<L::Stream>, ServeFault>
-    where
-        L::Stream: Connection,
-        ensures { IfOk result (λ arrival. arrival.moment ≤ LAST_MOMENT) }
-    {
-        let (connection, _) = self.listener.accept().map_err(ServeFault::Accept)?;
-        let moment = moment(self.clock).map_err(ServeFault::Clock)?;
-        Ok(Arrival { connection, moment })
-    }
-}
-
-impl<C: Clock, L: OpenListener> Arrivals for Door<'_, C, L>
-where
-    L::Stream: Connection,
+/// Takes the next client, at the moment when it came.
+pub fn next<A: Arrivals>(arrivals: &mut A) -> Result<Arrival<A::Connection>, ServeFault>
+    ensures { Arrives A.accepts A.tells arrivals.old result arrivals.new }
 {
-    type Connection = L::Stream;
-
-    ghost has_failed = { λ door. door.failed };
-
-    fn next(&mut self) -> Result<Arrival<L::Stream>, ServeFault> {
-        let taken = self.take();
-        self.failed |= taken.is_err();
-        taken
+    let (reader, writer) = match arrivals.accept() {
+        Ok(handles) => handles,
+        Err(error) => return Err(ServeFault::Accept(error)),
+    };
+    match moment_of(arrivals.since_1970()) {
+        Ok(moment) => Ok(Arrival {
+            reader: Watched::new(reader),
+            writer: Watched::new(writer),
+            moment,
+        }),
+        Err(error) => Err(ServeFault::Clock(error)),
     }
 }

@@ -2,7 +2,7 @@
 ghost use Rattle.std.specs.Prelude.{◌+◌, ◌*◌, ◌≤◌, length};
 ghost use Rattle.opc_http_link.specs.Reads.{TakesAtMost};
 
-use crate::connection::{Connection, Side};
+use crate::connection::Connection;
 use opc_http_link::source::Source;
 use opc_http_link::watched::Watched;
 use std::net::Shutdown;
@@ -56,10 +56,14 @@ fn forget_rest<S: Source>(source: &mut S)
 /// Ends a response: tells the peer that no more comes, and reads away what it still sends, in few reads that wait for a
 /// short time each. Otherwise the system would reset a connection that has bytes to read, and the peer might lose the
 /// response.
-pub fn read_away<C: Connection>(connection: &C) {
-    let told = connection.shutdown(Shutdown::Write);
-    let limited = connection.set_read_timeout(Some(Duration::from_secs(WAIT)));
+pub fn read_away<C: Connection>(reader: &mut Watched<C>)
+    ensures { TakesAtMost (CHUNK + MORE_READS * CHUNK) (C.remaining reader.old.inner) (C.remaining reader.new.inner) }
+{
+    let told = reader.inner.shutdown(Shutdown::Write);
+    let limited = reader
+        .inner
+        .set_read_timeout(Some(Duration::from_secs(WAIT)));
     if told.is_ok() && limited.is_ok() {
-        forget_rest(&mut Watched::new(Side::of(connection)));
+        forget_rest(reader);
     }
 }

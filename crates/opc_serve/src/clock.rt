@@ -1,7 +1,6 @@
 //! Moments, by the clock.
-ghost use Rattle.std.specs.Prelude.{◌≡◌, ◌≤◌, IfOk, Ok, Err, MatchResult, if◌then◌else◌};
-ghost use Rattle.std.specs.IoError.{error_kind};
-ghost use Rattle.opc_serve.specs.Moments.{is_before_1970, moment_at};
+ghost use Rattle.std.specs.Prelude.{◌≡◌, ◌≤◌, IfOk};
+ghost use Rattle.opc_serve.specs.Moments.{moment_at, moment_of};
 
 use std::io;
 use std::io::ErrorKind;
@@ -18,8 +17,8 @@ fn moment_at(since: Duration) -> u64
 }
 
 /// The moment by a reading of the clock. A time before 1970 is an error of its own there.
-fn moment_of(reading: io::Result<Duration>) -> io::Result<u64>
-    ensures { MatchResult reading (λ since. result ≡ Ok (moment_at since)) (λ error. result ≡ (if is_before_1970 (error_kind error) then Ok 0 else Err error)) }
+pub(crate) fn moment_of(reading: io::Result<Duration>) -> io::Result<u64>
+    ensures { result ≡ moment_of reading }
 {
     match reading {
         Ok(since) => Ok(moment_at(since)),

@@ -1,73 +1,67 @@
 //! Clients served one after another.
-ghost use Rattle.std.specs.Prelude.{◌≡◌, ◌<◌, ℕ, OnErr, OnOk, true};
-ghost use Rattle.opc_serve.specs.Serving.{AreServed, IsServed};
+ghost use Rattle.std.specs.Prelude.{◌<◌, ℕ, IfErr, OnErr, OnOk};
+ghost use Rattle.opc_serve.specs.Handled.{AreHandled, IsExchange};
+ghost use Rattle.opc_serve.specs.Serving.{AreServed, IsCutShort, IsServed, ServesClients};
 
-use crate::arrivals::{Arrival, Arrivals, Door, ServeFault};
+use crate::arrival::{Arrival, ServeFault};
+use crate::arrivals::{Arrivals, next};
 use crate::away::read_away;
-use crate::connection::{Connection, Side};
+use crate::connection::Connection;
+use crate::door::Door;
+use crate::exchanges::Exchanges;
 use opc_gate::gate::Gate;
-use opc_http::exchange::exchange;
 use opc_http_head::routes::Routes;
-use opc_http_link::watched::Watched;
 use opc_state::tables::Tables;
 use std::alloc::Global;
-use std::io;
 use std::net::OpenListener;
 use std::rt::Clock;
 use std::time::Duration;
 
-/// How long reads and writes wait for the peer, where that is limited.
-fn limit_waits<C: Connection>(connection: &C, timeout: Option<Duration>) -> io::Result<()> {
-    if timeout.is_some() {
-        connection.set_read_timeout(timeout)?;
-        connection.set_write_timeout(timeout)?;
-    }
-    Ok(())
-}
-
-/// One exchange with a client, and the end of its connection.
-fn serve_client<C: Connection, T: Tables>(
+/// One exchange with a client, and the end of its connection. A peer whose silence was to be limited and can't be is not
+/// waited for.
+fn serve_client<C: Connection, X: Exchanges>(
     alloc: Global,
-    arrival: Arrival<C>,
+    client: &mut Arrival<C>,
     timeout: Option<Duration>,
     routes: &Routes,
-    gate: &mut Gate<T>,
+    gate: &mut X,
 )
-    ensures sure { T.is_sure gate.new → T.is_sure gate.old }
-    ensures served { IsServed T.is_sure T.represents T.may_leave gate.old gate.new arrival.moment }
+    ensures { IsServed C.is_unlimited C.remaining C.contents X.exchanged timeout client.old client.new gate.old gate.new }
 {
-    let connection = &arrival.connection;
-    // A peer whose silence can't be limited is not waited for.
-    if limit_waits(connection, timeout).is_err() {
-        return;
+    if let Some(longest) = timeout {
+        if client.reader.inner.limit_waits(longest).is_err() {
+            return;
+        }
     }
-    let mut source = Watched::new(Side::of(connection));
-    let mut sink = Watched::new(Side::of(connection));
-    let served = exchange(alloc, routes, &mut source, &mut sink, gate, arrival.moment);
+    let moment = client.moment;
+    let served = gate.serve_one(
+        alloc,
+        routes,
+        &mut client.reader,
+        &mut client.writer,
+        moment,
+    );
     if served.is_ok() {
-        read_away(connection);
+        read_away(&mut client.reader);
     }
 }
 
 /// Serves so many clients, one after another. A fault of a link ends that client's exchange alone. Where a client can't be
 /// taken, serving ends.
-pub fn serve<A: Arrivals, T: Tables>(
+pub fn serve<A: Arrivals, X: Exchanges>(
     alloc: Global,
     arrivals: &mut A,
     count: u32,
     timeout: Option<Duration>,
     routes: &Routes,
-    gate: &mut Gate<T>,
+    gate: &mut X,
 ) -> Result<(), ServeFault>
-    ensures sure { T.is_sure gate.new → T.is_sure gate.old }
-    ensures done { OnOk result (AreServed T.is_sure T.represents T.may_leave gate.old gate.new count) }
-    ensures ended { OnErr result ((done : ℕ) × (done < count) × AreServed T.is_sure T.represents T.may_leave gate.old gate.new done) }
-    ensures failed { OnErr result (A.has_failed arrivals.new ≡ true) }
-    ensures fine { OnOk result (A.has_failed arrivals.new ≡ A.has_failed arrivals.old) }
+    ensures done { OnOk result (AreServed A.Connection.is_unlimited A.Connection.remaining A.Connection.contents X.exchanged timeout A.accepts A.tells arrivals.old gate.old count arrivals.new gate.new) }
+    ensures ended { IfErr result (λ fault. IsCutShort A.Connection.is_unlimited A.Connection.remaining A.Connection.contents X.exchanged timeout A.accepts A.tells arrivals.old gate.old count fault arrivals.new gate.new) }
 {
     for _client in 0..count {
-        let arrival = arrivals.next()?;
-        serve_client(alloc, arrival, timeout, routes, gate);
+        let mut client = next(arrivals)?;
+        serve_client(alloc, &mut client, timeout, routes, gate);
     }
     Ok(())
 }
@@ -84,8 +78,9 @@ pub fn serve_on<H: AllocGlobal + Clock, L: OpenListener, T: Tables>(
 where
     L::Stream: Connection,
     ensures sure { T.is_sure gate.new → T.is_sure gate.old }
-    ensures done { OnOk result (AreServed T.is_sure T.represents T.may_leave gate.old gate.new count) }
-    ensures ended { OnErr result ((done : ℕ) × (done < count) × AreServed T.is_sure T.represents T.may_leave gate.old gate.new done) }
+    ensures done { OnOk result (AreHandled T.is_sure T.represents T.may_leave gate.old gate.new count) }
+    ensures served { OnOk result (ServesClients L.Stream.is_unlimited L.Stream.remaining L.Stream.contents (IsExchange T.is_sure T.represents T.may_leave) timeout gate.old count gate.new) }
+    ensures ended { OnErr result ((done : ℕ) × (done < count) × AreHandled T.is_sure T.represents T.may_leave gate.old gate.new done) }
 {
     let mut door = Door::new(rt, listener);
     serve(rt.alloc(), &mut door, count, timeout, routes, gate)

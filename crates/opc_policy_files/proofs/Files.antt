@@ -40,3 +40,16 @@ refused (Some all) bytes fault are bad = record { bytes = all; whole = refl; no_
 pub unread : (left : Option (List ℕ)) (bytes : List ℕ) (fault : Fault) → AreFirst left bytes → IsFailure fault ⊎ IsNoPolicyFile bytes fault → IsUnread left fault
 unread left bytes fault are (inl failed) = inl failed
 unread left bytes fault are (inr bad) = inr (refused left bytes fault are bad)
+
+-- a file that was opened has left what its path holds, where that is known
+abbrev pub HasAll : (held left : Option (List ℕ)) → Type 0
+HasAll held left = IfSome held (λ bytes. left ≡ Some bytes)
+
+pub opened_is_read : (held left : Option (List ℕ)) (rows : List Row) → HasAll held left → AreRead left rows → AreRead held rows
+opened_is_read None left rows has read = record { bytes = read.bytes; whole = tt; file = read.file }
+opened_is_read (Some all) left rows has read = subst (λ l. AreRead l rows) has read
+
+pub opened_is_unread : (held left : Option (List ℕ)) (fault : Fault) → HasAll held left → IsUnread left fault → IsUnread held fault
+opened_is_unread held left fault has (inl failed) = inl failed
+opened_is_unread None left fault has (inr refused) = inr (record { bytes = refused.bytes; whole = tt; no_file = refused.no_file })
+opened_is_unread (Some all) left fault has (inr refused) = inr (subst (λ l. IsRefused l fault) has refused)

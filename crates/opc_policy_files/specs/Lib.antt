@@ -1,1 +1,2 @@
 pub mod PolicyFiles
+pub mod Questions

@@ -1,10 +1,20 @@
 //! `opcmds explain`: which profile decides for a user, and why, by a policy file.
+ghost use Rattle.std.specs.Prelude.{◌≡◌, ◌≢◌, ◌⊎◌, IfErr, IfOk, Ok, Err};
+ghost use Rattle.std.specs.Io.KnownBytes.{Appends};
+ghost use Rattle.opc_decisions.specs.Explained.{explained_text};
+ghost use Rattle.opc_terms.specs.declared.fault.Fault.TheVariants.{NoMemory};
+ghost use Rattle.opc_failures.specs.Statuses.{IsFailure, status_of_end};
+ghost use Rattle.opc_failures.specs.declared.failure.Failure.{Failure as TheFailure};
+ghost use Rattle.opc_failures.specs.declared.status.Status.{Status as TheStatus};
+ghost use Rattle.opc_policy_files.specs.Questions.{IsAnswered, answer_of, policy_made, status_of_verdict};
+
 use crate::policy_file::read_rows;
 use opc_decisions::explained::{Explained, explain};
 use opc_decisions::verdict::Verdict;
 use opc_failures::failure::{Failure, NO_PATHS, Place, told};
 use opc_failures::status::Status;
 use opc_policy::policy::Policy;
+use opc_policy::row::Row;
 use opc_terms::fault::Fault;
 use opc_words::question::Question;
 use std::alloc::Global;
@@ -17,7 +27,9 @@ pub fn answer_question<R: Read, W: Write, E: Write>(
     input: &mut R,
     output: &mut W,
     errors: &mut E,
-) -> Status {
+) -> Status
+    ensures { (end : _) × IsAnswered W.contents output.old output.new (R.remaining input.old) question.now end × (result ≡ status_of_end end) }
+{
     told(answer(alloc, question, input, output), &NO_PATHS, errors)
 }
 
@@ -26,9 +38,21 @@ fn answer<R: Read, W: Write>(
     question: &Question,
     input: &mut R,
     output: &mut W,
-) -> Result<Status, Failure> {
-    let policy = read_whole(alloc, input)?;
-    let explained = explain(
+) -> Result<Status, Failure>
+    ensures { IsAnswered W.contents output.old output.new (R.remaining input.old) question.now result }
+{
+    let rows = read_rows(alloc, Place::Input, input)?;
+    let explained = explained_by(alloc, question, &rows)?;
+    print(alloc, &explained, output)
+}
+
+/// What the rows of a policy file answer to the question.
+fn explained_by(alloc: Global, question: &Question, rows: &[Row]) -> Result<Explained, Fault>
+    ensures ok { IfOk result (λ explained. answer_of question.now rows.now ≡ Ok explained) }
+    ensures fault { IfErr result (λ fault. IsFailure fault ⊎ (answer_of question.now rows.now ≡ Err fault)) }
+{
+    let policy = policy_made(alloc, rows)?;
+    explain(
         alloc,
         &policy,
         question.class,
@@ -36,30 +60,39 @@ fn answer<R: Read, W: Write>(
         &question.user,
         question.console.as_ref(),
         question.level,
-    )?;
-    print(alloc, &explained, output)
+    )
 }
 
-/// The policy of the file on the input: all of its rows are read before the first is taken.
-fn read_whole<R: Read>(alloc: Global, input: &mut R) -> Result<Policy, Failure> {
+fn policy_made(alloc: Global, rows: &[Row]) -> Result<Policy, Fault>
+    ensures ok { IfOk result (λ policy. policy_made rows.now ≡ Ok policy) }
+    ensures fault { IfErr result (λ fault. fault ≢ NoMemory → policy_made rows.now ≡ Err fault) }
+{
     let mut policy = Policy::new(alloc);
-    for row in &read_rows(alloc, Place::Input, input)? {
+    for row in rows {
         policy.take(alloc, row)?;
     }
     Ok(policy)
 }
 
-fn print<W: Write>(
-    alloc: Global,
-    explained: &Explained,
-    output: &mut W,
-) -> Result<Status, Failure> {
+fn print<W: Write>(alloc: Global, explained: &Explained, output: &mut W) -> Result<Status, Failure>
+    ensures text { IfOk result (λ _. Appends (W.contents output.old) (W.contents output.new) (explained_text explained.now)) }
+    ensures status { IfOk result (λ status. status ≡ status_of_verdict explained.now.verdict) }
+    ensures fault { IfErr result (λ failure. IsFailure failure.fault) }
+{
     let Ok(text) = format!(in alloc; "{explained}") else {
         return Err(Failure::from(Fault::NoMemory));
     };
     match output.write_all(text.as_bytes()) {
-        Ok(()) if explained.verdict == Verdict::Denied => Ok(Status::Refused),
-        Ok(()) => Ok(Status::Done),
+        Ok(()) => Ok(status_of(explained.verdict)),
         Err(error) => Err(Failure::at(Place::Output, error)),
+    }
+}
+
+fn status_of(verdict: Verdict) -> Status
+    ensures { result ≡ status_of_verdict verdict }
+{
+    match verdict {
+        Verdict::Denied => Status::Refused,
+        Verdict::Allowed | Verdict::Undecided => Status::Done,
     }
 }

@@ -2,5 +2,6 @@
 #![tactic(auto)]
 
 pub mod explain;
+pub mod openings;
 pub mod policy_file;
 pub mod streams;

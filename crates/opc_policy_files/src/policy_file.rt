@@ -1,9 +1,10 @@
 //! Policy files, from any reader.
-ghost use Rattle.std.specs.Prelude.{◌≡◌, ◌⊎◌, IfErr, IfOk};
+ghost use Rattle.std.specs.Prelude.{◌≡◌, ◌⊎◌, IfErr, IfOk, IsErrAnd};
 ghost use Rattle.opc_import.specs.Faults.{as_fault};
 ghost use Rattle.opc_failures.specs.Statuses.{IsFailure};
-ghost use Rattle.opc_policy_files.specs.PolicyFiles.{AreRead, IsNoPolicyFile, IsPolicyFile, IsUnread};
+ghost use Rattle.opc_policy_files.specs.PolicyFiles.{AreRead, IsNoPolicyFile, IsNoText, IsPolicyFile, IsUnread};
 
+use crate::openings::Openings;
 use crate::streams::read_up_to;
 use opc_failures::bad_row::BadRow;
 use opc_failures::failure::{Failure, Place};
@@ -59,6 +60,8 @@ fn fault_in(alloc: Global, place: Place, text: &str, fault: ImportFault) -> Fail
 fn rows_in(alloc: Global, place: Place, bytes: &[u8]) -> Result<Vec<Row>, Failure>
     ensures rows { IfOk result (λ rows. IsPolicyFile bytes.now rows.items) }
     ensures fault { IfErr result (λ failure. IsFailure failure.fault ⊎ IsNoPolicyFile bytes.now failure.fault) }
+    ensures exact { IfErr result (λ failure. (failure.fault ≡ Fault.NoMemory) ⊎ IsNoPolicyFile bytes.now failure.fault) }
+    ensures no_text { IsNoText bytes.now → IsErrAnd result (λ failure. failure.fault ≡ Fault.RowFault 0 Why.Header) }
 {
     if bytes.len() > POLICY_LIMIT as usize {
         return Err(no_text(place, Reason::TooLong));
@@ -83,4 +86,15 @@ pub fn read_rows<R: Read>(alloc: Global, place: Place, input: &mut R) -> Result<
     // Named for the prover, which else does not find the type of a row's console.
     let _nowhere: Option<ConsoleName> = None;
     rows_in(alloc, place, &bytes)
+}
+
+/// The rows of the policy file at a path.
+pub fn read_rows_at<F: Openings>(alloc: Global, files: &F, path: &str) -> Result<Vec<Row>, Failure>
+    ensures rows { IfOk result (λ rows. AreRead (F.holds files.now path.now) rows.items) }
+    ensures fault { IfErr result (λ failure. IsUnread (F.holds files.now path.now) failure.fault) }
+{
+    match files.open_to_read(path) {
+        Ok(mut file) => read_rows(alloc, Place::PolicyFile, &mut file),
+        Err(error) => Err(Failure::at(Place::PolicyFile, error)),
+    }
 }

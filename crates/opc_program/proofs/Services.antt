@@ -2,8 +2,8 @@
 use Rattle.std.proofs.Common.{◌≡◌, ◌<◌, ◌≤◌, ℕ, Result, Ok, Err, ap, arith, subst, sym}
 use Rattle.std.specs.Prelude.{OnErr, OnOk}
 use Rattle.opc_state.specs.State.{State}
-use Rattle.opc_serve.specs.declared.arrivals.ServeFault.{ServeFault}
-use Rattle.opc_serve.specs.Serving.{AreServed, handled_of}
+use Rattle.opc_serve.specs.declared.arrival.ServeFault.{ServeFault}
+use Rattle.opc_serve.specs.Handled.{AreHandled, handled_of}
 use Rattle.opc_serve.proofs.Clients.{begins}
 use Rattle.opc_failures.specs.declared.status.Status.{Status}
 use Rattle.opc_failures.specs.declared.status.Status.TheVariants.{BadInput, Done, Failed, Refused}
@@ -11,7 +11,7 @@ use Rattle.opc_program.specs.Services.{IsService, status_of_service}
 use Rattle.opc_program.proofs.Uncached.{run}
 
 module _ {T : Type 0} (is_sure : T → Type 0) (represents may_leave : T → State → Type 0) (count : ℕ) where
-  failed : (old new : T) (status : Status) → status ≡ Failed → ((some : ℕ) × (some ≤ count) × AreServed is_sure represents may_leave old new some) → IsService is_sure represents may_leave old new count status
+  failed : (old new : T) (status : Status) → status ≡ Failed → ((some : ℕ) × (some ≤ count) × AreHandled is_sure represents may_leave old new some) → IsService is_sure represents may_leave old new count status
   failed old new status e some = subst (λ s. IsService is_sure represents may_leave old new count s) (sym e) some
 
   -- it failed before its first client
@@ -19,7 +19,7 @@ module _ {T : Type 0} (is_sure : T → Type 0) (represents may_leave : T → Sta
   not_begun now status e = failed now now status e (0, omega arith, begins is_sure represents may_leave now)
 
   pub service : {A : Type 0} (old new : T) (served : Result A ServeFault) (status : Status) → status ≡ status_of_service served
-      → OnOk served (AreServed is_sure represents may_leave old new count) → OnErr served ((some : ℕ) × (some < count) × AreServed is_sure represents may_leave old new some)
+      → OnOk served (AreHandled is_sure represents may_leave old new count) → OnErr served ((some : ℕ) × (some < count) × AreHandled is_sure represents may_leave old new some)
       → IsService is_sure represents may_leave old new count status
   service old new (Ok all) status e every some = subst (λ s. IsService is_sure represents may_leave old new count s) (sym e) every
   service old new (Err fault) status e every some = failed old new status e (some.0, (let low = some.1 in omega (arith, low)), some.2)
@@ -28,7 +28,7 @@ module _ {T : Type 0} (is_sure : T → Type 0) (represents may_leave : T → Sta
 -- at first both do.
 module _ {T C : Type 0} (tables : C → T) (is_sure : T → Type 0) (represents may_leave : T → State → Type 0) (kept : C → State → Type 0)
     (below : (c : C) (s : State) → kept c s → represents (tables c) s) (old new : C) (above : (s : State) → represents (tables old) s → kept old s) where
-  clients : (some : ℕ) → AreServed (λ c. is_sure (tables c)) kept (λ c s. may_leave (tables c) s) old new some → AreServed is_sure represents may_leave (tables old) (tables new) some
+  clients : (some : ℕ) → AreHandled (λ c. is_sure (tables c)) kept (λ c s. may_leave (tables c) s) old new some → AreHandled is_sure represents may_leave (tables old) (tables new) some
   clients some are = record {
     clients = are.clients;
     each = are.each;

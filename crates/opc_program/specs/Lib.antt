@@ -1,4 +1,5 @@
 pub mod Runs
+pub mod Listening
 pub mod Services
 pub mod Imports
 pub mod Works

@@ -1,5 +1,6 @@
 -- What the program does with a script on its input.
 use Rattle.std.specs.Prelude.{◌≡◌, ◌⊎◌, ◌+◌, ℕ, Bool, true, List, Option, Some, None, Result, Ok, Err, IfSome, IsErrAnd, IsUtf8, MatchResult, if◌then◌else◌, take}
+use Rattle.std.specs.Borrow.{Bor}
 use Rattle.opc_terms.specs.declared.fault.Fault.TheVariants as fault
 use Rattle.opc_state.specs.State.{State}
 use Rattle.opc_failures.specs.declared.failure.Failure.{Failure}
@@ -31,10 +32,11 @@ module _ {T : Type 0} (is_sure : T → Type 0) (represents may_leave : T → Sta
   IsRunOfBytes old new script before written ran =
       (IsUtf8 script × IsAnswered is_sure represents may_leave old new script before written ran) ⊎ ((IsUtf8 script → ⊥) × (new ≡ old) × IsBadRun 0 before written ran)
 
-  -- A first policy was taken or not, where a file of one is named. Of what a file has left nothing is known.
-  abbrev pub IsNamedPolicyTaken : {A : Type 0} → (old new : T) → Option A → Result Status Failure → Type 0
-  IsNamedPolicyTaken old new None end = (end ≡ Ok Done) × (new ≡ old)
-  IsNamedPolicyTaken old new (Some path) end = IsPolicyTaken is_sure represents may_leave old new end None
+  -- Where a file of a first policy is named, what that file holds was taken as one, or not. `holds` says what the file at
+  -- a path holds, where that is known.
+  abbrev pub IsNamedPolicyTaken : (holds : List ℕ → Option (List ℕ)) → (old new : T) → Option (Bor (List ℕ)) → Result Status Failure → Type 0
+  IsNamedPolicyTaken holds old new None end = (end ≡ Ok Done) × (new ≡ old)
+  IsNamedPolicyTaken holds old new (Some path) end = IsPolicyTaken is_sure represents may_leave old new end (holds path.now)
 
   module _ {K : Type 0} (held : K → Option (List ℕ)) (has_failed : K → Bool) where
     -- Nothing was run and nothing printed.
@@ -58,9 +60,9 @@ module _ {T : Type 0} (is_sure : T → Type 0) (represents may_leave : T → Sta
 
     -- The first policy was taken, if one is named, and then the script run over the tables that it left. Where the policy
     -- was not taken, that is the end, and nothing is printed.
-    pub record IsProgramRun {A : Type 0} (old new : T) (policy : Option A) (left : Option (List ℕ)) (before written : K) (end : Result Status Failure) : Type 0 where
+    pub record IsProgramRun (holds : List ℕ → Option (List ℕ)) (old new : T) (policy : Option (Bor (List ℕ))) (left : Option (List ℕ)) (before written : K) (end : Result Status Failure) : Type 0 where
       pub mid : T
       pub taken : Result Status Failure
-      pub takes : IsNamedPolicyTaken old mid policy taken
+      pub takes : IsNamedPolicyTaken holds old mid policy taken
       pub sure : is_sure new → is_sure mid
       pub runs : MatchResult taken (λ _. IsAnsweredInput mid new left before written end) (λ failure. (end ≡ Err failure) × (new ≡ mid) × (written ≡ before))

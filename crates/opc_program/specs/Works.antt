@@ -20,9 +20,9 @@ module _ {T : Type 0} (is_sure : T → Type 0) (represents may_leave : T → Sta
       (IsErrAnd end (λ failure. IsFailure failure.fault) × (new ≡ old) × (written ≡ before))
       ⊎ ((moment : ℕ) × (moment ≤ LAST_MOMENT) × IsImport is_sure represents may_leave old new end (λ (w : Watched W). contents w.inner) (λ (w : Watched W). w.failed) before written left moment import)
 
-  -- Each work does what is said of it alone.
-  abbrev pub IsDone : Work → Type 0
-  IsDone (work.Run policy) = IsProgramRun is_sure represents may_leave (λ (w : Watched W). contents w.inner) (λ (w : Watched W). w.failed) old new policy left before written end
-  IsDone (work.Import import) = IsImportNow import
-  IsDone work.Export = IsExport is_sure represents may_leave old new end (λ (w : Watched W). contents w.inner) (λ (w : Watched W). w.failed) before written
-  IsDone (work.Serve serve) = IsService is_sure represents may_leave old new serve.count (status_of_end end)
+  -- Each work does what is said of it alone. `holds` says what the file at a path holds, where that is known.
+  abbrev pub IsDone : (holds : List ℕ → Option (List ℕ)) → Work → Type 0
+  IsDone holds (work.Run policy) = IsProgramRun is_sure represents may_leave (λ (w : Watched W). contents w.inner) (λ (w : Watched W). w.failed) holds old new policy left before written end
+  IsDone holds (work.Import import) = IsImportNow import
+  IsDone holds work.Export = IsExport is_sure represents may_leave old new end (λ (w : Watched W). contents w.inner) (λ (w : Watched W). w.failed) before written
+  IsDone holds (work.Serve serve) = IsService is_sure represents may_leave old new serve.count (status_of_end end)

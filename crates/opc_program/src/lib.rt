@@ -2,6 +2,7 @@
 #![tactic(auto)]
 
 pub mod import;
+mod listening;
 mod printing;
 pub mod run;
 pub mod serve;

@@ -1,5 +1,5 @@
 //! `opcmds run`: commands and events, over tables in memory or in a file.
-ghost use Rattle.std.specs.Prelude.{◌≡◌, None, if◌then◌else◌, true};
+ghost use Rattle.std.specs.Prelude.{◌≡◌, if◌then◌else◌, true};
 ghost use Rattle.opc_script.specs.Refusals.{is_cut_by_output};
 ghost use Rattle.opc_program.specs.Imports.{IsPolicyTaken};
 ghost use Rattle.opc_program.specs.Runs.{IsAnsweredInput, IsEndOf, IsNamedPolicyTaken, IsProgramRun, IsRunOfBytes};
@@ -9,19 +9,19 @@ use opc_failures::failure::{Failure, Place};
 use opc_failures::status::Status;
 use opc_gate::gate::Gate;
 use opc_http_link::sink::Sink;
-use opc_policy_files::policy_file::read_rows;
+use opc_policy_files::openings::Openings;
+use opc_policy_files::policy_file::read_rows_at;
 use opc_policy_files::streams::read_up_to;
 use opc_script::run::{run_script, tell_bad_line};
 use opc_script::script::{SCRIPT_LIMIT, ScriptFault};
 use opc_state::tables::Tables;
 use opc_terms::fault::Fault;
 use std::alloc::Global;
-use std::fs::{File, Files};
 use std::io::Read;
 use std::str;
 
 /// Takes the first policy, if one is named, and then runs the script on the input over these tables, which it hands back.
-pub fn run_on<H: AllocGlobal + Files, T: Tables, R: Read, K: Sink>(
+pub fn run_on<H: AllocGlobal + Openings, T: Tables, R: Read, K: Sink>(
     rt: &H,
     tables: T,
     policy: Option<&str>,
@@ -29,7 +29,7 @@ pub fn run_on<H: AllocGlobal + Files, T: Tables, R: Read, K: Sink>(
     output: &mut K,
 ) -> (Result<Status, Failure>, T)
     ensures sure { T.is_sure result.1 → T.is_sure tables }
-    ensures runs { IsProgramRun T.is_sure T.represents T.may_leave K.held K.has_failed tables result.1 policy.entry (R.remaining input.old) output.old output.new result.0 }
+    ensures runs { IsProgramRun T.is_sure T.represents T.may_leave K.held K.has_failed (H.holds rt.now) tables result.1 policy.entry (R.remaining input.old) output.old output.new result.0 }
 {
     let (taken, tables) = take_policy(rt, tables, policy);
     match taken {
@@ -39,13 +39,13 @@ pub fn run_on<H: AllocGlobal + Files, T: Tables, R: Read, K: Sink>(
 }
 
 /// Takes the first policy, from a file if one is named.
-fn take_policy<H: AllocGlobal + Files, T: Tables>(
+fn take_policy<H: AllocGlobal + Openings, T: Tables>(
     rt: &H,
     tables: T,
     policy: Option<&str>,
 ) -> (Result<Status, Failure>, T)
     ensures sure { T.is_sure result.1 → T.is_sure tables }
-    ensures takes { IsNamedPolicyTaken T.is_sure T.represents T.may_leave tables result.1 policy.entry result.0 }
+    ensures takes { IsNamedPolicyTaken T.is_sure T.represents T.may_leave (H.holds rt.now) tables result.1 policy.entry result.0 }
 {
     let Some(path) = policy else {
         return (Ok(Status::Done), tables);
@@ -55,19 +55,15 @@ fn take_policy<H: AllocGlobal + Files, T: Tables>(
     (end, gate.into_tables())
 }
 
-fn take_file<H: AllocGlobal + Files, T: Tables>(
+fn take_file<H: AllocGlobal + Openings, T: Tables>(
     rt: &H,
     gate: &mut Gate<T>,
     path: &str,
 ) -> Result<Status, Failure>
     ensures sure { T.is_sure gate.new → T.is_sure gate.old }
-    ensures takes { IsPolicyTaken T.is_sure T.represents T.may_leave gate.old gate.new result None }
+    ensures takes { IsPolicyTaken T.is_sure T.represents T.may_leave gate.old gate.new result (H.holds rt.now path.now) }
 {
-    let mut file = match File::open(rt, path) {
-        Ok(file) => file,
-        Err(error) => return Err(Failure::at(Place::PolicyFile, error)),
-    };
-    let rows = read_rows(rt.alloc(), Place::PolicyFile, &mut file)?;
+    let rows = read_rows_at(rt.alloc(), rt, path)?;
     take_first(rt.alloc(), gate, &rows)
 }
 

@@ -1,64 +1,22 @@
 //! `opcmds serve`: the gate on loopback, over HTTP.
-ghost use Rattle.std.specs.Prelude.{◌≡◌, IfErr};
-ghost use Rattle.opc_failures.specs.Statuses.{status_of, status_of_end};
+ghost use Rattle.std.specs.Prelude.{◌≡◌};
+ghost use Rattle.opc_failures.specs.Statuses.{status_of_end};
 ghost use Rattle.opc_program.specs.Services.{IsService, status_of_service};
 
-use arrayvec::ArrayString;
+use crate::listening::{System, open_port};
 use opc_failures::failure::{Failure, Place};
 use opc_failures::status::Status;
 use opc_gate::gate::Gate;
 use opc_http_head::routes::Routes;
-use opc_serve::arrivals::ServeFault;
+use opc_serve::arrival::ServeFault;
 use opc_serve::connection::Connection;
 use opc_serve::serving::serve_on;
 use opc_state::tables::Tables;
 use opc_terms::fault::Fault;
 use opc_words::serve::Serve;
-use std::fmt::Write as _;
-use std::io;
 use std::io::Write;
-use std::net::{Ipv4Addr, Net, OpenListener, SocketAddr, SocketAddrV4};
+use std::net::Net;
 use std::rt::Clock;
-
-/// More bytes than the line has that says where the program listens.
-const LISTENING_LINE: usize = 32;
-
-/// Listens at a port of 127.0.0.1, or at one that the system chooses, where it is 0.
-#[tactic(auto, using(opc_failures::proofs::Faults::streams_fail))]
-fn listen<H: Net>(rt: &H, port: u16) -> Result<(H::Listener, u16), Failure>
-    ensures { IfErr result (λ failure. status_of failure.fault ≡ Status.Failed) }
-{
-    let address = SocketAddr::V4(SocketAddrV4::new(Ipv4Addr::LOCALHOST, port));
-    let listener = match rt.bind(address) {
-        Ok(listener) => listener,
-        Err(error) => return Err(Failure::at(Place::Port(port), error)),
-    };
-    match listener.local_addr() {
-        Ok(given) => Ok((listener, given.port())),
-        Err(error) => Err(Failure::at(Place::Port(port), error)),
-    }
-}
-
-/// Says where the program listens, in one write.
-fn tell_port<W: Write>(port: u16, output: &mut W) -> io::Result<()> {
-    let mut line = ArrayString::<LISTENING_LINE>::new();
-    // (the line is long enough for each port)
-    let _ = writeln!(line, "LISTENING 127.0.0.1:{port}");
-    output.write_all(line.as_str().as_bytes())?;
-    output.flush()
-}
-
-/// Listens, and says so.
-#[tactic(auto, using(opc_failures::proofs::Faults::streams_fail))]
-fn open_port<H: Net, W: Write>(rt: &H, port: u16, output: &mut W) -> Result<H::Listener, Failure>
-    ensures { IfErr result (λ failure. status_of failure.fault ≡ Status.Failed) }
-{
-    let (listener, given) = listen(rt, port)?;
-    match tell_port(given, output) {
-        Ok(()) => Ok(listener),
-        Err(error) => Err(Failure::at(Place::Output, error)),
-    }
-}
 
 /// What the program makes of a service.
 #[tactic(auto, using(opc_failures::proofs::Faults::streams_fail))]
@@ -106,6 +64,6 @@ where
     let Ok(routes) = Routes::new(rt.alloc()) else {
         return Err(Failure::from(Fault::NoMemory));
     };
-    let listener = open_port(rt, serve.port, output)?;
+    let listener = open_port(&System { net: rt }, serve.port, output)?;
     ended(serve_on(rt, &listener, serve.count, serve.timeout, &routes, gate))
 }

@@ -7,12 +7,12 @@ use crate::serve::serve_tables;
 use opc_failures::failure::{Failure, Place};
 use opc_failures::status::Status;
 use opc_http_link::watched::Watched;
+use opc_policy_files::openings::Openings;
 use opc_serve::clock::moment;
 use opc_serve::connection::Connection;
 use opc_state::tables::Tables;
 use opc_words::import::Import;
 use opc_words::serve::Serve;
-use std::fs::Files;
 use std::io::{Read, Write};
 use std::net::Net;
 use std::rt::Clock;
@@ -31,7 +31,7 @@ pub enum Work<'a> {
 }
 
 /// Does a work over these tables, and hands them back.
-pub fn work_on<H: AllocGlobal + Clock + Files + Net, T: Tables, R: Read, W: Write>(
+pub fn work_on<H: AllocGlobal + Clock + Net + Openings, T: Tables, R: Read, W: Write>(
     rt: &H,
     tables: T,
     work: &Work<'_>,
@@ -41,7 +41,7 @@ pub fn work_on<H: AllocGlobal + Clock + Files + Net, T: Tables, R: Read, W: Writ
 where
     H::Stream: Connection,
     ensures sure { T.is_sure result.1 → T.is_sure tables }
-    ensures done { IsDone T.is_sure T.represents T.may_leave W.contents tables result.1 (R.remaining input.old) output.old output.new result.0 work.now }
+    ensures done { IsDone T.is_sure T.represents T.may_leave W.contents tables result.1 (R.remaining input.old) output.old output.new result.0 (H.holds rt.now) work.now }
 {
     match work {
         Work::Run(policy) => run_on(rt, tables, *policy, input, output),

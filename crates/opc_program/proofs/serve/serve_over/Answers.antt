@@ -13,7 +13,7 @@ pub returns-in_err-listener-clause-serves : goal.returns-in_err-listener-clause-
 returns-in_err-listener-clause-serves g c =
     let t = g.T.Tables in
     let err = err_from_is_err_and c.from_residual.result c.from_residual.ensures.1 in
-    rw (err.1, err.2) (not_begun t.is_sure t.represents t.may_leave c.args.serve.now.count c.args.gate.now _ c.in_err-listener.ensures)
+    rw (err.1, err.2) (not_begun t.is_sure t.represents t.may_leave c.args.serve.now.count c.args.gate.now _ c.in_err-listener.ensures.status)
 
 pub returns-clause-serves : goal.returns-clause-serves
 returns-clause-serves g c =

@@ -3,7 +3,7 @@ import os, subprocess, sys
 
 TOP = os.path.dirname(os.path.dirname(os.path.abspath(__file__)))
 # OPCMDS names another program than the one that tools/build proved.
-PROGRAM = os.environ.get("OPCMDS") or f"{TOP}/crates/opc_cli/out/opc_cli"
+PROGRAM = os.environ.get("OPCMDS") or f"{TOP}/crates/opcmds/out/opcmds"
 POLICY = f"{TOP}/examples/base-policy.csv"
 HEADER = "kind,class,name,id,value,owner,flags,digest"
 WIDE_HEADER = f"{HEADER},when,restricted"

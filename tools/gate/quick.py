@@ -24,7 +24,7 @@ WITH_PROGRAM = {
 class Quick:
     def __init__(self, top):
         self.top, self.passed, self.failed = top, 0, 0
-        self.program = f"{top}/crates/opc_cli/out/unproved/opc_cli"
+        self.program = f"{top}/crates/opcmds/out/unproved/opcmds"
         self.turn, self.began = threading.Lock(), time.monotonic()
 
     def step(self, title, words):

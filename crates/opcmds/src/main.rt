@@ -1,10 +1,7 @@
-//! The program `opcmds`: the words of its command line, then the process that does what they ask for.
+//! The program `opcmds`.
 #![tactic(auto)]
 
-mod database;
-mod process;
-
-use crate::process::Process;
+use opc_cli::run_words;
 use opc_failures::failure::{Failure, NO_PATHS};
 use opc_failures::status::Status;
 use opc_terms::fault::Fault;
@@ -13,25 +10,27 @@ use std::process::ExitCode;
 use std::{env, io};
 
 fn main(rt: HostRuntime) -> ExitCode {
-    ExitCode::from(answer(&Process { rt }).number())
+    ExitCode::from(status(&rt))
 }
 
-fn answer(process: &Process) -> Status {
-    let rt = &process.rt;
+fn status(rt: &HostRuntime) -> u8 {
     let mut errors = rt.stderr();
     match given_words(rt) {
-        Ok(words) => process.answer(
+        Ok(words) => run_words(
+            rt,
             words.as_slice(),
             &mut rt.stdin(),
             &mut rt.stdout(),
             &mut errors,
         ),
         Err(error) if error.kind() == ErrorKind::OutOfMemory => {
-            Failure::from(Fault::NoMemory).tell(&NO_PATHS, &mut errors)
+            Failure::from(Fault::NoMemory)
+                .tell(&NO_PATHS, &mut errors)
+                .number()
         }
         Err(_) => {
             let _ = writeln!(errors, "error: a word is not UTF-8");
-            Status::BadInput
+            Status::BadInput.number()
         }
     }
 }

@@ -7,6 +7,7 @@ use crate::database::reason_at;
 use opc_failures::failure::{Failure, Paths, Place, told};
 use opc_failures::reason::Reason;
 use opc_failures::status::Status;
+use opc_http_link::sink::Sink;
 use opc_http_link::watched::Watched;
 use opc_policy_files::explain::answer_question;
 use opc_program::work::Work;
@@ -37,9 +38,10 @@ fn status_of<R: Read, W: Write, E: Write>(
     output: &mut W,
     errors: &mut E,
 ) -> Status {
-    let (paths, work) = match read_words(rt.alloc(), words, output, errors) {
+    let mut errors = Watched::new(errors);
+    let (paths, work) = match read_words(rt.alloc(), words, output, &mut errors) {
         Ok(Task::Explain(question)) => {
-            return answer_question(rt.alloc(), &question, input, output, errors);
+            return answer_question(rt.alloc(), &question, input, output, &mut errors);
         }
         Ok(Task::Run(paths)) => (paths, Work::Run(paths.policy)),
         Ok(Task::Import(import)) => (only_database(import.path), Work::Import(import)),
@@ -49,12 +51,12 @@ fn status_of<R: Read, W: Write, E: Write>(
     };
     let mut output = Watched::new(output);
     match paths.database {
-        Some(path) => work_in_file(rt, path, &paths, &work, input, &mut output, errors),
+        Some(path) => work_in_file(rt, path, &paths, &work, input, &mut output, &mut errors),
         // (a run alone may name no file)
         None => told(
             run_in_memory(rt, paths.policy, input, &mut output),
             &paths,
-            errors,
+            &mut errors,
         ),
     }
 }
@@ -68,14 +70,14 @@ fn only_database(path: &str) -> Paths<'_> {
 }
 
 /// Does a work over the tables of the database file at a path, which is made if it is not there.
-fn work_in_file<R: Read, W: Write, E: Write>(
+fn work_in_file<R: Read, W: Write, K: Sink>(
     rt: &HostRuntime,
     path: &str,
     paths: &Paths<'_>,
     work: &Work<'_>,
     input: &mut R,
     output: &mut Watched<W>,
-    errors: &mut E,
+    errors: &mut K,
 ) -> Status {
     match work_at(rt, path, Wary, work, input, output) {
         Ok((end, closed)) => ended(end, closed, paths, errors),
@@ -84,11 +86,11 @@ fn work_in_file<R: Read, W: Write, E: Write>(
 }
 
 /// Says what a work over a file came to, and then why the file was not closed, if it was not.
-fn ended<E: Write>(
+fn ended<K: Sink>(
     end: Result<Status, Failure>,
     closed: Closed<Wary>,
     paths: &Paths<'_>,
-    errors: &mut E,
+    errors: &mut K,
 ) -> Status {
     let status = told(end, paths, errors);
     match closed {

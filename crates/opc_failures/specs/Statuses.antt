@@ -1,5 +1,5 @@
 -- The statuses that the program ends with, and the faults of streams.
-use Rattle.std.specs.Prelude.{◌≡◌, ◌⊎◌, ℕ, Some, Result, Ok, Err}
+use Rattle.std.specs.Prelude.{◌≡◌, ◌⊎◌, ℕ, Option, Some, None, Result, Ok, Err}
 use Rattle.std.specs.IoError.{error_kind}
 use Rattle.std.specs.declared.io.Error.{Error}
 use Rattle.std.specs.declared.io.ErrorKind.{ErrorKind}
@@ -8,8 +8,9 @@ use Rattle.opc_terms.specs.declared.fault.Fault.{Fault}
 use Rattle.opc_terms.specs.declared.fault.Fault.TheVariants.{RowFault, NoMemory, Store, NotOurs}
 use Rattle.opc_failures.specs.declared.failure.Failure.{Failure}
 use Rattle.opc_failures.specs.declared.failure.Place.{Place}
-use Rattle.opc_failures.specs.declared.failure.Place.TheVariants.{Input}
-use Rattle.opc_failures.specs.declared.reason.Reason.TheVariants.{System}
+use Rattle.opc_failures.specs.declared.failure.Place.TheVariants.{Database, Input}
+use Rattle.opc_failures.specs.declared.reason.Reason.{Reason}
+use Rattle.opc_failures.specs.declared.reason.Reason.TheVariants.{System, Unreadable}
 use Rattle.opc_failures.specs.declared.status.Status.{Status}
 use Rattle.opc_failures.specs.declared.status.Status.TheVariants.{Done, Refused, BadInput, Failed}
 
@@ -49,3 +50,8 @@ IsErrorAt at error failure = (failure.fault ≡ fault_of_kind (error_kind error)
 -- There was no memory, or the input failed.
 abbrev pub IsInputFailure : Failure → Type 0
 IsInputFailure failure = (failure.fault ≡ NoMemory) ⊎ ((error : Error) × IsErrorAt Input error failure)
+
+-- What failed where the gate gives a fault: where its store did, that is the database.
+abbrev pub cause_in_gate : Fault → Option (Place × Reason)
+cause_in_gate Store = Some (Database, Unreadable)
+cause_in_gate fault = None

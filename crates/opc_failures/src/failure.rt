@@ -1,18 +1,16 @@
 //! What made the program fail, and how that is told.
-ghost use Rattle.std.specs.Prelude.{◌≡◌, Some};
+ghost use Rattle.std.specs.Prelude.{◌≡◌, IfErr, OnOk, Some, false};
 ghost use Rattle.std.specs.IoError.{error_kind};
-ghost use Rattle.opc_failures.specs.Statuses.{IsFailure, fault_of_kind, status_of, status_of_end};
+ghost use Rattle.opc_failures.specs.Printing.{IsTold};
+ghost use Rattle.opc_failures.specs.Statuses.{IsFailure, cause_in_gate, fault_of_kind, status_of, status_of_end};
 
+use crate::printing::print_failure;
 use crate::reason::Reason;
 use crate::status::Status;
-use arrayvec::ArrayString;
+use opc_http_link::sink::Sink;
 use opc_terms::fault::Fault;
-use std::fmt::{Display, Formatter, Write as _};
-use std::io::{ErrorKind, Write};
-use std::{fmt, io};
-
-/// More bytes than the line of any fault has: the longest name in one is a pattern of 39 characters.
-const FAULT_LINE: usize = 160;
+use std::io;
+use std::io::ErrorKind;
 
 /// The files that the words name.
 #[derive(Clone, Copy)]
@@ -39,27 +37,6 @@ pub enum Place {
     Port(u16),
     /// A connection that was to be accepted.
     Connection,
-}
-
-/// A place, with the paths of the files that the words name.
-#[derive(Clone, Copy)]
-struct NamedPlace<'a> {
-    place: Place,
-    paths: &'a Paths<'a>,
-}
-
-impl Display for NamedPlace<'_> {
-    fn fmt<W: fmt::Write>(&self, f: &mut Formatter<W>) -> fmt::Result {
-        match self.place {
-            Place::Input => f.write_str("standard input"),
-            Place::Output => f.write_str("standard output"),
-            Place::PolicyFile => write!(f, "policy file {}", self.paths.policy.unwrap_or("")),
-            Place::Database => write!(f, "database {}", self.paths.database.unwrap_or("")),
-            Place::Clock => f.write_str("clock"),
-            Place::Port(port) => write!(f, "port {port}"),
-            Place::Connection => f.write_str("connection"),
-        }
-    }
 }
 
 /// A fault, and what failed and why, where that is known.
@@ -94,7 +71,8 @@ impl Failure {
 
     /// A fault of this place.
     pub fn of(fault: Fault, place: Place, reason: Reason) -> Self
-        ensures { result.fault ≡ fault }
+        ensures fault { result.fault ≡ fault }
+        ensures cause { result.cause ≡ Some (place, reason) }
     {
         Failure {
             fault,
@@ -104,51 +82,32 @@ impl Failure {
 
     /// A fault that the gate gives: where its store fails, that is the database.
     pub fn of_gate(fault: Fault) -> Self
-        ensures { result.fault ≡ fault }
+        ensures fault { result.fault ≡ fault }
+        ensures cause { result.cause ≡ cause_in_gate fault }
     {
         match fault {
             Fault::Store => Failure::of(fault, Place::Database, Reason::Unreadable),
-            _ => Failure::from(fault),
+            _ => Failure { fault, cause: None },
         }
     }
 
-    /// Tells the fault, as its code and its text, and then, in a line of its own, what failed and why. Answers the status.
-    /// Takes no memory, so that it can tell where there is none; then the first line alone is told.
-    pub fn tell<E: Write>(&self, paths: &Paths<'_>, errors: &mut E) -> Status
-        ensures { result ≡ status_of self.now.fault }
+    /// Prints the fault, as its code and its text, and then, in a line of its own, what failed and why. Answers the status.
+    /// Takes no memory, so that it can print where there is none; then the first line alone is printed.
+    pub fn tell<K: Sink>(&self, paths: &Paths<'_>, errors: &mut K) -> Status
+        ensures status { result ≡ status_of self.now.fault }
+        ensures told { K.has_failed errors.new ≡ false → IsTold self.now.fault (K.held errors.old) (K.held errors.new) }
     {
-        tell_fault(&self.fault, errors);
-        if self.fault != Fault::NoMemory {
-            if let Some((place, reason)) = &self.cause {
-                tell_cause(*place, reason, paths, errors);
-            }
-        }
+        // The status tells the fault too, where no word can be printed.
+        let _ = print_failure(self, paths, errors);
         status_of(&self.fault)
     }
 }
 
-/// Tells a fault, as its code and its text.
-fn tell_fault<E: Write>(fault: &Fault, errors: &mut E) {
-    let mut line = ArrayString::<FAULT_LINE>::new();
-    // The status tells the fault too, where no word can be printed.
-    if writeln!(line, "{} {fault}", fault.code()).is_ok() {
-        let _ = errors.write_all(line.as_str().as_bytes());
-    }
-}
-
-/// Tells what failed and why.
-fn tell_cause<E: Write>(place: Place, reason: &Reason, paths: &Paths<'_>, errors: &mut E) {
-    let separator = match reason {
-        Reason::Row(_) => ", ",
-        _ => ": ",
-    };
-    let place = NamedPlace { place, paths };
-    let _ = writeln!(errors, "opcmds: {place}{separator}{reason}");
-}
-
 /// The status of what was to be done; where it failed, that is told.
-pub fn told<E: Write>(end: Result<Status, Failure>, paths: &Paths<'_>, errors: &mut E) -> Status
-    ensures { result ≡ status_of_end end }
+pub fn told<K: Sink>(end: Result<Status, Failure>, paths: &Paths<'_>, errors: &mut K) -> Status
+    ensures status { result ≡ status_of_end end }
+    ensures told { IfErr end (λ failure. K.has_failed errors.new ≡ false → IsTold failure.fault (K.held errors.old) (K.held errors.new)) }
+    ensures silent { OnOk end (errors.new ≡ errors.old) }
 {
     match end {
         Ok(status) => status,

@@ -3,5 +3,6 @@
 
 pub mod bad_row;
 pub mod failure;
+mod printing;
 pub mod reason;
 pub mod status;

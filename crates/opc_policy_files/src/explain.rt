@@ -3,16 +3,15 @@ ghost use Rattle.std.specs.Prelude.{◌≡◌, ◌≢◌, ◌⊎◌, IfErr, IfOk
 ghost use Rattle.std.specs.Io.KnownBytes.{Appends};
 ghost use Rattle.opc_decisions.specs.Explained.{explained_text};
 ghost use Rattle.opc_terms.specs.declared.fault.Fault.TheVariants.{NoMemory};
-ghost use Rattle.opc_failures.specs.Statuses.{IsFailure, status_of_end};
-ghost use Rattle.opc_failures.specs.declared.failure.Failure.{Failure as TheFailure};
-ghost use Rattle.opc_failures.specs.declared.status.Status.{Status as TheStatus};
-ghost use Rattle.opc_policy_files.specs.Questions.{IsAnswered, answer_of, policy_made, status_of_verdict};
+ghost use Rattle.opc_failures.specs.Statuses.{IsFailure};
+ghost use Rattle.opc_policy_files.specs.Questions.{IsAnswered, IsToldAnswer, answer_of, policy_made, status_of_verdict};
 
 use crate::policy_file::read_rows;
 use opc_decisions::explained::{Explained, explain};
 use opc_decisions::verdict::Verdict;
 use opc_failures::failure::{Failure, NO_PATHS, Place, told};
 use opc_failures::status::Status;
+use opc_http_link::sink::Sink;
 use opc_policy::policy::Policy;
 use opc_policy::row::Row;
 use opc_terms::fault::Fault;
@@ -21,14 +20,14 @@ use std::alloc::Global;
 use std::io::{Read, Write};
 
 /// Answers the question by the policy file on the input, and gives the status.
-pub fn answer_question<R: Read, W: Write, E: Write>(
+pub fn answer_question<R: Read, W: Write, K: Sink>(
     alloc: Global,
     question: &Question,
     input: &mut R,
     output: &mut W,
-    errors: &mut E,
+    errors: &mut K,
 ) -> Status
-    ensures { (end : _) × IsAnswered W.contents output.old output.new (R.remaining input.old) question.now end × (result ≡ status_of_end end) }
+    ensures { IsToldAnswer W.contents K.held K.has_failed output.old output.new errors.old errors.new (R.remaining input.old) question.now result }
 {
     told(answer(alloc, question, input, output), &NO_PATHS, errors)
 }

@@ -1,9 +1,11 @@
 //! The words of `opcmds import`.
-ghost use Rattle.std.specs.Prelude.{◌≡◌, [], IfOk, MatchOption, None, Some, codes, unwrap_or};
+ghost use Rattle.std.specs.Prelude.{◌≡◌, IfOk};
 ghost use Rattle.clap.specs.Matches.{first_value, found_of};
 ghost use Rattle.opc_words.specs.Numbers.{number_between};
+ghost use Rattle.opc_words.specs.Tasks.{IsImport};
 
 use crate::number::number_between;
+use crate::question::console_in;
 use clap::ArgMatches;
 use opc_names::name::ConsoleName;
 
@@ -28,15 +30,10 @@ fn batch_in(text: &str) -> Option<u32>
 impl<'a> Import<'a> {
     /// What these words ask for, or the name of the first one that does not read.
     pub fn read(chosen: &ArgMatches<'a>) -> Result<Self, &'static str>
-        ensures path { IfOk result (λ import. import.path.now ≡ unwrap_or (first_value (found_of chosen.now) (codes "db")) []) }
-        ensures batch { IfOk result (λ import. number_between 1 999_999_999 (unwrap_or (first_value (found_of chosen.now) (codes "batch")) []) ≡ Some import.batch) }
-        ensures console { IfOk result (λ import. MatchOption (first_value (found_of chosen.now) (codes "console")) (import.console ≡ None) (λ text. import.console ≡ Some text)) }
+        ensures { IfOk result (λ import. IsImport (first_value (found_of chosen.now)) import) }
     {
         let batch = batch_in(chosen.get_str("batch").unwrap_or("")).ok_or("--batch")?;
-        let console = match chosen.get_str("console") {
-            Some(name) => Some(ConsoleName::read(name).map_err(|_| "--console")?),
-            None => None,
-        };
+        let console = console_in(chosen.get_str("console"))?;
         Ok(Import {
             path: chosen.get_str("db").unwrap_or(""),
             batch,

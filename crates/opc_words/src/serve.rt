@@ -1,7 +1,8 @@
 //! The words of `opcmds serve`.
-ghost use Rattle.std.specs.Prelude.{◌≡◌, [], IfOk, None, Some, codes, is_some, unwrap_or};
+ghost use Rattle.std.specs.Prelude.{◌≡◌, IfOk};
 ghost use Rattle.clap.specs.Matches.{first_value, found_of};
 ghost use Rattle.opc_words.specs.Numbers.{number_between};
+ghost use Rattle.opc_words.specs.Tasks.{IsService};
 
 use crate::number::number_between;
 use clap::ArgMatches;
@@ -46,10 +47,7 @@ fn seconds_in(text: &str) -> Option<u64>
 impl<'a> Serve<'a> {
     /// What these words ask for, or the name of the first one that does not read.
     pub fn read(chosen: &ArgMatches<'a>) -> Result<Self, &'static str>
-        ensures path { IfOk result (λ serve. serve.path.now ≡ unwrap_or (first_value (found_of chosen.now) (codes "db")) []) }
-        ensures port { IfOk result (λ serve. number_between 0 65_535 (unwrap_or (first_value (found_of chosen.now) (codes "port")) []) ≡ Some serve.port) }
-        ensures count { IfOk result (λ serve. number_between 1 1_000_000 (unwrap_or (first_value (found_of chosen.now) (codes "count")) []) ≡ Some serve.count) }
-        ensures waits { IfOk result (λ serve. is_some serve.timeout ≡ is_some (first_value (found_of chosen.now) (codes "timeout"))) }
+        ensures { IfOk result (λ serve. IsService (first_value (found_of chosen.now)) serve) }
     {
         let port = port_in(chosen.get_str("port").unwrap_or("")).ok_or("--port")?;
         let count = count_in(chosen.get_str("count").unwrap_or("")).ok_or("--count")?;

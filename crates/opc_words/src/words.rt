@@ -1,4 +1,8 @@
 //! The words of the command line.
+ghost use Rattle.std.specs.Prelude.{IfOk};
+ghost use Rattle.clap.specs.Matches.{first_value, found_of};
+ghost use Rattle.opc_words.specs.Tasks.{IsTask, IsTaskOf};
+
 use crate::import::Import;
 use crate::question::Question;
 use crate::serve::Serve;
@@ -6,6 +10,7 @@ use clap::error::ErrorKind;
 use clap::{Arg, ArgAction, ArgMatches, Command, Error};
 use opc_failures::failure::{Failure, NO_PATHS, Paths, Place};
 use opc_failures::status::Status;
+use opc_http_link::watched::Watched;
 use opc_terms::fault::Fault;
 use std::alloc::{AllocError, Global};
 use std::io::Write;
@@ -205,7 +210,7 @@ pub fn read_words<'a, W: Write, E: Write>(
     alloc: Global,
     words: &'a [String],
     output: &mut W,
-    errors: &mut E,
+    errors: &mut Watched<E>,
 ) -> Result<Task<'a>, Status> {
     match matches_of(alloc, words) {
         Ok(matches) => task_of(&matches, errors),
@@ -213,53 +218,68 @@ pub fn read_words<'a, W: Write, E: Write>(
     }
 }
 
-fn task_of<'a, E: Write>(matches: &ArgMatches<'a>, errors: &mut E) -> Result<Task<'a>, Status> {
-    if let Some(chosen) = matches.subcommand_matches("explain") {
-        return match Question::read(chosen) {
-            Ok(question) => Ok(Task::Explain(question)),
-            Err(word) => Err(unread(word, "explain", errors)),
-        };
+/// The task of what `clap` found.
+fn task_of<'a, E: Write>(
+    matches: &ArgMatches<'a>,
+    errors: &mut Watched<E>,
+) -> Result<Task<'a>, Status>
+    ensures { IfOk result (IsTask matches.now) }
+{
+    let Some((command, chosen)) = matches.subcommand() else {
+        return Err(Status::BadInput);
+    };
+    match asked(command, chosen) {
+        Ok(task) => Ok(task),
+        Err(word) => Err(unread(word, command, errors)),
     }
-    if let Some(chosen) = matches.subcommand_matches("run") {
-        return Ok(Task::Run(Paths {
+}
+
+/// What a command with these options asks for, or the name of the first one that does not read.
+fn asked<'a>(command: &str, chosen: &ArgMatches<'a>) -> Result<Task<'a>, &'static str>
+    ensures { IfOk result (IsTaskOf (first_value (found_of chosen.now)) command.now) }
+{
+    match command {
+        "explain" => match Question::read(chosen) {
+            Ok(question) => Ok(Task::Explain(question)),
+            Err(word) => Err(word),
+        },
+        "run" => Ok(Task::Run(Paths {
             database: chosen.get_str("db"),
             policy: chosen.get_str("policy"),
-        }));
-    }
-    if let Some(chosen) = matches.subcommand_matches("import") {
-        return match Import::read(chosen) {
+        })),
+        "import" => match Import::read(chosen) {
             Ok(import) => Ok(Task::Import(import)),
-            Err(word) => Err(unread(word, "import", errors)),
-        };
-    }
-    if let Some(chosen) = matches.subcommand_matches("export") {
-        return Ok(Task::Export(chosen.get_str("db").unwrap_or("")));
-    }
-    if let Some(chosen) = matches.subcommand_matches("serve") {
-        return match Serve::read(chosen) {
+            Err(word) => Err(word),
+        },
+        "export" => Ok(Task::Export(chosen.get_str("db").unwrap_or(""))),
+        "serve" => match Serve::read(chosen) {
             Ok(serve) => Ok(Task::Serve(serve)),
-            Err(word) => Err(unread(word, "serve", errors)),
-        };
+            Err(word) => Err(word),
+        },
+        _ => Err("COMMAND"),
     }
-    Err(Status::BadInput)
 }
 
 /// Tells that a word does not read.
-fn unread<E: Write>(word: &str, command: &str, errors: &mut E) -> Status {
+fn unread<E: Write>(word: &str, command: &str, errors: &mut Watched<E>) -> Status {
     let _ = writeln!(
-        errors,
+        errors.inner,
         "error: the value of {word} does not read; see opcmds {command} --help"
     );
     Status::BadInput
 }
 
 // What `clap` says: help to the output, a mistake to the errors.
-fn tell_words<W: Write, E: Write>(error: &Error, output: &mut W, errors: &mut E) -> Status {
+fn tell_words<W: Write, E: Write>(
+    error: &Error,
+    output: &mut W,
+    errors: &mut Watched<E>,
+) -> Status {
     if error.kind() == ErrorKind::OutOfMemory {
         return Failure::from(Fault::NoMemory).tell(&NO_PATHS, errors);
     }
     if error.use_stderr() {
-        let _ = write!(errors, "{error}");
+        let _ = write!(errors.inner, "{error}");
         return Status::BadInput;
     }
     match write!(output, "{error}") {

@@ -4,6 +4,7 @@
 use opc_cli::run_words;
 use opc_failures::failure::{Failure, NO_PATHS};
 use opc_failures::status::Status;
+use opc_http_link::watched::Watched;
 use opc_terms::fault::Fault;
 use std::io::{ErrorKind, Write};
 use std::process::ExitCode;
@@ -25,7 +26,7 @@ fn status(rt: &HostRuntime) -> u8 {
         ),
         Err(error) if error.kind() == ErrorKind::OutOfMemory => {
             Failure::from(Fault::NoMemory)
-                .tell(&NO_PATHS, &mut errors)
+                .tell(&NO_PATHS, &mut Watched::new(&mut errors))
                 .number()
         }
         Err(_) => {

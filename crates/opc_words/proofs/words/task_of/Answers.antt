@@ -1,0 +1,6 @@
+use Rattle.clap.specs.Matches.{found_of}
+use Rattle.opc_words.proofs.Asked.{is_task}
+use Rattle.opc_words.proofs.words.task_of.Goals as goal
+
+pub returns-in-Ok : goal.returns-in-Ok
+returns-in-Ok g c = is_task c.args.matches.now (found_of c.in-Some.chosen.now) c.in-Some.command.now c.in-Ok.task c.in-Some.ensures.name c.in-Some.ensures.rows c.in-Ok.ensures

@@ -44,6 +44,8 @@ pub are_about : LinesAreAboutWhatTheyList
 are_about s c = record {
   units = λ unit. refl;
   consoles = λ row. refl;
+  devices = λ device. refl;
+  replies = λ id text. refl;
   of_unit = λ line name is. (
     λ h. may_be s c (codes "MVS.DISPLAY.JOB") name (sym (about s c line (item.Unit name) is) ∙ h),
     λ may. about s c line (item.Unit name) is ∙ is_shown s c (codes "MVS.DISPLAY.JOB") name may,

@@ -25,6 +25,7 @@ use Rattle.opc_state.specs.Loads.{asked_for}
 use Rattle.opc_state.specs.Members.{with_batch}
 use Rattle.opc_state.specs.State.{State}
 use Rattle.opc_machine.specs.declared.operation.Operation.{Operation}
+use Rattle.opc_machine.specs.declared.request.Request.TheVariants as request
 use Rattle.opc_machine.specs.Administration.{admin_outcome, board_changed, changed, policy_changed}
 use Rattle.opc_machine.specs.Bootstrap.{consoles_after, loses_master, mastered, policy_after, with_rows, with_rows_of}
 use Rattle.opc_machine.specs.Commands.{acted, allowed, board_command, command_in, command_outcome, console_for, event_outcome, known_by, let_on, logoff, logon, need_of, nobody_on, typed, without_need}
@@ -38,7 +39,7 @@ use Rattle.opc_machine.specs.Outcome.{Denial, Outcome, ◌>>=◌, does, found, o
 use Rattle.opc_machine.specs.Rights.{account_shown, console_asking, is_special, may_change, profile_shown, right_fault}
 use Rattle.opc_machine.specs.Rulings.{acting, logon_ruling, ruling, shown}
 use Rattle.opc_machine.proofs.Inversion.{bind_ok, acted_ok, done_is, not_given_up}
-use Rattle.opc_laws.specs.LeavingLaws.{AccountRowsTell, AreBatchesLeft, EventFaultsAreAnswered, EventsHappenWhereverPossible, EventsOnlyDoTheirEffect, IsBatchKept, IsWarned, LeavesRest, RequestsNameTheirConsole, WhatIsDoneLeavesRest}
+use Rattle.opc_laws.specs.LeavingLaws.{AccountRowsTell, AreBatchesLeft, EventFaultsAreAnswered, EventsHappenWhereverPossible, EventsOnlyDoTheirEffect, IsBatchKept, IsWarned, LeavesRest, RequestsAreAsked, RequestsNameTheirConsole, WhatIsDoneLeavesRest}
 
 -- where something is done, its state is of this kind
 abbrev pub IfDoes : (State → Type 0) → Outcome → Type 0
@@ -198,6 +199,14 @@ leaves_rest s moment r lines why new (inr (inr done)) =
     let left : IsLeftBy s r d.0.state = subst (IfDoes (IsLeftBy s r)) d.1 (outcome_left s r) in
     let ends : new ≡ after s moment r (Ok d.0) = done.becomes ∙ ap (after s moment r) d.1 in
     subst (LeavesRest s moment r why) (sym ends) (subst (λ w. LeavesRest s moment r w (after s moment r (Ok d.0))) (sym d.3) (row_added s moment r d.0.state d.0.rule left (is_warned d.0.rule) refl))
+
+pub asked : RequestsAreAsked
+asked (request.Command console text) = refl
+asked (request.Admin console op) = refl
+asked (request.ListProfiles console class) = refl
+asked (request.ListAccount console from count) = refl
+asked (request.Import console batch rows) = refl
+asked (request.Event e) = refl
 
 pub console_named : RequestsNameTheirConsole
 console_named (input.Command name text) = refl

@@ -1,5 +1,6 @@
 -- By which number each fault is told, and what an authority enters.
 use Rattle.std.proofs.Common.{◌≡◌, Option, Some, None, refl, sym, ap, ◌∙◌, rules}
+use Rattle.std.specs.Fmt.{digits}
 use Rattle.opc_names.specs.declared.auth.Auth.TheVariants as auth
 use Rattle.opc_terms.specs.declared.fault.Fault.{Fault}
 use Rattle.opc_terms.specs.declared.fault.Fault.TheVariants as fault
@@ -9,7 +10,7 @@ use Rattle.opc_board.specs.declared.fault.BoardFault.{BoardFault}
 use Rattle.opc_board.specs.declared.fault.BoardFault.TheVariants as board
 use Rattle.opc_machine.specs.Faults.{board_fault, line_fault}
 use Rattle.opc_laws.specs.NeedLaws.{AuthoritiesEnterTheirGroups}
-use Rattle.opc_laws.specs.NumberLaws.{BoardFaultsAreToldApart, LineFaultsAreToldApart}
+use Rattle.opc_laws.specs.NumberLaws.{BoardFaultsAreToldApart, FaultsHaveTheirNumbers, LineFaultsAreToldApart}
 
 -- a fault of the board, read back
 abbrev board_of : Fault → Option BoardFault
@@ -107,3 +108,47 @@ authorities_enter auth.SysIo = refl
 authorities_enter auth.SysCons = refl
 authorities_enter auth.IoCons = refl
 authorities_enter auth.SysIoCons = refl
+
+pub numbered : FaultsHaveTheirNumbers
+unfolding digits
+numbered fault.Empty = refl
+numbered fault.TooLong = refl
+numbered (fault.BadCharacter at) = refl
+numbered (fault.UnknownVerb from to) = refl
+numbered (fault.BadOperand from to) = refl
+numbered (fault.OpenQuote at) = refl
+numbered fault.NoConsole = refl
+numbered fault.ConsoleOffline = refl
+numbered fault.LogonRequired = refl
+numbered fault.Revoked = refl
+numbered fault.BadLogon = refl
+numbered (fault.AlreadyOn user) = refl
+numbered fault.NotOn = refl
+numbered fault.DeniedConsole = refl
+numbered fault.DeniedProfile = refl
+numbered fault.DeniedGroup = refl
+numbered fault.NoUnit = refl
+numbered fault.NonCancelable = refl
+numbered fault.Cancelable = refl
+numbered fault.UnitExists = refl
+numbered fault.NoDevice = refl
+numbered fault.DeviceState = refl
+numbered fault.DeviceInUse = refl
+numbered fault.NoVolume = refl
+numbered fault.NoReply = refl
+numbered fault.NoTarget = refl
+numbered fault.Halted = refl
+numbered fault.LastMaster = refl
+numbered fault.WrongKind = refl
+numbered fault.ReplyExists = refl
+numbered fault.NotSpecial = refl
+numbered fault.NotOwner = refl
+numbered (fault.Exists subject) = refl
+numbered (fault.Missing subject) = refl
+numbered (fault.InUse subject) = refl
+numbered fault.BatchChanged = refl
+numbered fault.NotEmpty = refl
+numbered (fault.RowFault row why) = refl
+numbered fault.NoMemory = refl
+numbered fault.Store = refl
+numbered (fault.NotOurs version) = refl

@@ -1,5 +1,5 @@
 -- What users hold by access lists, to those who write them.
-use Rattle.std.specs.Prelude.{◌≡◌, ◌⊎◌, ◌||◌, ℕ, Bool, true, false, List, Option, Some, None, codes, filter, Contains}
+use Rattle.std.specs.Prelude.{◌≡◌, ◌⊎◌, ◌||◌, ℕ, Bool, true, false, List, [], ◌∷◌, Option, Some, None, codes, filter, map, Contains}
 use Rattle.std.specs.List.{list_any}
 use Rattle.std.specs.Option.{is_none, option_eq}
 use Rattle.std.specs.Str.{bytes_eq}
@@ -72,3 +72,23 @@ pub record IsByFirstSource (p : Profile) (u : User) (groups : List (List ℕ)) :
 
 abbrev pub FirstSourceDecides : Type 0
 FirstSourceDecides = (p : Profile) (u : User) (groups : List (List ℕ)) → IsByFirstSource p u groups
+
+-- Of a user's groups each counts: without an entry for the user, the user holds at least what an entry for a group gives.
+abbrev pub EachGroupCounts : Type 0
+EachGroupCounts =
+    (p : Profile) (u : User) (console : Option (List ℕ)) (groups : List (List ℕ)) (group : List ℕ) (given : Level) → entry_level p.entries None u.id ≡ None → Contains groups group → entry_level p.entries None group ≡ Some given
+    → includes (held p u console groups) given ≡ true
+
+-- the levels, the lowest first, and which of these each includes: itself and those below
+abbrev pub levels_up : List Level
+levels_up = level.None ∷ level.Read ∷ level.Update ∷ level.Control ∷ level.Alter ∷ []
+
+abbrev pub included : Level → List Bool
+included level.None = true ∷ false ∷ false ∷ false ∷ false ∷ []
+included level.Read = true ∷ true ∷ false ∷ false ∷ false ∷ []
+included level.Update = true ∷ true ∷ true ∷ false ∷ false ∷ []
+included level.Control = true ∷ true ∷ true ∷ true ∷ false ∷ []
+included level.Alter = true ∷ true ∷ true ∷ true ∷ true ∷ []
+
+abbrev pub LevelsIncludeThoseBelow : Type 0
+LevelsIncludeThoseBelow = (l : Level) → map (includes l) levels_up ≡ included l

@@ -15,9 +15,11 @@ use Rattle.opc_state.specs.Members.{with_batch}
 use Rattle.opc_state.specs.State.{State}
 use Rattle.opc_machine.specs.declared.request.Answer.{Answer}
 use Rattle.opc_machine.specs.declared.request.Answer.TheVariants.{Done, Refused}
+use Rattle.opc_machine.specs.declared.request.Request.{Request}
+use Rattle.opc_machine.specs.declared.request.Request.TheVariants as request
 use Rattle.opc_machine.specs.Faults.{board_fault}
 use Rattle.opc_machine.specs.Imports.{batch_of}
-use Rattle.opc_machine.specs.Inputs.{Input, console_of}
+use Rattle.opc_machine.specs.Inputs.{Input, console_of, input_of}
 use Rattle.opc_machine.specs.Inputs as input
 use Rattle.opc_machine.specs.Machine.{IsGivenUp, Step, account_row}
 use Rattle.opc_laws.specs.TakingLaws.{KeepsMaster}
@@ -48,6 +50,18 @@ pub record LeavesRest (s : State) (moment : ℕ) (r : Input) (why : Option Rule)
 
 abbrev pub WhatIsDoneLeavesRest : Type 0
 WhatIsDoneLeavesRest = (s : State) (moment : ℕ) (r : Input) (lines : List Line) (why : Option Rule) (new : State) → Step s moment r (Done lines why) new → LeavesRest s moment r why new
+
+-- What the machine is asked is the request, as it was sent.
+abbrev pub IsAskedBy : Request → Input → Type 0
+IsAskedBy (request.Command console text) r = r ≡ input.Command console text
+IsAskedBy (request.Admin console op) r = r ≡ input.Admin console op
+IsAskedBy (request.ListProfiles console class) r = r ≡ input.ListProfiles console class
+IsAskedBy (request.ListAccount console from count) r = r ≡ input.ListAccount console from count
+IsAskedBy (request.Import console batch rows) r = r ≡ input.Import console batch rows
+IsAskedBy (request.Event e) r = r ≡ input.Event e
+
+abbrev pub RequestsAreAsked : Type 0
+RequestsAreAsked = (sent : Request) → IsAskedBy sent (input_of sent)
 
 -- A request names the console at which it is asked, and an event none.
 abbrev pub IsNamedIn : Input → Option (List ℕ) → Type 0

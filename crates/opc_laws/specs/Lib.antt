@@ -11,7 +11,11 @@ pub mod NeedLaws
 pub mod NumberLaws
 pub mod ObstacleLaws
 pub mod OperationLaws
+pub mod ReadingLaws
 pub mod RightLaws
 pub mod RowLaws
 pub mod RulingLaws
+pub mod SpecificLaws
+pub mod StoredLaws
 pub mod TakingLaws
+pub mod TellingLaws

@@ -1,6 +1,9 @@
 -- By which number each fault of a line and of the board is told, to those who look it up.
 use Rattle.std.specs.Prelude.{◌≡◌, ◌++◌, ℕ, List, codes}
 use Rattle.std.specs.Fmt.{decimal}
+use Rattle.opc_names.specs.Spellings.{two_digits}
+use Rattle.opc_terms.specs.declared.fault.Fault.{Fault}
+use Rattle.opc_terms.specs.declared.fault.Fault.TheVariants as fault
 use Rattle.opc_terms.specs.Faults.{fault_code, fault_text}
 use Rattle.opc_reader.specs.declared.line.ReadFault.{ReadFault}
 use Rattle.opc_reader.specs.declared.line.ReadFault.TheVariants as line
@@ -59,3 +62,52 @@ pub record IsToldByPlace (fault : ReadFault) : Type 0 where
 
 abbrev pub LineFaultsAreToldApart : Type 0
 LineFaultsAreToldApart = (fault : ReadFault) → IsToldByPlace fault
+
+-- the number of every fault of a request: 1 to 6 of its line, 10 to 17 of its console and logon, 20 and 21 of the policy, 30 to
+-- 45 of the board, 50 to 60 of administration, and from 90 on where it is given up or the tables are not ours
+abbrev pub number : Fault → ℕ
+number fault.Empty = 1
+number fault.TooLong = 2
+number (fault.BadCharacter at) = 3
+number (fault.UnknownVerb from to) = 4
+number (fault.BadOperand from to) = 5
+number (fault.OpenQuote at) = 6
+number fault.NoConsole = 10
+number fault.ConsoleOffline = 11
+number fault.LogonRequired = 12
+number fault.Revoked = 13
+number fault.BadLogon = 14
+number (fault.AlreadyOn user) = 15
+number fault.NotOn = 16
+number fault.DeniedConsole = 17
+number fault.DeniedProfile = 20
+number fault.DeniedGroup = 21
+number fault.NoUnit = 30
+number fault.NonCancelable = 31
+number fault.Cancelable = 32
+number fault.UnitExists = 33
+number fault.NoDevice = 34
+number fault.DeviceState = 35
+number fault.DeviceInUse = 36
+number fault.NoVolume = 37
+number fault.NoReply = 38
+number fault.NoTarget = 39
+number fault.Halted = 40
+number fault.LastMaster = 41
+number fault.WrongKind = 42
+number fault.ReplyExists = 45
+number fault.NotSpecial = 50
+number fault.NotOwner = 51
+number (fault.Exists subject) = 52
+number (fault.Missing subject) = 53
+number (fault.InUse subject) = 55
+number fault.BatchChanged = 56
+number fault.NotEmpty = 57
+number (fault.RowFault row why) = 60
+number fault.NoMemory = 90
+number fault.Store = 91
+number (fault.NotOurs version) = 92
+
+-- A fault's code is E and its number.
+abbrev pub FaultsHaveTheirNumbers : Type 0
+FaultsHaveTheirNumbers = (f : Fault) → fault_code f ≡ codes "E" ++ two_digits (number f)

@@ -22,9 +22,12 @@ use Rattle.opc_board.specs.declared.board.BoardRows.{BoardRows}
 use Rattle.opc_board.specs.declared.rows.ConsoleRow.{ConsoleRow}
 use Rattle.opc_board.specs.Consoles.{console_defined}
 use Rattle.opc_board.specs.Facts.{Name, console_at}
+use Rattle.opc_state.specs.declared.change.Batch.{Batch}
 use Rattle.opc_state.specs.Loads.{is_connected}
+use Rattle.opc_state.specs.Members.{with_batch}
 use Rattle.opc_state.specs.State.{State}
 use Rattle.opc_machine.specs.Bootstrap.{with_rows}
+use Rattle.opc_machine.specs.Imports.{batch_of}
 use Rattle.opc_laws.specs.EffectLaws.{OnlyConsoles}
 use Rattle.opc_laws.specs.ObstacleLaws.{first_obstacle, is_defined, is_listed}
 use Rattle.opc_laws.specs.TakingLaws.{AreDefined, AreTaken, KeepsMaster}
@@ -130,3 +133,7 @@ abbrev pub RowsKeepAMasterOrAreRefused : Type 0
 RowsKeepAMasterOrAreRefused =
     (all : List Row) (s : State) (policy : Policy) (board : BoardRows) → AreTaken all s.policy policy → AreDefined all s.board board → (KeepsMaster s (record s { policy = policy; board = board }) → ⊥)
     → with_rows all s ≡ Err LastMaster
+
+-- A batch that is kept is found by its number from then on, and each other one as before.
+abbrev pub BatchesAreKept : Type 0
+BatchesAreKept = (batch : Batch) (batches : List Batch) → IsKept (batch_of batches) (batch_of (with_batch batch batches)) batch.number (Some batch)

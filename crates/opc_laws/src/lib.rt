@@ -3,4 +3,5 @@
 
 pub mod effects;
 pub mod laws;
+pub mod meanings;
 pub mod rows;

@@ -171,7 +171,9 @@ fn profile_changed_on<T: Tables>(tables: &mut T, alloc: Global, op: &Operation) 
     }
 }
 
-// What an operation comes to that whoever asks has the right to.
+// What an operation comes to that whoever asks has the right to. Each operation is one function: tests in the order of
+// its definition, and at the end one edit, or none if nothing changes. The lemma `one_edit` says for most of them what
+// the policy becomes.
 fn changed_on<T: Tables>(tables: &mut T, alloc: Global, op: &Operation) -> Decided
     ensures kept { IsKept T.is_sure T.represents T.may_leave tables.old tables.new }
     ensures outcome { ComesTo (T.is_sure tables.new) (T.represents tables.old) result op.now }
@@ -216,6 +218,8 @@ fn changed_on<T: Tables>(tables: &mut T, alloc: Global, op: &Operation) -> Decid
 
 /// What an operation of administration comes to that is asked at a console, whose row is loaded: who may ask (E10 to
 /// E13), the right (E50, E51), and what the operation itself refuses.
+/// It loads, by key, what the operation names: no access list, no policy, no board. A profile's definition is looked up
+/// three times at most, in an RAlter by an owner: for the right, for the operation, and by the cache.
 pub fn admin_on<T: Tables>(
     tables: &mut T,
     alloc: Global,

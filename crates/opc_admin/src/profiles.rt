@@ -49,7 +49,8 @@ fn has_holder<T: Tables>(tables: &mut T, id: &EntryId) -> Result<bool, StoreFaul
 }
 
 // The level of the entry for an id in the access list of a profile, at one console or, where none is given, at every
-// console; and whether there is such a profile, which is asked only where it has no such entry.
+// console; and whether there is such a profile. The access list of a profile that is not there is empty, so an entry
+// shows its profile. Only without an entry is the profile asked for, so that its fault comes first.
 fn level_in<T: Tables>(
     tables: &mut T,
     alloc: Global,

@@ -194,6 +194,8 @@ pub fn consoles_of_on<S: Alter>(
     ensures looks { Looks S.Store conn.old conn.new result }
     ensures found { Finds S.Store conn.old conn.new result (λ s v. v ≡ consoles_of s.board user.now) }
 {
+    // The tested column comes first in ORDER BY, so that one key serves both; the rows come in the order of the others.
+    // NULL is nobody's name, so a row with NULL there is never picked.
     members_on::<_, _, ConsoleTable>(
         alloc,
         conn,
@@ -202,7 +204,8 @@ pub fn consoles_of_on<S: Alter>(
     )
 }
 
-/// The first two online consoles with AUTH MASTER, which is 2.
+/// The first two online consoles with AUTH MASTER, which is 2. Two suffice to tell whether one exists besides a named
+/// console.
 pub fn masters_on<S: Alter>(
     alloc: Global,
     conn: &mut Connection<S>,

@@ -34,6 +34,7 @@ pub fn put_reply<S: Alter>(tx: &mut Transaction<'_, S>, reply: &ReplyRow) -> Res
     ensures stays { Stays S.Store tx.old.conn.now tx.new.conn.now result }
     ensures done { Makes S.Store tx.old.conn.now tx.new.conn.now result (λ s. with_replies (with_reply reply.now s.board.replies) s) }
 {
+    // Removed and inserted, not updated: the key is SQLite's own number, and nothing refers to it.
     remove_reply(tx, reply.id)?;
     run(
         tx,

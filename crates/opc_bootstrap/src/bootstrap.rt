@@ -33,7 +33,8 @@ struct Stored {
     board: Board,
 }
 
-// What a row makes of a policy, as an edit. A console is no part of a policy.
+// What a row makes of a policy, as an edit: each row has its own, also if it says again what is stored. A console is no
+// part of a policy; consoles are compared (`edits_of_consoles`).
 fn edit_of(alloc: Global, row: &Row) -> Option<Edit>
     ensures { result ≡ edit_of row.now }
 {

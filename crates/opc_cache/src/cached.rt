@@ -75,7 +75,8 @@ impl<T: Tables> Cached<T> {
         Ok(found)
     }
 
-    /// Forgets all names before a change that may change which profile decides.
+    /// Forgets all names before a change that may change which profile decides. Before the commit, since afterwards the
+    /// cache would be stale when a commit succeeded but could not report success.
     pub(crate) fn forget_before(&mut self, alloc: Global, change: &Change) -> Result<(), StoreFault>
         ensures kept { IsKept T.is_sure T.represents T.may_leave self.old.tables self.new.tables }
         ensures forgets { Answers (T.is_sure self.new.tables) (T.represents self.old.tables) result (λ s _. self.new.recent ≡ remembered s.policy change.now.edits.items self.old.recent) }
@@ -97,7 +98,8 @@ fn pattern_of(profile: &Option<Profile>) -> Option<Pattern>
     }
 }
 
-/// The profile of a pattern that is known to decide, or none where none does.
+/// The profile of a pattern that is known to decide, or none where none does. A hit loads the profile by its key. That
+/// it is found there rests on the order of the keys, which the search gives with its answer and the cache keeps.
 pub(crate) fn known<T: Tables>(
     tables: &mut T,
     alloc: Global,
@@ -151,7 +153,8 @@ fn redefines_alone<T: Tables>(
     }
 }
 
-// Whether edits may change which profile decides. Only where there is one are the tables asked.
+// Whether edits may change which profile decides. Only where there is one are the tables asked: whether a profile that
+// it puts is there is one look-up by its key. A change without a profile asks nothing.
 fn may_redecide<T: Tables>(
     tables: &mut T,
     alloc: Global,

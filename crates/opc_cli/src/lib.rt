@@ -115,6 +115,7 @@ fn not_closed(error: Error) -> Failure {
 fn not_opened(rt: &HostRuntime, path: &str, fault: OpenFault) -> Failure {
     match fault {
         OpenFault::NoMemory => Failure::from(Fault::NoMemory),
+        // The store has one fault for whatever fails below it, so the file is opened once more to learn why.
         OpenFault::Store => of_database(Fault::Store, reason_at(rt, path)),
         OpenFault::NotOurs(version) => of_database(Fault::from(fault), Reason::Tables(version)),
     }

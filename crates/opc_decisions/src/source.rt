@@ -34,7 +34,7 @@ impl Taken {
 /// Where profiles come from: of one class and with one head at a time. A source over files may fail for good while it
 /// is asked, so what it answers is known where it is faithful afterwards.
 pub trait ProfileSource {
-    /// That these are the profiles, as it gives them.
+    /// That these are the profiles, as it gives them. A relation, since tables have them as rows.
     ghost has: { Self → List TheProfile → Type 0 };
 
     /// That it may be asked.

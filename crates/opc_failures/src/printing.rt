@@ -36,6 +36,7 @@ fn print_fault<K: Sink>(fault: &Fault, errors: &mut K) -> Result<(), WriteFault>
     ensures text { OnOk result (IsLineOf fault.now (K.held errors.old) (K.held errors.new)) }
     ensures failed { K.has_failed errors.new ≡ (if is_err result then true else K.has_failed errors.old) }
 {
+    // Put together in place, without taking memory, so that a program that has none left can still report it.
     let mut line = ArrayString::<FAULT_LINE>::new();
     match writeln!(line, "{} {fault}", fault.code()) {
         Ok(()) => write_whole(errors, line.as_str().as_bytes()),

@@ -86,7 +86,8 @@ fn console_on<T: Tables>(
     }
 }
 
-// For whom the console of a request acts.
+// For whom the console of a request acts. The account's user is a name: a user is loaded for it only if an AUTO console
+// with nobody on has to know whether its own user is stored. The ruling loads that user once more.
 fn user_acting_on<T: Tables>(
     tables: &mut T,
     alloc: Global,

@@ -40,6 +40,7 @@ pub fn put_batch<S: Alter>(
         return Err(Error::SqliteFailure(ErrorCode::TooBig));
     }
     let text = write_policy(alloc, rows)?;
+    // Removed and inserted, not updated: the key is SQLite's own number, and nothing refers to it.
     run(
         tx,
         "DELETE FROM batches WHERE number = ?1",

@@ -31,6 +31,8 @@ pub fn write_whole<S: Sink>(sink: &mut S, bytes: &[u8]) -> Result<(), WriteFault
     ensures err { OnErr result (AppendsPrefix (S.held sink.old) (S.held sink.new) bytes.now) }
     ensures failed { S.has_failed sink.new ≡ (if is_err result then true else S.has_failed sink.old) }
 {
+    // Not `write_all`, which does not say what a failed write left. A failed write is not tried again, also if it was
+    // interrupted: that would need a bound.
     let mut done = 0;
     while done < bytes.len() {
         match sink.write(&bytes[done..]) {

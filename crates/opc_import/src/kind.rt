@@ -18,7 +18,7 @@ use opc_policy::user::User;
 use opc_terms::fault::Why;
 use opc_terms::mode::Mode;
 
-/// The most rows that a policy file has.
+/// The most rows that a policy file has. The number is the definition's; this constant is proved to be it.
 pub const MOST_ROWS: u32 = 10_000;
 
 /// A kind of row.

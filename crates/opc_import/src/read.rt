@@ -42,5 +42,6 @@ pub fn read_policy(alloc: Global, text: &str) -> Result<Vec<Row>, ImportFault>
             Err(why) => return Err(ImportFault::Row { row: number, why }),
         }
     }
+    // Row 10,001 is a fault, so the loop never ends by itself.
     unreachable!()
 }

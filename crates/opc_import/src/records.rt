@@ -28,6 +28,7 @@ impl<'a> Records<'a> {
     {
         let reader = ReaderBuilder::new()
             .has_headers(false)
+            // Lengths are not checked here: a row of another length is `Columns`, with its number.
             .flexible(true)
             .from_reader(alloc, text.as_bytes());
         Records { reader }
@@ -37,7 +38,9 @@ impl<'a> Records<'a> {
     pub(crate) fn take_into(&mut self, row: &mut StringRecord) -> Result<bool, AllocError>
         ensures { IfOk result (λ found. TakesFirst self.old found (fields_of row.new) self.new) }
     {
-        // A record of a text is text, of any length, and a slice can be read: memory alone can run out.
+        // Records are read as text, so that no field is tested by itself. What is cut at commas, quotes and ends of
+        // lines out of a text is a text, of any length, and a slice can be read: memory alone can run out. No clause
+        // says that it is a text; that fault would be reported as out of memory, too.
         let Ok(found) = self.reader.read_record(row) else {
             return Err(AllocError);
         };

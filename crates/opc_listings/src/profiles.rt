@@ -112,7 +112,7 @@ fn all_groups<T: Tables>(
     ensures groups { Answers (T.is_sure tables.new) (T.represents tables.old) result (λ s groups. groups.items ≡ groups_of s.policy.connects user.now) }
 {
     let groups = tables.groups_of(alloc, user, u32::MAX)?;
-    // There are fewer groups than that, so these are all.
+    // There are fewer groups than that, so these are all. With 4,294,967,295 the listing would be given up.
     if groups.len() >= u32::MAX as usize {
         return Err(StoreFault::Store);
     }
@@ -145,7 +145,8 @@ fn seen_on<T: Tables>(
     seen_lines(alloc, console, user, groups.as_slice(), profiles.as_slice())
 }
 
-// The lines for whoever asks: all for SPECIAL and AUDITOR, none for nobody.
+// The lines for whoever asks, of one class in one pass: all for SPECIAL and AUDITOR, without access lists; none for
+// nobody; otherwise with access lists and with the user's groups.
 #[tactic(auto, using(crate::proofs::Listed::all_shown, crate::proofs::Listed::none_shown, crate::proofs::Listed::seen_shown))]
 fn lines_on<T: Tables>(
     tables: &mut T,

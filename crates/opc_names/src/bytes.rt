@@ -98,6 +98,8 @@ impl<const N: usize> Ord for Bytes<N> {
 }
 
 /// The order of as many bytes as theirs, where it shows in words of eight of them, which are faster to compare.
+/// Names and sort keys are looked up in ordered maps. Most comparisons there are of different ones, and the keys of one
+/// policy begin alike.
 fn order_of_words(ours: &[u8], theirs: &[u8]) -> Option<Ordering>
     requires { length ours.now ≡ length theirs.now }
     ensures { IfSome result (λ order. (order ≡ slice_cmp nat_cmp ours.now theirs.now) × (order ≢ Equal)) }

@@ -125,6 +125,8 @@ pub(crate) fn covers(pattern: &str, name: &str) -> bool
 {
     let name = name.as_bytes();
     let count = count_qualifiers(name);
+    // From the last qualifier to the first, this keeps which suffixes of the name the rest of the pattern covers. A
+    // walk that tries each split of a `**` is exponential.
     let mut covered = [false; SUFFIXES];
 
     // No qualifier covers nothing but the empty suffix, the last one.

@@ -15,11 +15,13 @@ use arrayvec::ArrayVec;
 pub type SortKey = Bytes<40>;
 
 impl Pattern {
-    /// Whether the pattern covers a resource. Most patterns that don't are known by their heads.
+    /// Whether the pattern covers a resource.
     pub fn covers(&self, resource: &Resource) -> bool
         ensures { IsTrue result ↔ CoversText self.now resource.now }
     {
         let (pattern, name) = (self.text(), resource.text());
+        // What a pattern covers begins with its head (law `heads_are_prefixes`), so one comparison of bytes settles
+        // most patterns that do not cover the name.
         name.as_bytes().starts_with(self.head().as_bytes()) && cover::covers(pattern, name)
     }
 

@@ -185,6 +185,7 @@ impl NameRule {
         ensures { result ≡ name_fault self text.now }
     {
         let bad = self.alphabet.bad_character(text.as_bytes());
+        // Only a text with a bad character is counted by characters, so that `TooLong` still comes first.
         let count = self.alphabet.count(text, bad);
         if count == 0 {
             return Some(NameFault::Empty);

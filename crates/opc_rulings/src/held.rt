@@ -20,7 +20,8 @@ use opc_terms::entry_id::EntryId;
 use opc_terms::store_fault::StoreFault;
 use std::alloc::Global;
 
-/// How many entries, and how many groups, are loaded at first: more than most access lists have.
+/// How many entries, and how many groups, are loaded at first: more than most access lists have. 14 by measurement:
+/// with 16, 3,000 entries cost more than twice what ten cost; with 12, a refusal by ten entries cost 15 % more.
 const FIRST: u32 = 14;
 
 /// An access list of so many entries at most is asked about by its entries at once: the groups of the user are a query as
@@ -41,6 +42,8 @@ pub(crate) fn level_on<T: Tables>(
     ensures level { Answers (T.is_sure tables.new) (T.represents tables.old) result (λ s level. level ≡ held_in s.policy profile.now user.now console.now) }
 {
     let mut most = FIRST;
+    // Sixteen rounds suffice if one of the lists has fewer than 4,294,967,295 members; otherwise the request is given
+    // up. Which list is shorter is not known in advance, and counting would read the longer one.
     for _ in 0..16 {
         if let Some(level) = level_within(tables, alloc, profile, user, console, most)? {
             return Ok(level);
@@ -136,6 +139,8 @@ fn listed_groups_of<T: Tables>(
 {
     let mut groups = Vec::new(alloc);
     for entry in entries {
+        // Whether the id of an entry is a connect group of the user is asked as a text: `*` and ids that begin with a
+        // digit are not names of groups, and nothing says of the tables that no connect has them.
         if tables.is_connected(&user.id, entry.id.text())? {
             groups.push(group_of(&entry.id)?)?;
         }

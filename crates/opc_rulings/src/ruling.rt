@@ -162,7 +162,7 @@ pub enum Standing {
     Console,
 }
 
-/// How needs are ruled on at a console: who acts is loaded once for all of them.
+/// How needs are ruled on at a console: who acts is loaded once, for the command and for all lines that it shows.
 pub fn standing_at<T: Tables>(
     tables: &mut T,
     alloc: Global,
@@ -180,6 +180,7 @@ pub fn standing_at<T: Tables>(
     if user.revoked {
         return Ok(Standing::Denied(Rule::Revoked));
     }
+    // If the class is inactive, nothing is searched.
     if !tables.is_active(Class::Opercmds)? {
         return Ok(Standing::Console);
     }

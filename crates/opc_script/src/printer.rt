@@ -25,6 +25,7 @@ pub fn write_text<K: Sink>(output: &mut K, text: &str) -> io::Result<()>
     ensures failed { K.has_failed output.new ≡ (if is_err result then true else K.has_failed output.old) }
 {
     let bytes = text.as_bytes();
+    // A loop of its own, for the reasons that `write_whole` has.
     let mut done = 0;
     while done < bytes.len() {
         match output.write(&bytes[done..]) {

@@ -30,7 +30,8 @@ use sqlite::types::ValueRef;
 use sqlite::{Alter, Connection, params};
 use std::alloc::Global;
 
-/// The profiles of a class with a head, in the order of their keys.
+/// The profiles of a class with a head, in the order of their keys. A constant that its lemmas read, so that a text
+/// with another order is refused by what the text means.
 const BY_HEAD: &str =
     "SELECT class, pattern, owner, uacc, warning, skey, head FROM profiles WHERE class = ?1 AND head = ?2 ORDER BY class, skey";
 

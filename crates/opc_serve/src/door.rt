@@ -32,6 +32,9 @@ where
     ghost tells = { λ _ _ _. ⊤ };
 
     fn accept(&mut self) -> io::Result<(L::Stream, L::Stream)> {
+        // One handle to read and one to write. Each is owned, so the clauses of `Read` and `Write` say what was read
+        // and written; by one shared reference nothing could be said of what is written. Without a second handle the
+        // connection is not accepted.
         let (reader, _) = self.listener.accept()?;
         let writer = reader.try_clone()?;
         Ok((reader, writer))

@@ -38,6 +38,7 @@ pub fn run_all<S: Alter>(tx: &mut Transaction<'_, S>, statements: &[&str]) -> Re
 }
 
 /// Puts a row at its key: `update` sets it where it is there, and `insert` adds it where it is not. Both take all of `params`.
+/// What a keyed table's statements do to its rows is proved once, in proofs/Keyed.antt.
 pub fn put<S: Alter>(
     tx: &mut Transaction<'_, S>,
     update: &str,

@@ -43,7 +43,8 @@ use sqlite::Alter;
 use std::alloc::Global;
 
 impl<S: Alter> Store<S> {
-    /// A store that was closed fails here, before anything is begun.
+    /// Asks for the version. A store that a fault closed fails here, before anything is begun, so that a crash after it
+    /// leaves nothing new.
     fn see_open(&mut self) -> Result<(), StoreFault>
         ensures keeps { Looks S.Store self.old self.new result }
     {

@@ -51,6 +51,7 @@ pub fn members_on<S: Alter, M: Drop, T: Keeps<M>>(
 }
 
 /// The first member whose row a query gives, if it gives one: of all members the first that its test picks.
+/// The query should be in the order of the key, also for one row, so that what it gives is determined.
 pub fn member_on<S: Alter, M: Drop, T: Keeps<M>>(
     conn: &mut Connection<S>,
     sql: &str,

@@ -11,7 +11,8 @@ use opc_terms::store_fault::StoreFault;
 use opc_user_tables::connects::has_connect_on;
 use sqlite::{Alter, Connection};
 
-/// Whether a connect, an owner or an access list names this user. Of each one row is read at most, by a key.
+/// Whether a connect, an owner or an access list names this user. Three queries for one row each, by a key, not one
+/// over the whole policy.
 pub fn is_named_on<S: Alter>(conn: &mut Connection<S>, user: &UserId) -> Result<bool, StoreFault>
     requires { conn.old.in_transaction ≡ false }
     ensures mode { conn.new.in_transaction ≡ false }

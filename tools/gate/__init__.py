@@ -1,4 +1,4 @@
-"""What the tools that prove and try crates share: the kit, the sources of crates, must-fail edits, and the checks that try them."""
+"""The modules of tools/edits: must-fail edits, the sources of crates, the checks that try them, and the kit."""
 import sys
 
 # no tool leaves files in the repository

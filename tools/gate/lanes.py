@@ -1,16 +1,20 @@
 """Places in which the must-fail edits of crates are tried side by side, as many as memory holds."""
-import concurrent.futures, threading, time
+import concurrent.futures
+import threading
+import time
+from typing import Iterable, Iterator
 
 from . import kit
+from .trial import Trial
 
 
 class Lanes:
-    def __init__(self, number, latest):
+    def __init__(self, number: int, latest: float) -> None:
         """`latest` is the moment after which no further crate is begun."""
         self.number, self.latest, self.room = number, latest, 0.85 * kit.free_memory()
         self.turn, self.running = threading.Condition(), []
 
-    def run(self, trial):
+    def run(self, trial: Trial) -> Trial | None:
         """The trial, once it is done, or None where the time is up."""
         memory = memory_of(trial)
         with self.turn:
@@ -25,23 +29,23 @@ class Lanes:
                 self.running.remove(memory)
                 self.turn.notify_all()
 
-    def run_all(self, trials):
+    def run_all(self, trials: Iterable[Trial]) -> Iterator[Trial]:
         """The trials as they end, those that take the longest begun first."""
         with concurrent.futures.ThreadPoolExecutor(self.number) as pool:
-            begun = [pool.submit(self.run, it) for it in sorted(trials, key=length_of, reverse=True)]
+            begun = [pool.submit(self.run, trial) for trial in sorted(trials, key=length_of, reverse=True)]
             for done in concurrent.futures.as_completed(begun):
                 if done.result():
                     yield done.result()
 
 
-def lines_of(trial):
+def lines_of(trial: Trial) -> int:
     return sum(text.count("\n") for path, text in trial.texts.items() if path.endswith(".rt"))
 
 
-def memory_of(trial):
+def memory_of(trial: Trial) -> int:
     # (as rt ci reckons memory, and from what crates took)
     return 1_200_000_000 + 1_000_000 * lines_of(trial)
 
 
-def length_of(trial):
+def length_of(trial: Trial) -> float:
     return 0.2 * lines_of(trial) + 8 * len(trial.wanted)

@@ -1,15 +1,21 @@
 """The ledger of must-fail edits: tools/gate/refused.txt, which only tools/edits writes.
 
-A line names an edit that the prover refused, with the digest of all that this verdict depends on (digest.py), the seconds of
-a processor that it took beside the fixed cost of its crate's checks, and when it was last tried. An edit whose line has the
-digest of today need not be tried again. So that a wrong line does not stay for ever, each run tries a sample of the lines."""
-import contextlib, fcntl, os, random, re, time
-from typing import NamedTuple
+A line names an edit that the prover refused, with the digest of all that this verdict depends on (digest.py), the
+seconds of a processor that it took beside the fixed cost of its crate's checks, and when it was last tried. An edit
+whose line has the digest of today need not be tried again. So that a wrong line does not stay for ever, each run tries
+a sample of the lines."""
+import contextlib
+import fcntl
+import os
+import random
+import re
+import time
+from typing import Iterable, Iterator, NamedTuple
 
 FILE = "tools/gate/refused.txt"
 HEAD = """\
-# The must-fail edits that the prover refused: the edit, the digest of all that this depends on, seconds of a processor, and
-# when it was last tried (UTC). Only tools/edits writes this file; docs/TESTING.md says how.
+# The must-fail edits that the prover refused: the edit, the digest of all that this depends on, seconds of a processor,
+# and when it was last tried (UTC). Only tools/edits writes this file; docs/TESTING.md says how.
 """
 ROW = re.compile(r"(\w+/[A-Za-z0-9_.-]+\.edit) ([0-9a-f]{32}) (\d{1,6}) (\d{4}-\d\d-\d\dT\d\d:\d\d:\d\dZ)")
 MOMENT = "%Y-%m-%dT%H:%M:%SZ"
@@ -27,11 +33,11 @@ class Line(NamedTuple):
     moment: str
 
 
-def moment(seconds):
+def moment(seconds: float) -> str:
     return time.strftime(MOMENT, time.gmtime(seconds))
 
 
-def lines_in(text):
+def lines_in(text: str) -> dict[str, Line]:
     """The lines of a ledger by their edits."""
     found = {}
     for number, row in enumerate(text.splitlines(), 1):
@@ -43,51 +49,57 @@ def lines_in(text):
             if parts[1] not in found:
                 found[parts[1]] = Line(parts[2], int(parts[3]), parts[4])
                 continue
-        raise BadLedger(f"{FILE}:{number}: not a line of the ledger, or a second one of its edit; remove it, and the edit is tried again: {row[:100]}")
+        raise BadLedger(
+            f"{FILE}:{number}: not a line of the ledger, or a second one of its edit; remove it, and the edit is tried"
+            f" again: {row[:100]}"
+        )
     return found
 
 
 class Ledger:
     """The lines of a file, and what this run changes of them: a line anew, or None for one that goes."""
 
-    def __init__(self, file, now):
+    def __init__(self, file: str, now: float) -> None:
         self.file, self.now, self.changes = file, moment(now), {}
         self.lines = self.read()
 
-    def read(self):
+    def read(self) -> dict[str, Line]:
         if not os.path.isfile(self.file):
             return {}
-        with open(self.file, encoding="utf-8", errors="replace") as it:
-            return lines_in(it.read())
+        with open(self.file, encoding="utf-8", errors="replace") as file:
+            return lines_in(file.read())
 
-    def holds(self, name, digest):
+    def holds(self, name: str, digest: str) -> bool:
         return name in self.lines and self.lines[name].digest == digest
 
-    def note(self, name, digest, seconds):
+    def note(self, name: str, digest: str, seconds: float) -> None:
         self.lines[name] = self.changes[name] = Line(digest, max(1, round(seconds)), self.now)
 
-    def strike(self, name):
+    def strike(self, name: str) -> None:
         self.lines.pop(name, None)
         self.changes[name] = None
 
-    def keep(self, names):
+    def keep(self, names: Iterable[str]) -> None:
         """Removes the lines of all other edits."""
-        for it in self.lines.keys() - {*names}:
-            self.strike(it)
+        for name in self.lines.keys() - {*names}:
+            self.strike(name)
 
-    def write(self):
-        """In one step, so that a run that is cut off leaves the old file or the new one. What another run wrote meanwhile of other
-        edits stays."""
+    def write(self) -> None:
+        """In one step, so that a run that is cut off leaves the old file or the new one. What another run wrote
+        meanwhile of other edits stays."""
         with held(os.path.dirname(self.file) or "."):
             lines = {**self.read(), **self.changes}
             with open(f"{self.file}.new", "w", encoding="utf-8") as out:
                 out.write(HEAD)
-                out.writelines(f"{name} {it.digest} {it.seconds} {it.moment}\n" for name, it in sorted(lines.items()) if it)
+                out.writelines(
+                    f"{name} {line.digest} {line.seconds} {line.moment}\n"
+                    for name, line in sorted(lines.items()) if line
+                )
             os.replace(f"{self.file}.new", self.file)
 
 
 @contextlib.contextmanager
-def held(folder):
+def held(folder: str) -> Iterator[None]:
     """While this holds, no other run holds the same folder."""
     lock = os.open(folder, os.O_RDONLY)
     try:
@@ -100,35 +112,37 @@ def held(folder):
 class Sample:
     """The lines to be tried once more, of those that hold: so many as take these seconds of a processor.
 
-    Most of the time goes to those that were not tried for the longest, so that each has its turn. A moment that is still to
-    come counts as never. Where moments are the same the dice decide, crate by crate, since a crate's checks have a fixed cost.
-    A quarter of the time goes to lines that the dice alone choose: a line with a false moment is met by them, too."""
+    Most of the time goes to those that were not tried for the longest, so that each has its turn. A moment that is
+    still to come counts as never. Where moments are the same the dice decide, crate by crate, since a crate's checks
+    have a fixed cost. A quarter of the time goes to lines that the dice alone choose: a line with a false moment is met
+    by them, too."""
 
-    def __init__(self, lines, busy, seconds, seed, now):
+    def __init__(self, lines: dict[str, Line], busy: Iterable[str], seconds: float, seed: int, now: float) -> None:
         self.lines, self.busy, self.now = lines, {*busy}, moment(now)
         self.dice, self.chosen, self.left, self.most = random.Random(seed), [], seconds, seconds / 4
         self.take(self.shuffled(), seconds / 4)
         self.take(sorted(self.shuffled(), key=self.last_tried), self.left)
 
-    def shuffled(self):
+    def shuffled(self) -> list[str]:
         """The lines as the dice put them, those of a crate together."""
-        crates = sorted({crate_of(it) for it in self.lines})
+        crates = sorted({crate_of(name) for name in self.lines})
         self.dice.shuffle(crates)
-        place = {it: at for at, it in enumerate(crates)}
-        return sorted(sorted(self.lines), key=lambda it: (place[crate_of(it)], self.dice.random()))
+        place = {name: at for at, name in enumerate(crates)}
+        return sorted(sorted(self.lines), key=lambda name: (place[crate_of(name)], self.dice.random()))
 
-    def last_tried(self, name):
+    def last_tried(self, name: str) -> str:
         return self.lines[name].moment if self.lines[name].moment <= self.now else ""
 
-    def cost(self, name):
+    def cost(self, name: str) -> float:
         """What a line costs, which is no more than a quarter of the time whatever the line says."""
         return min(self.lines[name].seconds, self.most) + (0 if crate_of(name) in self.busy else FIXED)
 
-    def take(self, names, seconds):
-        """Takes from the head of these while the seconds last, but one in any case, so that a dear one has its turn, too."""
+    def take(self, names: Iterable[str], seconds: float) -> None:
+        """Takes from the head of these while the seconds last, but one in any case, so that a dear one has its turn,
+        too."""
         end = self.left - seconds
         is_first = True
-        for name in (it for it in names if it not in self.chosen):
+        for name in (name for name in names if name not in self.chosen):
             cost = self.cost(name)
             if not is_first and self.left - cost < end:
                 return
@@ -137,5 +151,5 @@ class Sample:
             self.left, is_first = self.left - cost, False
 
 
-def crate_of(name):
+def crate_of(name: str) -> str:
     return name.partition("/")[0]

@@ -1,1 +1,1 @@
-"""Tests of what the tools share: tools/selftest runs them."""
+"""Tests of how must-fail edits are read, tried and judged: tools/selftest runs them."""

@@ -40,30 +40,30 @@ trait Tables {
 
 
 class Functions(unittest.TestCase):
-    def setUp(self):
-        self.found = {it.name: it for it in functions(TEXT)}
+    def setUp(self) -> None:
+        self.found = {function.name: function for function in functions(TEXT)}
 
-    def test_all_with_a_body_and_no_other(self):
+    def test_all_with_a_body_and_no_other(self) -> None:
         self.assertEqual(list(self.found), ["double", "none", "next", "drop"])
 
-    def test_lines_from_the_comment_to_the_end(self):
-        it = self.found["double"]
-        self.assertEqual((it.first, it.at, it.body, it.end), (0, 2, 4, 6))
-        self.assertEqual(it.attributes, [["#[tactic(auto)]"]])
+    def test_lines_from_the_comment_to_the_end(self) -> None:
+        function = self.found["double"]
+        self.assertEqual((function.first, function.at, function.body, function.end), (0, 2, 4, 6))
+        self.assertEqual(function.attributes, [["#[tactic(auto)]"]])
 
-    def test_a_body_on_one_line(self):
-        it = self.found["none"]
-        self.assertEqual((it.at, it.body, it.end), (10, 10, 10))
+    def test_a_body_on_one_line(self) -> None:
+        function = self.found["none"]
+        self.assertEqual((function.at, function.body, function.end), (10, 10, 10))
 
-    def test_a_head_of_several_lines(self):
-        it = self.found["next"]
-        self.assertEqual((it.at, it.body, it.end), (12, 15, 20))
+    def test_a_head_of_several_lines(self) -> None:
+        function = self.found["next"]
+        self.assertEqual((function.at, function.body, function.end), (12, 15, 20))
 
-    def test_owners(self):
-        owners = {name: it.owner() for name, it in self.found.items()}
+    def test_owners(self) -> None:
+        owners = {name: function.owner() for name, function in self.found.items()}
         self.assertEqual(owners, {"double": "", "none": "Board", "next": "Board", "drop": None})
 
-    def test_another_name_without_comments(self):
+    def test_another_name_without_comments(self) -> None:
         lines = self.found["double"].renamed("double_twin1")
         self.assertEqual(lines[:3], ["", "#[tactic(auto)]", "pub fn double_twin1(number: u32) -> u32"])
 

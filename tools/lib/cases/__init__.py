@@ -1,0 +1,1 @@
+"""Tables of cases, asked of the program from outside."""

@@ -1,0 +1,136 @@
+/* A preload that refuses the N-th call of one kind, or ends the process there, in a program that is linked to the C
+   library; the program is not rebuilt.
+
+   FAULT_CALL   alloc | read | write | sync | any-write (write, pwrite, send, sync, truncate, unlink, rename)
+   FAULT_AT     the call that is refused, counted from 1 (0 or unset: none; the calls are counted all the same)
+   FAULT_KIND   fail (default: ENOMEM, EIO) | stop (the process ends at once, status 77, before the call)
+   FAULT_COUNT  a file to which the number of calls of that kind is written at the end
+
+   lib/places.py compiles it (`preload`); tools/sweep, tools/stops and the part `stops` of tools/serve set these
+   variables, and tools/bench-run counts syncs by it. */
+#define _GNU_SOURCE
+#include <dlfcn.h>
+#include <errno.h>
+#include <fcntl.h>
+#include <stdio.h>
+#include <stdlib.h>
+#include <string.h>
+#include <sys/socket.h>
+#include <sys/types.h>
+#include <unistd.h>
+
+enum kind { NONE, ALLOC, READ, WRITE, SYNC, ANY_WRITE };
+
+static enum kind wanted;
+static long at, calls;
+static int is_stop, is_ready;
+static const char *count_file;
+
+static enum kind kind_named(const char *name) {
+    static const char *const names[] = {"", "alloc", "read", "write", "sync", "any-write"};
+    for (enum kind kind = ALLOC; name && kind <= ANY_WRITE; kind++)
+        if (!strcmp(name, names[kind])) return kind;
+    return NONE;
+}
+
+__attribute__((constructor)) static void begin(void) {
+    const char *number = getenv("FAULT_AT"), *kind = getenv("FAULT_KIND");
+    wanted = kind_named(getenv("FAULT_CALL"));
+    at = number ? atol(number) : 0;
+    is_stop = kind && !strcmp(kind, "stop");
+    count_file = getenv("FAULT_COUNT");
+    is_ready = 1;
+}
+
+/* Writes the count; no call is counted from here on, nor refused. */
+static void write_count(void) {
+    if (!count_file) return;
+    is_ready = 0;
+    int file = open(count_file, O_WRONLY | O_CREAT | O_TRUNC, 0666);
+    if (file < 0) return;
+    char text[32];
+    int length = snprintf(text, sizeof text, "%ld\n", calls);
+    (void)!write(file, text, length);
+    close(file);
+}
+
+__attribute__((destructor)) static void end(void) {
+    write_count();
+}
+
+/* Counts a call of this kind; answers whether it is to be refused. */
+static int is_due(enum kind kind) {
+    int is_wanted = wanted == kind || (wanted == ANY_WRITE && (kind == WRITE || kind == SYNC));
+    if (!is_ready || !is_wanted || ++calls != at) return 0;
+    if (is_stop) {
+        write_count();
+        _exit(77);
+    }
+    return 1;
+}
+
+/* Memory. The C library's own names for its calls are used, since dlsym itself asks for memory. */
+
+extern void *__libc_malloc(size_t);
+extern void *__libc_realloc(void *, size_t);
+extern void *__libc_calloc(size_t, size_t);
+extern void *__libc_memalign(size_t, size_t);
+
+static void *refused(void) {
+    errno = ENOMEM;
+    return NULL;
+}
+
+void *malloc(size_t size) {
+    return is_due(ALLOC) ? refused() : __libc_malloc(size);
+}
+
+void *calloc(size_t count, size_t size) {
+    return is_due(ALLOC) ? refused() : __libc_calloc(count, size);
+}
+
+void *realloc(void *was, size_t size) {
+    return is_due(ALLOC) ? refused() : __libc_realloc(was, size);
+}
+
+void *aligned_alloc(size_t alignment, size_t size) {
+    return is_due(ALLOC) ? refused() : __libc_memalign(alignment, size);
+}
+
+int posix_memalign(void **made, size_t alignment, size_t size) {
+    if (is_due(ALLOC)) return ENOMEM;
+    *made = __libc_memalign(alignment, size);
+    return *made ? 0 : ENOMEM;
+}
+
+/* Files and sockets. A call is defined by its kind, its type, its name, its parameters and their names. */
+
+#define CALL(kind, type, name, parameters, arguments)                                                                  \
+    type name parameters {                                                                                             \
+        static type(*real) parameters;                                                                                 \
+        if (!real) real = (type(*) parameters)dlsym(RTLD_NEXT, #name);                                                 \
+        if (is_due(kind)) {                                                                                            \
+            errno = EIO;                                                                                               \
+            return -1;                                                                                                 \
+        }                                                                                                              \
+        return real arguments;                                                                                         \
+    }
+
+CALL(READ, ssize_t, read, (int file, void *bytes, size_t size), (file, bytes, size))
+CALL(READ, ssize_t, pread, (int file, void *bytes, size_t size, off_t from), (file, bytes, size, from))
+CALL(READ, ssize_t, pread64, (int file, void *bytes, size_t size, off64_t from), (file, bytes, size, from))
+CALL(READ, ssize_t, recv, (int link, void *bytes, size_t size, int flags), (link, bytes, size, flags))
+CALL(WRITE, ssize_t, write, (int file, const void *bytes, size_t size), (file, bytes, size))
+CALL(WRITE, ssize_t, pwrite, (int file, const void *bytes, size_t size, off_t from), (file, bytes, size, from))
+CALL(WRITE, ssize_t, pwrite64, (int file, const void *bytes, size_t size, off64_t from), (file, bytes, size, from))
+CALL(WRITE, ssize_t, send, (int link, const void *bytes, size_t size, int flags), (link, bytes, size, flags))
+CALL(WRITE, int, ftruncate, (int file, off_t size), (file, size))
+CALL(WRITE, int, ftruncate64, (int file, off64_t size), (file, size))
+CALL(WRITE, int, unlink, (const char *path), (path))
+CALL(WRITE, int, rename, (const char *path, const char *to), (path, to))
+CALL(SYNC, int, fsync, (int file), (file))
+CALL(SYNC, int, fdatasync, (int file), (file))
+
+ssize_t __write(int file, const void *bytes, size_t size) {
+    return write(file, bytes, size);
+}

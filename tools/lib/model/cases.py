@@ -1,0 +1,217 @@
+"""Random cases: each is a list of steps over one new file. They are made along the model, so that most requests meet
+something."""
+from collections import Counter
+from random import Random
+from typing import Any, Callable, Iterable
+
+from . import counting, exchange, files, machine, names, random_lines, random_policies, random_requests, scripts, world
+from .faults import Fault
+from .files import Row
+from .machine import State
+from .steps import CLOCK, Explain, Run, Serve, Step, Take
+from .world import one_in
+
+
+def first_file(chance: Random, rows: list[Row]) -> bytes:
+    return random_policies.joined(chance, random_policies.written(chance, rows), plain=not one_in(chance, 4))
+
+
+def state_of(data: bytes) -> State:
+    """The state that a first policy makes, or the empty one where it is refused."""
+    state = machine.State()
+    try:
+        state.bootstrap(files.read(data))
+    except Fault:
+        pass
+    return state
+
+
+def rarest(chance: Random, makes: Callable[[], Any], keys_of: Callable[[Any], object], seen: Counter[object]) -> Any:
+    """One of these, made at random; mostly the one of several that meets what this case met least so far."""
+    found = [makes() for _ in range(1 if one_in(chance, 3) else 4)]
+    keys = []
+    for made in found:
+        with counting.aside() as met:
+            keys_of(made)
+        keys.append(met)
+    chosen = min(range(len(found)), key=lambda at: min((seen[key] for key in keys[at]), default=10 ** 6))
+    seen.update(keys[chosen])
+    return found[chosen]
+
+
+def explain(chance: Random) -> list[Step]:
+    """A policy file, good or bad, with a question."""
+    if one_in(chance, 2):
+        rows, of = random_policies.first_policy(chance), random_policies.any_class(chance)
+        makes = world.any_resource
+    else:
+        rows, of = overlapping(chance)
+        makes = world.short_resource
+    patterns = [row[2] for row in rows if row[:2] == ("profile", of)]
+    resource = max(
+        [makes(chance) for _ in range(chance.choice((1, 4)))],
+        key=lambda name: sum(names.covers(pattern, name) for pattern in patterns),
+    )
+    if one_in(chance, 8):
+        chance.shuffle(rows)
+    lines = random_policies.written(chance, rows)
+    if one_in(chance, 80):
+        # about as many rows as a file may have
+        more = files.MOST_ROWS + chance.randint(-1, 1) - len(rows)
+        lines += [
+            random_policies.written_row(
+                chance, random_policies.row("group", name="DAY")[:lines[0].count(",") + 1], True
+            )
+        ] * more
+    if one_in(chance, 4):
+        lines = random_policies.spoiled(chance, lines)
+    words = {"user": chance.choice((*world.USERS, "OPS")), "resource": resource, "level": chance.choice(names.LEVELS)}
+    if of == "CONSOLE" or one_in(chance, 6):
+        words["class"] = of
+    if one_in(chance, 2):
+        words["console"] = chance.choice(world.CONSOLES)
+    if one_in(chance, 25):
+        words[chance.choice(list(words))] = chance.choice(
+            ("X1", "anna", "A.B.", "", "é", "C", "A" * 40, "MVS.*", "read", "9X9", "CONSOLE", "A..B")
+        )
+    return [Explain(words, random_policies.joined(chance, lines))]
+
+
+def overlapping(chance: Random) -> tuple[list[Row], str]:
+    """Many profiles of short patterns in one class, with entries of each kind."""
+    users, of = world.USERS, random_policies.any_class(chance)
+    rows = [random_policies.row("class", of=of, value="ACTIVE")]
+    rows += (
+        [random_policies.row("group", name=name) for name in world.GROUPS]
+        + [random_policies.user_row(chance, name) for name in users]
+    )
+    rows += [
+        random_policies.row("connect", name=user, id=group)
+        for user in users
+        for group in world.GROUPS if one_in(chance, 2)
+    ]
+    patterns = [world.short_pattern(chance) for _ in range(chance.randint(1, 14))]
+    profiles = []
+    for pattern in patterns:
+        level, flags = chance.choice(names.LEVELS), "W" * one_in(chance, 4)
+        profiles.append(random_policies.row("profile", of=of, name=pattern, value=level, owner="ANNA", flags=flags))
+    return (
+        rows + profiles + [random_policies.permit_row(chance, profiles, users + world.GROUPS * 3) for _ in range(20)],
+        of,
+    )
+
+
+def lines(chance: Random) -> list[Step]:
+    """Command lines of which most almost read, where nothing but AUTH decides."""
+    rows = [random_policies.user_row(chance, name) for name in ("ANNA", "C2")]
+    rows += [random_policies.row("console", name=name, value="MASTER", flags="OPTIONAL") for name in ("C1", "C2")]
+    first = random_policies.joined(chance, random_policies.written(chance, rows), plain=True)
+    state = state_of(first)
+    events = ("JOBIN PAY JOB", "JOBIN CICS STC CICSPROD NONCANCEL", "JOBIN ANNA TSU", "ATTACH 0A80", "ASK 07 MOUNT IT")
+    return [Run(first, script(chance, state, 60, True, [f"{at} * {event}\n" for at, event in enumerate(events, 1)]))]
+
+
+def script(chance: Random, state: State, count: int, near_misses: bool = False, first: Iterable[str] = ()) -> list[str]:
+    """A script that begins with these lines, over this state, which goes on with it."""
+    found, moment, seen = list(first), len(first), Counter()
+    scripts.run(state, "".join(found).encode())
+
+    def one() -> str:
+        return random_lines.script_line(chance, moment, state, near_misses)
+
+    for _ in range(count):
+        moment += chance.randint(0, 3)
+        line = rarest(chance, one, lambda line: scripts.run(state.copied(), line.encode()), seen)
+        line += chance.choice(("\n", "\n", "\n", "\r\n"))
+        found.append(line)
+        scripts.run(state, line.encode())
+    if one_in(chance, 30):
+        at = chance.randrange(len(found))
+        found[at] = random_lines.bad_script_line(chance, found[at].rstrip("\r\n")) + "\n"
+    if found and one_in(chance, 4):
+        found[-1] = found[-1].removesuffix("\n").removesuffix("\r")
+    return found
+
+
+def begun(chance: Random, state: State) -> list[str]:
+    """Lines that put a console offline, and log some users on."""
+    lines = []
+    free = [
+        name
+        for name, console in sorted(state.board.consoles.items())
+        if console.mode == "OPTIONAL" and names.enters(console.auth, "CONS")
+    ]
+    if free and one_in(chance, 2):
+        lines.append(f"{chance.choice(free)} V CN({chance.choice(world.CONSOLES)}),OFFLINE")
+    lines += [
+        f"{name} {random_lines.log_on(chance, state)}" for name in chance.sample(world.CONSOLES, chance.randint(0, 4))
+    ]
+    return [f"{at} {line}\n" for at, line in enumerate(lines, 1)]
+
+
+def scripts_of(chance: Random) -> list[Step]:
+    """Scripts over a random policy, sometimes two, the second of which finds what the first left."""
+    first = first_file(chance, random_policies.first_policy(chance))
+    state = state_of(first)
+    found = [Run(first, script(chance, state, chance.choice((20, 40, 60)), first=begun(chance, state)))]
+    if one_in(chance, 3):
+        found.append(Run(first if one_in(chance, 6) else None, script(chance, state, 20)))
+    return found
+
+
+def requests(chance: Random) -> list[Step]:
+    """A policy, a board, and requests of all kinds to one service."""
+    first = first_file(chance, random_policies.first_policy(chance))
+    state = state_of(first)
+    board = script(chance, state, 8, first=begun(chance, state))
+    asked, kept, seen = [], {}, Counter()
+
+    def one() -> exchange.Sent:
+        return random_requests.any_sent(chance, state, kept)
+
+    for _ in range(chance.choice((20, 40, 60))):
+        sent = rarest(chance, one, lambda sent: exchange.exchange(state.copied(), CLOCK, sent), seen)
+        exchange.exchange(state, CLOCK, sent)
+        asked.append(sent)
+    return [Run(first, board), Serve(asked)]
+
+
+def imports(chance: Random) -> list[Step]:
+    """Policy files by `import`, as the first policy and as batches at consoles, with scripts between them that log
+    users on."""
+    state, found, kept = machine.State(), [], {}
+    for at in range(chance.randint(2, 9)):
+        if at > 0 and one_in(chance, 3):
+            who = random_lines.log_on(chance, state) if one_in(chance, 4) else f"LOGON SECADM,{world.PASSWORD}"
+            step = Run(None, [f"{at} {random_lines.any_console(chance, state)} {who}\n" for _ in range(2)])
+        else:
+            step = one_import(chance, state, kept, at == 0)
+        step.model(state)
+        found.append(step)
+    return found
+
+
+def one_import(chance: Random, state: State, kept: random_requests.Kept, is_first: bool) -> Take:
+    if is_first or not state.policy.users or one_in(chance, 12):
+        return Take(None, chance.choice((1, 999_999_999)), random_policies.joined(chance, first_lines(chance)))
+    number, lines = random_requests.any_batch(chance, state, kept)
+    console = random_requests.who_may(chance, state, random_lines.any_console(chance, state))
+    return Take(console, number, random_policies.joined(chance, lines))
+
+
+def first_lines(chance: Random) -> list[str]:
+    """A first policy, sometimes of consoles alone, in another order, with a user of a group's name, or with a bad
+    row."""
+    rows = random_policies.first_policy(chance)
+    way = chance.randrange(12)
+    if way <= 2:
+        rows = [row for row in rows if row[0] == "console"]
+    elif way == 3:
+        rows.append(random_policies.row("user", name=chance.choice(world.GROUPS)))
+    elif way == 4:
+        chance.shuffle(rows)
+    lines = random_policies.written(chance, rows)
+    return random_policies.spoiled(chance, lines) if way in (5, 6) else lines
+
+
+PARTS = {"explain": explain, "lines": lines, "scripts": scripts_of, "requests": requests, "imports": imports}

@@ -1,0 +1,72 @@
+"""How often each answer and each branch of the rules was met, and which can be met."""
+import contextlib
+from collections import Counter
+from typing import Iterator
+
+met = Counter()  # by what was asked, or which choice a rule had, and what came of it
+
+
+@contextlib.contextmanager
+def aside() -> Iterator[Counter[tuple[str, str]]]:
+    """Counts apart from all else, and gives these counts."""
+    global met
+    kept, met = met, Counter()
+    try:
+        yield met
+    finally:
+        met = kept
+
+
+AT_CONSOLES = ("E12", "E13", "done")
+COMMANDS = {
+    "C name": "E21 E30 E31 E42", "C U=user": "E21 E30 E31 E42", "FORCE": "E21 E30 E32", "S": "E21 E33 E40",
+    "P": "E21 E30 E42", "F": "E21 E30 E42", "R": "E38", "V dev ONLINE": "E21 E34 E35",
+    "V dev OFFLINE": "E21 E34 E35 E36", "M": "E21 E34 E35", "U": "E21 E34 E36 E37", "G": "E21 E34 E35 E37",
+    "V CN ONLINE": "E21 E39", "V CN OFFLINE": "E21 E39 E41", "V CN AUTH": "E21 E39 E41", "E": "E21 E39", "SE": "E39",
+    "L": "", "MN": "", "PM": "", "Z": "E21 E40", "D A,L": "", "D A,name": "", "D U": "", "D C": "", "D R": "",
+}
+EVENTS = {
+    "JOBIN": "E33 E40", "JOBEND": "E30", "ASK": "E45", "ATTACH": "E35", "ALLOCATE": "E30 E34 E35 E36",
+    "FREE": "E34 E35", "RESUME": "",
+}
+OPERATIONS = {
+    "AddUser": "E50 E52", "AltUser": "E50 E53", "DelUser": "E50 E53 E55", "AddGroup": "E50 E52",
+    "Connect": "E50 E52 E53", "Remove": "E50 E53", "RDefine": "E50 E52 E53", "RAlter": "E51 E53", "RDelete": "E51 E53",
+    "Permit": "E51 E53", "PermitDelete": "E51 E53", "ClassActive": "E50", "DefineConsole": "E50 E41",
+    "ListProfiles": "", "ListAccount": "E50", "Import": "E50 E56 again E52 E53 E41",
+}
+WHYS = [
+    f"E60 {column}" for column in "Header Columns Kind Class Name Id Value Owner Flags Digest When Restricted".split()
+]
+OTHERS = {
+    "command": "E01 E02 E03 E04 E05 E06 E10 E11", "LOGON": "E13 E14 E15 E17 WARN done", "LOGOFF": "E16 done",
+    "first policy": "E41 E52 E53 E57 done", "script": "bad", "explain": "ALLOWED DENIED UNDECIDED E53 words",
+    "HTTP": "H400 H404 H405 H413",
+}
+BRANCHES = {
+    "level by": (
+        "own entry", "group entry", "* entry", "* skipped by a RESTRICTED user", "universal access",
+        "universal access skipped", "entries at the console", "raised at the console",
+    ),
+    "verdict": ("allowed", "warned", "denied", "no profile", "inactive class"),
+    "line": ("shown", "hidden"),
+    "acting": ("the user who is on", "the console's own user", "nobody at AUTO"),
+}
+
+
+def possible() -> Iterator[tuple[str, str]]:
+    for form, codes in COMMANDS.items():
+        yield from ((form, code) for code in (*AT_CONSOLES, "E20", "WARN", *codes.split()))
+    for op, codes in OPERATIONS.items():
+        yield from ((op, code) for code in ("E10", "E11", *AT_CONSOLES, *codes.split()))
+    yield from ((event, code) for event, codes in EVENTS.items() for code in ("done", *codes.split()))
+    yield from ((what, code) for what, codes in OTHERS.items() for code in codes.split())
+    yield from ((what, why) for what in ("HTTP", "first policy", "explain") for why in WHYS)
+    yield from ((what, branch) for what, branches in BRANCHES.items() for branch in branches)
+
+
+def told() -> str:
+    """The table of what was met, and what can be met and was not."""
+    lines = [f"{first:14} {second:32} {count:8}" for (first, second), count in sorted(met.items())]
+    left = [f"never met: {first}, {second}" for first, second in possible() if not met[first, second]]
+    return "\n".join(lines + left)

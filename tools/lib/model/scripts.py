@@ -1,0 +1,57 @@
+"""Scripts of commands and events: their lines, and what is printed of the answers."""
+from . import counting, events, names, requests
+from .machine import State
+
+MOST_BYTES = 1_048_576
+Asked = tuple[int, requests.Request]  # with its moment
+
+
+def read(data: bytes) -> list[Asked] | int:
+    """The moments and requests of a script, or the number of its first bad line."""
+    try:
+        text = data.decode() if len(data) <= MOST_BYTES else None
+    except UnicodeDecodeError:
+        text = None
+    if text is None:
+        return 0
+    found, lines = [], text.split("\n")
+    for number, line in enumerate(lines, 1):
+        # a carriage return goes with the line feed after it, and not without one
+        line = line.removesuffix("\r") if number < len(lines) else line
+        if not line.strip(" "):
+            continue
+        one = read_line(line)
+        if one is None:
+            return number
+        found.append(one)
+    return found
+
+
+def read_line(line: str) -> Asked | None:
+    moment, _, rest = line.partition(" ")
+    console, space, text = rest.partition(" ")
+    if not names.is_number(moment, 13) or not space:
+        return None
+    if console == "*":
+        event = events.read(text)
+        return event and (int(moment), requests.Happening(event))
+    return (int(moment), requests.Command(console, text)) if names.is_console(console) else None
+
+
+def printed(moment: int, answer: requests.Answer) -> str:
+    """The lines of one answer."""
+    first = (
+        f"{moment} REFUSED {answer.code} {answer.text} {answer.rule}" if answer.code else f"{moment} DONE {answer.rule}"
+    )
+    return "".join(f"{line}\n" for line in [first, *(f"  {shown}" for shown in answer.lines)])
+
+
+def run(state: State, data: bytes) -> tuple[int, str]:
+    """Status and output of a script."""
+    found = read(data)
+    if isinstance(found, int):
+        counting.met["script", "bad"] += 1
+        return 2, f"BAD LINE {found}\n"
+    answers = [(moment, state.handle(moment, request)) for moment, request in found]
+    status = 1 if any(answer.code for _, answer in answers) else 0
+    return status, "".join(printed(moment, answer) for moment, answer in answers)

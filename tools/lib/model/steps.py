@@ -1,0 +1,184 @@
+"""Steps of a case: each is done by the program over a file, and by the model over a state; what both answer has to be
+the same."""
+import re
+import socket
+import subprocess
+import time
+from dataclasses import dataclass
+
+from lib import clients
+from lib.places import built
+from lib.service import Service
+from . import counting, exchange, files, names, policy, scripts, tables
+from .faults import Fault
+from .machine import State
+from .requests import Import
+
+# How a moment of the clock is told, which no model knows: as many digits as a moment has from 2001 to 2286.
+CLOCK = "0000000000"
+# what was asked, with what came of each
+Answers = list[tuple[object, object]]
+LISTED = re.compile(rb'(?<=")(\d+) (\d{10}) ')
+
+
+def is_now(moment: str | bytes | int) -> bool:
+    return abs(int(moment) - time.time()) < 100_000
+
+
+def without_clock(data: bytes) -> bytes:
+    """A listing of the account without the moments of the clock."""
+    return LISTED.sub(lambda found: b"%s %s " % (found[1], CLOCK.encode()) if is_now(found[2]) else found[0], data)
+
+
+def run(words: list[str], data: bytes = b"") -> tuple[int, str, str]:
+    """Status, output, and the first line of the errors."""
+    ran = subprocess.run([built(), *words], input=data, capture_output=True, timeout=60)
+    return ran.returncode, ran.stdout.decode(errors="replace"), ran.stderr.decode(errors="replace").partition("\n")[0]
+
+
+def answered(port: int, data: bytes) -> bytes:
+    """What comes back for these bytes, after which nothing more is sent; a service that refuses a head leaves what
+    follows it unread, and may reset a client that still sends."""
+    found = b""
+    with clients.connected(port) as link:
+        try:
+            link.sendall(data)
+            link.shutdown(socket.SHUT_WR)
+        except ConnectionError:
+            pass
+        try:
+            while more := link.recv(1 << 16):
+                found += more
+        except ConnectionError:
+            pass
+    return found
+
+
+def refused(what: str, fault: Fault) -> tuple[int, str, str]:
+    counting.met[what, f"E60 {fault.text.split()[-1]}" if fault.code == "E60" else fault.code] += 1
+    return (2 if fault.code == "E60" else 1), "", fault.told()
+
+
+@dataclass
+class Explain:
+    """`explain` over a policy file; words that do not read are told in a text that no rule fixes."""
+    words: dict
+    rows: bytes
+
+    def program(self, _: str) -> Answers:
+        status, output, errors = run(
+            ["explain", *(part for name, value in self.words.items() for part in (f"--{name}", value))], self.rows
+        )
+        return [("explain", (status, output, None if status == 2 and not errors.startswith("E60 ") else errors))]
+
+    def model(self, _: State) -> Answers:
+        found = State()
+        user, resource, level = self.words["user"], self.words["resource"], self.words["level"]
+        of, console = self.words.get("class", "OPERCMDS"), self.words.get("console")
+        good = names.is_user(user) and names.is_resource(resource) and level in names.LEVELS and of in names.CLASSES
+        if not good or not (console is None or names.is_console(console)):
+            counting.met["explain", "words"] += 1
+            return [("explain", (2, "", None))]
+        try:
+            found.bootstrap(files.read(self.rows))
+            if user not in found.policy.users:
+                raise Fault("E53", user)
+        except Fault as fault:
+            return [("explain", refused("explain", fault))]
+        outcome, rule = policy.verdict(found.policy, of, resource, user, level, console)
+        counting.met["explain", outcome] += 1
+        lines = [*(f"COVERS {pattern}" for pattern in policy.covering(found.policy, of, resource)), f"{outcome} {rule}"]
+        return [("explain", (int(outcome == "DENIED"), "".join(f"{line}\n" for line in lines), ""))]
+
+
+@dataclass
+class Run:
+    """`run` of a script over the file, at first with a policy."""
+    policy: bytes | None
+    script: list
+
+    def data(self) -> bytes:
+        return "".join(self.script).encode()
+
+    def program(self, file: str) -> Answers:
+        words = ["run", "--db", file]
+        if self.policy is not None:
+            with open(f"{file}.csv", "wb") as policy_file:
+                policy_file.write(self.policy)
+            words += ["--policy", f"{file}.csv"]
+        return [("run", run(words, self.data()))]
+
+    def model(self, state: State) -> Answers:
+        try:
+            if self.policy is not None:
+                state.bootstrap(files.read(self.policy))
+                counting.met["first policy", "done"] += 1
+        except Fault as fault:
+            return [("run", refused("first policy", fault))]
+        return [("run", (*scripts.run(state, self.data()), ""))]
+
+
+@dataclass
+class Take:
+    """`import` of a file, at a console or as the first policy."""
+    console: str | None
+    batch: int
+    rows: bytes
+
+    def program(self, file: str) -> Answers:
+        words = [
+            "import", "--db", file, "--batch", str(self.batch), *(["--console", self.console] if self.console else [])
+        ]
+        return [("import", run(words, self.rows))]
+
+    def model(self, state: State) -> Answers:
+        try:
+            rows = files.read(self.rows)
+            if self.console is None:
+                state.bootstrap(rows)
+                counting.met["first policy", "done"] += 1
+                return [("import", (0, "", ""))]
+        except Fault as fault:
+            return [("import", refused("first policy" if self.console is None else "import", fault))]
+        answer = state.handle(CLOCK, Import(self.console, self.batch, rows))
+        errors = f"{answer.code} {answer.text}" if answer.code else ""
+        return [("import", (int(answer.code is not None), "".join(f"{line}\n" for line in answer.lines), errors))]
+
+
+@dataclass
+class Serve:
+    """`serve` with these requests, one after another."""
+    asked: list
+
+    def program(self, file: str) -> Answers:
+        with Service(file, "--count", str(max(len(self.asked), 1))) as service:
+            found = [(sent.data(), without_clock(answered(service.port, sent.data()))) for sent in self.asked]
+            return [*found, ("how it ends", service.ended())] if found else []
+
+    def model(self, state: State) -> Answers:
+        found = [(sent.data(), exchange.exchange(state, CLOCK, sent)) for sent in self.asked]
+        return [*found, ("how it ends", (0, "", ""))] if found else []
+
+
+Step = Explain | Run | Take | Serve
+
+
+def left_by_program(file: str, room: str) -> Answers:
+    """What the file holds, and whether what it exports makes the same policy in a new file."""
+    found = run(["export", "--db", file])
+    new = f"{file}-new"
+    again = run(["import", "--db", new, "--batch", "1"], found[1].encode()), run(["export", "--db", new])
+    rows = tables.of_file(file, room)
+    rows["account"] = [
+        (number, CLOCK if is_now(moment) else moment, *rest) for number, moment, *rest in rows["account"]
+    ]
+    return [("export", found), ("the export as the policy of a new file", again), *tables.told(rows).items()]
+
+
+def left_by_model(state: State) -> Answers:
+    exported = 0, state.exported(), ""
+    return [
+        ("export", exported),
+        ("the export as the policy of a new file", ((0, "", ""), exported)),
+        *tables.told(tables.of_state(state)).items(),
+    ]

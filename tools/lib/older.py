@@ -1,0 +1,63 @@
+"""Makes a database of version 1 or 2 with the rows of one of version 3, by the statements of docs/rules/tables.md."""
+import contextlib
+import csv
+import io
+import re
+import sqlite3
+import sys
+
+from lib.places import TOP
+
+# (the three lists of statements: all of version 3, and those in which version 2 and version 1 differ)
+BLOCK = re.compile(r"^```sql\n(.*?)^```$", re.M | re.S)
+TABLE = re.compile(r"^CREATE TABLE (\w+) .*;$", re.M)
+
+
+def statements(version: int) -> dict[str, str]:
+    """The statement of each table of a version, in the order in which they are made."""
+    with open(f"{TOP}/docs/rules/tables.md") as file:
+        lists = BLOCK.findall(file.read().split("\n## The statements\n")[1].split("\n## ")[0])
+    made = {}
+    for one in lists[: 4 - version]:
+        made.update({found[1]: found[0] for found in TABLE.finditer(one)})
+    return made
+
+
+def of_eight_columns(text: str) -> str:
+    """The policy file of a batch without its last two columns, which are empty."""
+    rows = list(csv.reader(io.StringIO(text)))
+    if any(row[8:] != ["", ""] for row in rows[1:]):
+        sys.exit("a batch says what no older version can")
+    made = io.StringIO()
+    csv.writer(made, lineterminator="\n").writerows(row[:8] for row in rows)
+    return made.getvalue()
+
+
+def changed(version: int, table: str, row: dict[str, object]) -> dict[str, object]:
+    """What an older version has in the place of a row."""
+    if table == "meta":
+        return {"version": version}
+    if table == "batches":
+        return {**row, "rows": of_eight_columns(row["rows"])}
+    if row.get("restricted") or table == "entries" and row["console"]:
+        sys.exit("a row says what no older version can")
+    return row
+
+
+def make(version: int, file: str, older: str) -> None:
+    """A database of this version with the rows of one of version 3, in which nobody is RESTRICTED and no entry is at a
+    console."""
+    with (
+        contextlib.closing(sqlite3.connect(f"file:{file}?mode=ro", uri=True)) as new,
+        contextlib.closing(sqlite3.connect(older)) as old,
+    ):
+        new.row_factory = sqlite3.Row
+        for table, statement in statements(version).items():
+            old.execute(statement)
+            columns = [row[1] for row in old.execute(f"PRAGMA table_info({table})")]
+            for row in new.execute(f"SELECT * FROM {table} ORDER BY rowid"):
+                row = changed(version, table, dict(row))
+                old.execute(
+                    f"INSERT INTO {table} VALUES ({', '.join('?' * len(columns))})", [row[column] for column in columns]
+                )
+        old.commit()

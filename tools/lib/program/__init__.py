@@ -1,0 +1,1 @@
+"""The program in a shell: tables of runs, what no table can say, and how both are judged."""

@@ -1,0 +1,172 @@
+"""The parts of tools/program: tables, and what no table can say."""
+import fcntl
+import os
+import shutil
+import socket
+import sqlite3
+import subprocess
+from typing import Callable
+
+from lib import files, older
+from lib.places import HEADER, POLICY, TOP, WIDE_HEADER, built
+from .room import Ran, Room, asked, bytes_of
+
+HELPS = ("--help", "explain --help", "help explain", "run --help", "serve --help")
+# requests that leave rows in every table, with the batch
+SCRIPT = """\
+1 * JOBIN PAY JOB
+2 * JOBIN CICS STC CICSPROD NONCANCEL
+3 * ATTACH 0A80
+4 * ALLOCATE 0A80 PAY
+5 * ASK 07 MOUNT PAY01
+6 * ASK 08 GO OR END
+7 C2 R 08,GO
+8 C2 L 'a line'
+9 C2 MN JOBNAMES
+10 C1 LOGON ANNA,ABC
+11 C2 SE 'a word',USER=(ANNA)
+12 C2 F CICS,STATUS
+13 C2 P CICS
+14 C2 LOGON SECADM,ABC
+15 C1 FORCE PAY
+"""
+BATCH = f"{HEADER}\ngroup,,DAY,,,,,\n"
+UNITS = 1_000  # more than the names that are cached
+
+
+def ended(room: Room, title: str, ran: Ran, status: int = 0, said: str = "") -> None:
+    """Counts how a run ends, and what it says."""
+    room.tally.equal(title, (ran.status, ran.said.decode(errors="backslashreplace")), (status, said))
+
+
+def another_name(room: Room) -> None:
+    """The help names the program, by whatever name and from whatever folder it is called."""
+    os.symlink(os.path.abspath(built()), f"{room.folder}/called-otherwise")
+    for words in HELPS:
+        ran = subprocess.run(["./called-otherwise", *words.split()], cwd=room.folder, capture_output=True)
+        names = b"opcmds" in ran.stdout and b"called-otherwise" not in ran.stdout
+        room.tally.wants(f"help by {words}", (ran.returncode, ran.stderr, names) == (0, b"", True), ran)
+
+
+def wide_policy() -> list[str]:
+    """The lines of the base policy as an export has them, in ten columns."""
+    with open(POLICY, encoding="utf-8") as policy:
+        _, *rows = policy.read().splitlines()
+    return [WIDE_HEADER, *(f"{row},," for row in rows)]
+
+
+def after_batches(line: str) -> list[str]:
+    """What the batches of imports.runs leave in the place of a line of the exported policy."""
+    if line.startswith("group,,NIGHT"):
+        return ["group,,DAY,,,,,,,", line]
+    line = line.replace("console,,C1,,SYS,", "console,,C1,,MASTER,")
+    return [line.replace("console,,C2,,MASTER,", "console,,C2,,ALL,")]
+
+
+def written(room: Room, name: str, lines: list[str]) -> str:
+    """A file of the room with these lines."""
+    path = f"{room.folder}/{name}"
+    with open(path, "w", encoding="utf-8") as file:
+        file.writelines(f"{line}\n" for line in lines)
+    return path
+
+
+def imports(room: Room) -> None:
+    wide = wide_policy()
+    room.values["wide"] = written(room, "wide.csv", wide)
+    room.values["then"] = written(room, "then.csv", [changed for line in wide for changed in after_batches(line)])
+    room.table("imports")
+
+
+def held(room: Room) -> None:
+    """A database and a port that another program holds. The port is looked at after the database."""
+    path = f"{room.folder}/held"
+    with open(path, "w") as file:
+        # the byte that SQLite locks to write
+        fcntl.lockf(file, fcntl.LOCK_EX, 512, 1 << 30)
+        ran = room.run(["run", "--db", path])
+    ended(room, "a database that is in use", ran, 3, f"E91 Store\nopcmds: database {path}: in use by another program\n")
+    with socket.socket() as holder:
+        holder.bind(("127.0.0.1", 0))
+        holder.listen()
+        port = holder.getsockname()[1]
+        ran = room.run(["serve", "--db", f"{room.folder}/served", "--port", str(port)])
+        ended(room, "a port that is in use", ran, 3, f"E91 Store\nopcmds: port {port}: Address already in use\n")
+        ran = room.run(["serve", "--db", room.folder, "--port", str(port)])
+        title = "a database that is a folder, and a port that is in use"
+        ended(room, title, ran, 3, f"E91 Store\nopcmds: database {room.folder}: Is a directory\n")
+
+
+def units(room: Room) -> None:
+    """A display of more names than are cached, twice: each time every line, in order."""
+    script = "".join(f"1 * JOBIN U{at:03} JOB\n" for at in range(UNITS))
+    script += "2 C1 LOGON BERT,ABC\n3 C1 D A,L\n3 C1 D A,L\n"
+    ran = room.run(["run", "--policy", POLICY], script.encode())
+    ended(room, "1,000 units listed twice", ran)
+    listed = [line for line in ran.printed.decode().split("\n") if line.startswith("  ")]
+    wanted = [f"  U{at:03}     JOB ACTIVE" for at in range(UNITS)] * 2
+    room.tally.equal("1,000 units listed twice: each line", listed, wanted)
+
+
+def stored_by_version_2(room: Room) -> None:
+    """A file that a program of version 2 wrote."""
+    path, wide = f"{room.folder}/version-2", written(room, "wide.csv", wide_policy())
+    shutil.copy(f"{TOP}/examples/older/version-2.db", path)
+    printed = room.run(["export", "--db", path]).printed
+    room.tally.equal("a file that version 2 wrote: what is exported", printed, bytes_of(wide))
+    kept = asked(path, "SELECT version FROM meta") + asked(path, "SELECT code FROM account ORDER BY number")
+    room.tally.equal("a file that version 2 wrote: its version and account", kept, "3\nE21\nE20\nWARN\n")
+
+
+def holds(path: str) -> tuple[str, list[tuple], dict[str, list[str]]]:
+    """What SQLite finds wrong with a file, its schema, and all its rows."""
+    faults = asked(path, "PRAGMA integrity_check") + asked(path, "PRAGMA foreign_key_check")
+    base = sqlite3.connect(path)
+    schema = base.execute("SELECT type, name, tbl_name, sql FROM sqlite_master ORDER BY 1, 2").fetchall()
+    base.close()
+    return faults, schema, files.tables(path)
+
+
+def older_files(room: Room) -> None:
+    """Files of older versions: each becomes the file of this version whose rows it has, once."""
+    stored_by_version_2(room)
+    newer = f"{room.folder}/newer"
+    ran = room.run(["run", "--db", newer, "--policy", POLICY], SCRIPT.encode())
+    ended(room, "a file to be copied, with rows in every table", ran, 1)
+    ended(room, "with a batch", room.run(["import", "--db", newer, "--batch", "7", "--console", "C2"], BATCH.encode()))
+    exported = room.run(["export", "--db", newer]).printed
+    for version in (1, 2):
+        of_version(room, version, newer, exported)
+
+
+def of_version(room: Room, version: int, newer: str, exported: bytes) -> None:
+    path, copied, title = f"{room.folder}/older-{version}", f"{room.folder}/copied-{version}", f"version {version}"
+    older.make(version, newer, path)
+    room.tally.equal(f"a file of {title}", asked(path, "SELECT version FROM meta"), f"{version}\n")
+    ran = room.run(["export", "--db", path])
+    ended(room, f"{title} is opened", ran)
+    room.tally.equal(f"{title}: what is exported", ran.printed, exported)
+    shutil.copy(path, copied)
+    room.tally.equal(f"{title}: what the file holds", holds(copied), holds(newer))
+    room.tally.equal(f"{title} is opened again", room.run(["export", "--db", path]).printed, exported)
+    room.tally.wants(f"{title}: nothing is written then", bytes_of(path) == bytes_of(copied))
+    ended(room, f"{title} goes on", room.run(["run", "--db", path], b"6 C2 D A,L\n7 * JOBIN DAY JOB\n"))
+
+
+def table(name: str) -> Callable[[Room], None]:
+    return lambda room: room.table(name)
+
+
+# By the words of the command line; each in a room of its own.
+PARTS: dict[str, Callable[[Room], None]] = {
+    "explain": table("explain"),
+    "name": another_name,
+    "words": table("words"),
+    "scripts": table("scripts"),
+    "files": table("files"),
+    "imports": imports,
+    "databases": table("databases"),
+    "held": held,
+    "units": units,
+    "older": older_files,
+}

@@ -1,0 +1,1 @@
+"""The steps of the full and of the quick test."""

@@ -1,0 +1,62 @@
+"""The quick test: what can be tried without a proof, of the program that tools/unproved compiles."""
+import concurrent.futures
+import subprocess
+import threading
+import time
+
+from gate import kit
+from .steps import Step
+
+# What needs no program is tried while it is compiled.
+WITHOUT_PROGRAM = {
+    "layout": ["tools/layout"],
+    "selftest": ["tools/selftest"],
+}
+# Those that take longest come first.
+WITH_PROGRAM = {
+    "serve": ["tools/serve"],
+    "model": ["tools/model"],
+    "stops": ["tools/stops", "--most", "12"],
+    "databases": ["tools/databases"],
+    "cases": ["tools/cases"],
+    "scripts": ["tools/scripts"],
+    "program": ["tools/program"],
+}
+
+
+class Quick:
+    def __init__(self, top: str) -> None:
+        self.top, self.passed, self.failed = top, 0, 0
+        self.program = f"{top}/crates/opcmds/out/unproved/opcmds"
+        self.turn, self.began = threading.Lock(), time.monotonic()
+
+    def step(self, title: str, words: list[str]) -> None:
+        """Runs a tool, and prints all that it printed at its end, since others run beside it."""
+        lines = []
+        ran = Step(words, self.top, lines.append, {"OPCMDS": self.program})
+        with self.turn:
+            self.passed, self.failed = self.passed + ran.passed, self.failed + ran.failed
+            print(f"{''.join(lines)}{title}: {ran.counts()}, in {ran.seconds:.0f} seconds", flush=True)
+
+    def compiled(self) -> bool:
+        """Compiles the program where it is not that of these sources; says whether it is there."""
+        began = time.monotonic()
+        is_made = subprocess.run(["tools/unproved"], cwd=self.top, stdin=subprocess.DEVNULL).returncode == 0
+        with self.turn:
+            print(f"{'compiled' if is_made else 'not compiled'}, in {time.monotonic() - began:.0f} seconds", flush=True)
+        return is_made
+
+    def run(self) -> int:
+        """Runs as many steps side by side as there are processors."""
+        with concurrent.futures.ThreadPoolExecutor(kit.processors()) as pool:
+            compiling = pool.submit(self.compiled)
+            running = [pool.submit(self.step, *step) for step in WITHOUT_PROGRAM.items()]
+            if compiling.result():
+                running += [pool.submit(self.step, *step) for step in WITH_PROGRAM.items()]
+            else:
+                self.failed += 1
+            for step in running:
+                step.result()
+        print(f"nothing was proved: tools/test proves everything. {(time.monotonic() - self.began) / 60:.1f} minutes")
+        print(f"{self.passed} passed, {self.failed} failed", flush=True)
+        return 1 if self.failed else 0

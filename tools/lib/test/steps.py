@@ -1,0 +1,34 @@
+"""One step of a test: a tool whose last line says how many of its checks passed and how many failed."""
+import os
+import re
+import subprocess
+import time
+from typing import Callable
+
+COUNTS = re.compile(r"(\d+) passed, (\d+) failed")
+
+
+class Step:
+    """A tool that ran in a folder. `heard` is given each line but the counts, as it comes."""
+
+    def __init__(
+        self, words: list[str], folder: str, heard: Callable[[str], object], environment: dict[str, str] | None = None
+    ) -> None:
+        began, counts = time.monotonic(), None
+        how = {
+            "stdin": subprocess.DEVNULL, "stdout": subprocess.PIPE, "stderr": subprocess.STDOUT, "text": True,
+            "errors": "replace",
+        }
+        how["env"] = {**os.environ, **(environment or {})}
+        with subprocess.Popen(words, cwd=folder, **how) as ran:
+            for line in ran.stdout:
+                found = COUNTS.fullmatch(line.strip())
+                counts = found or counts
+                if not found:
+                    heard(line)
+        self.passed, self.failed = map(int, counts.groups()) if counts else (0, 1)
+        self.failed += ran.returncode != 0 and self.failed == 0
+        self.seconds = time.monotonic() - began
+
+    def counts(self) -> str:
+        return f"{self.passed} passed, {self.failed} failed"

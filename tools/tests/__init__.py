@@ -1,0 +1,1 @@
+"""Tests of the repository's own texts: tools/selftest runs them."""

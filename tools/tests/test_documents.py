@@ -1,0 +1,116 @@
+"""The documents: links lead to files and headings that are there, names in them are names of the code, the picture of
+the layers is that of crates.txt, decisions are numbered and short, scripts of examples/ have a line in its index, and
+what README shows of runs is what is stored of them."""
+import os
+import re
+import subprocess
+import unittest
+
+TOP = os.path.dirname(os.path.dirname(os.path.dirname(os.path.abspath(__file__))))
+LINK = re.compile(r"\]\(([^)\s]+)\)")
+BLOCK = re.compile(r"(?ms)^```.*?^```")
+QUOTED = re.compile(r"`([^`\n]+)`")
+NAME = re.compile(r"\b(?:[a-z]+_[a-z_]+|[A-Z][a-z]+(?:[A-Z][a-z]*)+)\b")
+LONGEST_REASON = 60
+
+
+def text_of(path: str) -> str:
+    with open(path, encoding="utf-8") as it:
+        return it.read()
+
+
+def documents() -> list[str]:
+    folders = [TOP, f"{TOP}/docs", f"{TOP}/examples"]
+    for folder, below, _ in os.walk(f"{TOP}/docs"):
+        folders += [os.path.join(folder, it) for it in below]
+    return [f"{folder}/{name}" for folder in folders for name in sorted(os.listdir(folder)) if name.endswith(".md")]
+
+
+def anchors_of(path: str) -> set[str]:
+    """The anchors that a page has, as they are made of its headings."""
+    found: dict[str, int] = {}
+    anchors = set()
+    for heading in re.findall(r"(?m)^#+ +(.*?)\s*$", BLOCK.sub("", text_of(path))):
+        plain = re.sub(r"\[([^]]*)\]\([^)]*\)", r"\1", heading).lower()
+        name = re.sub(r"[^\w\- ]", "", plain).replace(" ", "-")
+        anchors.add(f"{name}-{found[name]}" if name in found else name)
+        found[name] = found.get(name, 0) + 1
+    return anchors
+
+
+def broken_in(path: str) -> list[str]:
+    broken = []
+    for link in LINK.findall(BLOCK.sub("", text_of(path))):
+        if "://" in link:
+            continue
+        file, _, anchor = link.partition("#")
+        there = os.path.normpath(os.path.join(os.path.dirname(path), file)) if file else path
+        if not os.path.exists(there) or anchor and anchor not in anchors_of(there):
+            broken.append(f"{os.path.relpath(path, TOP)}: {link}")
+    return broken
+
+
+def names_of_the_code() -> set[str]:
+    """The words of the sources, and of the names of their files and folders."""
+    names = set()
+    for top in (f"{TOP}/crates", f"{TOP}/tools", f"{TOP}/examples"):
+        for folder, below, files in os.walk(top):
+            below[:] = [it for it in below if it not in ("out", "__pycache__")]
+            names.update(re.findall(r"\w+", " ".join([*below, *files])))
+            for file in files:
+                if not file.endswith((".db", ".pyc")):
+                    names.update(re.findall(r"\w+", text_of(f"{folder}/{file}")))
+    return names
+
+
+def unknown_in(path: str, known: set[str]) -> list[str]:
+    """The files and names that stand in backticks and are nowhere. What a check makes, in out/, is not looked for."""
+    unknown = []
+    for quoted in QUOTED.findall(BLOCK.sub("", text_of(path))):
+        path_in = f"crates/{quoted}" if quoted.startswith("opc_") else quoted
+        is_path = re.fullmatch(r"(?:tools|examples|docs|crates/\w+)/[\w./-]*\w", path_in) and "/out/" not in path_in
+        if is_path and "NAME" not in path_in and not os.path.exists(f"{TOP}/{path_in}"):
+            unknown.append(f"{os.path.relpath(path, TOP)}: {quoted}")
+        if not quoted.startswith("out/"):
+            unknown += [f"{os.path.relpath(path, TOP)}: {it}" for it in NAME.findall(quoted) if it not in known]
+    return unknown
+
+
+def is_index_complete(folder: str, ending: str, index: str) -> list[str]:
+    names = [it[: -len(ending)] for it in sorted(os.listdir(folder)) if it.endswith(ending)]
+    return [it for it in names if f"`{it}`" not in index]
+
+
+class Documents(unittest.TestCase):
+    maxDiff = None
+
+    def test_links_hold(self) -> None:
+        self.assertEqual([it for path in documents() for it in broken_in(path)], [])
+
+    def test_names_are_those_of_the_code(self) -> None:
+        known = names_of_the_code()
+        self.assertEqual([it for path in documents() for it in unknown_in(path, known)], [])
+
+    def test_anchors_are_those_of_headings(self) -> None:
+        self.assertIn("where-is-it-decided", anchors_of(f"{TOP}/docs/ARCHITECTURE.md"))
+
+    def test_layers_are_drawn(self) -> None:
+        self.assertEqual(subprocess.run([f"{TOP}/tools/layers", "--check"], stdout=subprocess.DEVNULL).returncode, 0)
+
+    def test_decisions_are_numbered_and_short(self) -> None:
+        found = re.findall(r"(?m)^(\d+)\. \*\*(.+?)\*\* ?(.*)$", text_of(f"{TOP}/docs/DECISIONS.md"))
+        self.assertEqual([int(number) for number, _, _ in found], list(range(1, len(found) + 1)))
+        self.assertEqual([number for number, _, reason in found if len(reason.split()) > LONGEST_REASON], [])
+
+    def test_each_script_is_in_the_index(self) -> None:
+        index = text_of(f"{TOP}/examples/README.md")
+        self.assertEqual(is_index_complete(f"{TOP}/examples/scripts", ".script", index), [])
+
+    def test_readme_shows_stored_runs(self) -> None:
+        readme, tour = text_of(f"{TOP}/README.md"), f"{TOP}/examples/scripts/tour"
+        rows = re.findall(r"(?m)^\| `(\d+ .*?)` \| `(\d+ .*?)` \|", readme)
+        self.assertEqual([line for line, _ in rows], text_of(f"{tour}.script").splitlines())
+        self.assertEqual([answer for _, answer in rows], text_of(f"{tour}.printed").splitlines())
+        account = [it.split(" ", 5) for it in text_of(f"{tour}.account").splitlines()]
+        self.assertIn("FROM account'\n" + "".join("|".join(it) + "\n" for it in account) + "```", readme)
+        self.assertIn("base-policy.csv\n" + text_of(f"{TOP}/crates/opcmds/stdout") + "```", readme)

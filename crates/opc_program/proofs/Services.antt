@@ -1,46 +1,50 @@
 -- What a service comes to, over tables with a cache and over the tables alone.
-use Rattle.std.proofs.Common.{◌≡◌, ◌<◌, ◌≤◌, ℕ, Result, Ok, Err, ap, arith, subst, sym}
-use Rattle.std.specs.Prelude.{OnErr, OnOk}
+use Rattle.std.proofs.Common.{◌≡◌, inl, inr, ℕ, List, Option, Result, ap, subst, sym}
+use Rattle.std.specs.Prelude.{Bool}
+use Rattle.std.specs.declared.net.socket_addr.SocketAddr.{SocketAddr}
+use Rattle.std.specs.declared.time.Duration.{Duration}
 use Rattle.opc_state.specs.State.{State}
 use Rattle.opc_serve.specs.declared.arrival.ServeFault.{ServeFault}
-use Rattle.opc_serve.specs.Handled.{AreHandled, handled_of}
-use Rattle.opc_serve.proofs.Clients.{begins}
+use Rattle.opc_serve.specs.Handled.{AreHandled, Handled, IsRunOf}
+use Rattle.opc_failures.specs.declared.failure.Failure.{Failure}
 use Rattle.opc_failures.specs.declared.status.Status.{Status}
-use Rattle.opc_failures.specs.declared.status.Status.TheVariants.{BadInput, Done, Failed, Refused}
-use Rattle.opc_program.specs.Services.{IsService, status_of_service}
+use Rattle.opc_words.specs.declared.serve.Serve.{Serve}
+use Rattle.opc_program.specs.Listening.{Listens, SaysWhere}
+use Rattle.opc_program.specs.Services.{IsServiceAfter}
 use Rattle.opc_program.proofs.Uncached.{run}
 
-module _ {T : Type 0} (is_sure : T → Type 0) (represents may_leave : T → State → Type 0) (count : ℕ) where
-  failed : (old new : T) (status : Status) → status ≡ Failed → ((some : ℕ) × (some ≤ count) × AreHandled is_sure represents may_leave old new some) → IsService is_sure represents may_leave old new count status
-  failed old new status e some = subst (λ s. IsService is_sure represents may_leave old new count s) (sym e) some
-
-  -- it failed before its first client
-  pub not_begun : (now : T) (status : Status) → status ≡ Failed → IsService is_sure represents may_leave now now count status
-  not_begun now status e = failed now now status e (0, omega arith, begins is_sure represents may_leave now)
-
-  pub service : {A : Type 0} (old new : T) (served : Result A ServeFault) (status : Status) → status ≡ status_of_service served
-      → OnOk served (AreHandled is_sure represents may_leave old new count) → OnErr served ((some : ℕ) × (some < count) × AreHandled is_sure represents may_leave old new some)
-      → IsService is_sure represents may_leave old new count status
-  service old new (Ok all) status e every some = subst (λ s. IsService is_sure represents may_leave old new count s) (sym e) every
-  service old new (Err fault) status e every some = failed old new status e (some.0, (let low = some.1 in omega (arith, low)), some.2)
+pub says_where : {P L : Type 0} (binds : P → SocketAddr → L → Type 0) (is_at : P → L → SocketAddr → Type 0) (ports : P) (asked : ℕ) (before after : Option (List ℕ))
+    → Listens binds is_at ports asked before after → SaysWhere before after
+says_where binds is_at ports asked before after told = (told.1.port, told.1.told)
 
 -- `tables` are those below the cache. What both represent in the end the tables represent, and what the tables represent
 -- at first both do.
 module _ {T C : Type 0} (tables : C → T) (is_sure : T → Type 0) (represents may_leave : T → State → Type 0) (kept : C → State → Type 0)
     (below : (c : C) (s : State) → kept c s → represents (tables c) s) (old new : C) (above : (s : State) → represents (tables old) s → kept old s) where
-  clients : (some : ℕ) → AreHandled (λ c. is_sure (tables c)) kept (λ c s. may_leave (tables c) s) old new some → AreHandled is_sure represents may_leave (tables old) (tables new) some
-  clients some are = record {
-    clients = are.clients;
-    each = are.each;
-    moments = are.moments;
-    answers = are.answers;
-    run = λ is s h. run tables is_sure represents may_leave kept below old new above s (handled_of are.clients) are.answers (are.run is s (above s h));
-    idle = λ none. ap tables (are.idle none);
+  requests : (handled : Handled) → IsRunOf (λ c. is_sure (tables c)) kept (λ c s. may_leave (tables c) s) old new handled → IsRunOf is_sure represents may_leave (tables old) (tables new) handled
+  requests handled were = record {
+    moments = were.moments;
+    run = λ is s h. run tables is_sure represents may_leave kept below old new above s handled.requests handled.answers (were.run is s (above s h));
+    idle = λ none. ap tables (were.idle none);
   }
 
-  pub uncached : (count : ℕ) (status : Status) → IsService (λ c. is_sure (tables c)) kept (λ c s. may_leave (tables c) s) old new count status
-      → IsService is_sure represents may_leave (tables old) (tables new) count status
-  uncached count Done are = clients count are
-  uncached count Failed some = (some.0, some.1, clients some.0 some.2)
-  uncached count Refused none = absurd none
-  uncached count BadInput none = absurd none
+  module _ {S : Type 0} (limits : S → Duration → Bool → Type 0) (remaining contents : S → Option (List ℕ)) where
+    clients : {A : Type 0} (timeout : Option Duration) (count : ℕ) (served : Result A ServeFault)
+        → AreHandled (λ c. is_sure (tables c)) kept (λ c s. may_leave (tables c) s) limits remaining contents timeout old new count served
+        → AreHandled is_sure represents may_leave limits remaining contents timeout (tables old) (tables new) count served
+    clients timeout count served are = record { handled = are.handled; served = are.served; run = requests are.handled are.run }
+
+    uncached : (serve : Serve) (end : Result Status Failure) (said wanted : Type 0) → (said → wanted)
+        → IsServiceAfter (λ c. is_sure (tables c)) kept (λ c s. may_leave (tables c) s) limits remaining contents old new serve end said
+        → IsServiceAfter is_sure represents may_leave limits remaining contents (tables old) (tables new) serve end wanted
+    uncached serve end said wanted says (inl none) = inl (record { failed = none.failed; same = ap tables none.same })
+    uncached serve end said wanted says (inr (told, are)) =
+        inr (says told, record { served = are.served; handled = clients serve.timeout serve.count are.served are.handled; ends = are.ends })
+
+    -- the same over tables that are these
+    pub handed_back : (first last : T) → tables old ≡ first → last ≡ tables new → (serve : Serve) (end : Result Status Failure) (said wanted : Type 0) → (said → wanted)
+        → IsServiceAfter (λ c. is_sure (tables c)) kept (λ c s. may_leave (tables c) s) limits remaining contents old new serve end said
+        → IsServiceAfter is_sure represents may_leave limits remaining contents first last serve end wanted
+    handed_back first last is was serve end said wanted says service =
+        subst (λ (t : T). IsServiceAfter is_sure represents may_leave limits remaining contents t last serve end wanted) is
+        (subst (λ (t : T). IsServiceAfter is_sure represents may_leave limits remaining contents (tables old) t serve end wanted) (sym was) (uncached serve end said wanted says service))

@@ -1,9 +1,10 @@
 -- What a work of the program does over tables.
-use Rattle.std.specs.Prelude.{◌≡◌, ◌≤◌, ◌⊎◌, ℕ, List, Option, Result, IsErrAnd}
+use Rattle.std.specs.Prelude.{◌≡◌, ◌≤◌, ◌⊎◌, ℕ, Bool, List, Option, Result, IsErrAnd}
+use Rattle.std.specs.declared.time.Duration.{Duration}
 use Rattle.opc_state.specs.State.{State}
 use Rattle.opc_failures.specs.declared.failure.Failure.{Failure}
 use Rattle.opc_failures.specs.declared.status.Status.{Status}
-use Rattle.opc_failures.specs.Statuses.{IsFailure, status_of_end}
+use Rattle.opc_failures.specs.Statuses.{IsFailure}
 use Rattle.opc_http_link.specs.declared.watched.Watched.{Watched}
 use Rattle.opc_serve.specs.declared.clock.TheConstants.{LAST_MOMENT}
 use Rattle.opc_words.specs.declared.import.Import.{Import}
@@ -20,9 +21,10 @@ module _ {T : Type 0} (is_sure : T → Type 0) (represents may_leave : T → Sta
       (IsErrAnd end (λ failure. IsFailure failure.fault) × (new ≡ old) × (written ≡ before))
       ⊎ ((moment : ℕ) × (moment ≤ LAST_MOMENT) × IsImport is_sure represents may_leave old new end (λ (w : Watched W). contents w.inner) (λ (w : Watched W). w.failed) before written left moment import)
 
-  -- Each work does what is said of it alone. `holds` says what the file at a path holds, where that is known.
-  abbrev pub IsDone : (holds : List ℕ → Option (List ℕ)) → Work → Type 0
-  IsDone holds (work.Run policy) = IsProgramRun is_sure represents may_leave (λ (w : Watched W). contents w.inner) (λ (w : Watched W). w.failed) holds old new policy left before written end
-  IsDone holds (work.Import import) = IsImportNow import
-  IsDone holds work.Export = IsExport is_sure represents may_leave old new end (λ (w : Watched W). contents w.inner) (λ (w : Watched W). w.failed) before written
-  IsDone holds (work.Serve serve) = IsService is_sure represents may_leave old new serve.count (status_of_end end)
+  -- Each work does what is said of it alone. `limits`, `remaining` and `taken` say of a client's connection whether its waits
+  -- are limited, what it has left and what it took, where that is known; `holds` what the file at a path holds.
+  abbrev pub IsDone : {C : Type 0} → (limits : C → Duration → Bool → Type 0) → (remaining taken : C → Option (List ℕ)) → (holds : List ℕ → Option (List ℕ)) → Work → Type 0
+  IsDone limits remaining taken holds (work.Run policy) = IsProgramRun is_sure represents may_leave (λ (w : Watched W). contents w.inner) (λ (w : Watched W). w.failed) holds old new policy left before written end
+  IsDone limits remaining taken holds (work.Import import) = IsImportNow import
+  IsDone limits remaining taken holds work.Export = IsExport is_sure represents may_leave old new end (λ (w : Watched W). contents w.inner) (λ (w : Watched W). w.failed) before written
+  IsDone limits remaining taken holds (work.Serve serve) = IsService is_sure represents may_leave limits remaining taken old new serve end (contents before.inner) (contents written.inner)

@@ -1,9 +1,8 @@
 //! `opcmds serve`: the gate on loopback, over HTTP.
-ghost use Rattle.std.specs.Prelude.{◌≡◌};
-ghost use Rattle.opc_failures.specs.Statuses.{status_of_end};
-ghost use Rattle.opc_program.specs.Services.{IsService, status_of_service};
+ghost use Rattle.opc_program.specs.Listening.{Listens};
+ghost use Rattle.opc_program.specs.Services.{IsEndOfService, IsService, IsServiceAfter};
 
-use crate::listening::{System, open_port};
+use crate::listening::{Ports, System, open_port};
 use opc_failures::failure::{Failure, Place};
 use opc_failures::status::Status;
 use opc_gate::gate::Gate;
@@ -15,13 +14,12 @@ use opc_state::tables::Tables;
 use opc_terms::fault::Fault;
 use opc_words::serve::Serve;
 use std::io::Write;
-use std::net::Net;
+use std::net::{Net, OpenListener};
 use std::rt::Clock;
 
 /// What the program makes of a service.
-#[tactic(auto, using(opc_failures::proofs::Faults::streams_fail))]
 fn ended(served: Result<(), ServeFault>) -> Result<Status, Failure>
-    ensures { status_of_end result ≡ status_of_service served }
+    ensures { IsEndOfService served result }
 {
     match served {
         Ok(()) => Ok(Status::Done),
@@ -40,30 +38,33 @@ pub fn serve_tables<H: AllocGlobal + Clock + Net, T: Tables, W: Write>(
 where
     H::Stream: Connection,
     ensures sure { T.is_sure result.1 → T.is_sure tables }
-    ensures serves { IsService T.is_sure T.represents T.may_leave tables result.1 serve.now.count (status_of_end result.0) }
+    ensures serves { IsService T.is_sure T.represents T.may_leave H.Stream.limits H.Stream.remaining H.Stream.contents tables result.1 serve.now result.0 (W.contents output.old) (W.contents output.new) }
 {
     let mut gate = match Gate::new(rt.alloc(), tables) {
         Ok(gate) => gate,
         Err((fault, tables)) => return (Err(Failure::from(fault)), tables),
     };
-    let end = serve_over(rt, &mut gate, serve, output);
+    let end = serve_at(rt, &System { net: rt }, &mut gate, serve, output);
     (end, gate.into_store())
 }
 
-fn serve_over<H: AllocGlobal + Clock + Net, T: Tables, W: Write>(
+/// Serves clients at a port over a gate.
+fn serve_at<H: AllocGlobal + Clock, P: Ports<Listener = L>, L: OpenListener, T: Tables, W: Write>(
     rt: &H,
+    ports: &P,
     gate: &mut Gate<T>,
     serve: &Serve<'_>,
     output: &mut W,
 ) -> Result<Status, Failure>
 where
-    H::Stream: Connection,
+    L: Drop,
+    L::Stream: Connection,
     ensures sure { T.is_sure gate.new → T.is_sure gate.old }
-    ensures serves { IsService T.is_sure T.represents T.may_leave gate.old gate.new serve.now.count (status_of_end result) }
+    ensures serves { IsServiceAfter T.is_sure T.represents T.may_leave L.Stream.limits L.Stream.remaining L.Stream.contents gate.old gate.new serve.now result (Listens P.binds P.is_at ports.now serve.now.port (W.contents output.old) (W.contents output.new)) }
 {
     let Ok(routes) = Routes::new(rt.alloc()) else {
         return Err(Failure::from(Fault::NoMemory));
     };
-    let listener = open_port(&System { net: rt }, serve.port, output)?;
+    let listener = open_port(ports, serve.port, output)?;
     ended(serve_on(rt, &listener, serve.count, serve.timeout, &routes, gate))
 }

@@ -41,7 +41,7 @@ pub fn work_on<H: AllocGlobal + Clock + Net + Openings, T: Tables, R: Read, W: W
 where
     H::Stream: Connection,
     ensures sure { T.is_sure result.1 → T.is_sure tables }
-    ensures done { IsDone T.is_sure T.represents T.may_leave W.contents tables result.1 (R.remaining input.old) output.old output.new result.0 (H.holds rt.now) work.now }
+    ensures done { IsDone T.is_sure T.represents T.may_leave W.contents tables result.1 (R.remaining input.old) output.old output.new result.0 H.Stream.limits H.Stream.remaining H.Stream.contents (H.holds rt.now) work.now }
 {
     match work {
         Work::Run(policy) => run_on(rt, tables, *policy, input, output),

@@ -1,5 +1,5 @@
 -- Clients, served one after another.
-use Rattle.std.specs.Prelude.{◌≡◌, ◌<◌, ◌⊎◌, ℕ, zero, suc, List, Option, Result, Err, IsSome, ⊤}
+use Rattle.std.specs.Prelude.{◌≡◌, ◌<◌, ◌⊎◌, ℕ, zero, suc, Bool, true, false, List, Option, Result, Ok, Err, IfSome, IsSomeAnd, ⊤}
 use Rattle.std.specs.declared.io.Error.{Error}
 use Rattle.std.specs.declared.time.Duration.{Duration}
 use Rattle.opc_http.specs.declared.exchange.LinkFault.{LinkFault}
@@ -8,17 +8,18 @@ use Rattle.opc_serve.specs.declared.arrival.Arrival.{Arrival}
 use Rattle.opc_serve.specs.declared.arrival.ServeFault.{ServeFault}
 use Rattle.opc_serve.specs.Arriving.{Arrives, IsArrival}
 
-module _ {C G : Type 0} (is_unlimited : C → Type 0) (remaining contents : C → Option (List ℕ))
+module _ {C G : Type 0} (limits : C → Duration → Bool → Type 0) (remaining contents : C → Option (List ℕ))
     (exchanged : G → Option (List ℕ) → ℕ → Option (List ℕ) → Option (List ℕ) → Result Served LinkFault → G → Type 0) (timeout : Option Duration) where
-  -- One exchange was made over the client's connection, at its moment, and nothing else was written to it.
+  -- One exchange was made over the client's connection, at its moment, and nothing else was written to it. Where a timeout
+  -- is given, waits were limited to it.
   pub record IsExchanged (came gone : Arrival C) (old new : G) : Type 0 where
+    pub limited : IfSome timeout (λ longest. limits came.reader.inner longest true)
     pub ended : Result Served LinkFault
     pub made : exchanged old (remaining came.reader.inner) came.moment (contents came.writer.inner) (contents gone.writer.inner) ended new
 
   -- Waits were to be limited and could not be. Nothing was done.
   pub record IsUnlimited (came gone : Arrival C) (old new : G) : Type 0 where
-    pub asked : IsSome timeout
-    pub failed : is_unlimited came.reader.inner
+    pub failed : IsSomeAnd timeout (λ longest. limits came.reader.inner longest false)
     pub same : gone ≡ came
     pub idle : new ≡ old
 
@@ -43,5 +44,14 @@ module _ {C G : Type 0} (is_unlimited : C → Type 0) (remaining contents : C �
       pub failed : Arrives accepts tells met (Err fault) last
 
   -- So many clients were served, wherever they came from.
-  abbrev pub ServesClients : G → ℕ → G → Type 0
-  ServesClients old count new = AreServed {D = ⊤} (λ _ _ _. ⊤) (λ _ _ _. ⊤) tt old count tt new
+  abbrev pub ServesAll : G → ℕ → G → Type 0
+  ServesAll old count new = AreServed {D = ⊤} (λ _ _ _. ⊤) (λ _ _ _. ⊤) tt old count tt new
+
+  -- Fewer were, and then none could be taken.
+  abbrev pub ServesFewer : G → ℕ → ServeFault → G → Type 0
+  ServesFewer old count fault new = IsCutShort {D = ⊤} (λ _ _ _. ⊤) (λ _ _ _. ⊤) tt old count fault tt new
+
+  -- What serving so many clients comes to.
+  abbrev pub ServesClients : {A : Type 0} → G → ℕ → Result A ServeFault → G → Type 0
+  ServesClients old count (Ok all) new = ServesAll old count new
+  ServesClients old count (Err fault) new = ServesFewer old count fault new

@@ -1,5 +1,5 @@
 //! Clients served one after another.
-ghost use Rattle.std.specs.Prelude.{◌<◌, ℕ, IfErr, OnErr, OnOk};
+ghost use Rattle.std.specs.Prelude.{◌≡◌, IfErr, IfSome, IsSomeAnd, OnOk, false, true};
 ghost use Rattle.opc_serve.specs.Handled.{AreHandled, IsExchange};
 ghost use Rattle.opc_serve.specs.Serving.{AreServed, IsCutShort, IsServed, ServesClients};
 
@@ -17,6 +17,17 @@ use std::net::OpenListener;
 use std::rt::Clock;
 use std::time::Duration;
 
+/// Limits how long a client is waited for, if that is wanted; whether that could be done.
+fn limit<C: Connection>(client: &C, timeout: Option<Duration>) -> bool
+    ensures limited { result ≡ true → IfSome timeout (λ longest. C.limits client.now longest true) }
+    ensures unlimited { result ≡ false → IsSomeAnd timeout (λ longest. C.limits client.now longest false) }
+{
+    match timeout {
+        Some(longest) => client.limit_waits(longest).is_ok(),
+        None => true,
+    }
+}
+
 /// One exchange with a client, and the end of its connection. A peer whose silence was to be limited and can't be is not
 /// waited for.
 fn serve_client<C: Connection, X: Exchanges>(
@@ -26,12 +37,10 @@ fn serve_client<C: Connection, X: Exchanges>(
     routes: &Routes,
     gate: &mut X,
 )
-    ensures { IsServed C.is_unlimited C.remaining C.contents X.exchanged timeout client.old client.new gate.old gate.new }
+    ensures { IsServed C.limits C.remaining C.contents X.exchanged timeout client.old client.new gate.old gate.new }
 {
-    if let Some(longest) = timeout {
-        if client.reader.inner.limit_waits(longest).is_err() {
-            return;
-        }
+    if !limit(&client.reader.inner, timeout) {
+        return;
     }
     let moment = client.moment;
     let served = gate.serve_one(
@@ -56,8 +65,8 @@ pub fn serve<A: Arrivals, X: Exchanges>(
     routes: &Routes,
     gate: &mut X,
 ) -> Result<(), ServeFault>
-    ensures done { OnOk result (AreServed A.Connection.is_unlimited A.Connection.remaining A.Connection.contents X.exchanged timeout A.accepts A.tells arrivals.old gate.old count arrivals.new gate.new) }
-    ensures ended { IfErr result (λ fault. IsCutShort A.Connection.is_unlimited A.Connection.remaining A.Connection.contents X.exchanged timeout A.accepts A.tells arrivals.old gate.old count fault arrivals.new gate.new) }
+    ensures done { OnOk result (AreServed A.Connection.limits A.Connection.remaining A.Connection.contents X.exchanged timeout A.accepts A.tells arrivals.old gate.old count arrivals.new gate.new) }
+    ensures ended { IfErr result (λ fault. IsCutShort A.Connection.limits A.Connection.remaining A.Connection.contents X.exchanged timeout A.accepts A.tells arrivals.old gate.old count fault arrivals.new gate.new) }
 {
     for _client in 0..count {
         let mut client = next(arrivals)?;
@@ -78,9 +87,8 @@ pub fn serve_on<H: AllocGlobal + Clock, L: OpenListener, T: Tables>(
 where
     L::Stream: Connection,
     ensures sure { T.is_sure gate.new → T.is_sure gate.old }
-    ensures done { OnOk result (AreHandled T.is_sure T.represents T.may_leave gate.old gate.new count) }
-    ensures served { OnOk result (ServesClients L.Stream.is_unlimited L.Stream.remaining L.Stream.contents (IsExchange T.is_sure T.represents T.may_leave) timeout gate.old count gate.new) }
-    ensures ended { OnErr result ((done : ℕ) × (done < count) × AreHandled T.is_sure T.represents T.may_leave gate.old gate.new done) }
+    ensures handled { AreHandled T.is_sure T.represents T.may_leave L.Stream.limits L.Stream.remaining L.Stream.contents timeout gate.old gate.new count result }
+    ensures served { ServesClients L.Stream.limits L.Stream.remaining L.Stream.contents (IsExchange T.is_sure T.represents T.may_leave) timeout gate.old count result gate.new }
 {
     let mut door = Door::new(rt, listener);
     serve(rt.alloc(), &mut door, count, timeout, routes, gate)

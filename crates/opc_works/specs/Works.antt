@@ -1,6 +1,7 @@
 -- A work over the tables of a database file, from its opening to its closing, and a run over tables in memory.
-use Rattle.std.specs.Prelude.{◌≡◌, ◌⊎◌, ℕ, Bool, List, Option, None, Result, IfOk, IsErrAnd, IsTrue}
+use Rattle.std.specs.Prelude.{◌≡◌, ◌⊎◌, ℕ, Bool, List, Option, None, Result, IfOk, IsErrAnd, IsTrue, ⊤}
 use Rattle.std.specs.Borrow.{Bor}
+use Rattle.std.specs.declared.net.tcp.TcpStream.{TcpStream}
 use Rattle.sqlite_disk.specs.declared.Disk as disk
 use Rattle.sqlite_disk.specs.declared.Files.{Files}
 use Rattle.sqlite_store.specs.declared.store.FileStore.{FileStore}
@@ -46,13 +47,13 @@ module _ {D : Type 0} {g : disk.Ghosts D} where
       × IfOk closed (λ files. AreClean g files.log files.db → IsCopied last files)
 
   -- The work was done over the tables that were opened, and the file was closed over what it left. Of what the files of the
-  -- system hold nothing is known.
+  -- system hold nothing is known, nor of what bytes come and go over its connections.
   pub record IsWorkAt {W : Type 0} (contents : W → Option (List ℕ)) (image : Image) (work : Work) (left : Option (List ℕ)) (before written : Watched W) (end : Result Status Failure) (closed : Result (Files D) (Error × FileStore D g)) : Type 0 where
     pub opened : Held (FileStore D g)
     pub last : Held (FileStore D g)
     pub opening : IsOpening image opened
     pub sure : IsSure over_files last → IsSure over_files opened
-    pub done : IsDone (IsSure over_files) (RepresentsIfOpen over_files) (MayLeave over_files) contents opened last left before written end (λ path. None) work
+    pub done : IsDone (IsSure over_files) (RepresentsIfOpen over_files) (MayLeave over_files) contents opened last left before written end {C = TcpStream} (λ _ _ _. ⊤) (λ _. None) (λ _. None) (λ path. None) work
     pub ends : IsEnd last closed
 
 -- The program ran over new tables in memory, those of an empty state. Or there was no memory for them, and nothing was run.

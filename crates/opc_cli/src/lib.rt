@@ -2,6 +2,8 @@
 #![tactic(auto)]
 
 mod database;
+pub mod script;
+pub mod service;
 
 use crate::database::reason_at;
 use opc_failures::failure::{Failure, Paths, Place, told};

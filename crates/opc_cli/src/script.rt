@@ -1,0 +1,37 @@
+//! A script over a gate, with the number that a program ends with.
+ghost use Rattle.std.specs.Prelude.{◌≡◌};
+ghost use Rattle.opc_failures.specs.Statuses.{number_of};
+ghost use Rattle.opc_cli.specs.Calls.{IsScript, status_of_script};
+
+use opc_failures::status::Status;
+use opc_gate::gate::Gate;
+use opc_http_link::sink::Sink;
+use opc_script::run;
+use opc_script::script::ScriptFault;
+use opc_state::tables::Tables;
+use std::alloc::Global;
+
+/// Runs a script over a gate, and writes the transcript of its answers. The number is 0 where all is done, 1 where anything
+/// was refused, 2 where a line is bad, which is written, and nothing is run; and 3 where there was no memory, or the tables or
+/// the output failed.
+pub fn run_script<T: Tables, K: Sink>(
+    alloc: Global,
+    gate: &mut Gate<T>,
+    script: &str,
+    output: &mut K,
+) -> u8
+    ensures sure { T.is_sure gate.new → T.is_sure gate.old }
+    ensures ran { IsScript T.is_sure T.represents T.may_leave gate.old gate.new K.held K.has_failed script.now output.old output.new result }
+{
+    number_of(run::run_script(gate, alloc, script, output))
+}
+
+fn number_of(ran: Result<Status, ScriptFault>) -> u8
+    ensures { result ≡ number_of (status_of_script ran) }
+{
+    match ran {
+        Ok(status) => status.number(),
+        Err(ScriptFault::BadLine(_)) => Status::BadInput.number(),
+        Err(ScriptFault::NoMemory | ScriptFault::Output(_)) => Status::Failed.number(),
+    }
+}

@@ -1,0 +1,40 @@
+//! A service over a gate, with the number that a program ends with.
+ghost use Rattle.std.specs.Prelude.{◌≡◌};
+ghost use Rattle.opc_failures.specs.Statuses.{number_of};
+ghost use Rattle.opc_cli.specs.Calls.{IsService, status_of_service};
+
+use opc_failures::status::Status;
+use opc_gate::gate::Gate;
+use opc_http_head::routes::Routes;
+use opc_serve::arrival::ServeFault;
+use opc_serve::connection::Connection;
+use opc_serve::serving;
+use opc_state::tables::Tables;
+use std::net::OpenListener;
+use std::rt::Clock;
+
+/// Serves so many clients that come to a listener, one after another, and waits for each as long as it takes. The number is 0
+/// once all were served, and 3 where one could not be taken.
+pub fn serve_on<H: AllocGlobal + Clock, L: OpenListener, T: Tables>(
+    rt: &H,
+    listener: &L,
+    count: u32,
+    routes: &Routes,
+    gate: &mut Gate<T>,
+) -> u8
+where
+    L::Stream: Connection,
+    ensures sure { T.is_sure gate.new → T.is_sure gate.old }
+    ensures served { IsService T.is_sure T.represents T.may_leave gate.old gate.new L.Stream.limits L.Stream.remaining L.Stream.contents count result }
+{
+    number_of(serving::serve_on(rt, listener, count, None, routes, gate))
+}
+
+fn number_of(served: Result<(), ServeFault>) -> u8
+    ensures { result ≡ number_of (status_of_service served) }
+{
+    match served {
+        Ok(()) => Status::Done.number(),
+        Err(_) => Status::Failed.number(),
+    }
+}

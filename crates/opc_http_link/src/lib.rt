@@ -3,4 +3,5 @@
 
 pub mod sink;
 pub mod source;
+pub mod stream;
 pub mod watched;

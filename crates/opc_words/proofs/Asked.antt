@@ -1,5 +1,5 @@
 -- What is asked for by the values of options, and by the rows in which they were found.
-use Rattle.std.proofs.Common.{◌≡◌, ◌∙◌, ℕ, List, [], Option, Some, codes, is_some, ap, ap₂, sym}
+use Rattle.std.proofs.Common.{◌≡◌, ◌∙◌, ℕ, ◌*◌, List, [], Option, Some, codes, ap, ap₂, refl, sym}
 use Rattle.std.specs.Prelude.{None, option_map, unwrap_or}
 use Rattle.clap.specs.Matches.{first_value, subcommand_name_of}
 use Rattle.clap.specs.Simple.{subcommand_rows_of}
@@ -15,7 +15,7 @@ use Rattle.opc_words.specs.declared.serve.Serve.{Serve}
 use Rattle.opc_words.specs.declared.words.Task.{Task}
 use Rattle.opc_words.specs.declared.words.Task.TheVariants as task
 use Rattle.opc_words.specs.Numbers.{number_between}
-use Rattle.opc_words.specs.Tasks.{IsImport, IsQuestion, IsService, IsTask, IsTaskOf}
+use Rattle.opc_words.specs.Tasks.{FailsAt, IsImport, IsQuestion, IsService, IsTask, IsTaskOf, first_unread, options_of}
 
 -- two ways in which the values of options are known
 module _ (one other : List ℕ → Option (List ℕ)) (same : (name : List ℕ) → one name ≡ other name) where
@@ -46,7 +46,7 @@ module _ (one other : List ℕ → Option (List ℕ)) (same : (name : List ℕ) 
     path = is.path ∙ given (codes "db");
     port = of_given (number_between 0 65_535) (codes "port") ∙ is.port;
     count = of_given (number_between 1 1_000_000) (codes "count") ∙ is.count;
-    waits = is.waits ∙ ap is_some (same (codes "timeout"));
+    waits = is.waits ∙ ap (λ (o : Option (List ℕ)). option_map (λ text. option_map (λ seconds. seconds * 1_000_000_000) (number_between 1 3_600 text)) o) (same (codes "timeout"));
   }
 
   pub task_is : (command : List ℕ) (t : Task) → IsTaskOf one command t → IsTaskOf other command t
@@ -55,6 +55,10 @@ module _ (one other : List ℕ → Option (List ℕ)) (same : (name : List ℕ) 
   task_is command (task.Import i) is = (is.0, import i is.1)
   task_is command (task.Export path) is = (is.0, is.1 ∙ given (codes "db"))
   task_is command (task.Serve s) is = (is.0, service s is.1)
+
+  pub same_options : (command : List ℕ) → options_of one command ≡ options_of other command
+  same_options command =
+      rw (same (codes "user"), same (codes "class"), same (codes "resource"), same (codes "console"), same (codes "level"), same (codes "batch"), same (codes "port"), same (codes "count"), same (codes "timeout")) refl
 
 -- a name and rows that are of one thing
 module _ {B : Type 0} (name_of : B → List ℕ) (rows_in : B → List Row) where
@@ -67,6 +71,15 @@ module _ {B : Type 0} (name_of : B → List ℕ) (rows_in : B → List Row) wher
       let same : name_of b ≡ name = cc in
       let also : rows_in b ≡ rows = cc in
       ap₂ (λ x y. let p : List ℕ × List Row = (x, y) in Some p) same also
+
+pub fails_at : (found : ArgMatches) (chosen : Found) (command option : List ℕ) → Some command ≡ subcommand_name_of found
+    → Some (rows_of chosen) ≡ option_map (λ (p : List ℕ × List Row). p.1) (subcommand_rows_of found) → first_unread (options_of (first_value chosen) command) ≡ Some option
+    → FailsAt (subcommand_rows_of found) command option
+fails_at found chosen command option name rows is = (
+  rows_of chosen,
+  of_one _ _ (out-ArgMatches found).subcommand command (rows_of chosen) name rows,
+  ap first_unread (sym (same_options (first_value chosen) (λ id. first_of id (rows_of chosen)) (first_value-rows chosen) command)) ∙ is,
+)
 
 pub is_task : (found : ArgMatches) (chosen : Found) (command : List ℕ) (t : Task) → Some command ≡ subcommand_name_of found
     → Some (rows_of chosen) ≡ option_map (λ (p : List ℕ × List Row). p.1) (subcommand_rows_of found) → IsTaskOf (first_value chosen) command t → IsTask found t

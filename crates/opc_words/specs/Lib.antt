@@ -1,2 +1,4 @@
+pub mod CommandLine
 pub mod Numbers
+pub mod Reading
 pub mod Tasks

@@ -1,6 +1,7 @@
 //! The words of the command line: what they ask for, or what is wrong with them.
 #![tactic(auto)]
 
+mod command_line;
 pub mod import;
 mod number;
 pub mod question;

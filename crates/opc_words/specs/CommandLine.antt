@@ -1,0 +1,64 @@
+-- The command line of the program, as `clap` has it: the commands, and the options of each.
+use Rattle.std.specs.Prelude.{◌≡◌, ℕ, true, false, List, [], ◌∷◌, Some, codes}
+use Rattle.clap.specs.Simple.{App, Shape, app_of, new_rule, new_shape}
+use Rattle.clap.specs.Walk.{Rule}
+use Rattle.clap.specs.declared.builder.action.ArgAction.TheVariants.{Set}
+use Rattle.clap.specs.declared.builder.command.Command.{Command}
+use Rattle.clap.specs.declared.builder.command.Command.TheViews.{out-Command}
+
+-- an option of this name, which takes one value
+abbrev pub valued : List ℕ → Rule
+valued name = record (new_rule name) { long = Some name; action = Some Set; value_names = 1 }
+
+-- one that has to be given
+abbrev pub needed : List ℕ → Rule
+needed name = record (valued name) { required = true }
+
+-- one that has this value where it is not given
+abbrev pub preset : List ℕ → List ℕ → Rule
+preset name value = record (valued name) { defaults = value ∷ [] }
+
+-- a command of this name, with these options
+abbrev pub command : List ℕ → List Rule → Shape
+command name options = record (new_shape name) { rules = options }
+
+abbrev pub explain_options : List Rule
+explain_options =
+    needed (codes "user") ∷ preset (codes "class") (codes "OPERCMDS") ∷ needed (codes "resource") ∷ valued (codes "console") ∷ needed (codes "level") ∷ []
+
+abbrev pub run_options : List Rule
+run_options = valued (codes "db") ∷ valued (codes "policy") ∷ []
+
+abbrev pub import_options : List Rule
+import_options = needed (codes "db") ∷ needed (codes "batch") ∷ valued (codes "console") ∷ []
+
+abbrev pub export_options : List Rule
+export_options = needed (codes "db") ∷ []
+
+abbrev pub serve_options : List Rule
+serve_options = needed (codes "db") ∷ needed (codes "port") ∷ preset (codes "count") (codes "1000000") ∷ valued (codes "timeout") ∷ []
+
+abbrev pub commands : List Shape
+commands =
+    command (codes "explain") explain_options
+    ∷ command (codes "run") run_options
+    ∷ command (codes "import") import_options
+    ∷ command (codes "export") export_options
+    ∷ command (codes "serve") serve_options
+    ∷ []
+
+-- the program before its commands: one of them has to be given, and the program's own name is none of the words
+abbrev pub program : App
+program = record {
+  top = record (new_shape (codes "opcmds")) { subcommand_required = true; no_binary_name = true };
+  subs = [];
+}
+
+-- the whole command line
+abbrev pub command_line : App
+command_line = record { top = record program.top { is_leaf = false }; subs = commands }
+
+-- The command was built with this name and these options, none of which counts for other commands.
+pub record IsCommand (built : Command) (name : List ℕ) (options : List Rule) : Type 0 where
+  pub app : app_of built ≡ record { top = command name options; subs = [] }
+  pub alone : (out-Command built).has_globals ≡ false

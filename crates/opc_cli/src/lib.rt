@@ -1,6 +1,14 @@
 //! The command line: it does what the words ask for.
 #![tactic(auto)]
 
+ghost use Rattle.std.specs.Prelude.{◌≡◌, ◌≤◌};
+ghost use Rattle.sqlite.specs.WalFiles.{image_at};
+ghost use Rattle.sqlite_std_file.specs.File.{IsFresh};
+ghost use Rattle.opc_store.specs.Opening.{opening_fault};
+ghost use Rattle.opc_failures.specs.Statuses.{number_of};
+ghost use Rattle.opc_words.specs.Reading.{words_after};
+ghost use Rattle.opc_cli.specs.Words.{AreDone, IsDoneInMemory, IsRun, IsWorkInFile, IsWorkTold, status_of_work};
+
 mod database;
 pub mod script;
 pub mod service;
@@ -9,7 +17,6 @@ use crate::database::reason_at;
 use opc_failures::failure::{Failure, Paths, Place, told};
 use opc_failures::reason::Reason;
 use opc_failures::status::Status;
-use opc_http_link::sink::Sink;
 use opc_http_link::watched::Watched;
 use opc_policy_files::explain::answer_question;
 use opc_program::work::Work;
@@ -18,82 +25,137 @@ use opc_terms::fault::Fault;
 use opc_words::words::{Task, read_words};
 use opc_works::file::{Closed, work_at};
 use opc_works::memory::run_in_memory;
-use sqlite::{Error, ErrorCode, Wary};
+use sqlite::{Error, ErrorCode, FileFrom, Start};
+use sqlite_disk::Disk;
 use std::io::{Read, Write};
 
 /// Does what the words of a command line ask for, the first of which is the program's own name, and returns the status:
-/// 0 done, 1 refused, 2 words or input that are bad, 3 something failed.
-pub fn run_words<R: Read, W: Write, E: Write>(
+/// 0 done, 1 refused, 2 words or input that are bad, 3 something failed. `start` stands for what a database file that is
+/// named holds, and says what a torn write may leave.
+pub fn run_words<S: Start, R: Read, W: Write, E: Write>(
     rt: &HostRuntime,
+    start: S,
     words: &[String],
     input: &mut R,
-    output: &mut W,
-    errors: &mut E,
-) -> u8 {
-    status_of(rt, words, input, output, errors).number()
+    output: &mut Watched<W>,
+    errors: &mut Watched<E>,
+) -> u8
+    ensures most { result ≤ 3 }
+    ensures done { (status : _) × (result ≡ number_of status) × AreDone ⟦<FileFrom<S> as Disk>⟧ IsFresh (image_at S.Start) W.contents E.contents (R.remaining input.old) output.old output.new errors.old errors.new status (words_after words.now) }
+{
+    do_words(rt, start, words, input, output, errors).number()
 }
 
-fn status_of<R: Read, W: Write, E: Write>(
+fn do_words<S: Start, R: Read, W: Write, E: Write>(
     rt: &HostRuntime,
+    start: S,
     words: &[String],
     input: &mut R,
-    output: &mut W,
-    errors: &mut E,
-) -> Status {
-    let mut errors = Watched::new(errors);
-    let (paths, work) = match read_words(rt.alloc(), words, output, &mut errors) {
+    output: &mut Watched<W>,
+    errors: &mut Watched<E>,
+) -> Status
+    ensures { AreDone ⟦<FileFrom<S> as Disk>⟧ IsFresh (image_at S.Start) W.contents E.contents (R.remaining input.old) output.old output.new errors.old errors.new result (words_after words.now) }
+{
+    match read_words(rt.alloc(), words, output, errors) {
         Ok(Task::Explain(question)) => {
-            return answer_question(rt.alloc(), &question, input, output, &mut errors);
+            answer_question(rt.alloc(), &question, input, &mut output.inner, errors)
         }
-        Ok(Task::Run(paths)) => (paths, Work::Run(paths.policy)),
-        Ok(Task::Import(import)) => (only_database(import.path), Work::Import(import)),
-        Ok(Task::Export(path)) => (only_database(path), Work::Export),
-        Ok(Task::Serve(serve)) => (only_database(serve.path), Work::Serve(serve)),
-        Err(status) => return status,
-    };
-    let mut output = Watched::new(output);
-    match paths.database {
-        Some(path) => work_in_file(rt, path, &paths, &work, input, &mut output, &mut errors),
-        // (a run alone may name no file)
-        None => told(
-            run_in_memory(rt, paths.policy, input, &mut output),
-            &paths,
-            &mut errors,
-        ),
+        Ok(Task::Run(paths)) => run_over(rt, start, &paths, input, output, errors),
+        Ok(Task::Import(import)) => {
+            let (path, work) = (import.path, Work::Import(import));
+            work_in_file(rt, start, path, &work, input, output, errors)
+        }
+        Ok(Task::Export(path)) => {
+            work_in_file(rt, start, path, &Work::Export, input, output, errors)
+        }
+        Ok(Task::Serve(serve)) => {
+            let (path, work) = (serve.path, Work::Serve(serve));
+            work_in_file(rt, start, path, &work, input, output, errors)
+        }
+        Err(status) => status,
     }
 }
 
-/// No policy file is named.
-fn only_database(path: &str) -> Paths<'_> {
+/// Runs the script on the input, over the database file that is named, or in memory.
+fn run_over<S: Start, R: Read, W: Write, E: Write>(
+    rt: &HostRuntime,
+    start: S,
+    paths: &Paths<'_>,
+    input: &mut R,
+    output: &mut Watched<W>,
+    errors: &mut Watched<E>,
+) -> Status
+    ensures { IsRun ⟦<FileFrom<S> as Disk>⟧ IsFresh (image_at S.Start) W.contents E.contents (R.remaining input.old) output.old output.new errors.old errors.new result paths.now.database paths.now.policy }
+{
+    match paths.database {
+        Some(path) => {
+            let work = Work::Run(paths.policy);
+            work_in_file(rt, start, path, &work, input, output, errors)
+        }
+        None => run_without_file(rt, paths, input, output, errors),
+    }
+}
+
+/// Runs the script on the input over tables in memory.
+fn run_without_file<R: Read, W: Write, E: Write>(
+    rt: &HostRuntime,
+    paths: &Paths<'_>,
+    input: &mut R,
+    output: &mut Watched<W>,
+    errors: &mut Watched<E>,
+) -> Status
+    ensures { IsDoneInMemory W.contents E.contents (R.remaining input.old) output.old output.new errors.old errors.new result paths.now.policy }
+{
+    told(
+        run_in_memory(rt, paths.policy, input, output),
+        paths,
+        errors,
+    )
+}
+
+/// The files that are named where a work is done over the database file at a path.
+fn paths_of<'a>(path: &'a str, work: &Work<'a>) -> Paths<'a> {
+    let policy = match work {
+        Work::Run(policy) => *policy,
+        _ => None,
+    };
     Paths {
         database: Some(path),
-        policy: None,
+        policy,
     }
 }
 
 /// Does a work over the tables of the database file at a path, which is made if it is not there.
-fn work_in_file<R: Read, W: Write, K: Sink>(
+fn work_in_file<S: Start, R: Read, W: Write, E: Write>(
     rt: &HostRuntime,
+    start: S,
     path: &str,
-    paths: &Paths<'_>,
     work: &Work<'_>,
     input: &mut R,
     output: &mut Watched<W>,
-    errors: &mut K,
-) -> Status {
-    match work_at(rt, path, Wary, work, input, output) {
-        Ok((end, closed)) => ended(end, closed, paths, errors),
-        Err(fault) => told(Err(not_opened(rt, path, fault)), paths, errors),
+    errors: &mut Watched<E>,
+) -> Status
+    ensures { IsWorkInFile ⟦<FileFrom<S> as Disk>⟧ IsFresh (image_at S.Start) W.contents E.contents (R.remaining input.old) output.old output.new errors.old errors.new result work.now }
+{
+    match work_at(rt, path, start, work, input, output) {
+        Ok((end, closed)) => ended(end, closed, &paths_of(path, work), errors),
+        Err(fault) => {
+            let failure = not_opened(rt, path, fault);
+            told(Err(failure), &paths_of(path, work), errors)
+        }
     }
 }
 
 /// Says what a work over a file came to, and then why the file was not closed, if it was not.
-fn ended<K: Sink>(
+fn ended<S: Start, E: Write>(
     end: Result<Status, Failure>,
-    closed: Closed<Wary>,
+    closed: Closed<S>,
     paths: &Paths<'_>,
-    errors: &mut K,
-) -> Status {
+    errors: &mut Watched<E>,
+) -> Status
+    ensures status { result ≡ status_of_work end closed }
+    ensures told { IsWorkTold E.contents errors.old errors.new end closed }
+{
     let status = told(end, paths, errors);
     match closed {
         Ok(_) => status,
@@ -101,12 +163,16 @@ fn ended<K: Sink>(
     }
 }
 
-fn of_database(fault: Fault, reason: Reason) -> Failure {
+fn of_database(fault: Fault, reason: Reason) -> Failure
+    ensures { result.fault ≡ fault }
+{
     Failure::of(fault, Place::Database, reason)
 }
 
 /// The last commit was not put into the database file. What was acknowledged is kept there, too.
-fn not_closed(error: Error) -> Failure {
+fn not_closed(error: Error) -> Failure
+    ensures { result.fault ≡ Fault.Store }
+{
     let reason = match error {
         Error::SqliteFailure(ErrorCode::DiskFull) => Reason::DiskFull,
         _ => Reason::Unreadable,
@@ -114,7 +180,9 @@ fn not_closed(error: Error) -> Failure {
     of_database(Fault::Store, reason)
 }
 
-fn not_opened(rt: &HostRuntime, path: &str, fault: OpenFault) -> Failure {
+fn not_opened(rt: &HostRuntime, path: &str, fault: OpenFault) -> Failure
+    ensures { result.fault ≡ opening_fault fault }
+{
     match fault {
         OpenFault::NoMemory => Failure::from(Fault::NoMemory),
         // The store has one fault for whatever fails below it, so the file is opened once more to learn why.

@@ -61,3 +61,8 @@ module _ {A E : Type 0} (result : Result A E) (a b c : Option (List ℕ)) where
 pub not_failed : {A E P : Type 0} (result : Result A E) (before after : Bool) → after ≡ (if is_err result then true else before) → OnOk result P → after ≡ false → P
 not_failed (Ok a) before after is h fine = h
 not_failed (Err e) before after is h fine = absurd (cc)
+
+-- and nothing had failed before
+pub had_not_failed : {A E : Type 0} (result : Result A E) (before after : Bool) → after ≡ (if is_err result then true else before) → after ≡ false → before ≡ false
+had_not_failed (Ok a) before after h fine = sym h ∙ fine
+had_not_failed (Err e) before after h fine = absurd (cc)

@@ -96,6 +96,7 @@ impl Failure {
     pub fn tell<K: Sink>(&self, paths: &Paths<'_>, errors: &mut K) -> Status
         ensures status { result ≡ status_of self.now.fault }
         ensures told { K.has_failed errors.new ≡ false → IsTold self.now.fault (K.held errors.old) (K.held errors.new) }
+        ensures kept { K.has_failed errors.new ≡ false → K.has_failed errors.old ≡ false }
     {
         // The status tells the fault too, where no word can be printed.
         let _ = print_failure(self, paths, errors);
@@ -108,6 +109,7 @@ pub fn told<K: Sink>(end: Result<Status, Failure>, paths: &Paths<'_>, errors: &m
     ensures status { result ≡ status_of_end end }
     ensures told { IfErr end (λ failure. K.has_failed errors.new ≡ false → IsTold failure.fault (K.held errors.old) (K.held errors.new)) }
     ensures silent { OnOk end (errors.new ≡ errors.old) }
+    ensures kept { K.has_failed errors.new ≡ false → K.has_failed errors.old ≡ false }
 {
     match end {
         Ok(status) => status,

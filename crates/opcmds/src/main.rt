@@ -6,6 +6,7 @@ use opc_failures::failure::{Failure, NO_PATHS};
 use opc_failures::status::Status;
 use opc_http_link::watched::Watched;
 use opc_terms::fault::Fault;
+use sqlite::Wary;
 use std::io::{ErrorKind, Write};
 use std::process::ExitCode;
 use std::{env, io};
@@ -15,22 +16,21 @@ fn main(rt: HostRuntime) -> ExitCode {
 }
 
 fn status(rt: &HostRuntime) -> u8 {
-    let mut errors = rt.stderr();
+    let mut errors = Watched::new(rt.stderr());
     match given_words(rt) {
         Ok(words) => run_words(
             rt,
+            Wary,
             words.as_slice(),
             &mut rt.stdin(),
-            &mut rt.stdout(),
+            &mut Watched::new(rt.stdout()),
             &mut errors,
         ),
-        Err(error) if error.kind() == ErrorKind::OutOfMemory => {
-            Failure::from(Fault::NoMemory)
-                .tell(&NO_PATHS, &mut Watched::new(&mut errors))
-                .number()
-        }
+        Err(error) if error.kind() == ErrorKind::OutOfMemory => Failure::from(Fault::NoMemory)
+            .tell(&NO_PATHS, &mut errors)
+            .number(),
         Err(_) => {
-            let _ = writeln!(errors, "error: a word is not UTF-8");
+            let _ = writeln!(errors.inner, "error: a word is not UTF-8");
             Status::BadInput.number()
         }
     }

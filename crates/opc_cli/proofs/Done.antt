@@ -1,0 +1,42 @@
+-- What was done for a task, and its status.
+use Rattle.std.proofs.Common.{◌≡◌, ◌≤◌, ◌∙◌, ℕ, Bool, List, Option, Result, Ok, Err, ap, arith, inl, refl, subst, false}
+use Rattle.sqlite_disk.specs.declared.Disk as disk
+use Rattle.sqlite.specs.Recovery.{Image}
+use Rattle.opc_terms.specs.declared.fault.Fault.{Fault}
+use Rattle.opc_store.specs.declared.opening.OpenFault.{OpenFault}
+use Rattle.opc_store.specs.declared.opening.OpenFault.TheVariants as opening
+use Rattle.opc_store.specs.Opening.{opening_fault}
+use Rattle.opc_http_link.specs.declared.watched.Watched.{Watched}
+use Rattle.opc_failures.specs.declared.status.Status.{Status}
+use Rattle.opc_failures.specs.declared.status.Status.TheVariants.{Done, Refused, BadInput, Failed}
+use Rattle.opc_failures.specs.Statuses.{number_of, status_of}
+use Rattle.opc_words.specs.declared.words.Task.{Task}
+use Rattle.opc_words.specs.Reading.{AreRead}
+use Rattle.opc_cli.specs.Words.{AreDone, IsFaultTold, IsTaskDone}
+
+pub at_most_three : (status : Status) → number_of status ≤ 3
+at_most_three Done = omega arith
+at_most_three Refused = omega arith
+at_most_three BadInput = omega arith
+at_most_three Failed = omega arith
+
+-- an opening that fails is a failure
+pub openings_fail : (fault : OpenFault) → status_of (opening_fault fault) ≡ Failed
+openings_fail opening.NoMemory = refl
+openings_fail opening.Store = refl
+openings_fail (opening.NotOurs version) = refl
+
+pub same_fault : {E : Type 0} (shown : E → Option (List ℕ)) (quiet told : Watched E) (one other : Fault) → one ≡ other → IsFaultTold shown quiet told one → IsFaultTold shown quiet told other
+same_fault shown quiet told one other is h = subst (IsFaultTold shown quiet told) is h
+
+-- where the words ask for a task, and that was done
+module _ {D : Type 0} (g : disk.Ghosts D) (is_fresh : Bool → D → Type 0) (image : Image) {W E : Type 0} (contents : W → Option (List ℕ)) (shown : E → Option (List ℕ)) (left : Option (List ℕ)) where
+  pub task_done : (words : List (List ℕ)) (before first written : Watched W) (quiet heard told : Watched E) (status : Status) (task : Task)
+      → AreRead words shown before first quiet heard (Ok task) → IsTaskDone g is_fresh image contents shown left first written heard told status task
+      → AreDone g is_fresh image contents shown left before written quiet told status words
+  task_done words before first written quiet heard told status task (ask, same, silent) done = inl (
+    task,
+    ask,
+    subst (λ w. IsTaskDone g is_fresh image contents shown left w written quiet told status task) same
+        (subst (λ e. IsTaskDone g is_fresh image contents shown left first written e told status task) silent done),
+  )

@@ -1,0 +1,89 @@
+-- What the program does for the words of its command line, and the status that it ends with.
+use Rattle.std.specs.Prelude.{◌≡◌, ◌⊎◌, ℕ, Bool, false, List, Option, Some, None, Result, Ok, Err, IfErr}
+use Rattle.std.specs.Borrow.{Bor}
+use Rattle.sqlite_disk.specs.declared.Disk as disk
+use Rattle.sqlite_disk.specs.declared.Files.{Files}
+use Rattle.sqlite_store.specs.declared.store.FileStore.{FileStore}
+use Rattle.sqlite.specs.Recovery.{Image}
+use Rattle.sqlite.specs.declared.error.Error.{Error}
+use Rattle.opc_terms.specs.declared.fault.Fault.{Fault}
+use Rattle.opc_terms.specs.declared.fault.Fault.TheVariants.{Store}
+use Rattle.opc_store.specs.declared.opening.OpenFault.{OpenFault}
+use Rattle.opc_store.specs.Opening.{IsNotOpened, opening_fault}
+use Rattle.opc_http_link.specs.declared.watched.Watched.{Watched}
+use Rattle.opc_failures.specs.declared.failure.Failure.{Failure}
+use Rattle.opc_failures.specs.declared.status.Status.{Status}
+use Rattle.opc_failures.specs.declared.status.Status.TheVariants.{Failed}
+use Rattle.opc_failures.specs.Printing.{IsTold}
+use Rattle.opc_failures.specs.Statuses.{status_of_end}
+use Rattle.opc_words.specs.declared.words.Task.{Task}
+use Rattle.opc_words.specs.declared.words.Task.TheVariants as task
+use Rattle.opc_words.specs.Reading.{Ask, AskForNone}
+use Rattle.opc_policy_files.specs.Questions.{IsToldAnswer}
+use Rattle.opc_program.specs.declared.work.Work.{Work}
+use Rattle.opc_program.specs.declared.work.Work.TheVariants as work
+use Rattle.opc_works.specs.Works.{IsRunInMemory, IsWorkAt}
+
+-- the status of a work over a file: that of its end, or a failure where the file was not closed
+abbrev pub status_of_work : {A B : Type 0} → Result Status Failure → (closed : Result A B) → Status
+status_of_work end (Ok files) = status_of_end end
+status_of_work end (Err kept) = Failed
+
+module _ {E : Type 0} (shown : E → Option (List ℕ)) where
+  -- A fault was printed first, unless a write failed.
+  abbrev pub IsFaultTold : (quiet told : Watched E) → Fault → Type 0
+  IsFaultTold quiet told fault = told.failed ≡ false → IsTold fault (shown quiet.inner) (shown told.inner)
+
+  -- Where it failed, its fault was.
+  abbrev pub IsEndTold : (quiet told : Watched E) → Result Status Failure → Type 0
+  IsEndTold quiet told end = IfErr end (λ failure. IsFaultTold quiet told failure.fault)
+
+  -- The fault of its end was, and then, where the file was not closed, that the store failed.
+  abbrev pub IsWorkTold : {A B : Type 0} → (quiet told : Watched E) → Result Status Failure → (closed : Result A B) → Type 0
+  IsWorkTold quiet told end (Ok files) = IsEndTold quiet told end
+  IsWorkTold quiet told end (Err kept) = (first : Watched E) × IsEndTold quiet first end × (told.failed ≡ false → first.failed ≡ false) × IsFaultTold first told Store
+
+-- The program ran over new tables in memory. Of what the files of the system hold nothing is known.
+pub record IsDoneInMemory {W E : Type 0} (contents : W → Option (List ℕ)) (shown : E → Option (List ℕ)) (left : Option (List ℕ)) (before written : Watched W) (quiet told : Watched E) (status : Status) (policy : Option (Bor (List ℕ))) : Type 0 where
+  pub end : Result Status Failure
+  pub ran : IsRunInMemory (λ (w : Watched W). contents w.inner) (λ (w : Watched W). w.failed) (λ path. None) policy left before written end
+  pub status_is : status ≡ status_of_end end
+  pub end_told : IsEndTold shown quiet told end
+
+-- Of a database file: `image` is what it holds at first.
+module _ {D : Type 0} (g : disk.Ghosts D) (is_fresh : Bool → D → Type 0) (image : Image) {W E : Type 0} (contents : W → Option (List ℕ)) (shown : E → Option (List ℕ)) (left : Option (List ℕ)) (before written : Watched W) (quiet told : Watched E) (status : Status) where
+  -- The file was opened, the work done over its tables, and the file closed, or not.
+  pub record IsDoneInFile (work : Work) : Type 0 where
+    pub end : Result Status Failure
+    pub closed : Result (Files D) (Error × FileStore D g)
+    pub done : IsWorkAt {g = g} contents image work left before written end closed
+    pub status_is : status ≡ status_of_work end closed
+    pub end_told : IsWorkTold shown quiet told end closed
+
+  -- The file was not opened, and nothing was done or written.
+  pub record IsNotBegun : Type 0 where
+    pub fault : OpenFault
+    pub not_opened : IsNotOpened g is_fresh image fault
+    pub silent : written ≡ before
+    pub status_is : status ≡ Failed
+    pub fault_told : IsFaultTold shown quiet told (opening_fault fault)
+
+  abbrev pub IsWorkInFile : Work → Type 0
+  IsWorkInFile work = IsDoneInFile work ⊎ IsNotBegun
+
+  abbrev pub IsRun : (database policy : Option (Bor (List ℕ))) → Type 0
+  IsRun (Some path) policy = IsWorkInFile (work.Run policy)
+  IsRun None policy = IsDoneInMemory contents shown left before written quiet told status policy
+
+  -- What a task asks for was done.
+  abbrev pub IsTaskDone : Task → Type 0
+  IsTaskDone (task.Explain question) =
+      IsToldAnswer contents (λ (e : Watched E). shown e.inner) (λ (e : Watched E). e.failed) before.inner written.inner quiet told left question status
+  IsTaskDone (task.Run paths) = IsRun paths.database paths.policy
+  IsTaskDone (task.Import import) = IsWorkInFile (work.Import import)
+  IsTaskDone (task.Export path) = IsWorkInFile work.Export
+  IsTaskDone (task.Serve serve) = IsWorkInFile (work.Serve serve)
+
+  -- What the words ask for was done; or they ask for nothing that is done, and that was told.
+  abbrev pub AreDone : (words : List (List ℕ)) → Type 0
+  AreDone words = ((task : Task) × Ask words task × IsTaskDone task) ⊎ AskForNone words shown before written quiet told status

@@ -1,15 +1,15 @@
--- What a crash leaves of tables, beneath the states that it may leave.
-use Rattle.std.proofs.Common.{◌≡◌, ◌∙◌, true, false, sym, ap, subst}
+-- What a crash leaves of tables, beneath the states that it may leave, and what closed tables answer.
+use Rattle.std.proofs.Common.{◌≡◌, ◌∙◌, true, false, Ok, Err, refl, sym, ap, subst}
 use Rattle.sqlite_trees.specs.declared.store.Store.{Ghosts}
 use Rattle.sqlite_trees.specs.Tree.{Trees}
-use Rattle.sqlite.specs.Held.{Held, state}
+use Rattle.sqlite.specs.Held.{state}
 use Rattle.opc_state.specs.State.{State, empty}
 use Rattle.opc_state.specs.Changes.{with_halted}
-use Rattle.opc_stored.specs.Represented.{Represents, AreTablesOf}
+use Rattle.opc_stored.specs.Represented.{AreTablesOf}
 use Rattle.opc_stored.proofs.Decoded.{one_state}
 use Rattle.opc_stored.proofs.Opened.{alone_from}
 use Rattle.opc_store.specs.StoreTables.{MayLeave}
-use Rattle.opc_store.specs.StoreLaws.{LeavesTables, LeavesWhatIsThere}
+use Rattle.opc_store.specs.StoreLaws.{LeavesTables, LeavesWhatIsThere, ShutTablesGiveNothing, ShutTablesTellNothing}
 
 module _ {S : Type 0} (g : Ghosts S) where
   pub leaves_tables : LeavesTables g (MayLeave g)
@@ -25,3 +25,12 @@ module _ {S : Type 0} (g : Ghosts S) where
   pub leaves_what_is_there : LeavesWhatIsThere g (MayLeave g)
   leaves_what_is_there h s itself was left it =
       sym (it.3 s (subst (λ (t : Trees). AreTablesOf t s) (sym (itself it.0 it.1 it.2)) (alone_from (state g h).now s was)))
+
+  pub shut_give_nothing : (V E : Type 0) → ShutTablesGiveNothing g V E
+  shut_give_nothing V E old new (Ok v) looks clean shut = absurd (shut (looks.was_open clean (looks.opened clean)))
+  shut_give_nothing V E old new (Err e) looks clean shut = (refl, λ is_open. shut (looks.was_open clean is_open))
+
+  pub shut_tell_nothing : (V W E : Type 0) → ShutTablesTellNothing g V W E
+  shut_tell_nothing V W E old new (Ok v) part asked answers clean shut s t differ =
+      absurd (differ (sym (answers clean s (λ is_open. absurd (shut is_open))) ∙ answers clean t (λ is_open. absurd (shut is_open))))
+  shut_tell_nothing V W E old new (Err e) part asked answers clean shut s t differ = refl

@@ -25,6 +25,10 @@ if_open : {X E : Type 0} (P Q : Type 0) (r : Result X E) → (P → OnErr r Q) �
 if_open P Q (Ok x) h = tt
 if_open P Q (Err e) h = h
 
+on_ok : {X E : Type 0} {P : Type 0} (r : Result X E) → P → OnOk r P
+on_ok (Ok x) p = p
+on_ok (Err e) p = tt
+
 on_err_weaker : {X E : Type 0} {P Q : Type 0} (r : Result X E) → (P → Q) → OnErr r P → OnErr r Q
 on_err_weaker (Ok x) f h = tt
 on_err_weaker (Err e) f h = f h
@@ -68,6 +72,10 @@ module _ {S : Type 0} (g : Ghosts S) where
 
       pub was_sure : IsSure g c → IsSure g a
       was_sure clean = omega (arith, survives.clean, looks.survives.clean)
+
+      -- it was asked of tables that are open
+      pub commit_open : IsSure g c → OnOk r (IsTrue (state g a).is_open)
+      commit_open clean = let mid = mid_sure clean in on_ok r (looks.was_open mid (looks.opened mid))
 
       module _ (clean : IsSure g c) (s : State) (was : RepresentsIfOpen g a s) where
         mid : Represents (state g b).now s

@@ -12,6 +12,10 @@ module _ {S : Type 0} (g : Ghosts S) where
   abbrev pub RepresentsIfOpen : Held S → State → Type 0
   RepresentsIfOpen h s = IsTrue (state g h).is_open → Represents (state g h).now s
 
+  -- a fault of the disk has closed it
+  abbrev pub IsShut : Held S → Type 0
+  IsShut h = IsTrue (state g h).is_open → ⊥
+
   -- the disk has returned what was written, and nobody else writes the tables
   abbrev pub IsSure : Held S → Type 0
   IsSure h = HasCleanDisk (state g h)

@@ -1,7 +1,9 @@
-//! What a crash leaves of a store, each law as what a call without a body ensures.
-ghost use Rattle.opc_store.specs.StoreLaws.{LeavesTables, LeavesWhatIsThere};
+//! What a crash leaves of a store, what it is as a source of profiles, and what it answers once it is closed; each law as what a
+//! call without a body ensures.
+ghost use Rattle.opc_store.specs.StoreLaws.{IsSourceOfState, LeavesTables, LeavesWhatIsThere, ShutTablesGiveNothing, ShutTablesTellNothing};
 
 use crate::store::Store;
+use opc_decisions::source::ProfileSource;
 use opc_state::tables::Tables;
 use sqlite::Alter;
 
@@ -13,4 +15,16 @@ pub fn a_state_left_alone_is_left_as_tables<S: Alter>()
 /// After an opening, a crash leaves the state that is there alone.
 pub fn what_is_there_is_left_alone<S: Alter>()
     ensures { LeavesWhatIsThere S.Store ⟦<Store<S> as Tables>⟧.may_leave }
+{}
+
+/// A store may be searched at any time: it has the profiles of the state that its tables represent, and what it answers
+/// counts where the disk returned what was written.
+pub fn a_store_has_the_profiles_of_its_state<S: Alter>()
+    ensures { IsSourceOfState S.Store ⟦<Store<S> as ProfileSource>⟧.has ⟦<Store<S> as ProfileSource>⟧.is_ready ⟦<Store<S> as ProfileSource>⟧.is_faithful }
+{}
+
+/// Once a fault of the disk has closed the tables, each load answers a fault, and they stay closed.
+pub fn closed_tables_answer_nothing<S: Alter, V, W, E>()
+    ensures keeps { ShutTablesGiveNothing S.Store V E }
+    ensures answers { ShutTablesTellNothing S.Store V W E }
 {}

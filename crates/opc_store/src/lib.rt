@@ -3,6 +3,7 @@
 
 pub mod laws;
 pub mod opening;
+mod source;
 pub mod store;
 mod tables;
 mod whole;

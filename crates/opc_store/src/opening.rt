@@ -95,7 +95,7 @@ fn version_fault(error: Error) -> OpenFault
 
 impl<S: Alter> Store<S> {
     // Tables of version 1 or 2 become those of this version, of the same state.
-    fn copied(mut conn: Connection<S>) -> Result<Self, (OpenFault, Connection<S>)>
+    fn copied(alloc: Global, mut conn: Connection<S>) -> Result<Self, (OpenFault, Connection<S>)>
         requires { conn.in_transaction ≡ false }
         ensures copied { IfOk result (λ store. HasCleanDisk (state S.Store store) → (version : _) → (s : _) → RepresentsOld version (state S.Store conn).now s → Represents (state S.Store store).now s) }
         ensures unharmed { IfErr result (λ e. HasCleanDisk (state S.Store e.1) → IsTrue (state S.Store e.1).is_open → (state S.Store e.1).now ≡ (state S.Store conn).now) }
@@ -106,7 +106,7 @@ impl<S: Alter> Store<S> {
         ensures settled { IfOk result (λ store. LeavesItself (state S.Store store)) }
     {
         match copy_on(&mut conn) {
-            Ok(()) => Ok(Store { conn }),
+            Ok(()) => Ok(Store { conn, alloc }),
             Err(fault) => Err((OpenFault::from(fault), conn)),
         }
     }
@@ -114,7 +114,10 @@ impl<S: Alter> Store<S> {
     /// Adopts a connection. A database without a table or an index of our names gets the tables, in one transaction.
     /// One with such a name has tables of this version; or they are of version 1 or 2, and are copied to this version, in
     /// one transaction; or it is `NotOurs`, with the version that it names, or with 0. A fault hands the connection back.
-    pub fn open_files(mut conn: Connection<S>) -> Result<Self, (OpenFault, Connection<S>)>
+    pub fn open_files(
+        alloc: Global,
+        mut conn: Connection<S>,
+    ) -> Result<Self, (OpenFault, Connection<S>)>
         requires { conn.in_transaction ≡ false }
         ensures found { IfOk result (λ store. HasCleanDisk (state S.Store store) → IsTrue (state S.Store conn).is_open → (s : _) → AreTablesOf (state S.Store conn).now.trees s → Represents (state S.Store store).now s) }
         ensures copied { IfOk result (λ store. HasCleanDisk (state S.Store store) → IsTrue (state S.Store conn).is_open → (version : _) → (s : _) → AreOldTablesOf version (state S.Store conn).now.trees s → Represents (state S.Store store).now s) }
@@ -132,16 +135,16 @@ impl<S: Alter> Store<S> {
         let _settled = conn.is_autocommit();
         if !has_our_name(conn.schema()) {
             return match make_tables(&mut conn) {
-                Ok(()) => Ok(Store { conn }),
+                Ok(()) => Ok(Store { conn, alloc }),
                 Err(error) => Err((open_fault(error), conn)),
             };
         }
         match version_on(&mut conn) {
             Ok(VERSION) => {
                 let _settled = conn.is_autocommit();
-                Ok(Store { conn })
+                Ok(Store { conn, alloc })
             }
-            Ok(1 | 2) => Store::copied(conn),
+            Ok(1 | 2) => Store::copied(alloc, conn),
             Ok(version) => Err((OpenFault::NotOurs(version), conn)),
             Err(error) => Err((version_fault(error), conn)),
         }
@@ -164,7 +167,7 @@ impl<S: Start> Store<FileStore<FileFrom<S>>> {
             Ok(conn) => conn,
             Err((error, _)) => return Err(open_fault(error)),
         };
-        match Store::open_files(conn) {
+        match Store::open_files(rt.alloc(), conn) {
             Ok(store) => Ok(store),
             Err((fault, _)) => Err(fault),
         }
@@ -209,7 +212,7 @@ impl<D: Disk + Drop> Store<FileStore<D>> {
         let Ok(conn) = Connection::open_files(alloc, files, options) else {
             return None;
         };
-        match Store::open_files(conn) {
+        match Store::open_files(alloc, conn) {
             Ok(again) => Some(again),
             Err(_) => None,
         }

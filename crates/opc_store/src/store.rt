@@ -1,27 +1,23 @@
 //! The store.
-ghost use Rattle.std.specs.Prelude.{◌≡◌, length, false, IfOk, ◌+◌};
+ghost use Rattle.std.specs.Prelude.{◌≡◌, length, false, IfOk};
 ghost use Rattle.sqlite.specs.Held.{state};
 ghost use Rattle.sqlite.specs.Steps.{over_memory};
 ghost use Rattle.opc_statements.specs.Steps.{Looks};
 ghost use Rattle.opc_board.specs.Facts.{console_at};
 ghost use Rattle.opc_policy.specs.Taken.{is_active};
 ghost use Rattle.opc_policy.specs.Profiles.{of_class, profile_of};
-ghost use Rattle.std.specs.Option.{option_map};
-ghost use Rattle.opc_state.specs.Loads.{bare};
 ghost use Rattle.opc_state.specs.State.{empty, deciding_in};
 ghost use Rattle.opc_history_tables.specs.Loads.{account_page, kept_text};
 ghost use Rattle.opc_state.specs.PolicyFile.{rows_of};
 ghost use Rattle.opc_stored.specs.Asked.{Finds};
 ghost use Rattle.opc_stored.specs.Represented.{Represents};
-ghost use Rattle.opc_decisions.specs.Deciding.{deciding};
-ghost use Rattle.opc_decisions.specs.Examined.{examined, head_length, read_until, with_head};
+ghost use Rattle.opc_decisions.specs.Examined.{read_until};
 
 use crate::whole::{board_rows_on, policy_file_on};
 use opc_board::board::BoardRows;
 use opc_board::rows::ConsoleRow;
 use opc_board::text::KeptText;
 use opc_board_tables::consoles::console_on;
-use opc_decisions::search::Found;
 use opc_decisions::source::Taken;
 use opc_history_tables::account::account_on;
 use opc_history_tables::batches::batch_on;
@@ -31,7 +27,7 @@ use opc_policy::profile::Profile;
 use opc_policy::row::Row;
 use opc_profile_tables::profiles::{profile_at, profiles_of_on};
 use opc_rows::Rows;
-use opc_search::search::{deciding_on, first_in_on, first_on};
+use opc_search::search::first_on;
 use opc_state::account::AccountRow;
 use opc_stored::faults::fault;
 use opc_stored::making::make_tables;
@@ -41,15 +37,16 @@ use sqlite::{Alter, Connection, MemStore};
 use std::alloc::Global;
 use std::marker::Model;
 
-/// The tables, outside any transaction.
+/// The tables, outside any transaction, and the memory that an answer to a search takes.
 pub struct Store<S: Alter> {
     pub(crate) conn: Connection<S>,
+    pub(crate) alloc: Global,
 }
 
 // In a function of its own, so that no caller drops the connection part by part: that makes its proof short.
 impl<S: Alter + Drop> Drop for Store<S> {
     fn drop(self) {
-        let Store { conn: _ } = self;
+        let Store { conn: _, alloc: _ } = self;
     }
 }
 
@@ -73,7 +70,7 @@ impl Store<MemStore> {
     {
         let mut conn = Connection::open_in_memory(alloc)?;
         match make_tables(&mut conn) {
-            Ok(()) => Ok(Store { conn }),
+            Ok(()) => Ok(Store { conn, alloc }),
             Err(error) => Err(fault(error)),
         }
     }
@@ -85,7 +82,7 @@ impl<S: Alter> Store<S> {
         ensures same { result ≡ self }
         ensures outside { result.in_transaction ≡ false }
     {
-        let Store { conn } = self;
+        let Store { conn, alloc: _ } = self;
         conn
     }
 
@@ -156,24 +153,6 @@ impl<S: Alter> Store<S> {
         batch_on(&mut self.conn, number)
     }
 
-    /// The first profile that covers a resource, in the order of the patterns, of those of a class with this very head, and
-    /// how many profiles were read for it.
-    pub fn first_in(
-        &mut self,
-        alloc: Global,
-        class: Class,
-        head: &str,
-        resource: &Resource,
-    ) -> Result<Taken, StoreFault>
-        ensures first { Finds S.Store self.old self.new result (λ s taken.
-            taken.profile ≡ deciding (with_head head.now (of_class class s.policy.profiles)) resource.now) }
-        ensures rows { Finds S.Store self.old self.new result (λ s taken.
-            taken.rows ≡ length (read_until taken.profile (with_head head.now (of_class class s.policy.profiles)))) }
-        ensures keeps { Looks S.Store self.old self.new result }
-    {
-        first_in_on(alloc, &mut self.conn, class, head, resource)
-    }
-
     /// The profiles of a class, in the order of their patterns.
     pub fn all(&mut self, alloc: Global, class: Class) -> Result<Vec<Profile>, StoreFault>
         ensures found { Finds S.Store self.old self.new result (λ s v. v.items ≡ of_class class s.policy.profiles) }
@@ -196,24 +175,5 @@ impl<S: Alter> Store<S> {
         ensures keeps { Looks S.Store self.old self.new result }
     {
         first_on(alloc, &mut self.conn, class, resource)
-    }
-
-    /// The profile of a class that decides a resource, but for its access list, how many heads the tables were asked for, and
-    /// how many profiles were read. The policy is not read as a whole.
-    pub fn deciding(
-        &mut self,
-        alloc: Global,
-        class: Class,
-        resource: &Resource,
-    ) -> Result<Found, StoreFault>
-        ensures found { Finds S.Store self.old self.new result (λ s found.
-            found.profile ≡ option_map bare (deciding_in s.policy class resource.now)) }
-        ensures ranges { Finds S.Store self.old self.new result (λ s found.
-            found.ranges + head_length found.profile ≡ length resource.now + 1) }
-        ensures rows { Finds S.Store self.old self.new result (λ s found.
-            found.rows ≡ length (examined found.profile resource.now (of_class class s.policy.profiles))) }
-        ensures keeps { Looks S.Store self.old self.new result }
-    {
-        deciding_on(alloc, &mut self.conn, class, resource)
     }
 }

@@ -1,5 +1,10 @@
 //! The store as the tables that the machine asks for.
+ghost use Rattle.std.specs.Prelude.{◌≡◌, ◌⊎◌, IsTrue, OnErr, OnOk};
+ghost use Rattle.sqlite.specs.Held.{state};
 ghost use Rattle.opc_statements.specs.Steps.{Looks};
+ghost use Rattle.opc_state.specs.Changes.{changed_by};
+ghost use Rattle.opc_state.specs.State.{State, Fits};
+ghost use Rattle.opc_store.specs.StoreTables.{RepresentsIfOpen, IsSure, MayLeave};
 
 use crate::store::Store;
 use crate::whole::policy_file_on;
@@ -52,6 +57,21 @@ impl<S: Alter> Store<S> {
             Ok(_) => Ok(()),
             Err(error) => Err(fault(error)),
         }
+    }
+
+    /// Writes all of a change, or nothing, as the gate asks it of tables. Those that a fault of the disk has closed take
+    /// none.
+    pub fn commit(&mut self, alloc: Global, change: &Change) -> Result<(), StoreFault>
+        ensures open { IsSure S.Store self.new → OnOk result (IsTrue (state S.Store self.old).is_open) }
+        ensures sure { IsSure S.Store self.new → IsSure S.Store self.old }
+        ensures done { IsSure S.Store self.new → (s : State) → RepresentsIfOpen S.Store self.old s → OnOk result (RepresentsIfOpen S.Store self.new (changed_by change.now s)) }
+        ensures fits { IsSure S.Store self.new → (s : State) → RepresentsIfOpen S.Store self.old s → OnOk result (Fits s → Fits (changed_by change.now s)) }
+        ensures failed { IsSure S.Store self.new → (s : State) → RepresentsIfOpen S.Store self.old s → OnErr result (RepresentsIfOpen S.Store self.new s) }
+        ensures acknowledged { IsSure S.Store self.new → (s : State) → RepresentsIfOpen S.Store self.old s → OnOk result ((left : State) → MayLeave S.Store self.new left → left ≡ changed_by change.now s) }
+        ensures crash { IsSure S.Store self.new → (s : State) → RepresentsIfOpen S.Store self.old s → (left : State) → MayLeave S.Store self.new left → MayLeave S.Store self.old left ⊎ (left ≡ changed_by change.now s) }
+    {
+        self.see_open()?;
+        commit_on(alloc, &mut self.conn, change)
     }
 }
 
@@ -228,7 +248,6 @@ impl<S: Alter> Tables for Store<S> {
     }
 
     fn commit(&mut self, alloc: Global, change: &Change) -> Result<(), StoreFault> {
-        self.see_open()?;
-        commit_on(alloc, &mut self.conn, change)
+        Store::commit(self, alloc, change)
     }
 }

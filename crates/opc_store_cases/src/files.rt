@@ -84,7 +84,7 @@ pub fn opened<D: Disk + Drop>(
         Ok(conn) => conn,
         Err(files) => return Err(files),
     };
-    match Store::open_files(conn) {
+    match Store::open_files(alloc, conn) {
         Ok(store) => Ok(store),
         Err((_, conn)) => Err(disconnected(conn)),
     }

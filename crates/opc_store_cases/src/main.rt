@@ -8,8 +8,8 @@
 //! - `base RECORD`: one more row of the base policy, written as in a policy file.
 //! - `new`: new tables in memory. `new base`: such tables with the base policy, and a row of the account.
 //! - `limit STEPS`: a limit on the steps of each later query.
-//! - `search deciding NAME`, `search order NAME`, `search head HEAD` and `search all CLASS`: whether the tables find and
-//!   count what a search over the base policy in memory does.
+//! - `search deciding NAME`, `search listed NAME` (with its access list), `search order NAME`, `search head HEAD` and
+//!   `search all CLASS`: whether the tables find and count what a search over the base policy in memory does.
 //! - `older STATEMENT`: one more statement that makes the tables of an older version; `\n` stands for the end of a line.
 //! - `disk WORDS`: tables over files in memory, of which most stop. Such a case cannot tell refused memory from what it is
 //!   about.

@@ -1,8 +1,10 @@
 //! Tables in memory.
 use anyhow::Result;
-use opc_decisions::source::Taken;
+use opc_decisions::search::{Found, search};
+use opc_decisions::source::{ProfileSource, Taken};
 use opc_names::class::Class;
 use opc_names::name::Resource;
+use opc_policy::profile::Profile;
 use opc_state::tables::Tables;
 use opc_store::store::Store;
 use opc_terms::store_fault::StoreFault;
@@ -15,12 +17,14 @@ pub trait Fresh: Tables + Drop + Sized {
     fn fresh(alloc: Global) -> Result<Self>;
 
     /// The tables, under a limit on the steps of each query.
-    fn limited(self, steps: u64) -> Result<Self>;
+    fn limited(self, alloc: Global, steps: u64) -> Result<Self>;
+
+    /// What a search finds of a name in a class.
+    fn search_for(&mut self, class: Class, name: &Resource) -> Result<Found, StoreFault>;
 
     /// The first profile that covers a name, of those of a class with this very head, and how many were read.
     fn first_with_head(
         &mut self,
-        alloc: Global,
         class: Class,
         head: &str,
         name: &Resource,
@@ -33,6 +37,9 @@ pub trait Fresh: Tables + Drop + Sized {
         class: Class,
         name: &Resource,
     ) -> Result<Taken, StoreFault>;
+
+    /// The profiles of a class, in the order of the patterns.
+    fn all_in_order(&mut self, alloc: Global, class: Class) -> Result<Vec<Profile>, StoreFault>;
 }
 
 impl Fresh for Store<MemStore> {
@@ -40,23 +47,26 @@ impl Fresh for Store<MemStore> {
         Ok(Store::in_memory(alloc)?)
     }
 
-    fn limited(self, steps: u64) -> Result<Self> {
+    fn limited(self, alloc: Global, steps: u64) -> Result<Self> {
         let mut conn = self.into_connection();
         conn.set_step_limit(Some(steps));
-        match Store::open_files(conn) {
+        match Store::open_files(alloc, conn) {
             Ok(store) => Ok(store),
             Err((fault, _)) => Err(fault)?,
         }
     }
 
+    fn search_for(&mut self, class: Class, name: &Resource) -> Result<Found, StoreFault> {
+        search(self, class, name)
+    }
+
     fn first_with_head(
         &mut self,
-        alloc: Global,
         class: Class,
         head: &str,
         name: &Resource,
     ) -> Result<Taken, StoreFault> {
-        self.first_in(alloc, class, head, name)
+        self.first_in(class, head, name)
     }
 
     fn first_in_order(
@@ -66,5 +76,9 @@ impl Fresh for Store<MemStore> {
         name: &Resource,
     ) -> Result<Taken, StoreFault> {
         self.first(alloc, class, name)
+    }
+
+    fn all_in_order(&mut self, alloc: Global, class: Class) -> Result<Vec<Profile>, StoreFault> {
+        self.all(alloc, class)
     }
 }

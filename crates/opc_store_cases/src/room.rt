@@ -59,7 +59,7 @@ impl<T: Fresh> Room<T> {
             "new" => self.tables = Some(begun(alloc, words, self.base.as_str())?),
             "limit" => {
                 let tables = self.tables.take().context("no tables")?;
-                self.tables = Some(tables.limited(words.parse::<u64>()?)?);
+                self.tables = Some(tables.limited(alloc, words.parse::<u64>()?)?);
             }
             "many" => many(alloc, &mut self.edits, words)?,
             _ => self.edits.push(edit_in(alloc, verb, words)?)?,

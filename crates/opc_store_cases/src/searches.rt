@@ -3,8 +3,9 @@ use crate::memory::Fresh;
 use anyhow::{Context, Result, bail};
 use opc_names::class::Class;
 use opc_names::name::Resource;
+use opc_tables_trials::records::profiles_records;
 use opc_tables_trials::searches::{
-    NAME, all_in_tables, found_in_tables, head_of, in_memory, taken_lines,
+    CLASSES, NAME, found_in_tables, head_of, in_memory, listed_lines, taken_lines,
 };
 use std::alloc::Global;
 
@@ -27,11 +28,12 @@ pub fn searched<T: Fresh>(
 fn in_tables<T: Fresh>(alloc: Global, tables: &mut T, kind: &str, key: &str) -> Result<String> {
     match kind {
         "deciding" => found_in_tables(alloc, tables, key),
+        "listed" => found_with_list(alloc, tables, &Resource::read(key)?),
         "head" => {
             let name = Resource::read(NAME)?;
             taken_lines(
                 alloc,
-                &tables.first_with_head(alloc, Class::Opercmds, head_of(key), &name)?,
+                &tables.first_with_head(Class::Opercmds, head_of(key), &name)?,
             )
         }
         "order" => {
@@ -41,7 +43,20 @@ fn in_tables<T: Fresh>(alloc: Global, tables: &mut T, kind: &str, key: &str) -> 
                 &tables.first_in_order(alloc, Class::Opercmds, &name)?,
             )
         }
-        "all" => all_in_tables(alloc, tables, key),
+        "all" => {
+            let profiles = tables.all_in_order(alloc, Class::read(key).context("no class")?)?;
+            profiles_records(alloc, profiles.as_slice())
+        }
         _ => bail!("no search: {kind}"),
     }
+}
+
+/// What a search over the tables finds in both classes, with its access list.
+fn found_with_list<T: Fresh>(alloc: Global, tables: &mut T, name: &Resource) -> Result<String> {
+    let mut lines = String::new(alloc);
+    for class in CLASSES {
+        let found = tables.search_for(class, name)?;
+        lines.push_str(listed_lines(alloc, &found)?.as_str())?;
+    }
+    Ok(lines)
 }

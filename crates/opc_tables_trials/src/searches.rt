@@ -11,7 +11,8 @@ use opc_policy::policy::Policy;
 use opc_state::tables::Tables;
 use std::alloc::Global;
 
-const CLASSES: [Class; 2] = [Class::Opercmds, Class::Console];
+/// Both classes.
+pub const CLASSES: [Class; 2] = [Class::Opercmds, Class::Console];
 
 /// The name that is searched for at each head.
 pub const NAME: &str = "MVS.CANCEL.JOB.PAYROLL";
@@ -34,7 +35,9 @@ fn policy_of(alloc: Global, file: &str) -> Result<Policy> {
 pub fn in_memory(alloc: Global, file: &str, kind: &str, key: &str) -> Result<String> {
     let mut policy = policy_of(alloc, file)?;
     match kind {
-        "deciding" => found_in_memory(alloc, &mut policy, &Resource::read(key)?),
+        "deciding" | "listed" => {
+            found_in_memory(alloc, &mut policy, &Resource::read(key)?, kind == "listed")
+        }
         "head" => {
             let name = Resource::read(NAME)?;
             taken_lines(
@@ -54,12 +57,22 @@ pub fn in_memory(alloc: Global, file: &str, kind: &str, key: &str) -> Result<Str
     }
 }
 
-/// What the search of policies finds in both classes.
-fn found_in_memory(alloc: Global, policy: &mut Policy, name: &Resource) -> Result<String> {
+/// What the search of policies finds in both classes, with its access list or without.
+fn found_in_memory(
+    alloc: Global,
+    policy: &mut Policy,
+    name: &Resource,
+    listed: bool,
+) -> Result<String> {
     let mut lines = String::new(alloc);
     for class in CLASSES {
         let found = search(policy, class, name)?;
-        lines.push_str(found_lines(alloc, &found)?.as_str())?;
+        let told = if listed {
+            listed_lines(alloc, &found)?
+        } else {
+            found_lines(alloc, &found)?
+        };
+        lines.push_str(told.as_str())?;
     }
     Ok(lines)
 }
@@ -75,12 +88,6 @@ pub fn found_in_tables<T: Tables>(alloc: Global, tables: &mut T, key: &str) -> R
     Ok(lines)
 }
 
-/// All profiles of a class that tables have.
-pub fn all_in_tables<T: Tables>(alloc: Global, tables: &mut T, class: &str) -> Result<String> {
-    let profiles = tables.profiles(alloc, class_of(class)?)?;
-    profiles_records(alloc, profiles.as_slice())
-}
-
 /// What a search found: the profile but for its access list, how many heads were asked for, and how many profiles read.
 fn found_lines(alloc: Global, found: &Found) -> Result<String> {
     let mut rows = Vec::new(alloc);
@@ -89,6 +96,16 @@ fn found_lines(alloc: Global, found: &Found) -> Result<String> {
     }
     let record = records_of(alloc, rows.as_slice())?;
     Ok(format!(in alloc; "{record}{} {}\n", found.ranges, found.rows)?)
+}
+
+/// The same with the access list.
+pub fn listed_lines(alloc: Global, found: &Found) -> Result<String> {
+    let mut rows = Vec::new(alloc);
+    if let Some(profile) = &found.profile {
+        add_profile(&mut rows, profile)?;
+    }
+    let records = records_of(alloc, rows.as_slice())?;
+    Ok(format!(in alloc; "{records}{} {}\n", found.ranges, found.rows)?)
 }
 
 /// What was taken: the profile with its access list, and how many profiles were read.

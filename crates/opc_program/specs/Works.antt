@@ -1,6 +1,7 @@
 -- What a work of the program does over tables.
 use Rattle.std.specs.Prelude.{◌≡◌, ◌≤◌, ◌⊎◌, ℕ, Bool, List, Option, Result, IsErrAnd}
 use Rattle.std.specs.declared.time.Duration.{Duration}
+use Rattle.opc_state.specs.Changes.{IsKept}
 use Rattle.opc_state.specs.State.{State}
 use Rattle.opc_failures.specs.declared.failure.Failure.{Failure}
 use Rattle.opc_failures.specs.declared.status.Status.{Status}
@@ -26,5 +27,6 @@ module _ {T : Type 0} (is_sure : T → Type 0) (represents may_leave : T → Sta
   abbrev pub IsDone : {C : Type 0} → (limits : C → Duration → Bool → Type 0) → (remaining taken : C → Option (List ℕ)) → (holds : List ℕ → Option (List ℕ)) → Work → Type 0
   IsDone limits remaining taken holds (work.Run policy) = IsProgramRun is_sure represents may_leave (λ (w : Watched W). contents w.inner) (λ (w : Watched W). w.failed) holds old new policy left before written end
   IsDone limits remaining taken holds (work.Import import) = IsImportNow import
-  IsDone limits remaining taken holds work.Export = IsExport is_sure represents may_leave old new end (λ (w : Watched W). contents w.inner) (λ (w : Watched W). w.failed) before written
+  IsDone limits remaining taken holds work.Export =
+      IsKept is_sure represents may_leave old new × IsExport is_sure represents may_leave old new end (λ (w : Watched W). contents w.inner) (λ (w : Watched W). w.failed) before written
   IsDone limits remaining taken holds (work.Serve serve) = IsService is_sure represents may_leave limits remaining taken old new serve end (contents before.inner) (contents written.inner)

@@ -1,13 +1,13 @@
 //! Stores over disks that stop, and a store that is closed and opened again.
-use crate::files::{Stop, closed, crashed, made, opened, stopping};
+use crate::files::{Stop, Work, crashed, made, stopping, worked};
 use crate::older_disks::older_tables;
-use anyhow::{Result, bail};
+use anyhow::{Context, Result, bail};
 use opc_names::name::GroupName;
 use opc_state::change::{Change, Edit};
 use opc_state::tables::Tables;
 use opc_tables_trials::edits::refusal;
 use opc_tables_trials::words::add_word;
-use sqlite::{Files, Options};
+use sqlite::Files;
 use sqlite_disk::{Crash, Disk};
 use std::alloc::Global;
 
@@ -48,9 +48,10 @@ fn whole_changes(alloc: Global, stop: Stop) -> Result<String> {
 /// Whether a crash leaves what was acknowledged, or one change more, and how much was acknowledged.
 fn trial<D: Crash + Drop>(alloc: Global, files: Files<D>) -> Result<(bool, usize)> {
     let (done, files) = stopped(alloc, files)?;
-    match opened(alloc, crashed(files)) {
-        Ok(mut store) => Ok((is_after(held(alloc, &mut store)?.as_str(), done), done)),
-        Err(_) => Ok((false, done)),
+    let (held, _) = worked(alloc, crashed(files), &Held);
+    match held {
+        Some(held) => Ok((is_after(held?.as_str(), done), done)),
+        None => Ok((false, done)),
     }
 }
 
@@ -65,48 +66,67 @@ fn is_after(held: &str, done: usize) -> bool {
 
 /// How many changes were acknowledged before the disk stopped, and the files.
 fn stopped<D: Disk + Drop>(alloc: Global, files: Files<D>) -> Result<(usize, Files<D>)> {
-    match opened(alloc, files) {
-        Ok(mut store) => {
-            let done = acknowledged(alloc, &mut store)?;
-            Ok((done, closed(store)))
-        }
-        Err(files) => Ok((0, files)),
+    let (done, files) = worked(alloc, files, &Acknowledged);
+    match done {
+        Some(done) => Ok((done?, files)),
+        None => Ok((0, files)),
     }
 }
 
-fn acknowledged<T: Tables>(alloc: Global, tables: &mut T) -> Result<usize> {
-    let mut done = 0;
-    for (number, group) in [(1, "DAY"), (2, "NIGHT")] {
-        if tables.commit(alloc, &change(alloc, group)?).is_err() {
-            break;
+/// How many of two changes are acknowledged.
+struct Acknowledged;
+
+impl Work for Acknowledged {
+    type Out = Result<usize>;
+
+    fn over<T: Tables>(&self, alloc: Global, tables: &mut T) -> Result<usize> {
+        let mut done = 0;
+        for (number, group) in [(1, "DAY"), (2, "NIGHT")] {
+            if tables.commit(alloc, &change(alloc, group)?).is_err() {
+                break;
+            }
+            done = number;
         }
-        done = number;
+        Ok(done)
     }
-    Ok(done)
 }
 
 /// The groups that tables hold, and the codes of their account.
-fn held<T: Tables>(alloc: Global, tables: &mut T) -> Result<String> {
-    let mut held = String::new(alloc);
-    for group in ["DAY", "NIGHT"] {
-        if tables.has_group(group)? {
-            add_word(&mut held, group)?;
+struct Held;
+
+impl Work for Held {
+    type Out = Result<String>;
+
+    fn over<T: Tables>(&self, alloc: Global, tables: &mut T) -> Result<String> {
+        let mut held = String::new(alloc);
+        for group in ["DAY", "NIGHT"] {
+            if tables.has_group(group)? {
+                add_word(&mut held, group)?;
+            }
         }
+        for (_, row) in tables.account(alloc, 1, 9)?.as_slice() {
+            add_word(&mut held, row.code.as_str())?;
+        }
+        Ok(held)
     }
-    for (_, row) in tables.account(alloc, 1, 9)?.as_slice() {
-        add_word(&mut held, row.code.as_str())?;
-    }
-    Ok(held)
 }
 
 /// What a store holds that was closed and opened again after one change.
 fn opened_again<D: Disk + Drop>(alloc: Global, files: Files<D>) -> Result<String> {
-    let Ok(mut store) = opened(alloc, files) else {
-        bail!("not opened");
-    };
-    store.commit(alloc, &change(alloc, "DAY")?)?;
-    match store.reopen(alloc, Options::new(7)) {
-        Some(mut again) => held(alloc, &mut again),
-        None => bail!("not opened again"),
+    let (changed, files) = worked(alloc, files, &Changed);
+    changed.context("not opened")??;
+    let (held, _) = worked(alloc, files, &Held);
+    held.context("not opened again")?
+}
+
+/// One change, acknowledged.
+struct Changed;
+
+impl Work for Changed {
+    type Out = Result<()>;
+
+    fn over<T: Tables>(&self, alloc: Global, tables: &mut T) -> Result<()> {
+        tables.commit(alloc, &change(alloc, "DAY")?)?;
+        Ok(())
     }
 }

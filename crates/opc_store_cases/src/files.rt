@@ -2,6 +2,7 @@
 ghost use Rattle.std.specs.Prelude.{◌≡◌, false, IfOk};
 
 use anyhow::{Result, bail};
+use opc_state::tables::Tables;
 use opc_store::store::Store;
 use sqlite::{Connection, FileStore, Files, Options};
 use sqlite_disk::{Crash, Disk, Fuse, Memory};
@@ -27,8 +28,10 @@ pub fn made(alloc: Global, statements: &str) -> Result<Files<Memory>> {
     let Ok(mut conn) = connected(alloc, files) else {
         bail!("not opened");
     };
-    conn.execute_batch(statements)?;
-    Ok(disconnected(conn))
+    let ran = conn.execute_batch(statements);
+    let files = disconnected(conn);
+    ran?;
+    Ok(files)
 }
 
 /// Files of which one passes so many further calls on.
@@ -87,6 +90,29 @@ pub fn opened<D: Disk + Drop>(
     match Store::open_files(alloc, conn) {
         Ok(store) => Ok(store),
         Err((_, conn)) => Err(disconnected(conn)),
+    }
+}
+
+/// What is done with the tables of a store.
+pub trait Work {
+    type Out: Drop;
+
+    fn over<T: Tables>(&self, alloc: Global, tables: &mut T) -> Self::Out;
+}
+
+/// What a work with a store over files comes to, if the store opens, and the files. The store is never dropped: that would
+/// be proved at each end of a function.
+pub fn worked<D: Disk + Drop, W: Work>(
+    alloc: Global,
+    files: Files<D>,
+    work: &W,
+) -> (Option<W::Out>, Files<D>) {
+    match opened(alloc, files) {
+        Ok(mut store) => {
+            let out = work.over(alloc, &mut store);
+            (Some(out), closed(store))
+        }
+        Err(files) => (None, files),
     }
 }
 

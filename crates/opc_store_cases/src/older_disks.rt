@@ -1,5 +1,5 @@
 //! Tables of an older version, opened over disks that stop.
-use crate::files::{Stop, closed, connected, crashed, made, opened, stopping};
+use crate::files::{Stop, closed, connected, crashed, disconnected, made, opened, stopping};
 use anyhow::{Result, bail};
 use sqlite::Files;
 use sqlite_disk::{Crash, Disk};
@@ -52,7 +52,9 @@ fn counts_in<D: Disk + Drop>(alloc: Global, files: Files<D>) -> Result<String> {
     let Ok(mut conn) = connected(alloc, files) else {
         bail!("not opened again");
     };
-    let rows = conn.query_all(COUNTS, &[])?;
+    let read = conn.query_all(COUNTS, &[]);
+    let _files = disconnected(conn);
+    let rows = read?;
     match rows.as_slice() {
         [row] => Ok(row.get(0)?),
         _ => bail!("not one row"),

@@ -6,12 +6,12 @@ use Rattle.opc_terms.specs.declared.fault.Fault.{Fault}
 use Rattle.opc_store.specs.declared.opening.OpenFault.{OpenFault}
 use Rattle.opc_store.specs.declared.opening.OpenFault.TheVariants as opening
 use Rattle.opc_store.specs.Opening.{opening_fault}
-use Rattle.opc_http_link.specs.declared.watched.Watched.{Watched}
-use Rattle.opc_failures.specs.declared.status.Status.{Status}
-use Rattle.opc_failures.specs.declared.status.Status.TheVariants.{Done, Refused, BadInput, Failed}
-use Rattle.opc_failures.specs.Statuses.{number_of, status_of}
-use Rattle.opc_words.specs.declared.words.Task.{Task}
-use Rattle.opc_words.specs.Reading.{AreRead}
+use Rattle.opc_io.specs.declared.watched.Watched.{Watched}
+use Rattle.opc_cli_failures.specs.declared.status.Status.{Status}
+use Rattle.opc_cli_failures.specs.declared.status.Status.TheVariants.{Done, Refused, BadInput, Failed}
+use Rattle.opc_cli_failures.specs.Statuses.{number_of, status_of}
+use Rattle.opc_cli_words.specs.declared.words.Task.{Task}
+use Rattle.opc_cli_words.specs.Reading.{AreRead}
 use Rattle.opc_cli.specs.Words.{AreDone, IsFaultTold, IsTaskDone}
 
 pub at_most_three : (status : Status) → number_of status ≤ 3

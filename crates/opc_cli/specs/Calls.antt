@@ -2,15 +2,15 @@
 use Rattle.std.specs.Prelude.{◌≡◌, ℕ, Bool, true, List, Option, None, Result, Ok, Err, if◌then◌else◌}
 use Rattle.std.specs.declared.time.Duration.{Duration}
 use Rattle.opc_state.specs.State.{State}
-use Rattle.opc_failures.specs.declared.status.Status.{Status}
-use Rattle.opc_failures.specs.declared.status.Status.TheVariants.{BadInput, Done, Failed}
-use Rattle.opc_failures.specs.Statuses.{number_of}
-use Rattle.opc_script.specs.declared.script.ScriptFault.{ScriptFault}
-use Rattle.opc_script.specs.declared.script.ScriptFault.TheVariants.{BadLine, NoMemory, Output}
-use Rattle.opc_script.specs.Refusals.{is_cut_by_output}
-use Rattle.opc_script.specs.Running.{IsAnswered}
-use Rattle.opc_serve.specs.declared.arrival.ServeFault.{ServeFault}
-use Rattle.opc_serve.specs.Handled.{AreHandled}
+use Rattle.opc_cli_failures.specs.declared.status.Status.{Status}
+use Rattle.opc_cli_failures.specs.declared.status.Status.TheVariants.{BadInput, Done, Failed}
+use Rattle.opc_cli_failures.specs.Statuses.{number_of}
+use Rattle.opc_cli_script.specs.declared.script.ScriptFault.{ScriptFault}
+use Rattle.opc_cli_script.specs.declared.script.ScriptFault.TheVariants.{BadLine, NoMemory, Output}
+use Rattle.opc_cli_script.specs.Refusals.{is_cut_by_output}
+use Rattle.opc_cli_script.specs.Running.{IsAnswered}
+use Rattle.opc_http_serve.specs.declared.arrival.ServeFault.{ServeFault}
+use Rattle.opc_http_serve.specs.Handled.{AreHandled}
 
 -- The status of a script: what its answers come to; or that a line was bad, or that memory was refused or the output failed.
 abbrev pub status_of_script : Result Status ScriptFault → Status

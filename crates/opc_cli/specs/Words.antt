@@ -10,19 +10,19 @@ use Rattle.opc_terms.specs.declared.fault.Fault.{Fault}
 use Rattle.opc_terms.specs.declared.fault.Fault.TheVariants.{Store}
 use Rattle.opc_store.specs.declared.opening.OpenFault.{OpenFault}
 use Rattle.opc_store.specs.Opening.{IsNotOpened, opening_fault}
-use Rattle.opc_http_link.specs.declared.watched.Watched.{Watched}
-use Rattle.opc_failures.specs.declared.failure.Failure.{Failure}
-use Rattle.opc_failures.specs.declared.status.Status.{Status}
-use Rattle.opc_failures.specs.declared.status.Status.TheVariants.{Failed}
-use Rattle.opc_failures.specs.Printing.{IsTold}
-use Rattle.opc_failures.specs.Statuses.{status_of_end}
-use Rattle.opc_words.specs.declared.words.Task.{Task}
-use Rattle.opc_words.specs.declared.words.Task.TheVariants as task
-use Rattle.opc_words.specs.Reading.{Ask, AskForNone}
-use Rattle.opc_policy_files.specs.Questions.{IsToldAnswer}
-use Rattle.opc_program.specs.declared.work.Work.{Work}
-use Rattle.opc_program.specs.declared.work.Work.TheVariants as work
-use Rattle.opc_works.specs.Works.{IsRunInMemory, IsWorkAt}
+use Rattle.opc_io.specs.declared.watched.Watched.{Watched}
+use Rattle.opc_cli_failures.specs.declared.failure.Failure.{Failure}
+use Rattle.opc_cli_failures.specs.declared.status.Status.{Status}
+use Rattle.opc_cli_failures.specs.declared.status.Status.TheVariants.{Failed}
+use Rattle.opc_cli_failures.specs.Printing.{IsTold}
+use Rattle.opc_cli_failures.specs.Statuses.{status_of_end}
+use Rattle.opc_cli_words.specs.declared.words.Task.{Task}
+use Rattle.opc_cli_words.specs.declared.words.Task.TheVariants as task
+use Rattle.opc_cli_words.specs.Reading.{Ask, AskForNone}
+use Rattle.opc_cli_policy_files.specs.Questions.{IsToldAnswer}
+use Rattle.opc_cli_program.specs.declared.work.Work.{Work}
+use Rattle.opc_cli_program.specs.declared.work.Work.TheVariants as work
+use Rattle.opc_cli_works.specs.Works.{IsRunInMemory, IsWorkAt}
 
 -- the status of a work over a file: that of its end, or a failure where the file was not closed
 abbrev pub status_of_work : {A B : Type 0} → Result Status Failure → (closed : Result A B) → Status

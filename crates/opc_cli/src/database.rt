@@ -1,5 +1,5 @@
 //! Why a database file is not opened, as the system says it where it is asked for the file again.
-use opc_failures::reason::Reason;
+use opc_cli_failures::reason::Reason;
 use sqlite::Wary;
 use sqlite_std_file::OpenError;
 use std::fs::{File, OpenOptions};

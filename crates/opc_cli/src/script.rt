@@ -1,13 +1,13 @@
 //! A script over a gate, with the number that a program ends with.
 ghost use Rattle.std.specs.Prelude.{◌≡◌};
-ghost use Rattle.opc_failures.specs.Statuses.{number_of};
+ghost use Rattle.opc_cli_failures.specs.Statuses.{number_of};
 ghost use Rattle.opc_cli.specs.Calls.{IsScript, status_of_script};
 
-use opc_failures::status::Status;
+use opc_cli_failures::status::Status;
 use opc_gate::gate::Gate;
-use opc_http_link::sink::Sink;
-use opc_script::run;
-use opc_script::script::ScriptFault;
+use opc_io::sink::Sink;
+use opc_cli_script::run;
+use opc_cli_script::script::ScriptFault;
 use opc_state::tables::Tables;
 use std::alloc::Global;
 

@@ -1,14 +1,14 @@
 //! A service over a gate, with the number that a program ends with.
 ghost use Rattle.std.specs.Prelude.{◌≡◌};
-ghost use Rattle.opc_failures.specs.Statuses.{number_of};
+ghost use Rattle.opc_cli_failures.specs.Statuses.{number_of};
 ghost use Rattle.opc_cli.specs.Calls.{IsService, status_of_service};
 
-use opc_failures::status::Status;
+use opc_cli_failures::status::Status;
 use opc_gate::gate::Gate;
 use opc_http_head::routes::Routes;
-use opc_serve::arrival::ServeFault;
-use opc_serve::connection::Connection;
-use opc_serve::serving;
+use opc_http_serve::arrival::ServeFault;
+use opc_http_serve::connection::Connection;
+use opc_http_serve::serving;
 use opc_state::tables::Tables;
 use std::net::OpenListener;
 use std::rt::Clock;

@@ -1,7 +1,7 @@
 -- One exchange: what some bytes ask, what is replied to it, and what becomes of the tables.
 use Rattle.std.specs.Prelude.{◌≡◌, ℕ, Bool, true, false, List, Option, Result, Ok, Err, IfSome, is_ok}
 use Rattle.std.specs.Io.KnownBytes.{Appends}
-use Rattle.opc_http_link.specs.Writes.{AppendsPrefix}
+use Rattle.opc_io.specs.Writes.{AppendsPrefix}
 use Rattle.opc_http_head.specs.declared.refusal.Refusal.{Refusal}
 use Rattle.opc_http_requests.specs.Asked.{AsksOnly}
 use Rattle.opc_http_responses.specs.Responses.{refusal_response, response_of}

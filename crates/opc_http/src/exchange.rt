@@ -1,16 +1,16 @@
 //! One exchange.
 ghost use Rattle.std.specs.Prelude.{◌≡◌, [], IfErr, IfOk, IfSome, OnErr, OnOk, Ok, Err, is_err, if◌then◌else◌, true};
 ghost use Rattle.std.specs.Io.KnownBytes.{Appends};
-ghost use Rattle.opc_http_link.specs.Reads.{ReadsOnly, TakesAtMost};
-ghost use Rattle.opc_http_link.specs.Writes.{AppendsPrefix};
+ghost use Rattle.opc_io.specs.Reads.{ReadsOnly, TakesAtMost};
+ghost use Rattle.opc_io.specs.Writes.{AppendsPrefix};
 ghost use Rattle.opc_http_requests.specs.Asked.{MayRead, StopsAtEnd};
 ghost use Rattle.opc_http.specs.Exchange.{IsCutOff, IsFaulty, IsServed, IsTold, is_read, is_write};
 
 use opc_gate::gate::Gate;
 use opc_http_head::refusal::Refusal;
 use opc_http_head::routes::Routes;
-use opc_http_link::sink::{Sink, write_whole};
-use opc_http_link::source::Source;
+use opc_io::sink::{Sink, write_whole};
+use opc_io::source::Source;
 use opc_http_requests::ask::read_request;
 use opc_http_requests::fault::ReadingFault;
 use opc_http_responses::response::{Response, answered, refused};

@@ -12,7 +12,7 @@ use Rattle.opc_import.specs.Files.{policy_of}
 use Rattle.opc_import.specs.declared.fault.ImportFault.{ImportFault}
 use Rattle.opc_import.specs.declared.fault.ImportFault.TheVariants as import
 use Rattle.opc_terms.specs.declared.fault.Why.{Why}
-use Rattle.opc_policy.specs.declared.row.Row.{Row}
+use Rattle.opc_policy_members.specs.declared.row.Row.{Row}
 use Rattle.opc_http_bodies.specs.Bodies.{rows_in, value_in}
 use Rattle.opc_http_bodies.specs.Keys.{members_count}
 use Rattle.opc_http_head.specs.declared.refusal.Refusal.TheVariants.{BadRequest, BadRow}

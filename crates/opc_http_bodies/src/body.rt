@@ -13,7 +13,7 @@ use opc_import::fault::ImportFault;
 use opc_import::read::read_policy;
 use opc_machine::operation::Operation;
 use opc_names::name::ConsoleName;
-use opc_policy::row::Row;
+use opc_policy_members::row::Row;
 use serde_json::Value;
 use serde_json::error::Category;
 use std::alloc::Global;

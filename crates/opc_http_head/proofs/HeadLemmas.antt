@@ -8,9 +8,9 @@ use Rattle.httparse.specs.Grammar.{Field, HasNoRequest, ReadsRequest, RequestHea
 use Rattle.httparse.specs.Spans.{IsRequestOf, RequestOverflows, header_bytes, name_and_value}
 use Rattle.httparse.specs.declared.spans.HeaderSpan.{HeaderSpan}
 use Rattle.httparse.specs.declared.spans.RequestSpans.{RequestSpans}
-use Rattle.opc_http_link.specs.Reads.{Reads, ReadsMore, ReadsOnce}
-use Rattle.opc_http_link.specs.declared.source.ReadFault.{ReadFault}
-use Rattle.opc_http_link.proofs.Reading.{consumes-more, one-read-more}
+use Rattle.opc_io.specs.Reads.{Reads, ReadsMore, ReadsOnce}
+use Rattle.opc_io.specs.declared.source.ReadFault.{ReadFault}
+use Rattle.opc_io.proofs.Reading.{consumes-more, one-read-more}
 use Rattle.opc_http_head.specs.Head.{FoundHead, IsUnfinished, MayLook, NoHead}
 
 -- the first 8,192 bytes begin with what was read

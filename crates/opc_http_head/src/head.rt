@@ -2,12 +2,12 @@
 ghost use Rattle.std.specs.Prelude.{◌≡◌, ◌≤◌, [], length, IfOk, IfSome, OnOk, MatchOption, if◌then◌else◌, vec_len, true};
 ghost use Rattle.std.specs.Io.KnownBytes.{Consumes};
 ghost use Rattle.httparse.specs.Spans.{IsRequestWithin};
-ghost use Rattle.opc_http_link.specs.Reads.{ReadsInto, TakesAtMost, is_read};
+ghost use Rattle.opc_io.specs.Reads.{ReadsInto, TakesAtMost, is_read};
 ghost use Rattle.opc_http_head.specs.Head.{FoundHead, MayLook, NoHead, Starts, StartsWithin};
 
 use httparse::Status;
 use httparse::spans::{HeaderSpan, RequestSpans, parse_request};
-use opc_http_link::source::{ReadFault, Source, read_more};
+use opc_io::source::{ReadFault, Source, read_more};
 
 /// The most bytes that a head may take.
 pub const HEAD_LIMIT: usize = 8192;

@@ -8,8 +8,8 @@ use Rattle.httparse.specs.declared.spans.HeaderSpan.{HeaderSpan}
 use Rattle.httparse.specs.declared.spans.RequestSpans.{RequestSpans}
 use Rattle.httparse.proofs.GrammarLemmas.{request_unique}
 use Rattle.opc_machine.specs.declared.request.Request.{Request}
-use Rattle.opc_http_link.specs.Reads.{TakesAtMost}
-use Rattle.opc_http_link.proofs.Reading.{consumes-more}
+use Rattle.opc_io.specs.Reads.{TakesAtMost}
+use Rattle.opc_io.proofs.Reading.{consumes-more}
 use Rattle.opc_http_head.specs.Head.{FoundHead, HasHead, NoHead}
 use Rattle.opc_http_head.specs.Refusals.{Refuses}
 use Rattle.opc_http_head.specs.declared.refusal.AskFault.{AskFault}

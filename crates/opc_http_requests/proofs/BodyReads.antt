@@ -4,9 +4,9 @@ use Rattle.std.specs.Prelude.{IfSome, Option, Result, slice_range}
 use Rattle.std.specs.Io.KnownBytes.{Consumes}
 use Rattle.std.proofs.lemmas.Bool.Decides.{nat_tests}
 use Rattle.std.proofs.lemmas.List.{append-nil, drop-append-le, length-drop, take-append-le}
-use Rattle.opc_http_link.specs.Reads.{Reads, ReadsMore, ReadsOnce, TakesAtMost}
-use Rattle.opc_http_link.specs.declared.source.ReadFault.{ReadFault}
-use Rattle.opc_http_link.proofs.Reading.{consumes-more, consumes-none, one-read-more, takes-after}
+use Rattle.opc_io.specs.Reads.{Reads, ReadsMore, ReadsOnce, TakesAtMost}
+use Rattle.opc_io.specs.declared.source.ReadFault.{ReadFault}
+use Rattle.opc_io.proofs.Reading.{consumes-more, consumes-none, one-read-more, takes-after}
 use Rattle.opc_http_head.specs.declared.refusal.Refusal.TheVariants.{BadRequest}
 use Rattle.opc_http_requests.specs.Bodies.{MayFill, ReadsTo}
 use Rattle.opc_http_requests.specs.Requests.{body_in}

@@ -10,8 +10,8 @@ use Rattle.httparse.specs.Grammar.{HasNoRequest, RequestHead, print_request}
 use Rattle.httparse.specs.declared.spans.HeaderSpan.{HeaderSpan}
 use Rattle.httparse.specs.declared.spans.RequestSpans.{RequestSpans}
 use Rattle.httparse.proofs.GrammarLemmas.{ReadsRequest-append}
-use Rattle.opc_http_link.specs.Reads.{AreReads, Reads, ReadsInto, ReadsOnly}
-use Rattle.opc_http_link.proofs.Reading.{begins, more-reads, no-reads}
+use Rattle.opc_io.specs.Reads.{AreReads, Reads, ReadsInto, ReadsOnly}
+use Rattle.opc_io.proofs.Reading.{begins, more-reads, no-reads}
 use Rattle.opc_http_head.specs.Head.{FoundHead, HasHead, MayLook, NoHead}
 use Rattle.opc_http_head.proofs.HeadLemmas.{first-bytes}
 use Rattle.opc_http_requests.specs.Asked.{MayRead, StopsAtEnd, looked_through, request_length}

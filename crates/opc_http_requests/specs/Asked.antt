@@ -3,7 +3,7 @@ use Rattle.std.specs.Prelude.{◌≡◌, ◌+◌, ◌⊎◌, ℕ, List, drop, le
 use Rattle.httparse.specs.Grammar.{RequestHead, print_request}
 use Rattle.httparse.specs.Spans.{name_and_value}
 use Rattle.opc_machine.specs.declared.request.Request.{Request}
-use Rattle.opc_http_link.specs.Reads.{TakesAtMost}
+use Rattle.opc_io.specs.Reads.{TakesAtMost}
 use Rattle.opc_http_head.specs.Head.{HasHead, MayLook, NoHead}
 use Rattle.opc_http_head.specs.declared.refusal.Refusal.{Refusal}
 use Rattle.opc_http_head.specs.declared.refusal.Refusal.TheVariants.{BadRequest}

@@ -3,8 +3,8 @@ use Rattle.std.specs.Prelude.{⊤, Bool, true, false, Result, Ok, Err}
 use Rattle.opc_http_head.specs.declared.refusal.AskFault.{AskFault}
 use Rattle.opc_http_head.specs.declared.refusal.AskFault.TheVariants as asking
 use Rattle.opc_http_head.specs.declared.refusal.Refusal.{Refusal}
-use Rattle.opc_http_link.specs.declared.source.ReadFault.{ReadFault}
-use Rattle.opc_http_link.specs.declared.source.ReadFault.TheVariants as reading
+use Rattle.opc_io.specs.declared.source.ReadFault.{ReadFault}
+use Rattle.opc_io.specs.declared.source.ReadFault.TheVariants as reading
 use Rattle.opc_http_requests.specs.declared.fault.ReadingFault.{ReadingFault}
 use Rattle.opc_http_requests.specs.declared.fault.ReadingFault.TheVariants.{NoMemory, Read, Refused}
 

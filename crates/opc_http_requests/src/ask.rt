@@ -1,7 +1,7 @@
 //! A whole request, read from a source.
 ghost use Rattle.std.specs.Prelude.{◌≡◌, ◌≤◌, ◌+◌, ◌-◌, ◌++◌, [], Err, IfErr, IfOk, IfSome, MatchResult, Ok, drop, if◌then◌else◌, true, vec_len};
 ghost use Rattle.httparse.specs.Spans.{IsWithin, span_bytes};
-ghost use Rattle.opc_http_link.specs.Reads.{ReadsOnly, TakesAtMost};
+ghost use Rattle.opc_io.specs.Reads.{ReadsOnly, TakesAtMost};
 ghost use Rattle.opc_http_head.specs.Refusals.{Refuses};
 ghost use Rattle.opc_http_requests.specs.Asked.{AsksOnly, MayRead, StopsAtEnd};
 ghost use Rattle.opc_http_requests.specs.Bodies.{MayFill};
@@ -17,10 +17,10 @@ use opc_http_bodies::body::{command_in, operation_in, rows_in};
 use opc_http_head::head::read_head;
 use opc_http_head::refusal::{AskFault, Refusal};
 use opc_http_head::routes::{Route, Routes};
-use opc_http_link::source::Source;
+use opc_io::source::Source;
 use opc_machine::request::Request;
 use opc_names::name::ConsoleName;
-use opc_policy::row::Row;
+use opc_policy_members::row::Row;
 use opc_rows::Rows;
 use std::alloc::{AllocError, Global};
 

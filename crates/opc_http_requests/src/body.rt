@@ -1,9 +1,9 @@
 //! The body of a request, read from a source.
 ghost use Rattle.std.specs.Prelude.{◌≡◌, ◌<◌, ◌-◌, IfOk, if◌then◌else◌, false, true, vec_len};
-ghost use Rattle.opc_http_link.specs.Reads.{ReadsInto, TakesAtMost, is_read};
+ghost use Rattle.opc_io.specs.Reads.{ReadsInto, TakesAtMost, is_read};
 ghost use Rattle.opc_http_requests.specs.Bodies.{MayFill, ReadsTo};
 
-use opc_http_link::source::{ReadFault, Source, read_more};
+use opc_io::source::{ReadFault, Source, read_more};
 
 /// Reads until `buf` has so many bytes, and no further; whether it has them, before the source ends.
 pub(crate) fn read_to<S: Source>(

@@ -1,6 +1,6 @@
 //! Why no request was read.
 use opc_http_head::refusal::{AskFault, Refusal};
-use opc_http_link::source::ReadFault;
+use opc_io::source::ReadFault;
 
 /// Why no request was read: what was read is refused, a read failed, or out of memory.
 #[derive(Clone, Copy, Debug, PartialEq, Eq)]

@@ -4,7 +4,7 @@ use Rattle.std.specs.Prelude.{Some, Result, Ok, Err, nat_lt, ◌==◌}
 use Rattle.std.proofs.lemmas.List.{append-nil}
 use Rattle.std.proofs.lemmas.Bool.{cases_Bool}
 use Rattle.std.proofs.lemmas.Bool.Decides.{nat_tests}
-use Rattle.opc_policy.specs.declared.row.Row.{Row}
+use Rattle.opc_policy_members.specs.declared.row.Row.{Row}
 use Rattle.opc_import.specs.Columns.{Record, width_of}
 use Rattle.opc_import.specs.Files.{after_rows, rows_from, rows_of, with_row}
 use Rattle.opc_import.specs.Kinds.{most_rows, row_of}

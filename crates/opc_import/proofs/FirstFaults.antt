@@ -7,8 +7,8 @@ use Rattle.opc_names.specs.Spellings.{auths, classes, levels, lookup}
 use Rattle.opc_terms.specs.Modes.{modes}
 use Rattle.opc_terms.specs.declared.fault.Why.{Why}
 use Rattle.opc_terms.specs.declared.fault.Why.TheVariants as why
-use Rattle.opc_policy.specs.declared.row.Row.{Row}
-use Rattle.opc_policy.specs.declared.row.Row.TheVariants as row
+use Rattle.opc_policy_members.specs.declared.row.Row.{Row}
+use Rattle.opc_policy_members.specs.declared.row.Row.TheVariants as row
 use Rattle.opc_import.specs.Columns.{Record, columns, field_in, reason, unused}
 use Rattle.opc_import.specs.Fields.{activities, digest_of, entry_id_of, name_of, restrictions, user_flags, warnings, when_of}
 use Rattle.opc_import.specs.Kinds.{◌>>=◌, kinds, most_rows, read_in, row_by_kind, row_of_kind}

@@ -25,8 +25,8 @@ use Rattle.opc_terms.specs.Entries.{entry_fault}
 use Rattle.opc_terms.specs.Modes.{mode_text}
 use Rattle.opc_terms.specs.declared.mode.Mode.{Mode}
 use Rattle.opc_terms.specs.declared.mode.Mode.TheVariants as mode
-use Rattle.opc_policy.specs.declared.row.Row.{Row}
-use Rattle.opc_policy.specs.declared.row.Row.TheVariants as row
+use Rattle.opc_policy_members.specs.declared.row.Row.{Row}
+use Rattle.opc_policy_members.specs.declared.row.Row.TheVariants as row
 use Rattle.opc_import.specs.Columns.{Record, column_name, header}
 use Rattle.opc_import.specs.Fields.{decoded, digest_of, is_lower_digit}
 use Rattle.opc_import.specs.Lines.{csv_text, line_text, policy_text, written_field}

@@ -28,8 +28,8 @@ use Rattle.opc_names.specs.declared.level.Level.TheVariants as level
 use Rattle.opc_terms.specs.Modes.{mode_text, modes}
 use Rattle.opc_terms.specs.declared.mode.Mode.{Mode}
 use Rattle.opc_terms.specs.declared.mode.Mode.TheVariants as mode
-use Rattle.opc_policy.specs.declared.row.Row.{Row}
-use Rattle.opc_policy.specs.declared.row.Row.TheVariants as row
+use Rattle.opc_policy_members.specs.declared.row.Row.{Row}
+use Rattle.opc_policy_members.specs.declared.row.Row.TheVariants as row
 use Rattle.opc_import.specs.Columns.{Record, header}
 use Rattle.opc_import.specs.Fields.{activities, decoded, digest_of, flags_of, is_lower_digit, restrictions, user_flags, warnings, when_of}
 use Rattle.opc_import.specs.Files.{policy_of, rows_from}

@@ -1,7 +1,7 @@
 -- What a text says as a policy file.
 use Rattle.std.specs.Prelude.{◌+◌, ℕ, List, [], ◌∷◌, ◌++◌, Option, Some, None, Result, Ok, Err}
 use Rattle.csv.specs.Reading.{default_config, records, strip_bom}
-use Rattle.opc_policy.specs.declared.row.Row.{Row}
+use Rattle.opc_policy_members.specs.declared.row.Row.{Row}
 use Rattle.opc_import.specs.Columns.{Record, width_of}
 use Rattle.opc_import.specs.Kinds.{row_of}
 use Rattle.opc_import.specs.declared.fault.ImportFault.{ImportFault}

@@ -4,8 +4,8 @@ use Rattle.std.specs.Option.{ok_or}
 use Rattle.opc_names.specs.Names.{console_rule, group_rule, pattern_rule, user_rule}
 use Rattle.opc_names.specs.Spellings.{auths, classes, levels, lookup}
 use Rattle.opc_terms.specs.Modes.{modes}
-use Rattle.opc_policy.specs.declared.row.Row.{Row}
-use Rattle.opc_policy.specs.declared.row.Row.TheVariants as row
+use Rattle.opc_policy_members.specs.declared.row.Row.{Row}
+use Rattle.opc_policy_members.specs.declared.row.Row.TheVariants as row
 use Rattle.opc_import.specs.Columns.{Record, field_in, reason, unused}
 use Rattle.opc_import.specs.Fields.{activities, digest_of, entry_id_of, name_of, restrictions, user_flags, warnings, when_of}
 use Rattle.opc_import.specs.declared.kind.Kind.{Kind}

@@ -6,7 +6,7 @@ use Rattle.std.proofs.Common.{Global, Vec}
 use Rattle.csv.specs.Records.{Row as Fields, fields_of, partial_of}
 use Rattle.csv.specs.Writing.{default_writer, fields_written, has_written, row_text, text_written, writer_setup}
 use Rattle.csv.specs.declared.writer.Writer.{Writer}
-use Rattle.opc_policy.specs.declared.row.Row.{Row}
+use Rattle.opc_policy_members.specs.declared.row.Row.{Row}
 use Rattle.opc_import.specs.Columns.{Record, header}
 use Rattle.opc_import.specs.Rows.{record_of}
 

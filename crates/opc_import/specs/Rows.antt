@@ -5,9 +5,9 @@ use Rattle.opc_names.specs.Names.{console_rule, group_rule, name_fault, pattern_
 use Rattle.opc_names.specs.Spellings.{auth_text, class_text, level_text}
 use Rattle.opc_terms.specs.Entries.{entry_fault}
 use Rattle.opc_terms.specs.Modes.{mode_text}
-use Rattle.opc_policy.specs.declared.row.Row.{Row}
-use Rattle.opc_policy.specs.declared.row.Row.TheVariants as row
-use Rattle.opc_policy.specs.declared.user.User.{User}
+use Rattle.opc_policy_members.specs.declared.row.Row.{Row}
+use Rattle.opc_policy_members.specs.declared.row.Row.TheVariants as row
+use Rattle.opc_policy_members.specs.declared.user.User.{User}
 use Rattle.opc_import.specs.Columns.{Record, columns}
 use Rattle.opc_import.specs.Fields.{digest_of}
 use Rattle.opc_import.specs.Kinds.{kind_text}

@@ -13,8 +13,8 @@ use csv::StringRecord;
 use opc_names::auth::Auth;
 use opc_names::class::Class;
 use opc_names::level::Level;
-use opc_policy::row::Row;
-use opc_policy::user::User;
+use opc_policy_members::row::Row;
+use opc_policy_members::user::User;
 use opc_terms::fault::Why;
 use opc_terms::mode::Mode;
 

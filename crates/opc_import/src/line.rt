@@ -11,8 +11,8 @@ ghost use Rattle.opc_import.specs.declared.column.Column.TheVariants as column;
 use crate::column::COLUMNS;
 use crate::kind::Kind;
 use csv::ByteRecord;
-use opc_policy::row::Row;
-use opc_policy::user::User;
+use opc_policy_members::row::Row;
+use opc_policy_members::user::User;
 use std::alloc::AllocError;
 
 fn kind_of(row: &Row) -> Kind

@@ -8,7 +8,7 @@ use crate::kind::{MOST_ROWS, row_of};
 use crate::records::Records;
 use csv::StringRecord;
 use opc_names::name::ConsoleName;
-use opc_policy::row::Row;
+use opc_policy_members::row::Row;
 use opc_terms::fault::Why;
 use std::alloc::Global;
 

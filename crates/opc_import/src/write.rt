@@ -9,7 +9,7 @@ ghost use Rattle.opc_import.specs.Rows.{IsValid};
 
 use crate::line::{fill, fill_header};
 use csv::{ByteRecord, Writer, WriterBuilder};
-use opc_policy::row::Row;
+use opc_policy_members::row::Row;
 use std::alloc::{AllocError, Global};
 
 // Writes a record as a line.

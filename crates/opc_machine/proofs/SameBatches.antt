@@ -10,12 +10,12 @@ use Rattle.opc_names.specs.declared.class.Class.{Class}
 use Rattle.opc_names.specs.declared.class.Class.TheVariants as class
 use Rattle.opc_names.specs.declared.level.Level.{Level}
 use Rattle.opc_names.specs.declared.level.Level.TheVariants as level
-use Rattle.opc_policy.proofs.Classes.{same_class_is}
+use Rattle.opc_policy_members.proofs.Classes.{same_class_is}
 use Rattle.opc_terms.specs.declared.mode.Mode.{Mode}
 use Rattle.opc_terms.specs.declared.mode.Mode.TheVariants.{Optional, Required, Auto}
-use Rattle.opc_policy.specs.declared.row.Row.{Row}
-use Rattle.opc_policy.specs.declared.row.Row.TheVariants as rows
-use Rattle.opc_policy.specs.declared.user.User.{User}
+use Rattle.opc_policy_members.specs.declared.row.Row.{Row}
+use Rattle.opc_policy_members.specs.declared.row.Row.TheVariants as rows
+use Rattle.opc_policy_members.specs.declared.user.User.{User}
 use Rattle.opc_terms.specs.Modes.{mode_text, modes}
 use Rattle.opc_state.specs.Difference.{same_flag, same_text}
 use Rattle.opc_machine.specs.Imports.{same_row, same_rows, same_user}

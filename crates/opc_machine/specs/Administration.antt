@@ -6,12 +6,12 @@ use Rattle.opc_names.specs.declared.class.Class.{Class}
 use Rattle.opc_names.specs.declared.level.Level.{Level}
 use Rattle.opc_terms.specs.declared.fault.Fault.{Fault}
 use Rattle.opc_terms.specs.declared.fault.Fault.TheVariants.{InUse}
-use Rattle.opc_policy.specs.declared.policy.Policy.{Policy}
-use Rattle.opc_policy.specs.declared.profile.Profile.{Profile}
-use Rattle.opc_policy.specs.Access.{is_for}
-use Rattle.opc_policy.specs.Members.{with_user, with_group, with_connect}
-use Rattle.opc_policy.specs.Profiles.{profile_of, with_permission}
-use Rattle.opc_policy.specs.Taken.{has_user, has_group, has_holder, unless, needing, with_active, after_definition}
+use Rattle.opc_policy_members.specs.declared.policy.Policy.{Policy}
+use Rattle.opc_policy_members.specs.declared.profile.Profile.{Profile}
+use Rattle.opc_policy_members.specs.Access.{is_for}
+use Rattle.opc_policy_members.specs.Members.{with_user, with_group, with_connect}
+use Rattle.opc_policy_members.specs.Profiles.{profile_of, with_permission}
+use Rattle.opc_policy_members.specs.Taken.{has_user, has_group, has_holder, unless, needing, with_active, after_definition}
 use Rattle.opc_board.specs.declared.board.BoardRows.{BoardRows}
 use Rattle.opc_board.specs.Consoles.{console_defined}
 use Rattle.opc_board.specs.Replies.{is_on}

@@ -2,10 +2,10 @@
 use Rattle.std.specs.Prelude.{◌&&◌, Bool, true, false, not, if◌then◌else◌, List, [], ◌∷◌, Result, Ok, Err}
 use Rattle.opc_terms.specs.declared.fault.Fault.{Fault}
 use Rattle.opc_terms.specs.declared.fault.Fault.TheVariants.{NotEmpty, LastMaster}
-use Rattle.opc_policy.specs.declared.policy.Policy.{Policy}
-use Rattle.opc_policy.specs.declared.row.Row.{Row}
-use Rattle.opc_policy.specs.declared.row.Row.TheVariants as rows
-use Rattle.opc_policy.specs.Taken.{after_row}
+use Rattle.opc_policy_members.specs.declared.policy.Policy.{Policy}
+use Rattle.opc_policy_members.specs.declared.row.Row.{Row}
+use Rattle.opc_policy_members.specs.declared.row.Row.TheVariants as rows
+use Rattle.opc_policy_members.specs.Taken.{after_row}
 use Rattle.opc_board.specs.declared.board.BoardRows.{BoardRows}
 use Rattle.opc_board.specs.Consoles.{console_defined}
 use Rattle.opc_board.specs.Facts.{has_master}

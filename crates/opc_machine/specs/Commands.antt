@@ -8,17 +8,17 @@ use Rattle.opc_terms.specs.declared.fault.Fault.TheVariants as fault
 use Rattle.opc_terms.specs.declared.need.Need.{Need}
 use Rattle.opc_terms.specs.declared.rule.Rule.{Rule}
 use Rattle.opc_terms.specs.declared.rule.Rule.TheVariants as rule
-use Rattle.opc_decisions.specs.declared.ruling.Ruling.{Ruling}
-use Rattle.opc_decisions.specs.declared.ruling.Ruling.TheVariants.{Allowed, Denied}
+use Rattle.opc_policy.specs.declared.ruling.Ruling.{Ruling}
+use Rattle.opc_policy.specs.declared.ruling.Ruling.TheVariants.{Allowed, Denied}
 use Rattle.opc_terms.specs.declared.unit_kind.UnitKindAt.{UnitKindAt}
 use Rattle.opc_terms.specs.declared.unit_kind.UnitKindAt.TheVariants.{Absent}
-use Rattle.opc_policy.specs.declared.user.User.{User}
-use Rattle.opc_policy.specs.Members.{user_of}
+use Rattle.opc_policy_members.specs.declared.user.User.{User}
+use Rattle.opc_policy_members.specs.Members.{user_of}
 use Rattle.opc_reader.specs.declared.command.Command.{Command}
 use Rattle.opc_reader.specs.declared.command.Command.TheVariants as command
 use Rattle.opc_reader.specs.declared.line.ReadFault.{ReadFault}
 use Rattle.opc_reader.specs.Reading.{reading}
-use Rattle.opc_needs.specs.Table.{need}
+use Rattle.opc_table.specs.Table.{need}
 use Rattle.opc_board.specs.declared.board.BoardRows.{BoardRows}
 use Rattle.opc_board.specs.declared.event.Event.{Event}
 use Rattle.opc_board.specs.declared.rows.ConsoleRow.{ConsoleRow}

@@ -5,9 +5,9 @@ use Rattle.std.specs.Str.{bytes_eq}
 use Rattle.opc_names.specs.Authority.{same_class}
 use Rattle.opc_names.specs.Spellings.{auth_text, level_text}
 use Rattle.opc_terms.specs.declared.fault.Fault.TheVariants.{BatchChanged, NotSpecial}
-use Rattle.opc_policy.specs.declared.row.Row.{Row}
-use Rattle.opc_policy.specs.declared.row.Row.TheVariants as rows
-use Rattle.opc_policy.specs.declared.user.User.{User}
+use Rattle.opc_policy_members.specs.declared.row.Row.{Row}
+use Rattle.opc_policy_members.specs.declared.row.Row.TheVariants as rows
+use Rattle.opc_policy_members.specs.declared.user.User.{User}
 use Rattle.opc_terms.specs.Modes.{mode_text}
 use Rattle.opc_board.specs.declared.line.Line.{Line}
 use Rattle.opc_board.specs.Texts.{plain}

@@ -1,7 +1,7 @@
 -- What the access machine may be asked: all six kinds of request.
 use Rattle.std.specs.Prelude.{ℕ, List, Option, Some, None, map}
 use Rattle.opc_names.specs.declared.class.Class.{Class}
-use Rattle.opc_policy.specs.declared.row.Row.{Row}
+use Rattle.opc_policy_members.specs.declared.row.Row.{Row}
 use Rattle.opc_board.specs.declared.event.Event.{Event as BoardEvent}
 use Rattle.opc_machine.specs.declared.request.Request.{Request}
 use Rattle.opc_machine.specs.declared.request.Request.TheVariants as request

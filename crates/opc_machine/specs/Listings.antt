@@ -4,8 +4,8 @@ use Rattle.std.specs.Fmt.{decimal}
 use Rattle.opc_names.specs.Spellings.{level_text}
 use Rattle.opc_names.specs.declared.class.Class.{Class}
 use Rattle.opc_terms.specs.declared.fault.Fault.TheVariants.{NotSpecial}
-use Rattle.opc_policy.specs.declared.profile.Profile.{Profile}
-use Rattle.opc_policy.specs.Profiles.{of_class}
+use Rattle.opc_policy_members.specs.declared.profile.Profile.{Profile}
+use Rattle.opc_policy_members.specs.Profiles.{of_class}
 use Rattle.opc_board.specs.declared.line.Line.{Line}
 use Rattle.opc_board.specs.Texts.{columns, plain}
 use Rattle.opc_state.specs.declared.account.AccountRow.{AccountRow}

@@ -5,13 +5,13 @@ use Rattle.opc_names.specs.Authority.{includes}
 use Rattle.opc_names.specs.declared.level.Level.TheVariants.{Read}
 use Rattle.opc_terms.specs.declared.fault.Fault.{Fault}
 use Rattle.opc_terms.specs.declared.fault.Fault.TheVariants.{NotSpecial, NotOwner}
-use Rattle.opc_policy.specs.declared.policy.Policy.{Policy}
-use Rattle.opc_policy.specs.declared.profile.Profile.{Profile}
+use Rattle.opc_policy_members.specs.declared.policy.Policy.{Policy}
+use Rattle.opc_policy_members.specs.declared.profile.Profile.{Profile}
 use Rattle.opc_terms.specs.declared.rule.Rule.{Rule}
-use Rattle.opc_policy.specs.declared.user.User.{User}
-use Rattle.opc_policy.specs.Held.{held}
-use Rattle.opc_policy.specs.Members.{groups_of}
-use Rattle.opc_policy.specs.Profiles.{profile_of}
+use Rattle.opc_policy_members.specs.declared.user.User.{User}
+use Rattle.opc_policy_members.specs.Held.{held}
+use Rattle.opc_policy_members.specs.Members.{groups_of}
+use Rattle.opc_policy_members.specs.Profiles.{profile_of}
 use Rattle.opc_board.specs.declared.rows.ConsoleRow.{ConsoleRow}
 use Rattle.opc_state.specs.State.{State}
 use Rattle.opc_machine.specs.declared.operation.Operation.{Operation}

@@ -9,13 +9,13 @@ use Rattle.opc_terms.specs.declared.mode.Mode.TheVariants.{Required, Optional, A
 use Rattle.opc_terms.specs.declared.need.Need.{Need}
 use Rattle.opc_terms.specs.declared.rule.Rule.{Rule}
 use Rattle.opc_terms.specs.declared.rule.Rule.TheVariants as rule
-use Rattle.opc_decisions.specs.declared.ruling.Ruling.{Ruling}
-use Rattle.opc_decisions.specs.declared.ruling.Ruling.TheVariants.{Allowed, Denied}
-use Rattle.opc_policy.specs.declared.user.User.{User}
-use Rattle.opc_policy.specs.Members.{user_of, groups_of}
-use Rattle.opc_decisions.specs.Rulings.{verdict, verdict_rule, by_verdict, ruling as policy_ruling}
-use Rattle.opc_policy.specs.Taken.{has_user, is_active}
-use Rattle.opc_needs.specs.Table.{qualified}
+use Rattle.opc_policy.specs.declared.ruling.Ruling.{Ruling}
+use Rattle.opc_policy.specs.declared.ruling.Ruling.TheVariants.{Allowed, Denied}
+use Rattle.opc_policy_members.specs.declared.user.User.{User}
+use Rattle.opc_policy_members.specs.Members.{user_of, groups_of}
+use Rattle.opc_policy.specs.Rulings.{verdict, verdict_rule, by_verdict, ruling as policy_ruling}
+use Rattle.opc_policy_members.specs.Taken.{has_user, is_active}
+use Rattle.opc_table.specs.Table.{qualified}
 use Rattle.opc_board.specs.declared.line.Item.{Item}
 use Rattle.opc_board.specs.declared.line.Item.TheVariants as item
 use Rattle.opc_board.specs.declared.line.Line.{Line}

@@ -5,7 +5,7 @@ use opc_board::line::Line;
 use opc_board::text::KeptText;
 use opc_names::class::Class;
 use opc_names::name::ConsoleName;
-use opc_policy::row::Row;
+use opc_policy_members::row::Row;
 use opc_rows::Rows;
 use opc_terms::fault::Fault;
 use opc_terms::rule::Rule;

@@ -3,7 +3,7 @@ ghost use Rattle.std.specs.Prelude.{◌≡◌};
 ghost use Rattle.opc_state.specs.Difference.{same_flag};
 ghost use Rattle.opc_machine.specs.Imports.{same_user};
 
-use opc_policy::user::User;
+use opc_policy_members::user::User;
 
 /// Whether two flags are equal.
 pub fn same_flag(flag: bool, other: bool) -> bool

@@ -1,8 +1,7 @@
-pub mod Classes
-pub mod Highest
-pub mod KeyOrder
-pub mod ListedGroups
-pub mod Maps
-pub mod Placed
-pub mod ProfilesByKey
-pub mod UsersById
+pub mod ByHeads
+pub mod Counts
+pub mod Decided
+pub mod FirstCovering
+pub mod InOrder
+pub mod MostSpecific
+pub mod OneMore

@@ -1,7 +1,7 @@
-pub mod Access
-pub mod Held
-pub mod Members
-pub mod Places
-pub mod Profiles
-pub mod Stored
-pub mod Taken
+pub mod BasePolicy
+pub mod Deciding
+pub mod Examined
+pub mod Explained
+pub mod Laws
+pub mod Rulings
+pub mod Verdicts

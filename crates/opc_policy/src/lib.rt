@@ -1,14 +1,12 @@
-//! Policies: users, groups, connects, profiles with their access lists, and the level that a user holds.
+//! Decisions: which profile decides, and what it says of a user.
 #![tactic(auto)]
 
-pub mod connect;
-pub mod entries;
-pub mod entry;
-pub mod groups;
+pub mod cases;
+pub mod explained;
 pub mod laws;
-pub mod policy;
-pub mod profile;
-pub mod profiles;
-pub mod row;
-pub mod user;
-pub mod users;
+pub mod plain;
+pub mod policy_source;
+pub mod ruling;
+pub mod search;
+pub mod source;
+pub mod verdict;

@@ -6,10 +6,10 @@ use anyhow::{Result, bail};
 use opc_names::class::Class;
 use opc_names::level::Level;
 use opc_names::name::{ConsoleName, GroupName, Pattern, UserId};
-use opc_policy::entries::Entries;
-use opc_policy::entry::Entry;
-use opc_policy::profile::Profile;
-use opc_policy::user::User;
+use opc_policy_members::entries::Entries;
+use opc_policy_members::entry::Entry;
+use opc_policy_members::profile::Profile;
+use opc_policy_members::user::User;
 use opc_terms::entry_id::EntryId;
 use std::alloc::{AllocError, Global};
 

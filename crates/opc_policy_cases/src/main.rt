@@ -10,7 +10,7 @@ mod words;
 
 use crate::answers::answer;
 use anyhow::Result;
-use opc_policy::policy::Policy;
+use opc_policy_members::policy::Policy;
 
 fn main(rt: HostRuntime) -> Result<()> {
     let mut policy = Policy::new(rt.alloc());

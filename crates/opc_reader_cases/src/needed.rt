@@ -1,7 +1,7 @@
 //! What commands need.
 use anyhow::Result;
 use opc_names::name::UnitName;
-use opc_needs::need;
+use opc_table::need;
 use opc_reader::command::Command;
 use opc_reader::line::read_command;
 use opc_terms::need::Need;

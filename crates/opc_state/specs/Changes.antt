@@ -1,13 +1,13 @@
 -- What a change makes of a state, edit by edit, and what leaves it as it is.
 use Rattle.std.specs.Prelude.{ℕ, Bool, true, false, ◌&&◌, List, [], ◌∷◌, ◌++◌, Option, Some, None}
 use Rattle.std.specs.Option.{is_none}
-use Rattle.opc_policy.specs.declared.connect.Connect.{Connect}
-use Rattle.opc_policy.specs.declared.policy.ActiveClasses.{ActiveClasses}
-use Rattle.opc_policy.specs.declared.profile.Profile.{Profile}
-use Rattle.opc_policy.specs.declared.user.User.{User}
-use Rattle.opc_policy.specs.Members.{with_user, with_group, with_connect}
-use Rattle.opc_policy.specs.Profiles.{with_definition, with_permission}
-use Rattle.opc_policy.specs.Taken.{with_active}
+use Rattle.opc_policy_members.specs.declared.connect.Connect.{Connect}
+use Rattle.opc_policy_members.specs.declared.policy.ActiveClasses.{ActiveClasses}
+use Rattle.opc_policy_members.specs.declared.profile.Profile.{Profile}
+use Rattle.opc_policy_members.specs.declared.user.User.{User}
+use Rattle.opc_policy_members.specs.Members.{with_user, with_group, with_connect}
+use Rattle.opc_policy_members.specs.Profiles.{with_definition, with_permission}
+use Rattle.opc_policy_members.specs.Taken.{with_active}
 use Rattle.opc_board.specs.declared.board.BoardRows.{BoardRows}
 use Rattle.opc_board.specs.declared.rows.ConsoleRow.{ConsoleRow}
 use Rattle.opc_board.specs.declared.rows.DeviceRow.{DeviceRow}

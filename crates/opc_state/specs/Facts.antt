@@ -2,15 +2,15 @@
 use Rattle.std.specs.Prelude.{◌≡◌, ℕ, true, false, List, IfSome}
 use Rattle.std.specs.List.{AllByRecursion}
 use Rattle.std.specs.Ordering.{is_lt}
-use Rattle.opc_policy.specs.declared.connect.Connect.{Connect}
-use Rattle.opc_policy.specs.declared.entry.Entry.{Entry}
-use Rattle.opc_policy.specs.declared.policy.Policy.{Policy}
-use Rattle.opc_policy.specs.declared.profile.Profile.{Profile}
-use Rattle.opc_policy.specs.declared.user.User.{User}
-use Rattle.opc_policy.specs.Access.{entry_cmp}
-use Rattle.opc_policy.specs.Members.{user_cmp}
-use Rattle.opc_policy.specs.Profiles.{profile_cmp}
-use Rattle.opc_policy.specs.Taken.{has_user, has_group, has_holder}
+use Rattle.opc_policy_members.specs.declared.connect.Connect.{Connect}
+use Rattle.opc_policy_members.specs.declared.entry.Entry.{Entry}
+use Rattle.opc_policy_members.specs.declared.policy.Policy.{Policy}
+use Rattle.opc_policy_members.specs.declared.profile.Profile.{Profile}
+use Rattle.opc_policy_members.specs.declared.user.User.{User}
+use Rattle.opc_policy_members.specs.Access.{entry_cmp}
+use Rattle.opc_policy_members.specs.Members.{user_cmp}
+use Rattle.opc_policy_members.specs.Profiles.{profile_cmp}
+use Rattle.opc_policy_members.specs.Taken.{has_user, has_group, has_holder}
 use Rattle.opc_rows.specs.Ordered.{Ascends}
 use Rattle.opc_board.specs.declared.rows.ConsoleRow.{ConsoleRow}
 use Rattle.opc_board.specs.Facts.{IsBoard}

@@ -6,13 +6,13 @@ use Rattle.std.specs.Ordering.{nat_cmp}
 use Rattle.std.specs.Str.{bytes_eq}
 use Rattle.std.specs.declared.cmp.Ordering.{Ordering}
 use Rattle.opc_names.specs.declared.class.Class.{Class}
-use Rattle.opc_policy.specs.declared.connect.Connect.{Connect}
-use Rattle.opc_policy.specs.declared.entry.Entry.{Entry}
-use Rattle.opc_policy.specs.declared.profile.Profile.{Profile}
-use Rattle.opc_policy.specs.declared.user.User.{User}
-use Rattle.opc_policy.specs.Access.{is_for}
-use Rattle.opc_policy.specs.Members.{name_cmp}
-use Rattle.opc_policy.specs.Profiles.{is_of, profile_of, with_profile}
+use Rattle.opc_policy_members.specs.declared.connect.Connect.{Connect}
+use Rattle.opc_policy_members.specs.declared.entry.Entry.{Entry}
+use Rattle.opc_policy_members.specs.declared.profile.Profile.{Profile}
+use Rattle.opc_policy_members.specs.declared.user.User.{User}
+use Rattle.opc_policy_members.specs.Access.{is_for}
+use Rattle.opc_policy_members.specs.Members.{name_cmp}
+use Rattle.opc_policy_members.specs.Profiles.{is_of, profile_of, with_profile}
 use Rattle.opc_board.specs.declared.rows.ConsoleRow.{ConsoleRow}
 use Rattle.opc_board.specs.declared.rows.DeviceRow.{DeviceRow}
 use Rattle.opc_board.specs.declared.rows.ReplyRow.{ReplyRow}

@@ -3,14 +3,14 @@ use Rattle.std.specs.Prelude.{ℕ, List, [], ◌∷◌, ◌++◌, map}
 use Rattle.std.specs.List.{flat_map}
 use Rattle.opc_names.specs.declared.class.Class.{Class}
 use Rattle.opc_names.specs.declared.class.Class.TheVariants.{Console, Opercmds}
-use Rattle.opc_policy.specs.declared.connect.Connect.{Connect}
-use Rattle.opc_policy.specs.declared.entry.Entry.{Entry}
-use Rattle.opc_policy.specs.declared.policy.ActiveClasses.{ActiveClasses}
-use Rattle.opc_policy.specs.declared.policy.Policy.{Policy}
-use Rattle.opc_policy.specs.declared.profile.Profile.{Profile}
-use Rattle.opc_policy.specs.declared.row.Row.{Row}
-use Rattle.opc_policy.specs.declared.row.Row.TheVariants as row
-use Rattle.opc_policy.specs.declared.user.User.{User}
+use Rattle.opc_policy_members.specs.declared.connect.Connect.{Connect}
+use Rattle.opc_policy_members.specs.declared.entry.Entry.{Entry}
+use Rattle.opc_policy_members.specs.declared.policy.ActiveClasses.{ActiveClasses}
+use Rattle.opc_policy_members.specs.declared.policy.Policy.{Policy}
+use Rattle.opc_policy_members.specs.declared.profile.Profile.{Profile}
+use Rattle.opc_policy_members.specs.declared.row.Row.{Row}
+use Rattle.opc_policy_members.specs.declared.row.Row.TheVariants as row
+use Rattle.opc_policy_members.specs.declared.user.User.{User}
 use Rattle.opc_board.specs.declared.rows.ConsoleRow.{ConsoleRow}
 
 abbrev pub rows_of_classes : ActiveClasses → List Row

@@ -1,11 +1,11 @@
 -- The state of the access machine.
 use Rattle.std.specs.Prelude.{◌<◌, ◌^◌, ℕ, Bool, true, false, List, [], ◌∷◌, length, Option}
 use Rattle.opc_names.specs.declared.class.Class.{Class}
-use Rattle.opc_policy.specs.declared.policy.Policy.{Policy}
-use Rattle.opc_policy.specs.declared.profile.Profile.{Profile}
-use Rattle.opc_policy.specs.declared.user.User.{User}
-use Rattle.opc_policy.specs.Profiles.{of_class}
-use Rattle.opc_decisions.specs.Deciding.{deciding}
+use Rattle.opc_policy_members.specs.declared.policy.Policy.{Policy}
+use Rattle.opc_policy_members.specs.declared.profile.Profile.{Profile}
+use Rattle.opc_policy_members.specs.declared.user.User.{User}
+use Rattle.opc_policy_members.specs.Profiles.{of_class}
+use Rattle.opc_policy.specs.Deciding.{deciding}
 use Rattle.opc_board.specs.declared.board.BoardRows.{BoardRows}
 use Rattle.opc_state.specs.declared.account.AccountRow.{AccountRow}
 use Rattle.opc_state.specs.declared.change.Batch.{Batch}

@@ -8,11 +8,11 @@ use opc_board::text::KeptText;
 use opc_names::class::Class;
 use opc_names::name::{ConsoleName, Device, GroupName, Pattern, UnitName, UserId};
 use opc_names::reply_id::ReplyId;
-use opc_policy::connect::Connect;
-use opc_policy::entry::Entry;
-use opc_policy::profile::Profile;
-use opc_policy::row::Row;
-use opc_policy::user::User;
+use opc_policy_members::connect::Connect;
+use opc_policy_members::entry::Entry;
+use opc_policy_members::profile::Profile;
+use opc_policy_members::row::Row;
+use opc_policy_members::user::User;
 use opc_rows::Rows;
 use opc_terms::entry_id::EntryId;
 

@@ -7,14 +7,14 @@ use Rattle.sqlite.specs.State.{HasCleanDisk, IsLive, Survives}
 use Rattle.sqlite.specs.declared.error.Error.{Error}
 use Rattle.sqlite.proofs.StateLemmas.{survives_then, survives_weaker}
 use Rattle.opc_state.specs.State.{State}
-use Rattle.opc_statements.specs.Steps.{Looks}
-use Rattle.opc_stored.specs.Making.{AreMadeOver}
-use Rattle.opc_stored.specs.Ours.{NamesVersion, has_our_name}
-use Rattle.opc_stored.specs.Represented.{AreTablesOf, Represents}
-use Rattle.opc_stored.proofs.Opened.{found_again}
-use Rattle.opc_old_tables.specs.Old.{AreOldTablesOf, RepresentsOld}
-use Rattle.opc_old_tables.specs.Tables.{Older, First, Second, version_number}
-use Rattle.opc_old_tables.proofs.Found.{found_old}
+use Rattle.opc_store_sql.specs.Steps.{Looks}
+use Rattle.opc_store_schema.specs.Making.{AreMadeOver}
+use Rattle.opc_store_schema.specs.Ours.{NamesVersion, has_our_name}
+use Rattle.opc_store_schema.specs.Represented.{AreTablesOf, Represents}
+use Rattle.opc_store_schema.proofs.Opened.{found_again}
+use Rattle.opc_store_old_tables.specs.Old.{AreOldTablesOf, RepresentsOld}
+use Rattle.opc_store_old_tables.specs.Tables.{Older, First, Second, version_number}
+use Rattle.opc_store_old_tables.proofs.Found.{found_old}
 use Rattle.opc_store.specs.Opening.{IsKnown, IsNoVersion, IsOlder, IsRefused, MayLeave, WasOlder}
 use Rattle.opc_store.specs.declared.opening.OpenFault.{OpenFault}
 

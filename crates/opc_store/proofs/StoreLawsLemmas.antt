@@ -5,9 +5,9 @@ use Rattle.sqlite_trees.specs.Tree.{Trees}
 use Rattle.sqlite.specs.Held.{state}
 use Rattle.opc_state.specs.State.{State, empty}
 use Rattle.opc_state.specs.Changes.{with_halted}
-use Rattle.opc_stored.specs.Represented.{AreTablesOf}
-use Rattle.opc_stored.proofs.Decoded.{one_state}
-use Rattle.opc_stored.proofs.Opened.{alone_from}
+use Rattle.opc_store_schema.specs.Represented.{AreTablesOf}
+use Rattle.opc_store_schema.proofs.Decoded.{one_state}
+use Rattle.opc_store_schema.proofs.Opened.{alone_from}
 use Rattle.opc_store.specs.StoreTables.{MayLeave}
 use Rattle.opc_store.specs.StoreLaws.{LeavesTables, LeavesWhatIsThere, ShutTablesGiveNothing, ShutTablesTellNothing}
 

@@ -6,15 +6,15 @@ use Rattle.sqlite_trees.specs.Tree.{Trees}
 use Rattle.sqlite.specs.Effect.{Database}
 use Rattle.sqlite.specs.Held.{Held, state}
 use Rattle.sqlite.specs.State.{HasCleanDisk, Survives}
-use Rattle.opc_statements.specs.Steps.{Looks}
+use Rattle.opc_store_sql.specs.Steps.{Looks}
 use Rattle.opc_state.specs.declared.change.Change.{Change}
 use Rattle.opc_state.specs.Changes.{IsKept, changed_by}
 use Rattle.opc_state.specs.Facts.{IsKeyed}
 use Rattle.opc_state.specs.State.{State, Fits}
-use Rattle.opc_stored.specs.Changes.{Becomes}
-use Rattle.opc_stored.specs.Represented.{Represents, AreTablesOf}
+use Rattle.opc_store_schema.specs.Changes.{Becomes}
+use Rattle.opc_store_schema.specs.Represented.{Represents, AreTablesOf}
 use Rattle.opc_store.specs.StoreTables.{RepresentsIfOpen, IsSure, MayLeave}
-use Rattle.opc_stored.proofs.KeyOrder.{is_keyed}
+use Rattle.opc_store_schema.proofs.KeyOrder.{is_keyed}
 
 -- no number of what tables represent passes what they can hold
 pub fits_of : (db : Database) (s : State) → Represents db s → Fits s

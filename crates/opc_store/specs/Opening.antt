@@ -21,13 +21,13 @@ use Rattle.opc_terms.specs.declared.store_fault.StoreFault.TheVariants as store_
 use Rattle.opc_store.specs.declared.opening.OpenFault.{OpenFault}
 use Rattle.opc_store.specs.declared.opening.OpenFault.TheVariants as fault
 use Rattle.opc_state.specs.State.{State as TheState, empty}
-use Rattle.opc_statements.specs.Shapes.{no_schema}
-use Rattle.opc_old_tables.specs.Old.{AreOldTablesOf}
-use Rattle.opc_old_tables.specs.Tables.{Older}
-use Rattle.opc_stored.specs.Changes.{fault_of}
-use Rattle.opc_stored.specs.Making.{AreMadeOver}
-use Rattle.opc_stored.specs.Represented.{AreTablesOf}
-use Rattle.opc_stored.specs.Ours.{has_our_name, NamesVersion, version_query}
+use Rattle.opc_store_sql.specs.Shapes.{no_schema}
+use Rattle.opc_store_old_tables.specs.Old.{AreOldTablesOf}
+use Rattle.opc_store_old_tables.specs.Tables.{Older}
+use Rattle.opc_store_schema.specs.Changes.{fault_of}
+use Rattle.opc_store_schema.specs.Making.{AreMadeOver}
+use Rattle.opc_store_schema.specs.Represented.{AreTablesOf}
+use Rattle.opc_store_schema.specs.Ours.{has_our_name, NamesVersion, version_query}
 
 -- a log and a database file in which nothing is written
 abbrev pub new_files : Image

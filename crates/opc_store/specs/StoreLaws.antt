@@ -4,11 +4,11 @@ use Rattle.std.specs.Prelude.{◌≡◌, ◌≢◌, List, Result, IsErr}
 use Rattle.sqlite_trees.specs.declared.store.Store.{Ghosts}
 use Rattle.sqlite_trees.specs.Tree.{Trees}
 use Rattle.sqlite.specs.Held.{Held, state}
-use Rattle.opc_policy.specs.declared.profile.Profile.{Profile}
+use Rattle.opc_policy_members.specs.declared.profile.Profile.{Profile}
 use Rattle.opc_state.specs.Asked.{Answers}
 use Rattle.opc_state.specs.State.{State}
-use Rattle.opc_statements.specs.Steps.{Looks}
-use Rattle.opc_stored.specs.Represented.{Represents, AreTablesOf}
+use Rattle.opc_store_sql.specs.Steps.{Looks}
+use Rattle.opc_store_schema.specs.Represented.{Represents, AreTablesOf}
 use Rattle.opc_store.specs.Opening.{LeavesItself}
 use Rattle.opc_store.specs.StoreTables.{IsShut, IsSure, RepresentsIfOpen}
 

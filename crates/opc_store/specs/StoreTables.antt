@@ -5,7 +5,7 @@ use Rattle.sqlite_trees.specs.Tree.{Trees}
 use Rattle.sqlite.specs.Held.{Held, state}
 use Rattle.sqlite.specs.State.{HasCleanDisk}
 use Rattle.opc_state.specs.State.{State}
-use Rattle.opc_stored.specs.Represented.{Represents, AreTablesOf}
+use Rattle.opc_store_schema.specs.Represented.{Represents, AreTablesOf}
 
 module _ {S : Type 0} (g : Ghosts S) where
   -- the tables represent the state, as long as the connection is open

@@ -3,7 +3,7 @@
 ghost use Rattle.opc_store.specs.StoreLaws.{IsSourceOfState, LeavesTables, LeavesWhatIsThere, ShutTablesGiveNothing, ShutTablesTellNothing};
 
 use crate::store::Store;
-use opc_decisions::source::ProfileSource;
+use opc_policy::source::ProfileSource;
 use opc_state::tables::Tables;
 use sqlite::Alter;
 

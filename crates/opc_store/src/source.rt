@@ -1,9 +1,9 @@
 //! The store as a source of profiles.
 use crate::store::Store;
-use opc_decisions::source::{ProfileSource, Taken};
+use opc_policy::source::{ProfileSource, Taken};
 use opc_names::class::Class;
 use opc_names::name::Resource;
-use opc_search::search::first_in_on;
+use opc_store_search::search::first_in_on;
 use opc_terms::store_fault::StoreFault;
 use sqlite::Alter;
 
@@ -11,11 +11,11 @@ impl<S: Alter> ProfileSource for Store<S> {
     ghost use Rattle.std.specs.Prelude.{◌≡◌, IsTrue, refl, ⊤};
     ghost use Rattle.sqlite.specs.Held.{state};
     ghost use Rattle.sqlite.specs.State.{HasCleanDisk};
-    ghost use Rattle.opc_statements.specs.Steps.{Looks};
+    ghost use Rattle.opc_store_sql.specs.Steps.{Looks};
     ghost use Rattle.opc_state.specs.State.{State};
-    ghost use Rattle.opc_stored.specs.Represented.{Represents};
-    ghost use Rattle.opc_search.specs.Search.{unanswered};
-    ghost use Rattle.opc_statements.proofs.Looking.{looks_off, looks_start};
+    ghost use Rattle.opc_store_schema.specs.Represented.{Represents};
+    ghost use Rattle.opc_store_search.specs.Search.{unanswered};
+    ghost use Rattle.opc_store_sql.proofs.Looking.{looks_off, looks_start};
 
     // Those of the state that the tables represent, with their access lists.
     ghost has = { λ store profiles. (s : State) × Represents (state S.Store store).now s × (profiles ≡ s.policy.profiles) };

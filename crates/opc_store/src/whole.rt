@@ -1,18 +1,18 @@
 //! The whole board, and the rows of a policy file, of the tables of several rooms.
 ghost use Rattle.std.specs.Prelude.{◌≡◌, false};
-ghost use Rattle.opc_statements.specs.Steps.{Looks};
+ghost use Rattle.opc_store_sql.specs.Steps.{Looks};
 ghost use Rattle.opc_state.specs.PolicyFile.{rows_of};
-ghost use Rattle.opc_stored.specs.Asked.{Finds};
+ghost use Rattle.opc_store_schema.specs.Asked.{Finds};
 
 use opc_board::board::BoardRows;
-use opc_board_tables::board::live_rows_on;
-use opc_board_tables::consoles::consoles_on;
-use opc_history_tables::answered::answered_on;
-use opc_history_tables::log::log_on;
-use opc_history_tables::messages::messages_on;
-use opc_policy::row::Row;
+use opc_store_board::board::live_rows_on;
+use opc_store_board::consoles::consoles_on;
+use opc_store_history::answered::answered_on;
+use opc_store_history::log::log_on;
+use opc_store_history::messages::messages_on;
+use opc_policy_members::row::Row;
 use opc_terms::store_fault::StoreFault;
-use opc_whole_policy::rows::policy_rows_on;
+use opc_store_whole_policy::rows::policy_rows_on;
 use sqlite::{Alter, Connection};
 use std::alloc::Global;
 

@@ -2,7 +2,7 @@
 //! stop, readers and writers that fail, and names that are cached.
 //!
 //! Each line of the input is printed again, and after it what comes of it, two spaces in. The lines, besides those that
-//! `opc_tables_trials` and `opc_http_trials` have:
+//! `opc_store_trials` and `opc_http_trials` have:
 //!
 //! - `# TEXT`, and an empty line: nothing comes of it.
 //! - `base RECORD`: one more row of the base policy, written as in a policy file.

@@ -5,9 +5,9 @@ use crate::searches::searched;
 use anyhow::{Context, Result};
 use opc_http_trials::room::Room as Exchanges;
 use opc_state::change::Edit;
-use opc_tables_trials::edits::{after_each, committed, edit_in, fill, many};
-use opc_tables_trials::loads::loaded;
-use opc_tables_trials::records::HEADER;
+use opc_store_trials::edits::{after_each, committed, edit_in, fill, many};
+use opc_store_trials::loads::loaded;
+use opc_store_trials::records::HEADER;
 use std::alloc::Global;
 use std::mem;
 

@@ -3,8 +3,8 @@ use crate::memory::Fresh;
 use anyhow::{Context, Result, bail};
 use opc_names::class::Class;
 use opc_names::name::Resource;
-use opc_tables_trials::records::profiles_records;
-use opc_tables_trials::searches::{
+use opc_store_trials::records::profiles_records;
+use opc_store_trials::searches::{
     CLASSES, NAME, found_in_tables, head_of, in_memory, listed_lines, taken_lines,
 };
 use std::alloc::Global;

@@ -2,9 +2,9 @@
 #![tactic(auto)]
 
 use opc_cli::run_words;
-use opc_failures::failure::{Failure, NO_PATHS};
-use opc_failures::status::Status;
-use opc_http_link::watched::Watched;
+use opc_cli_failures::failure::{Failure, NO_PATHS};
+use opc_cli_failures::status::Status;
+use opc_io::watched::Watched;
 use opc_terms::fault::Fault;
 use sqlite::Wary;
 use std::io::{ErrorKind, Write};

@@ -1,5 +1,5 @@
-use Rattle.opc_words.specs.Reading.{words_after}
-use Rattle.opc_words.specs.declared.words.Task.TheVariants as task
+use Rattle.opc_cli_words.specs.Reading.{words_after}
+use Rattle.opc_cli_words.specs.declared.words.Task.TheVariants as task
 use Rattle.opc_cli.proofs.Done.{task_done}
 use Rattle.opc_cli.proofs.do_words.Goals as goal
 

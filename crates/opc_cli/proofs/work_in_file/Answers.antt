@@ -1,5 +1,5 @@
 use Rattle.std.proofs.Common.{◌∙◌, ap, inl, inr}
-use Rattle.opc_failures.specs.Statuses.{status_of}
+use Rattle.opc_cli_failures.specs.Statuses.{status_of}
 use Rattle.opc_cli.proofs.Done.{openings_fail, same_fault}
 use Rattle.opc_cli.proofs.work_in_file.Goals as goal
 

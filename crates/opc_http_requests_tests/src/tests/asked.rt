@@ -1,6 +1,6 @@
 //! One request of each route, and the values of its path.
 use super::reading::{asked, get, post};
-use opc_failing::reader::FailingReader;
+use opc_io_failing::reader::FailingReader;
 use std::process::Abort;
 use std::test::Fail;
 

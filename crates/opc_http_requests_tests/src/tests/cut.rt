@@ -1,9 +1,9 @@
 //! Requests that are cut off, readers that fail, and lengths at their limits.
 use super::reading::asked;
-use opc_failing::reader::FailingReader;
+use opc_io_failing::reader::FailingReader;
 use opc_http_head::refusal::Refusal;
 use opc_http_head::routes::Routes;
-use opc_http_link::watched::Watched;
+use opc_io::watched::Watched;
 use opc_http_requests::ask::read_request;
 use opc_http_requests::fault::ReadingFault;
 use std::alloc::{AllocError, Global};

@@ -1,6 +1,6 @@
 //! What is refused, and by which refusal first.
 use super::reading::{asked, get, post};
-use opc_failing::reader::FailingReader;
+use opc_io_failing::reader::FailingReader;
 use opc_http_head::refusal::{Method, Refusal};
 use opc_http_requests::fault::ReadingFault;
 use opc_terms::fault::Why;

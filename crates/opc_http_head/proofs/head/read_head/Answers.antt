@@ -1,6 +1,6 @@
 use Rattle.std.proofs.Common.{◌≡◌, ◌∙◌, ◌≤◌, ◌<◌, ◌+◌, ◌-◌, ◌++◌, ap, arith, min, refl, sym, length, vec_len}
 use Rattle.std.proofs.lemmas.Result.{err_from_is_err_and}
-use Rattle.opc_http_link.proofs.Reading.{takes-after}
+use Rattle.opc_io.proofs.Reading.{takes-after}
 use Rattle.opc_http_head.proofs.HeadLemmas.{found, found-here, looked, none-by-error, none-by-room, nothing-more, more-there, read-further}
 use Rattle.opc_http_head.proofs.head.read_head.Goals as goal
 

@@ -1,6 +1,6 @@
 use Rattle.std.proofs.Common.{◌≡◌, ◌≤◌, [], length}
 use Rattle.std.specs.Io.KnownBytes.{Consumes}
-use Rattle.opc_http_link.specs.Reads.{Reads}
+use Rattle.opc_io.specs.Reads.{Reads}
 use Rattle.opc_http_head.specs.Head.{MayLook}
 use Rattle.opc_http_head.proofs.head.read_head.Given as goal
 

@@ -1,5 +1,5 @@
 use Rattle.std.proofs.Common.{◌≡◌, ◌-◌, length}
-use Rattle.opc_http_link.specs.Reads.{Reads}
+use Rattle.opc_io.specs.Reads.{Reads}
 use Rattle.opc_http_requests.specs.Bodies.{MayFill}
 use Rattle.opc_http_requests.proofs.BodyReads.{SoFar}
 use Rattle.opc_http_requests.proofs.body.read_to.Given as goal

@@ -1,4 +1,4 @@
-use Rattle.opc_statements.proofs.Looking.{looks_as, looks_then}
+use Rattle.opc_store_sql.proofs.Looking.{looks_as, looks_then}
 use Rattle.opc_store.proofs.whole.board_rows_on.Goals as goal
 
 pub returns-clause-looks : goal.returns-clause-looks

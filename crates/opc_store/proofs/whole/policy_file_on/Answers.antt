@@ -1,4 +1,4 @@
-use Rattle.opc_statements.proofs.Looking.{looks_then}
+use Rattle.opc_store_sql.proofs.Looking.{looks_then}
 use Rattle.opc_store.proofs.whole.policy_file_on.Goals as goal
 
 pub returns-clause-looks : goal.returns-clause-looks

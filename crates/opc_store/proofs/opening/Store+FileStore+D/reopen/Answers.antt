@@ -4,8 +4,8 @@ use Rattle.sqlite.specs.Tree.{Trees}
 use Rattle.sqlite.specs.State.{HasCleanDisk}
 use Rattle.sqlite.specs.Files.{file_state}
 use Rattle.sqlite.proofs.Callers.{finds_again}
-use Rattle.opc_stored.specs.Represented.{AreTablesOf}
-use Rattle.opc_stored.proofs.Opened.{alone_from}
+use Rattle.opc_store_schema.specs.Represented.{AreTablesOf}
+use Rattle.opc_store_schema.proofs.Opened.{alone_from}
 use Rattle.opc_store.proofs.opening.Store+FileStore+D.reopen.Goals as goal
 
 pub returns-in-Ok-open_files-2 : goal.returns-in-Ok-open_files-2

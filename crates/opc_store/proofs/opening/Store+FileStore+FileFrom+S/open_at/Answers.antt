@@ -5,9 +5,9 @@ use Rattle.sqlite.specs.State.{HasCleanDisk}
 use Rattle.sqlite.specs.Files.{file_state}
 use Rattle.sqlite_catalog.proofs.ReadLemmas.{lists_once}
 use Rattle.sqlite_trees.specs.Objects.{catalog_tree}
-use Rattle.opc_statements.specs.Shapes.{no_schema}
-use Rattle.opc_stored.specs.Represented.{AreTablesOf}
-use Rattle.opc_old_tables.specs.Old.{AreOldTablesOf}
+use Rattle.opc_store_sql.specs.Shapes.{no_schema}
+use Rattle.opc_store_schema.specs.Represented.{AreTablesOf}
+use Rattle.opc_store_old_tables.specs.Old.{AreOldTablesOf}
 use Rattle.opc_store.proofs.opening.Store+FileStore+FileFrom+S.open_at.Goals as goal
 
 pub returns-in-Ok-open_files : goal.returns-in-Ok-open_files

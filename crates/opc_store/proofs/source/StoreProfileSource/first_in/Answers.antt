@@ -1,12 +1,12 @@
 use Rattle.std.proofs.Common.{◌∙◌, List, length, sym, ap, subst}
 use Rattle.sqlite.specs.Held.{Held, state}
-use Rattle.opc_policy.specs.declared.profile.Profile.{Profile}
-use Rattle.opc_policy.specs.Profiles.{of_class}
-use Rattle.opc_decisions.specs.Deciding.{deciding}
-use Rattle.opc_decisions.specs.Examined.{read_until, with_head}
-use Rattle.opc_stored.specs.Represented.{Represents}
-use Rattle.opc_search.proofs.FirstDeciding.{are_profiles}
-use Rattle.opc_search.proofs.SearchFound.{on_clean}
+use Rattle.opc_policy_members.specs.declared.profile.Profile.{Profile}
+use Rattle.opc_policy_members.specs.Profiles.{of_class}
+use Rattle.opc_policy.specs.Deciding.{deciding}
+use Rattle.opc_policy.specs.Examined.{read_until, with_head}
+use Rattle.opc_store_schema.specs.Represented.{Represents}
+use Rattle.opc_store_search.proofs.FirstDeciding.{are_profiles}
+use Rattle.opc_store_search.proofs.SearchFound.{on_clean}
 use Rattle.opc_store.proofs.source.StoreProfileSource.first_in.Goals as goal
 
 pub returns-clause-profiles : goal.returns-clause-profiles

@@ -2,7 +2,7 @@ use Rattle.std.proofs.Common.{OnOk, subst}
 use Rattle.sqlite.specs.Held.{Held, state}
 use Rattle.sqlite.specs.State.{Survives}
 use Rattle.opc_state.specs.Changes.{changed_by}
-use Rattle.opc_stored.specs.Represented.{Represents, AreTablesOf}
+use Rattle.opc_store_schema.specs.Represented.{Represents, AreTablesOf}
 use Rattle.opc_store.proofs.StoreTablesLemmas.{commit_acknowledged, commit_crash, commit_open}
 use Rattle.opc_store.proofs.store.Store.commit.Goals as goal
 

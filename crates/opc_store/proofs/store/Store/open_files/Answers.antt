@@ -3,11 +3,11 @@ use Rattle.std.proofs.lemmas.Result.{IfErr-weaker}
 use Rattle.sqlite.proofs.StateLemmas.{survives_weaker}
 use Rattle.sqlite.specs.Effect.{Database}
 use Rattle.sqlite.specs.Held.{state}
-use Rattle.opc_stored.specs.Ours.{has_our_name}
-use Rattle.opc_stored.specs.Represented.{Represents}
-use Rattle.opc_stored.proofs.Opened.{found_again, named}
-use Rattle.opc_old_tables.proofs.Found.{found_old, old_named}
-use Rattle.opc_old_tables.proofs.VersionLoads.{names_own}
+use Rattle.opc_store_schema.specs.Ours.{has_our_name}
+use Rattle.opc_store_schema.specs.Represented.{Represents}
+use Rattle.opc_store_schema.proofs.Opened.{found_again, named}
+use Rattle.opc_store_old_tables.proofs.Found.{found_old, old_named}
+use Rattle.opc_store_old_tables.proofs.VersionLoads.{names_own}
 use Rattle.opc_store.proofs.Older.{never_older, older_between, copied, unharmed, unnamed, found, known, refused, crash, crash_at_fault}
 use Rattle.opc_store.proofs.store.Store.open_files.Goals as goal
 

@@ -1,6 +1,0 @@
-use Rattle.opc_board_tables.proofs.ConsoleRows.{console_removed}
-use Rattle.opc_board_tables.proofs.consoles.remove_console.Goals as goal
-
-pub returns-clause-done : goal.returns-clause-done
-returns-clause-done g c clean s was =
-    console_removed _ _ _ s was c.args.name.now (rw (c.params-to_sql.ensures, c.text.ensures.text) at (c.in_ok-run.ensures.ran clean).executes)

@@ -1,2 +1,0 @@
-pub mod RowEdits
-pub use Rattle.opc_machine.specs.Bootstrap

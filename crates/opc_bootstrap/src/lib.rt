@@ -1,4 +1,0 @@
-//! The first policy of a gate.
-#![tactic(auto)]
-
-pub mod bootstrap;

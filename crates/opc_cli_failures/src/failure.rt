@@ -1,0 +1,139 @@
+//! What made the program fail, and how that is told.
+ghost use Rattle.std.specs.Prelude.{◌≡◌, IfErr, OnOk, Some, false};
+ghost use Rattle.std.specs.IoError.{error_kind};
+ghost use Rattle.opc_cli_failures.specs.Printing.{IsTold};
+ghost use Rattle.opc_cli_failures.specs.Statuses.{IsFailure, cause_in_gate, fault_of_kind, status_of, status_of_end};
+
+use crate::printing::print_failure;
+use crate::reason::Reason;
+use crate::status::Status;
+use opc_io::sink::Sink;
+use opc_terms::fault::Fault;
+use std::io;
+use std::io::ErrorKind;
+
+/// The files that the words name.
+#[derive(Clone, Copy)]
+pub struct Paths<'a> {
+    pub database: Option<&'a str>,
+    pub policy: Option<&'a str>,
+}
+
+/// No file is named.
+pub const NO_PATHS: Paths<'static> = Paths {
+    database: None,
+    policy: None,
+};
+
+/// What the program reads, writes or opens.
+#[derive(Clone, Copy, PartialEq, Eq)]
+pub enum Place {
+    Input,
+    Output,
+    PolicyFile,
+    Database,
+    Clock,
+    /// A port of 127.0.0.1.
+    Port(u16),
+    /// A connection that was to be accepted.
+    Connection,
+}
+
+/// A fault, and what failed and why, where that is known.
+#[derive(Clone, Copy)]
+pub struct Failure {
+    pub fault: Fault,
+    pub cause: Option<(Place, Reason)>,
+}
+
+impl From<Fault> for Failure {
+    ghost use Rattle.std.specs.Prelude.{◌≡◌};
+
+    ghost from_gives = { λ fault failure. failure.fault ≡ fault };
+
+    fn from(fault: Fault) -> Self {
+        Failure { fault, cause: None }
+    }
+}
+
+impl Failure {
+    /// A read, a write or an opening that failed there.
+    pub fn at(place: Place, error: io::Error) -> Self
+        ensures fault { result.fault ≡ fault_of_kind (error_kind error) }
+        ensures cause { result.cause ≡ Some (place, Reason.System error) }
+        ensures failure { IsFailure result.fault }
+    {
+        Failure {
+            fault: fault_of(&error),
+            cause: Some((place, Reason::System(error))),
+        }
+    }
+
+    /// A fault of this place.
+    pub fn of(fault: Fault, place: Place, reason: Reason) -> Self
+        ensures fault { result.fault ≡ fault }
+        ensures cause { result.cause ≡ Some (place, reason) }
+    {
+        Failure {
+            fault,
+            cause: Some((place, reason)),
+        }
+    }
+
+    /// A fault that the gate gives: where its store fails, that is the database.
+    pub fn of_gate(fault: Fault) -> Self
+        ensures fault { result.fault ≡ fault }
+        ensures cause { result.cause ≡ cause_in_gate fault }
+    {
+        match fault {
+            Fault::Store => Failure::of(fault, Place::Database, Reason::Unreadable),
+            _ => Failure { fault, cause: None },
+        }
+    }
+
+    /// Prints the fault, as its code and its text, and then, in a line of its own, what failed and why. Answers the status.
+    /// Takes no memory, so that it can print where there is none; then the first line alone is printed.
+    pub fn tell<K: Sink>(&self, paths: &Paths<'_>, errors: &mut K) -> Status
+        ensures status { result ≡ status_of self.now.fault }
+        ensures told { K.has_failed errors.new ≡ false → IsTold self.now.fault (K.held errors.old) (K.held errors.new) }
+        ensures kept { K.has_failed errors.new ≡ false → K.has_failed errors.old ≡ false }
+    {
+        // The status tells the fault too, where no word can be printed.
+        let _ = print_failure(self, paths, errors);
+        status_of(&self.fault)
+    }
+}
+
+/// The status of what was to be done; where it failed, that is told.
+pub fn told<K: Sink>(end: Result<Status, Failure>, paths: &Paths<'_>, errors: &mut K) -> Status
+    ensures status { result ≡ status_of_end end }
+    ensures told { IfErr end (λ failure. K.has_failed errors.new ≡ false → IsTold failure.fault (K.held errors.old) (K.held errors.new)) }
+    ensures silent { OnOk end (errors.new ≡ errors.old) }
+    ensures kept { K.has_failed errors.new ≡ false → K.has_failed errors.old ≡ false }
+{
+    match end {
+        Ok(status) => status,
+        Err(failure) => failure.tell(paths, errors),
+    }
+}
+
+/// The status that a fault ends the program with: bad input, out of memory or a failed device, or a refusal.
+fn status_of(fault: &Fault) -> Status
+    ensures { result ≡ status_of fault.now }
+{
+    match fault {
+        Fault::RowFault { .. } => Status::BadInput,
+        Fault::NoMemory | Fault::Store | Fault::NotOurs { .. } => Status::Failed,
+        _ => Status::Refused,
+    }
+}
+
+/// A read that found no memory, or a device that failed.
+fn fault_of(error: &io::Error) -> Fault
+    ensures { result ≡ fault_of_kind (error_kind error.now) }
+{
+    match error.kind() {
+        ErrorKind::OutOfMemory => Fault::NoMemory,
+        _ => Fault::Store,
+    }
+}

@@ -1,0 +1,141 @@
+//! How a failure is printed, where there may be no memory.
+ghost use Rattle.std.specs.Prelude.{◌≡◌, OnOk, if◌then◌else◌, is_err, true};
+ghost use Rattle.opc_cli_failures.specs.Printing.{Grows, IsLineOf, IsTold};
+
+use crate::failure::{Failure, Paths, Place};
+use crate::reason::Reason;
+use arrayvec::ArrayString;
+use opc_io::sink::{Sink, WriteFault, write_whole};
+use opc_terms::fault::Fault;
+use std::fmt::Write as _;
+
+/// More bytes than the line of any fault has: the longest name in one is a pattern of 39 characters.
+const FAULT_LINE: usize = 160;
+
+/// More bytes than the words of any reason have: the longest show 39 characters of a field, each as ten bytes at most.
+const REASON_WORDS: usize = 640;
+
+/// More digits than a port has.
+const PORT_DIGITS: usize = 8;
+
+/// Prints a failure: its fault, and then, where there is memory, what failed and why.
+pub(crate) fn print_failure<K: Sink>(
+    failure: &Failure,
+    paths: &Paths<'_>,
+    errors: &mut K,
+) -> Result<(), WriteFault>
+    ensures text { OnOk result (IsTold failure.now.fault (K.held errors.old) (K.held errors.new)) }
+    ensures failed { K.has_failed errors.new ≡ (if is_err result then true else K.has_failed errors.old) }
+{
+    print_fault(&failure.fault, errors)?;
+    print_cause(failure, paths, errors)
+}
+
+/// Prints a fault as its code and its text, or as its code alone where there is no room for that line.
+fn print_fault<K: Sink>(fault: &Fault, errors: &mut K) -> Result<(), WriteFault>
+    ensures text { OnOk result (IsLineOf fault.now (K.held errors.old) (K.held errors.new)) }
+    ensures failed { K.has_failed errors.new ≡ (if is_err result then true else K.has_failed errors.old) }
+{
+    // Put together in place, without taking memory, so that a program that has none left can still report it.
+    let mut line = ArrayString::<FAULT_LINE>::new();
+    match writeln!(line, "{} {fault}", fault.code()) {
+        Ok(()) => write_whole(errors, line.as_str().as_bytes()),
+        Err(_) => print_code(fault, errors),
+    }
+}
+
+fn print_code<K: Sink>(fault: &Fault, errors: &mut K) -> Result<(), WriteFault>
+    ensures text { OnOk result (IsLineOf fault.now (K.held errors.old) (K.held errors.new)) }
+    ensures failed { K.has_failed errors.new ≡ (if is_err result then true else K.has_failed errors.old) }
+{
+    write_whole(errors, fault.code().as_bytes())?;
+    write_whole(errors, b"\n")
+}
+
+/// Prints, in a line of its own, what failed and why, where that is known and there is memory.
+fn print_cause<K: Sink>(
+    failure: &Failure,
+    paths: &Paths<'_>,
+    errors: &mut K,
+) -> Result<(), WriteFault>
+    ensures text { OnOk result (Grows (K.held errors.old) (K.held errors.new)) }
+    ensures failed { K.has_failed errors.new ≡ (if is_err result then true else K.has_failed errors.old) }
+{
+    match &failure.cause {
+        Some((place, reason)) if failure.fault != Fault::NoMemory => {
+            print_place(*place, paths, errors)?;
+            print_reason(reason, errors)
+        }
+        _ => Ok(()),
+    }
+}
+
+fn print_place<K: Sink>(place: Place, paths: &Paths<'_>, errors: &mut K) -> Result<(), WriteFault>
+    ensures text { OnOk result (Grows (K.held errors.old) (K.held errors.new)) }
+    ensures failed { K.has_failed errors.new ≡ (if is_err result then true else K.has_failed errors.old) }
+{
+    print_pair("opcmds: ", kind_of(place), errors)?;
+    print_pair(path_of(place, paths), digits_of(place).as_str(), errors)
+}
+
+fn print_reason<K: Sink>(reason: &Reason, errors: &mut K) -> Result<(), WriteFault>
+    ensures text { OnOk result (Grows (K.held errors.old) (K.held errors.new)) }
+    ensures failed { K.has_failed errors.new ≡ (if is_err result then true else K.has_failed errors.old) }
+{
+    let words = words_of(reason);
+    print_pair(separator_of(reason), words.as_str(), errors)?;
+    print_pair("\n", "", errors)
+}
+
+fn print_pair<K: Sink>(first: &str, second: &str, errors: &mut K) -> Result<(), WriteFault>
+    ensures text { OnOk result (Grows (K.held errors.old) (K.held errors.new)) }
+    ensures failed { K.has_failed errors.new ≡ (if is_err result then true else K.has_failed errors.old) }
+{
+    write_whole(errors, first.as_bytes())?;
+    write_whole(errors, second.as_bytes())
+}
+
+fn kind_of(place: Place) -> &'static str {
+    match place {
+        Place::Input => "standard input",
+        Place::Output => "standard output",
+        Place::PolicyFile => "policy file ",
+        Place::Database => "database ",
+        Place::Clock => "clock",
+        Place::Port(_) => "port ",
+        Place::Connection => "connection",
+    }
+}
+
+/// The path of a place that has one.
+fn path_of<'a>(place: Place, paths: &Paths<'a>) -> &'a str {
+    match place {
+        Place::PolicyFile => paths.policy.unwrap_or(""),
+        Place::Database => paths.database.unwrap_or(""),
+        _ => "",
+    }
+}
+
+/// The digits of a port.
+fn digits_of(place: Place) -> ArrayString<PORT_DIGITS> {
+    let mut digits = ArrayString::new();
+    if let Place::Port(port) = place {
+        // (a port has no more)
+        let _ = write!(digits, "{port}");
+    }
+    digits
+}
+
+fn separator_of(reason: &Reason) -> &'static str {
+    match reason {
+        Reason::Row(_) => ", ",
+        _ => ": ",
+    }
+}
+
+/// The words of a reason, as far as there is room for them.
+fn words_of(reason: &Reason) -> ArrayString<REASON_WORDS> {
+    let mut words = ArrayString::new();
+    let _ = write!(words, "{reason}");
+    words
+}

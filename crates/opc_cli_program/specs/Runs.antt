@@ -1,0 +1,68 @@
+-- What the program does with a script on its input.
+use Rattle.std.specs.Prelude.{◌≡◌, ◌⊎◌, ◌+◌, ℕ, Bool, true, List, Option, Some, None, Result, Ok, Err, IfSome, IsErrAnd, IsUtf8, MatchResult, if◌then◌else◌, take}
+use Rattle.std.specs.Borrow.{Bor}
+use Rattle.opc_terms.specs.declared.fault.Fault.TheVariants as fault
+use Rattle.opc_state.specs.State.{State}
+use Rattle.opc_cli_failures.specs.declared.failure.Failure.{Failure}
+use Rattle.opc_cli_failures.specs.declared.failure.Place.TheVariants as place
+use Rattle.opc_cli_failures.specs.declared.status.Status.{Status}
+use Rattle.opc_cli_failures.specs.declared.status.Status.TheVariants.{BadInput, Done}
+use Rattle.opc_cli_failures.specs.Statuses.{IsErrorAt, IsInputFailure}
+use Rattle.opc_cli_script.specs.declared.script.ScriptFault.{ScriptFault}
+use Rattle.opc_cli_script.specs.declared.script.ScriptFault.TheVariants.{BadLine, NoMemory, Output}
+use Rattle.opc_cli_script.specs.Refusals.{is_cut_by_output}
+use Rattle.opc_cli_script.specs.Running.{IsAnswered, IsBadRun}
+use Rattle.opc_cli_script.specs.Scripts.{script_limit}
+use Rattle.opc_cli_program.specs.Imports.{IsPolicyTaken}
+
+-- What the program makes of a script's run: that a line is bad was told on the output.
+abbrev pub IsEndOf : Result Status ScriptFault → Result Status Failure → Type 0
+IsEndOf (Ok status) end = end ≡ Ok status
+IsEndOf (Err (BadLine number)) end = end ≡ Ok BadInput
+IsEndOf (Err NoMemory) end = IsErrAnd end (λ failure. failure.fault ≡ fault.NoMemory)
+IsEndOf (Err (Output error)) end = IsErrAnd end (IsErrorAt place.Output error)
+
+-- what is read of what an input had left, where that is known: at most one byte past the limit
+abbrev pub AreScriptBytes : Option (List ℕ) → List ℕ → Type 0
+AreScriptBytes left bytes = IfSome left (λ all. bytes ≡ take (script_limit + 1) all)
+
+module _ {T : Type 0} (is_sure : T → Type 0) (represents may_leave : T → State → Type 0) where
+  -- The bytes are run as a script where they are UTF-8. If they are not, that is told as a bad line with the number 0.
+  abbrev pub IsRunOfBytes : (old new : T) → (script : List ℕ) → (before written : Option (List ℕ)) → Result Status ScriptFault → Type 0
+  IsRunOfBytes old new script before written ran =
+      (IsUtf8 script × IsAnswered is_sure represents may_leave old new script before written ran) ⊎ ((IsUtf8 script → ⊥) × (new ≡ old) × IsBadRun 0 before written ran)
+
+  -- Where a file of a first policy is named, what that file holds was taken as one, or not. `holds` says what the file at
+  -- a path holds, where that is known.
+  abbrev pub IsNamedPolicyTaken : (holds : List ℕ → Option (List ℕ)) → (old new : T) → Option (Bor (List ℕ)) → Result Status Failure → Type 0
+  IsNamedPolicyTaken holds old new None end = (end ≡ Ok Done) × (new ≡ old)
+  IsNamedPolicyTaken holds old new (Some path) end = IsPolicyTaken is_sure represents may_leave old new end (holds path.now)
+
+  module _ {K : Type 0} (held : K → Option (List ℕ)) (has_failed : K → Bool) where
+    -- Nothing was run and nothing printed.
+    pub record IsNothingRun (old new : T) (before written : K) (end : Result Status Failure) : Type 0 where
+      pub unread : IsErrAnd end IsInputFailure
+      pub same : new ≡ old
+      pub silent : written ≡ before
+
+    -- The bytes that the input gave were run, and it ended as they did: cut by the output exactly where a write failed.
+    pub record IsInputRun (old new : T) (left : Option (List ℕ)) (before written : K) (end : Result Status Failure) : Type 0 where
+      pub script : List ℕ
+      pub are : AreScriptBytes left script
+      pub ran : Result Status ScriptFault
+      pub run : IsRunOfBytes old new script (held before) (held written) ran
+      pub failed : has_failed written ≡ (if is_cut_by_output ran then true else has_failed before)
+      pub ends : IsEndOf ran end
+
+    -- There was no memory or the input failed, and nothing was done, or what the input gave was run.
+    abbrev pub IsAnsweredInput : (old new : T) → (left : Option (List ℕ)) → (before written : K) → Result Status Failure → Type 0
+    IsAnsweredInput old new left before written end = IsNothingRun old new before written end ⊎ IsInputRun old new left before written end
+
+    -- The first policy was taken, if one is named, and then the script run over the tables that it left. Where the policy
+    -- was not taken, that is the end, and nothing is printed.
+    pub record IsProgramRun (holds : List ℕ → Option (List ℕ)) (old new : T) (policy : Option (Bor (List ℕ))) (left : Option (List ℕ)) (before written : K) (end : Result Status Failure) : Type 0 where
+      pub mid : T
+      pub taken : Result Status Failure
+      pub takes : IsNamedPolicyTaken holds old mid policy taken
+      pub sure : is_sure new → is_sure mid
+      pub runs : MatchResult taken (λ _. IsAnsweredInput mid new left before written end) (λ failure. (end ≡ Err failure) × (new ≡ mid) × (written ≡ before))

@@ -1,0 +1,139 @@
+//! `opcmds import` and `opcmds export`: a written policy into the tables of a file, and out of them.
+ghost use Rattle.std.specs.Prelude.{◌≡◌, IfErr, IfOk};
+ghost use Rattle.opc_state.specs.Changes.{IsKept};
+ghost use Rattle.opc_machine.specs.Inputs.{input_of};
+ghost use Rattle.opc_cli_program.specs.Imports.{IsExport, IsFirstPolicy, IsImport, IsOneStep};
+
+use crate::printing::{print_text, tell_answer};
+use opc_cli_failures::failure::{Failure, Place};
+use opc_cli_failures::status::Status;
+use opc_gate::gate::Gate;
+use opc_gate::request::Request;
+use opc_io::sink::Sink;
+use opc_import::write::write_policy;
+use opc_policy_members::row::Row;
+use opc_cli_policy_files::policy_file::read_rows;
+use opc_rows::Rows;
+use opc_state::tables::Tables;
+use opc_terms::fault::Fault;
+use opc_cli_words::import::Import;
+use std::alloc::{AllocError, Global};
+use std::io::Read;
+
+/// Puts the policy file on the input into these tables, at a moment, and hands them back.
+pub fn import_on<T: Tables, R: Read, K: Sink>(
+    alloc: Global,
+    tables: T,
+    moment: u64,
+    import: &Import<'_>,
+    input: &mut R,
+    output: &mut K,
+) -> (Result<Status, Failure>, T)
+    ensures sure { T.is_sure result.1 → T.is_sure tables }
+    ensures imports { IsImport T.is_sure T.represents T.may_leave tables result.1 result.0 K.held K.has_failed output.old output.new (R.remaining input.old) moment import.now }
+{
+    let mut gate = Gate::over(tables);
+    let end = import_over(alloc, &mut gate, moment, import, input, output);
+    (end, gate.into_tables())
+}
+
+fn import_over<T: Tables, R: Read, K: Sink>(
+    alloc: Global,
+    gate: &mut Gate<T>,
+    moment: u64,
+    import: &Import<'_>,
+    input: &mut R,
+    output: &mut K,
+) -> Result<Status, Failure>
+    ensures sure { T.is_sure gate.new → T.is_sure gate.old }
+    ensures imports { IsImport T.is_sure T.represents T.may_leave gate.old gate.new result K.held K.has_failed output.old output.new (R.remaining input.old) moment import.now }
+{
+    let rows = read_rows(alloc, Place::Input, input)?;
+    let Some(console) = import.console else {
+        return take_first(alloc, gate, &rows);
+    };
+    let request = Request::Import {
+        console,
+        batch: import.batch,
+        rows: listed(alloc, &rows)?,
+    };
+    handle_alone(alloc, gate, moment, &request, output)
+}
+
+/// Takes the rows of a first policy.
+pub(crate) fn take_first<T: Tables>(
+    alloc: Global,
+    gate: &mut Gate<T>,
+    rows: &[Row],
+) -> Result<Status, Failure>
+    ensures sure { T.is_sure gate.new → T.is_sure gate.old }
+    ensures takes { IsFirstPolicy T.is_sure T.represents T.may_leave gate.old gate.new result rows.now }
+{
+    match gate.bootstrap(alloc, rows) {
+        Ok(()) => Ok(Status::Done),
+        Err(fault) => Err(Failure::of_gate(fault)),
+    }
+}
+
+/// Has one request handled, and tells its answer.
+fn handle_alone<T: Tables, K: Sink>(
+    alloc: Global,
+    gate: &mut Gate<T>,
+    moment: u64,
+    request: &Request,
+    output: &mut K,
+) -> Result<Status, Failure>
+    ensures sure { T.is_sure gate.new → T.is_sure gate.old }
+    ensures handles { IsOneStep T.is_sure T.represents T.may_leave gate.old gate.new result K.held K.has_failed output.old output.new moment (input_of request.now) }
+{
+    let answer = gate.handle(alloc, moment, request);
+    tell_answer(&answer, output)
+}
+
+fn listed(alloc: Global, rows: &[Row]) -> Result<Rows<Row>, Failure>
+    ensures rows { IfOk result (λ copy. copy ≡ rows.now) }
+    ensures fault { IfErr result (λ failure. failure.fault ≡ Fault.NoMemory) }
+{
+    copied(alloc, rows).map_err(|_| Failure::from(Fault::NoMemory))
+}
+
+fn copied(alloc: Global, rows: &[Row]) -> Result<Rows<Row>, AllocError>
+    ensures { IfOk result (λ copy. copy ≡ rows.now) }
+{
+    let mut copy = Rows::new(alloc);
+    for row in rows {
+        copy.push(*row)?;
+    }
+    Ok(copy)
+}
+
+/// Writes the policy of these tables as a policy file, and hands them back.
+pub fn export_on<T: Tables, K: Sink>(
+    alloc: Global,
+    tables: T,
+    output: &mut K,
+) -> (Result<Status, Failure>, T)
+    ensures sure { T.is_sure result.1 → T.is_sure tables }
+    ensures kept { IsKept T.is_sure T.represents T.may_leave tables result.1 }
+    ensures exports { IsExport T.is_sure T.represents T.may_leave tables result.1 result.0 K.held K.has_failed output.old output.new }
+{
+    let mut gate = Gate::over(tables);
+    let end = export_over(alloc, &mut gate, output);
+    (end, gate.into_tables())
+}
+
+fn export_over<T: Tables, K: Sink>(
+    alloc: Global,
+    gate: &mut Gate<T>,
+    output: &mut K,
+) -> Result<Status, Failure>
+    ensures sure { T.is_sure gate.new → T.is_sure gate.old }
+    ensures kept { IsKept T.is_sure T.represents T.may_leave gate.old gate.new }
+    ensures exports { IsExport T.is_sure T.represents T.may_leave gate.old gate.new result K.held K.has_failed output.old output.new }
+{
+    let rows = gate.export(alloc).map_err(Failure::of_gate)?;
+    let Ok(text) = write_policy(alloc, rows.as_slice()) else {
+        return Err(Failure::from(Fault::NoMemory));
+    };
+    print_text(output, text.as_str())
+}

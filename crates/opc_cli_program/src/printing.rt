@@ -1,0 +1,64 @@
+//! What the program prints on its output, and what it makes of an output that fails.
+ghost use Rattle.std.specs.Prelude.{◌≡◌, IsErr, IsOk, MatchResult, if◌then◌else◌, is_err, true};
+ghost use Rattle.std.specs.Io.KnownBytes.{Appends};
+ghost use Rattle.opc_cli_script.specs.Running.{AppendsPrefix};
+ghost use Rattle.opc_cli_script.specs.Transcripts.{ended};
+ghost use Rattle.opc_cli_program.specs.Imports.{FailsAsWritten, IsEnded, IsTold, IsWritten, lines_text};
+
+use opc_board::line::Line;
+use opc_cli_failures::failure::{Failure, Place};
+use opc_cli_failures::status::Status;
+use opc_gate::request::Answer;
+use opc_io::sink::Sink;
+use opc_cli_script::printer::write_text;
+use std::io;
+
+/// Writes a text and a line feed.
+fn write_line<K: Sink>(output: &mut K, text: &str) -> io::Result<()>
+    ensures text { MatchResult result (λ _. Appends (K.held output.old) (K.held output.new) (ended text.now)) (λ _. AppendsPrefix (K.held output.old) (K.held output.new) (ended text.now)) }
+    ensures failed { K.has_failed output.new ≡ (if is_err result then true else K.has_failed output.old) }
+{
+    write_text(output, text)?;
+    write_text(output, "\n")
+}
+
+/// Writes the lines of an answer, and takes no memory: what was done is told where there is none.
+fn write_lines<K: Sink>(output: &mut K, lines: &[Line]) -> io::Result<()>
+    ensures text { MatchResult result (λ _. Appends (K.held output.old) (K.held output.new) (lines_text lines.now)) (λ _. AppendsPrefix (K.held output.old) (K.held output.new) (lines_text lines.now)) }
+    ensures failed { K.has_failed output.new ≡ (if is_err result then true else K.has_failed output.old) }
+{
+    for line in lines {
+        write_line(output, line.text.as_str())?;
+    }
+    Ok(())
+}
+
+/// What the program makes of what it wrote.
+fn printed(wrote: io::Result<()>) -> Result<Status, Failure>
+    ensures ends { IsEnded result }
+    ensures same { MatchResult wrote (λ _. IsOk result) (λ _. IsErr result) }
+{
+    match wrote {
+        Ok(()) => Ok(Status::Done),
+        Err(error) => Err(Failure::at(Place::Output, error)),
+    }
+}
+
+/// Prints a text.
+pub fn print_text<K: Sink>(output: &mut K, text: &str) -> Result<Status, Failure>
+    ensures ends { IsEnded result }
+    ensures text { IsWritten text.now (K.held output.old) (K.held output.new) result }
+    ensures failed { FailsAsWritten K.has_failed output.old output.new result }
+{
+    printed(write_text(output, text))
+}
+
+/// Prints the lines of an answer, or gives its fault.
+pub fn tell_answer<K: Sink>(answer: &Answer, output: &mut K) -> Result<Status, Failure>
+    ensures { IsTold K.held K.has_failed answer.now output.old output.new result }
+{
+    match answer {
+        Answer::Done { lines, .. } => printed(write_lines(output, lines.as_slice())),
+        Answer::Refused { fault, .. } => Err(Failure::of_gate(*fault)),
+    }
+}

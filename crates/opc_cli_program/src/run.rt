@@ -1,0 +1,131 @@
+//! `opcmds run`: commands and events, over tables in memory or in a file.
+ghost use Rattle.std.specs.Prelude.{◌≡◌, if◌then◌else◌, true};
+ghost use Rattle.opc_cli_script.specs.Refusals.{is_cut_by_output};
+ghost use Rattle.opc_cli_program.specs.Imports.{IsPolicyTaken};
+ghost use Rattle.opc_cli_program.specs.Runs.{IsAnsweredInput, IsEndOf, IsNamedPolicyTaken, IsProgramRun, IsRunOfBytes};
+
+use crate::import::take_first;
+use opc_cli_failures::failure::{Failure, Place};
+use opc_cli_failures::status::Status;
+use opc_gate::gate::Gate;
+use opc_io::sink::Sink;
+use opc_cli_policy_files::openings::Openings;
+use opc_cli_policy_files::policy_file::read_rows_at;
+use opc_cli_policy_files::streams::read_up_to;
+use opc_cli_script::run::{run_script, tell_bad_line};
+use opc_cli_script::script::{SCRIPT_LIMIT, ScriptFault};
+use opc_state::tables::Tables;
+use opc_terms::fault::Fault;
+use std::alloc::Global;
+use std::io::Read;
+use std::str;
+
+/// Takes the first policy, if one is named, and then runs the script on the input over these tables, which it hands back.
+pub fn run_on<H: AllocGlobal + Openings, T: Tables, R: Read, K: Sink>(
+    rt: &H,
+    tables: T,
+    policy: Option<&str>,
+    input: &mut R,
+    output: &mut K,
+) -> (Result<Status, Failure>, T)
+    ensures sure { T.is_sure result.1 → T.is_sure tables }
+    ensures runs { IsProgramRun T.is_sure T.represents T.may_leave K.held K.has_failed (H.holds rt.now) tables result.1 policy.entry (R.remaining input.old) output.old output.new result.0 }
+{
+    let (taken, tables) = take_policy(rt, tables, policy);
+    match taken {
+        Ok(_) => run_cached(rt.alloc(), tables, input, output),
+        Err(failure) => (Err(failure), tables),
+    }
+}
+
+/// Takes the first policy, from a file if one is named.
+fn take_policy<H: AllocGlobal + Openings, T: Tables>(
+    rt: &H,
+    tables: T,
+    policy: Option<&str>,
+) -> (Result<Status, Failure>, T)
+    ensures sure { T.is_sure result.1 → T.is_sure tables }
+    ensures takes { IsNamedPolicyTaken T.is_sure T.represents T.may_leave (H.holds rt.now) tables result.1 policy.entry result.0 }
+{
+    let Some(path) = policy else {
+        return (Ok(Status::Done), tables);
+    };
+    let mut gate = Gate::over(tables);
+    let end = take_file(rt, &mut gate, path);
+    (end, gate.into_tables())
+}
+
+fn take_file<H: AllocGlobal + Openings, T: Tables>(
+    rt: &H,
+    gate: &mut Gate<T>,
+    path: &str,
+) -> Result<Status, Failure>
+    ensures sure { T.is_sure gate.new → T.is_sure gate.old }
+    ensures takes { IsPolicyTaken T.is_sure T.represents T.may_leave gate.old gate.new result (H.holds rt.now path.now) }
+{
+    let rows = read_rows_at(rt.alloc(), rt, path)?;
+    take_first(rt.alloc(), gate, &rows)
+}
+
+/// Runs the script on the input over these tables, with a cache of which profile decides, and hands them back.
+fn run_cached<T: Tables, R: Read, K: Sink>(
+    alloc: Global,
+    tables: T,
+    input: &mut R,
+    output: &mut K,
+) -> (Result<Status, Failure>, T)
+    ensures sure { T.is_sure result.1 → T.is_sure tables }
+    ensures runs { IsAnsweredInput T.is_sure T.represents T.may_leave K.held K.has_failed tables result.1 (R.remaining input.old) output.old output.new result.0 }
+{
+    let mut gate = match Gate::new(alloc, tables) {
+        Ok(gate) => gate,
+        Err((fault, tables)) => return (Err(Failure::from(fault)), tables),
+    };
+    let end = answer_script(alloc, &mut gate, input, output);
+    (end, gate.into_store())
+}
+
+/// Runs the script on the input. One that is not UTF-8 is a bad line, as one that is too long.
+fn answer_script<T: Tables, R: Read, K: Sink>(
+    alloc: Global,
+    gate: &mut Gate<T>,
+    input: &mut R,
+    output: &mut K,
+) -> Result<Status, Failure>
+    ensures sure { T.is_sure gate.new → T.is_sure gate.old }
+    ensures runs { IsAnsweredInput T.is_sure T.represents T.may_leave K.held K.has_failed gate.old gate.new (R.remaining input.old) output.old output.new result }
+{
+    let bytes = match read_up_to(alloc, input, SCRIPT_LIMIT) {
+        Ok(bytes) => bytes,
+        Err(error) => return Err(Failure::at(Place::Input, error)),
+    };
+    ended(run_bytes(alloc, gate, &bytes, output))
+}
+
+fn run_bytes<T: Tables, K: Sink>(
+    alloc: Global,
+    gate: &mut Gate<T>,
+    bytes: &[u8],
+    output: &mut K,
+) -> Result<Status, ScriptFault>
+    ensures sure { T.is_sure gate.new → T.is_sure gate.old }
+    ensures runs { IsRunOfBytes T.is_sure T.represents T.may_leave gate.old gate.new bytes.now (K.held output.old) (K.held output.new) result }
+    ensures failed { K.has_failed output.new ≡ (if is_cut_by_output result then true else K.has_failed output.old) }
+{
+    match str::from_utf8(bytes) {
+        Ok(script) => run_script(gate, alloc, script, output),
+        Err(_) => Err(tell_bad_line(alloc, 0, output)),
+    }
+}
+
+/// What the program makes of a script's run: that a line is bad was told on the output.
+fn ended(ran: Result<Status, ScriptFault>) -> Result<Status, Failure>
+    ensures { IsEndOf ran result }
+{
+    match ran {
+        Ok(status) => Ok(status),
+        Err(ScriptFault::BadLine(_)) => Ok(Status::BadInput),
+        Err(ScriptFault::NoMemory) => Err(Failure::from(Fault::NoMemory)),
+        Err(ScriptFault::Output(error)) => Err(Failure::at(Place::Output, error)),
+    }
+}

@@ -1,0 +1,69 @@
+//! A work of the program, over tables that are open.
+ghost use Rattle.opc_cli_program.specs.Works.{IsDone, IsImportNow};
+
+use crate::import::{export_on, import_on};
+use crate::run::run_on;
+use crate::serve::serve_tables;
+use opc_cli_failures::failure::{Failure, Place};
+use opc_cli_failures::status::Status;
+use opc_io::watched::Watched;
+use opc_cli_policy_files::openings::Openings;
+use opc_http_serve::clock::moment;
+use opc_http_serve::connection::Connection;
+use opc_state::tables::Tables;
+use opc_cli_words::import::Import;
+use opc_cli_words::serve::Serve;
+use std::io::{Read, Write};
+use std::net::Net;
+use std::rt::Clock;
+
+/// What is done over tables.
+#[derive(Clone, Copy)]
+pub enum Work<'a> {
+    /// The first policy is taken, if a file of one is named, and then the script on the input is run.
+    Run(Option<&'a str>),
+    /// The policy file on the input is put into the tables, at the clock's moment.
+    Import(Import<'a>),
+    /// The policy is written as a policy file.
+    Export,
+    /// Clients are served over HTTP.
+    Serve(Serve<'a>),
+}
+
+/// Does a work over these tables, and hands them back.
+pub fn work_on<H: AllocGlobal + Clock + Net + Openings, T: Tables, R: Read, W: Write>(
+    rt: &H,
+    tables: T,
+    work: &Work<'_>,
+    input: &mut R,
+    output: &mut Watched<W>,
+) -> (Result<Status, Failure>, T)
+where
+    H::Stream: Connection,
+    ensures sure { T.is_sure result.1 → T.is_sure tables }
+    ensures done { IsDone T.is_sure T.represents T.may_leave W.contents tables result.1 (R.remaining input.old) output.old output.new result.0 H.Stream.limits H.Stream.remaining H.Stream.contents (H.holds rt.now) work.now }
+{
+    match work {
+        Work::Run(policy) => run_on(rt, tables, *policy, input, output),
+        Work::Import(import) => import_now(rt, tables, import, input, output),
+        Work::Export => export_on(rt.alloc(), tables, output),
+        Work::Serve(serve) => serve_tables(rt, tables, serve, &mut output.inner),
+    }
+}
+
+/// Puts the policy file on the input into these tables, at the clock's moment, and hands them back.
+fn import_now<H: AllocGlobal + Clock, T: Tables, R: Read, W: Write>(
+    rt: &H,
+    tables: T,
+    import: &Import<'_>,
+    input: &mut R,
+    output: &mut Watched<W>,
+) -> (Result<Status, Failure>, T)
+    ensures sure { T.is_sure result.1 → T.is_sure tables }
+    ensures imports { IsImportNow T.is_sure T.represents T.may_leave W.contents tables result.1 (R.remaining input.old) output.old output.new result.0 import.now }
+{
+    match moment(rt) {
+        Ok(moment) => import_on(rt.alloc(), tables, moment, import, input, output),
+        Err(error) => (Err(Failure::at(Place::Clock, error)), tables),
+    }
+}

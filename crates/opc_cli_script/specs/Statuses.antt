@@ -1,0 +1,21 @@
+-- Statuses: what the answers of a run come to.
+use Rattle.std.specs.Prelude.{Bool, true, false, if◌then◌else◌, List}
+use Rattle.std.specs.List.{list_any}
+use Rattle.opc_terms.specs.declared.fault.Fault.TheVariants as fault
+use Rattle.opc_machine.specs.declared.request.Answer.{Answer}
+use Rattle.opc_machine.specs.declared.request.Answer.TheVariants as answer
+use Rattle.opc_cli_failures.specs.declared.status.Status.{Status}
+use Rattle.opc_cli_failures.specs.declared.status.Status.TheVariants.{Done, Refused, Failed}
+
+abbrev pub is_given_up : Answer → Bool
+is_given_up (answer.Refused fault.NoMemory rule) = true
+is_given_up (answer.Refused fault.Store rule) = true
+is_given_up other = false
+
+abbrev pub is_refused : Answer → Bool
+is_refused (answer.Refused fault rule) = true
+is_refused (answer.Done lines rule) = false
+
+-- Failed where there was no memory or the store failed, else refused where anything was refused, else done.
+abbrev pub status_of : List Answer → Status
+status_of answers = if list_any is_given_up answers then Failed else (if list_any is_refused answers then Refused else Done)

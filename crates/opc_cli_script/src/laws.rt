@@ -1,0 +1,12 @@
+//! What reading a script means, each law as what a call without a body ensures.
+ghost use Rattle.opc_cli_script.specs.Laws.{EventsAreSpelled, EventsReadBack};
+
+/// An event reads back from its text.
+pub fn events_read_back()
+    ensures { EventsReadBack }
+{}
+
+/// A text tells an event only where it is that event's text.
+pub fn events_are_spelled()
+    ensures { EventsAreSpelled }
+{}

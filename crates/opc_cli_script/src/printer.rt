@@ -1,0 +1,82 @@
+//! What a run prints.
+ghost use Rattle.std.specs.Prelude.{◌≡◌, ◌∷◌, ◌++◌, [], IfErr, List, MatchResult, OnOk, if◌then◌else◌, is_err, true};
+ghost use Rattle.std.specs.Io.KnownBytes.{Appends};
+ghost use Rattle.opc_machine.specs.declared.request.Answer.{Answer as TheAnswer};
+ghost use Rattle.opc_cli_script.specs.Refusals.{is_cut_by_output, is_output};
+ghost use Rattle.opc_cli_script.specs.Running.{AppendsPrefix, IsCut, IsCutOff, IsWhole};
+ghost use Rattle.opc_cli_script.specs.Statuses.{status_of};
+ghost use Rattle.opc_cli_script.specs.Transcripts.{answer_text};
+
+use crate::script::ScriptFault;
+use crate::status::status_after;
+use crate::transcript::answer_text;
+use opc_cli_failures::status::Status;
+use opc_gate::gate::Gate;
+use opc_gate::listener::Listener;
+use opc_gate::request::{Answer, Request};
+use opc_io::sink::Sink;
+use opc_state::tables::Tables;
+use std::alloc::Global;
+use std::io;
+
+/// Writes a text, or, where the output fails, some prefix of it.
+pub fn write_text<K: Sink>(output: &mut K, text: &str) -> io::Result<()>
+    ensures text { MatchResult result (λ _. Appends (K.held output.old) (K.held output.new) text.now) (λ _. AppendsPrefix (K.held output.old) (K.held output.new) text.now) }
+    ensures failed { K.has_failed output.new ≡ (if is_err result then true else K.has_failed output.old) }
+{
+    let bytes = text.as_bytes();
+    // A loop of its own, for the reasons that `write_whole` has.
+    let mut done = 0;
+    while done < bytes.len() {
+        match output.write(&bytes[done..]) {
+            Ok(count) => done += count,
+            Err(error) => return Err(error),
+        }
+    }
+    Ok(())
+}
+
+/// Prints each answer of a run, and keeps what the answers come to.
+#[derive(Drop)]
+pub(crate) struct Printer<'a, K: Sink> {
+    pub alloc: Global,
+    pub output: &'a mut K,
+    pub status: Status,
+}
+
+impl<K: Sink> Printer<'_, K> {
+    /// Runs requests over a gate, and prints each answer before the next request is handled.
+    pub fn run<T: Tables>(
+        &mut self,
+        gate: &mut Gate<T>,
+        requests: &[(u64, Request)],
+    ) -> Result<(), ScriptFault>
+        ensures sure { T.is_sure gate.new → T.is_sure gate.old }
+        ensures same_reference { self.new.output.ghost_name ≡ self.old.output.ghost_name }
+        ensures whole { self.old.status ≡ Status.Done → OnOk result (IsWhole T.is_sure T.represents T.may_leave gate.old gate.new requests.now (K.held self.old.output.now) (K.held self.new.output.now) self.new.status) }
+        ensures cut { IfErr result (IsCut T.is_sure T.represents T.may_leave gate.old gate.new requests.now (K.held self.old.output.now) (K.held self.new.output.now)) }
+        ensures failed { K.has_failed self.new.output.now ≡ (if is_cut_by_output result then true else K.has_failed self.old.output.now) }
+    {
+        gate.run_heard(self.alloc, requests, self)
+    }
+}
+
+impl<K: Sink> Listener for Printer<'_, K> {
+    type Fault = ScriptFault;
+
+    ghost heard = { λ old moment answer new.
+        (new.output.ghost_name ≡ old.output.ghost_name) × Appends (K.held old.output.now) (K.held new.output.now) (answer_text moment answer)
+        × (K.has_failed new.output.now ≡ K.has_failed old.output.now)
+        × ((answers : List TheAnswer) → old.status ≡ status_of answers → new.status ≡ status_of (answers ++ answer ∷ [])) };
+
+    ghost missed = { λ old moment answer new fault.
+        (new.output.ghost_name ≡ old.output.ghost_name) × IsCutOff fault (K.held old.output.now) (K.held new.output.now) (answer_text moment answer)
+        × (K.has_failed new.output.now ≡ (if is_output fault then true else K.has_failed old.output.now)) };
+
+    fn hear(&mut self, moment: u64, answer: &Answer) -> Result<(), ScriptFault> {
+        let text = answer_text(self.alloc, moment, answer)?;
+        write_text(self.output, text.as_str())?;
+        self.status = status_after(self.status, answer);
+        Ok(())
+    }
+}

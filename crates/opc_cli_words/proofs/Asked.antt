@@ -1,0 +1,91 @@
+-- What is asked for by the values of options, and by the rows in which they were found.
+use Rattle.std.proofs.Common.{◌≡◌, ◌∙◌, ℕ, ◌*◌, List, [], Option, Some, codes, ap, ap₂, refl, sym}
+use Rattle.std.specs.Prelude.{None, option_map, unwrap_or}
+use Rattle.clap.specs.Matches.{first_value, subcommand_name_of}
+use Rattle.clap.specs.Simple.{subcommand_rows_of}
+use Rattle.clap.specs.Walk.{Row, first_of, rows_of}
+use Rattle.clap.specs.declared.parser.matches.ArgMatches.{ArgMatches}
+use Rattle.clap.specs.declared.parser.matches.ArgMatches.TheViews.{out-ArgMatches}
+use Rattle.clap.specs.declared.parser.matches.Found.{Found}
+use Rattle.clap.proofs.WalkLemmas.{first_value-rows}
+use Rattle.opc_names.specs.Spellings.{classes, levels, lookup}
+use Rattle.opc_cli_words.specs.declared.import.Import.{Import}
+use Rattle.opc_cli_words.specs.declared.question.Question.{Question}
+use Rattle.opc_cli_words.specs.declared.serve.Serve.{Serve}
+use Rattle.opc_cli_words.specs.declared.words.Task.{Task}
+use Rattle.opc_cli_words.specs.declared.words.Task.TheVariants as task
+use Rattle.opc_cli_words.specs.Numbers.{number_between}
+use Rattle.opc_cli_words.specs.Tasks.{FailsAt, IsImport, IsQuestion, IsService, IsTask, IsTaskOf, first_unread, options_of}
+
+-- two ways in which the values of options are known
+module _ (one other : List ℕ → Option (List ℕ)) (same : (name : List ℕ) → one name ≡ other name) where
+  of_given : {A : Type 0} (f : List ℕ → A) (name : List ℕ) → f (unwrap_or (other name) []) ≡ f (unwrap_or (one name) [])
+  of_given f name = ap (λ o. f (unwrap_or o [])) (sym (same name))
+
+  given : (name : List ℕ) → unwrap_or (one name) [] ≡ unwrap_or (other name) []
+  given name = ap (λ o. unwrap_or o []) (same name)
+
+  question : (q : Question) → IsQuestion one q → IsQuestion other q
+  question q is = record {
+    user = is.user ∙ given (codes "user");
+    class = of_given (lookup classes) (codes "class") ∙ is.class;
+    resource = is.resource ∙ given (codes "resource");
+    console = is.console ∙ same (codes "console");
+    level = of_given (lookup levels) (codes "level") ∙ is.level;
+  }
+
+  import : (i : Import) → IsImport one i → IsImport other i
+  import i is = record {
+    path = is.path ∙ given (codes "db");
+    batch = of_given (number_between 1 999_999_999) (codes "batch") ∙ is.batch;
+    console = is.console ∙ same (codes "console");
+  }
+
+  service : (s : Serve) → IsService one s → IsService other s
+  service s is = record {
+    path = is.path ∙ given (codes "db");
+    port = of_given (number_between 0 65_535) (codes "port") ∙ is.port;
+    count = of_given (number_between 1 1_000_000) (codes "count") ∙ is.count;
+    waits = is.waits ∙ ap (λ (o : Option (List ℕ)). option_map (λ text. option_map (λ seconds. seconds * 1_000_000_000) (number_between 1 3_600 text)) o) (same (codes "timeout"));
+  }
+
+  pub task_is : (command : List ℕ) (t : Task) → IsTaskOf one command t → IsTaskOf other command t
+  task_is command (task.Explain q) is = (is.0, question q is.1)
+  task_is command (task.Run paths) is = (is.0, is.1 ∙ same (codes "db"), is.2 ∙ same (codes "policy"))
+  task_is command (task.Import i) is = (is.0, import i is.1)
+  task_is command (task.Export path) is = (is.0, is.1 ∙ given (codes "db"))
+  task_is command (task.Serve s) is = (is.0, service s is.1)
+
+  pub same_options : (command : List ℕ) → options_of one command ≡ options_of other command
+  same_options command =
+      rw (same (codes "user"), same (codes "class"), same (codes "resource"), same (codes "console"), same (codes "level"), same (codes "batch"), same (codes "port"), same (codes "count"), same (codes "timeout")) refl
+
+-- a name and rows that are of one thing
+module _ {B : Type 0} (name_of : B → List ℕ) (rows_in : B → List Row) where
+  abbrev both : B → List ℕ × List Row
+  both b = (name_of b, rows_in b)
+
+  of_one : (o : Option B) (name : List ℕ) (rows : List Row) → Some name ≡ option_map name_of o → Some rows ≡ option_map (λ (p : List ℕ × List Row). p.1) (option_map both o) → option_map both o ≡ Some (name, rows)
+  of_one None name rows n r = absurd (cc)
+  of_one (Some b) name rows n r =
+      let same : name_of b ≡ name = cc in
+      let also : rows_in b ≡ rows = cc in
+      ap₂ (λ x y. let p : List ℕ × List Row = (x, y) in Some p) same also
+
+pub fails_at : (found : ArgMatches) (chosen : Found) (command option : List ℕ) → Some command ≡ subcommand_name_of found
+    → Some (rows_of chosen) ≡ option_map (λ (p : List ℕ × List Row). p.1) (subcommand_rows_of found) → first_unread (options_of (first_value chosen) command) ≡ Some option
+    → FailsAt (subcommand_rows_of found) command option
+fails_at found chosen command option name rows is = (
+  rows_of chosen,
+  of_one _ _ (out-ArgMatches found).subcommand command (rows_of chosen) name rows,
+  ap first_unread (sym (same_options (first_value chosen) (λ id. first_of id (rows_of chosen)) (first_value-rows chosen) command)) ∙ is,
+)
+
+pub is_task : (found : ArgMatches) (chosen : Found) (command : List ℕ) (t : Task) → Some command ≡ subcommand_name_of found
+    → Some (rows_of chosen) ≡ option_map (λ (p : List ℕ × List Row). p.1) (subcommand_rows_of found) → IsTaskOf (first_value chosen) command t → IsTask found t
+is_task found chosen command t name rows is = (
+  command,
+  rows_of chosen,
+  of_one _ _ (out-ArgMatches found).subcommand command (rows_of chosen) name rows,
+  task_is (first_value chosen) (λ id. first_of id (rows_of chosen)) (first_value-rows chosen) command t is,
+)

@@ -1,0 +1,83 @@
+-- What is read of the words, by what `clap` makes of them.
+use Rattle.std.proofs.Common.{◌≡◌, ◌∙◌, ◌⊎◌, ℕ, List, [], ◌∷◌, Option, None, inl, inr, refl, subst, sym, false}
+use Rattle.std.specs.Prelude.{Bool, is_some, Result, Ok, Err}
+use Rattle.clap.specs.Faults.{check_fault, defaults_fault, entered_fault, fault_of, level_fault, settle_fault, walk_fault}
+use Rattle.clap.specs.Kinds.{HasKind, Kinds, or_else}
+use Rattle.clap.specs.Simple.{Shape, argument_words, built, entered, names_of, subcommand_of}
+use Rattle.clap.specs.Values.{kind_of}
+use Rattle.clap.specs.Walk.{Held, Names, Row, finished, nothing_held, settled, walk, walk_from}
+use Rattle.clap.specs.declared.error.Error.{Error}
+use Rattle.clap.specs.declared.error.kind.ErrorKind.{ErrorKind}
+use Rattle.clap.specs.declared.error.kind.ErrorKind.TheVariants.{MissingSubcommand, OutOfMemory}
+use Rattle.opc_io.specs.declared.watched.Watched.{Watched}
+use Rattle.opc_cli_failures.specs.declared.status.Status.{Status}
+use Rattle.opc_cli_failures.specs.declared.status.Status.TheVariants.{Done, Refused, BadInput, Failed}
+use Rattle.opc_cli_words.specs.declared.words.Task.{Task}
+use Rattle.opc_cli_words.specs.CommandLine.{command_line}
+use Rattle.opc_cli_words.specs.Reading.{AreRead, AskForNone, IsHelp, IsHelpTold, IsKindTold, IsTaskRead, IsToldUnread}
+use Rattle.opc_cli_words.specs.Tasks.{AsksFor}
+
+last_is_empty : (first last : Kinds) → or_else first last ≡ [] → last ≡ []
+last_is_empty [] last h = h
+last_is_empty (kind ∷ kinds) last h = absurd (cc)
+
+none_is_some : (kind : ErrorKind) (kinds : Kinds) → kind ∷ kinds ≡ [] → ⊥
+none_is_some kind kinds h = absurd (cc)
+
+unnamed : (rows : List Row) (found : Option (List ℕ × List Row)) → found ≡ None → check_fault (built command_line).top rows (is_some found) ≡ [] → ⊥
+unnamed rows found none fine = none_is_some MissingSubcommand [] (subst (λ f. check_fault (built command_line).top rows (is_some f) ≡ []) none fine)
+
+-- a level that takes its words passes the last checks
+level_ends : (s : Shape) (names : Names) (held : Held) (words : List (List ℕ)) (has : Bool) (below : Kinds)
+    → level_fault s names held words has below ≡ [] → check_fault s (finished s.rules (walk s.rules names held words).held) has ≡ []
+level_ends s names held words has below taken =
+    let end = (walk s.rules names held words).held in
+    let checks = check_fault s (finished s.rules end) has in
+    let presets = defaults_fault (settled s.rules end).rows s.rules in
+    let last_use = settle_fault s.rules s.args_override_self end in
+    last_is_empty presets checks
+    (last_is_empty last_use (or_else presets checks)
+    (last_is_empty below (or_else last_use (or_else presets checks))
+    (last_is_empty (walk_fault s names (walk_from held) words) (or_else below (or_else last_use (or_else presets checks))) taken)))
+
+-- words that the command line takes name a command
+some_command : (words : List (List ℕ)) → fault_of command_line words ≡ [] → subcommand_of command_line words ≡ None → ⊥
+some_command words taken none =
+    let a = built command_line in
+    let given = argument_words command_line words in
+    let end = walk a.top.rules (names_of a) nothing_held given in
+    unnamed (finished a.top.rules end.held) (subcommand_of command_line words) none
+    (level_ends a.top (names_of a) nothing_held given (is_some (entered a end.stopped)) (entered_fault a end.stopped) taken)
+
+not_memory : (kind : ErrorKind) → IsHelp kind → kind ≡ OutOfMemory → ⊥
+not_memory kind (inl help) memory = absurd (cc)
+not_memory kind (inr version) memory = absurd (cc)
+
+module _ {E : Type 0} (shown : E → Option (List ℕ)) (quiet told : Watched E) where
+  -- where the command line takes the words
+  pub task_read : {W : Type 0} (output : W) (words : List (List ℕ)) → fault_of command_line words ≡ []
+      → (found : Option (List ℕ × List Row)) → found ≡ subcommand_of command_line words
+      → (result : Result Task Status) → IsTaskRead shown quiet told found result → AreRead words shown output output quiet told result
+  task_read output words taken found is (Ok task) (asks, silent) = (record { taken = taken; asks = subst (λ f. AsksFor f task) is asks }, refl, silent)
+  task_read output words taken found is (Err status) (bad, why) = subst (AskForNone words shown output output quiet told) (sym bad) (go why)
+    where
+      go : (found ≡ None) ⊎ IsToldUnread shown quiet told found → AskForNone words shown output output quiet told BadInput
+      go (inl none) = absurd (some_command words taken (sym is ∙ none))
+      go (inr unread) = (inr (record { taken = taken; unread = subst (IsToldUnread shown quiet told) is unread }), refl)
+
+  module _ {W : Type 0} (before written : W) where
+    pub help_told : (kind : ErrorKind) → IsHelp kind → (status : Status) → IsHelpTold shown quiet told status → IsKindTold shown before written quiet told kind status
+    help_told kind help Done silent = (help, silent)
+    help_told kind help Refused none = absurd none
+    help_told kind help BadInput none = absurd none
+    help_told kind help Failed failure = failure
+
+    -- where it does not
+    pub kind_told : (words : List (List ℕ)) (error : Error) → HasKind (fault_of command_line words) error
+        → (status : Status) → IsKindTold shown before written quiet told (kind_of error) status → AskForNone words shown before written quiet told status
+    kind_told words error (inl memory) Done (help, silent) = absurd (not_memory (kind_of error) help memory)
+    kind_told words error (inr among) Done (help, silent) = (record { kind = kind_of error; among = among; help = help }, silent)
+    kind_told words error has Refused none = absurd none
+    kind_told words error (inl memory) BadInput (mistake, other, same) = absurd (other memory)
+    kind_told words error (inr among) BadInput (mistake, other, same) = (inl (record { kind = kind_of error; among = among; mistake = mistake }), same)
+    kind_told words error has Failed failure = failure

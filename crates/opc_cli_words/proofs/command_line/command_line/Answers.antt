@@ -1,0 +1,11 @@
+use Rattle.std.proofs.lemmas.Result.{IfOk-weaker}
+use Rattle.opc_cli_words.proofs.CommandLine.{one_command_more}
+use Rattle.opc_cli_words.proofs.command_line.command_line.Goals as goal
+
+pub returns : goal.returns
+returns c =
+    let command_1 = one_command_more _ _ _ _ _ _ c.program.ensures c.in_ok-explain_command.ensures c.in_ok-subcommand.ensures in
+    let command_2 = one_command_more _ _ _ _ _ _ command_1 c.in_ok-run_command.ensures c.in_ok-subcommand-2.ensures in
+    let command_3 = one_command_more _ _ _ _ _ _ command_2 c.in_ok-import_command.ensures c.in_ok-subcommand-3.ensures in
+    let command_4 = one_command_more _ _ _ _ _ _ command_3 c.in_ok-export_command.ensures c.in_ok-subcommand-4.ensures in
+    IfOk-weaker c.subcommand-5.result _ _ (λ built. one_command_more _ built _ _ _ _ command_4 c.in_ok-serve_command.ensures) c.subcommand-5.ensures

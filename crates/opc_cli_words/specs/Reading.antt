@@ -1,0 +1,101 @@
+-- What is read of the words of the command line, and what is told where they ask for no task.
+use Rattle.std.specs.Prelude.{◌≡◌, ◌≢◌, ◌⊎◌, ◌++◌, ◌∷◌, ℕ, false, List, [], Option, None, Result, Ok, Err, codes, drop, map, String, string_bytes}
+use Rattle.std.specs.Io.KnownBytes.{Appends}
+use Rattle.std.specs.declared.alloc.Global.{Global}
+use Rattle.clap.specs.Faults.{fault_of}
+use Rattle.clap.specs.Kinds.{IsAmong}
+use Rattle.clap.specs.Simple.{subcommand_of}
+use Rattle.clap.specs.Walk.{Row}
+use Rattle.clap.specs.declared.error.kind.ErrorKind.{ErrorKind}
+use Rattle.clap.specs.declared.error.kind.ErrorKind.TheVariants.{DisplayHelp, DisplayVersion, OutOfMemory}
+use Rattle.opc_terms.specs.declared.fault.Fault.{Fault}
+use Rattle.opc_io.specs.declared.watched.Watched.{Watched}
+use Rattle.opc_cli_failures.specs.declared.status.Status.{Status}
+use Rattle.opc_cli_failures.specs.declared.status.Status.TheVariants.{Done, Refused, BadInput, Failed}
+use Rattle.opc_cli_failures.specs.Printing.{IsTold}
+use Rattle.opc_cli_failures.specs.Statuses.{IsFailure}
+use Rattle.opc_cli_words.specs.declared.words.Task.{Task}
+use Rattle.opc_cli_words.specs.CommandLine.{command_line}
+use Rattle.opc_cli_words.specs.Tasks.{AsksFor, FailsAt}
+
+-- the words after the first, which is the program's own name
+abbrev pub words_after : List (String Global) → List (List ℕ)
+words_after words = map string_bytes (drop 1 words)
+
+-- what is printed of an option whose value does not read
+abbrev pub unread_line : (command option : List ℕ) → List ℕ
+unread_line command option = codes "error: the value of " ++ option ++ codes " does not read; see opcmds " ++ command ++ codes " --help\n"
+
+-- help, or the version
+abbrev pub IsHelp : ErrorKind → Type 0
+IsHelp kind = (kind ≡ DisplayHelp) ⊎ (kind ≡ DisplayVersion)
+
+module _ (words : List (List ℕ)) where
+  -- The command line takes the words, and they ask for this task.
+  pub record Ask (task : Task) : Type 0 where
+    pub taken : fault_of command_line words ≡ []
+    pub asks : AsksFor (subcommand_of command_line words) task
+
+  -- They ask for help.
+  pub record AskForHelp : Type 0 where
+    pub kind : ErrorKind
+    pub among : IsAmong kind (fault_of command_line words)
+    pub help : IsHelp kind
+
+  -- The command line does not take them.
+  pub record AreNotTaken : Type 0 where
+    pub kind : ErrorKind
+    pub among : IsAmong kind (fault_of command_line words)
+    pub mistake : IsHelp kind → ⊥
+
+module _ {E : Type 0} (shown : E → Option (List ℕ)) (quiet told : Watched E) where
+  -- There was no memory, or the output failed, and that is printed, unless a write failed.
+  pub record IsToldFailure : Type 0 where
+    pub fault : Fault
+    pub failure : IsFailure fault
+    pub printed : told.failed ≡ false → IsTold fault (shown quiet.inner) (shown told.inner)
+
+  -- What was found is a command, and the value of this option of it does not read; that is printed, unless a write failed.
+  pub record IsToldUnread (found : Option (List ℕ × List Row)) : Type 0 where
+    pub command : List ℕ
+    pub option : List ℕ
+    pub fails : FailsAt found command option
+    pub printed : told.failed ≡ false → Appends (shown quiet.inner) (shown told.inner) (unread_line command option)
+
+  -- What was found is a task, and nothing is printed; or it is no command, or an option's value does not read.
+  abbrev pub IsTaskRead : Option (List ℕ × List Row) → Result Task Status → Type 0
+  IsTaskRead found (Ok task) = AsksFor found task × (told ≡ quiet)
+  IsTaskRead found (Err status) = (status ≡ BadInput) × ((found ≡ None) ⊎ IsToldUnread found)
+
+  -- Help was given, or the output failed.
+  abbrev pub IsHelpTold : Status → Type 0
+  IsHelpTold Done = told ≡ quiet
+  IsHelpTold Refused = ⊥
+  IsHelpTold BadInput = ⊥
+  IsHelpTold Failed = IsToldFailure
+
+module _ {W E : Type 0} (shown : E → Option (List ℕ)) (before written : W) (quiet told : Watched E) where
+  -- What is told of an error of this kind, by the status.
+  abbrev pub IsKindTold : ErrorKind → Status → Type 0
+  IsKindTold kind Done = IsHelp kind × (told ≡ quiet)
+  IsKindTold kind Refused = ⊥
+  IsKindTold kind BadInput = (IsHelp kind → ⊥) × (kind ≢ OutOfMemory) × (written ≡ before)
+  IsKindTold kind Failed = IsToldFailure shown quiet told
+
+-- The command line takes the words, but not the value of an option, and that is printed.
+pub record AreToldUnread {E : Type 0} (shown : E → Option (List ℕ)) (quiet told : Watched E) (words : List (List ℕ)) : Type 0 where
+  pub taken : fault_of command_line words ≡ []
+  pub unread : IsToldUnread shown quiet told (subcommand_of command_line words)
+
+module _ (words : List (List ℕ)) {W E : Type 0} (shown : E → Option (List ℕ)) (before written : W) (quiet told : Watched E) where
+  -- Why there is no task, by the status.
+  abbrev pub AskForNone : Status → Type 0
+  AskForNone Done = AskForHelp words × (told ≡ quiet)
+  AskForNone Refused = ⊥
+  AskForNone BadInput = (AreNotTaken words ⊎ AreToldUnread shown quiet told words) × (written ≡ before)
+  AskForNone Failed = IsToldFailure shown quiet told
+
+  -- The task that the words ask for, and nothing is printed; or why there is none.
+  abbrev pub AreRead : Result Task Status → Type 0
+  AreRead (Ok task) = Ask words task × (written ≡ before) × (told ≡ quiet)
+  AreRead (Err status) = AskForNone status

@@ -1,0 +1,223 @@
+//! The command line, as `clap` reads it: the commands and the options of each.
+ghost use Rattle.std.specs.Prelude.{◌≡◌, IfOk, false, codes, []};
+ghost use Rattle.clap.specs.Walk.{rule_of};
+ghost use Rattle.clap.specs.Simple.{app_of};
+ghost use Rattle.opc_cli_words.specs.CommandLine.{IsCommand, command_line, explain_options, export_options, import_options, needed, preset, program, run_options, serve_options, valued};
+
+use clap::{Arg, ArgAction, Command};
+use std::alloc::{AllocError, Global};
+
+/// An option that takes a value.
+fn value<'a>(alloc: Global, name: &'a str, shown: &'a str, help: &'a str) -> Arg<'a>
+    ensures rule { rule_of result ≡ valued name.entry.now }
+    ensures alone { result.global ≡ false }
+{
+    Arg::new(alloc, name)
+        .long(name)
+        .action(ArgAction::Set)
+        .value_name(shown)
+        .help(help)
+}
+
+/// An option that has to be given.
+fn needed<'a>(alloc: Global, name: &'a str, shown: &'a str, help: &'a str) -> Arg<'a>
+    ensures rule { rule_of result ≡ needed name.entry.now }
+    ensures alone { result.global ≡ false }
+{
+    value(alloc, name, shown, help).required(true)
+}
+
+/// An option that has a value where it is not given.
+fn preset<'a>(
+    alloc: Global,
+    name: &'a str,
+    shown: &'a str,
+    help: &'a str,
+    usual: &'a str,
+) -> Arg<'a>
+    ensures rule { rule_of result ≡ preset name.entry.now usual.entry.now }
+    ensures alone { result.global ≡ false }
+{
+    value(alloc, name, shown, help).default_value(usual)
+}
+
+/// A command with its help, and without an option.
+fn command<'a>(alloc: Global, name: &'a str, about: &'a str, after: &'a str) -> Command<'a>
+    ensures { IsCommand result name.entry.now [] }
+{
+    Command::new(alloc, name).about(about).after_help(after)
+}
+
+fn explain_command<'a>(alloc: Global) -> Result<Command<'a>, AllocError>
+    ensures { IfOk result (λ built. IsCommand built (codes "explain") explain_options) }
+{
+    command(
+        alloc,
+        "explain",
+        "Says which profile decides for a user, by the policy file on standard input (16,777,216 bytes at most)",
+        "Example: opcmds explain --user ANNA --resource MVS.CANCEL.JOB.PAYROLL --level UPDATE < policy.csv\n\
+         Status: 0 allowed or undecided, 1 refused, 2 bad words or policy file, 3 out of memory or a failed device",
+    )
+    .arg(needed(alloc, "user", "USER", "The user: 1 to 8 name characters"))?
+    .arg(preset(
+        alloc,
+        "class",
+        "CLASS",
+        "The class: OPERCMDS or CONSOLE",
+        "OPERCMDS",
+    ))?
+    .arg(needed(
+        alloc,
+        "resource",
+        "RESOURCE",
+        "The resource: 1 to 39 characters",
+    ))?
+    .arg(value(
+        alloc,
+        "console",
+        "CONSOLE",
+        "The console at which the user acts; entries for one console alone count there",
+    ))?
+    .arg(needed(
+        alloc,
+        "level",
+        "LEVEL",
+        "The level that is needed: NONE, READ, UPDATE, CONTROL or ALTER",
+    ))
+}
+
+fn run_command<'a>(alloc: Global) -> Result<Command<'a>, AllocError>
+    ensures { IfOk result (λ built. IsCommand built (codes "run") run_options) }
+{
+    command(
+        alloc,
+        "run",
+        "Answers the commands and events of the script on standard input (1,048,576 bytes at most), one a line",
+        "A line: MOMENT CONSOLE COMMAND, or MOMENT * EVENT; the moment has 1 to 13 digits.\n\
+         Example: echo '1 C1 S MONPL' | opcmds run --policy policy.csv\n\
+         Status: 0 all done, 1 something refused, 2 bad words, policy file or line, 3 out of memory or a failed device",
+    )
+    .arg(value(
+        alloc,
+        "db",
+        "FILE",
+        "The database file, made if it is not there; in memory without this",
+    ))?
+    .arg(value(
+        alloc,
+        "policy",
+        "FILE",
+        "The first policy (16,777,216 bytes at most), for tables in which no user is stored",
+    ))
+}
+
+fn import_command<'a>(alloc: Global) -> Result<Command<'a>, AllocError>
+    ensures { IfOk result (λ built. IsCommand built (codes "import") import_options) }
+{
+    command(
+        alloc,
+        "import",
+        "Puts the policy file on standard input (16,777,216 bytes at most) into a database file, all its rows or none",
+        "A batch that is kept with equal rows changes nothing, however often it is sent.\n\
+         Example: opcmds import --db gate.db --batch 7 --console C2 < day.csv\n\
+         Status: 0 done, 1 refused, 2 bad words or policy file, 3 out of memory or a failed device",
+    )
+    .arg(needed(
+        alloc,
+        "db",
+        "FILE",
+        "The database file, made if it is not there",
+    ))?
+    .arg(needed(
+        alloc,
+        "batch",
+        "NUMBER",
+        "The number of the batch, 1 to 999,999,999",
+    ))?
+    .arg(value(
+        alloc,
+        "console",
+        "CONSOLE",
+        "The console that asks, for whoever is on there; without it this is the first policy, which is no batch",
+    ))
+}
+
+fn export_command<'a>(alloc: Global) -> Result<Command<'a>, AllocError>
+    ensures { IfOk result (λ built. IsCommand built (codes "export") export_options) }
+{
+    command(
+        alloc,
+        "export",
+        "Writes the policy and the consoles of a database file as a policy file",
+        "Example: opcmds export --db gate.db > policy.csv\n\
+         Status: 0 done, 2 bad words, 3 out of memory or a failed device",
+    )
+    .arg(needed(
+        alloc,
+        "db",
+        "FILE",
+        "The database file, made if it is not there",
+    ))
+}
+
+fn serve_command<'a>(alloc: Global) -> Result<Command<'a>, AllocError>
+    ensures { IfOk result (λ built. IsCommand built (codes "serve") serve_options) }
+{
+    command(
+        alloc,
+        "serve",
+        "Answers requests over HTTP on 127.0.0.1, one connection after another, over a database file",
+        "Prints LISTENING 127.0.0.1:PORT once it answers.\n\
+         Example: opcmds serve --db gate.db --port 8011 --count 1 &\n\
+         \x20        curl -s --retry 5 --retry-connrefused -d '{\"text\":\"D U\"}' http://127.0.0.1:8011/consoles/C1/command\n\
+         Status: 0 all connections were served, 2 bad words, 3 out of memory or a failed device",
+    )
+    .arg(needed(
+        alloc,
+        "db",
+        "FILE",
+        "The database file, made if it is not there",
+    ))?
+    .arg(needed(
+        alloc,
+        "port",
+        "NUMBER",
+        "The port, 0 to 65,535; with 0 the system chooses one",
+    ))?
+    .arg(preset(
+        alloc,
+        "count",
+        "NUMBER",
+        "How many connections are served, 1 to 1,000,000",
+        "1000000",
+    ))?
+    .arg(value(
+        alloc,
+        "timeout",
+        "SECONDS",
+        "How long a silent peer is waited for, 1 to 3,600; as long as it takes without this",
+    ))
+}
+
+/// The program before its commands. The help names it as the documents do, whatever its file is called.
+fn program<'a>(alloc: Global) -> Command<'a>
+    ensures { app_of result ≡ program }
+{
+    Command::new(alloc, "opcmds")
+        .about("The authority gate for operator commands, by RACF-like profiles")
+        .after_help("Example: opcmds explain --help")
+        .subcommand_required(true)
+        .no_binary_name(true)
+}
+
+/// The whole command line.
+pub(crate) fn command_line<'a>(alloc: Global) -> Result<Command<'a>, AllocError>
+    ensures { IfOk result (λ built. app_of built ≡ command_line) }
+{
+    program(alloc)
+        .subcommand(explain_command(alloc)?)?
+        .subcommand(run_command(alloc)?)?
+        .subcommand(import_command(alloc)?)?
+        .subcommand(export_command(alloc)?)?
+        .subcommand(serve_command(alloc)?)
+}

@@ -1,0 +1,89 @@
+//! The words of `opcmds explain`.
+ghost use Rattle.std.specs.Prelude.{◌≡◌, Some, codes};
+ghost use Rattle.clap.specs.Matches.{first_value, found_of};
+ghost use Rattle.opc_names.specs.Spellings.{classes, levels, lookup};
+ghost use Rattle.opc_cli_words.specs.Tasks.{AreReadAs, IsQuestion, IsReadAs, class_option, console_option, given, level_option, options_of, resource_option, user_option};
+
+use clap::ArgMatches;
+use opc_names::class::Class;
+use opc_names::level::Level;
+use opc_names::name::{ConsoleName, Resource, UserId};
+
+/// What is asked: whether a user holds a level on a resource.
+#[derive(Clone, Copy)]
+pub struct Question {
+    pub user: UserId,
+    pub class: Class,
+    pub resource: Resource,
+    pub console: Option<ConsoleName>,
+    pub level: Level,
+}
+
+fn user_in(chosen: &ArgMatches<'_>) -> Result<UserId, &'static str>
+    ensures { IsReadAs (λ user. user ≡ given (first_value (found_of chosen.now)) (codes "user")) (user_option (first_value (found_of chosen.now))) result }
+{
+    match UserId::read(chosen.get_str("user").unwrap_or("")) {
+        Ok(user) => Ok(user),
+        Err(_) => Err("--user"),
+    }
+}
+
+fn class_in(chosen: &ArgMatches<'_>) -> Result<Class, &'static str>
+    ensures { IsReadAs (λ class. lookup classes (given (first_value (found_of chosen.now)) (codes "class")) ≡ Some class) (class_option (first_value (found_of chosen.now))) result }
+{
+    match Class::read(chosen.get_str("class").unwrap_or("")) {
+        Some(class) => Ok(class),
+        None => Err("--class"),
+    }
+}
+
+fn resource_in(chosen: &ArgMatches<'_>) -> Result<Resource, &'static str>
+    ensures { IsReadAs (λ resource. resource ≡ given (first_value (found_of chosen.now)) (codes "resource")) (resource_option (first_value (found_of chosen.now))) result }
+{
+    match Resource::read(chosen.get_str("resource").unwrap_or("")) {
+        Ok(resource) => Ok(resource),
+        Err(_) => Err("--resource"),
+    }
+}
+
+/// The console that is named, if one is.
+pub(crate) fn console_in(chosen: &ArgMatches<'_>) -> Result<Option<ConsoleName>, &'static str>
+    ensures { IsReadAs (λ console. console ≡ first_value (found_of chosen.now) (codes "console")) (console_option (first_value (found_of chosen.now))) result }
+{
+    let Some(text) = chosen.get_str("console") else {
+        return Ok(None);
+    };
+    match ConsoleName::read(text) {
+        Ok(console) => Ok(Some(console)),
+        Err(_) => Err("--console"),
+    }
+}
+
+fn level_in(chosen: &ArgMatches<'_>) -> Result<Level, &'static str>
+    ensures { IsReadAs (λ level. lookup levels (given (first_value (found_of chosen.now)) (codes "level")) ≡ Some level) (level_option (first_value (found_of chosen.now))) result }
+{
+    match Level::read(chosen.get_str("level").unwrap_or("")) {
+        Some(level) => Ok(level),
+        None => Err("--level"),
+    }
+}
+
+impl Question {
+    /// The question of these words, or the name of the first option whose value does not read.
+    pub fn read(chosen: &ArgMatches<'_>) -> Result<Self, &'static str>
+        ensures { AreReadAs (IsQuestion (first_value (found_of chosen.now))) (options_of (first_value (found_of chosen.now)) (codes "explain")) result }
+    {
+        let user = user_in(chosen)?;
+        let class = class_in(chosen)?;
+        let resource = resource_in(chosen)?;
+        let console = console_in(chosen)?;
+        let level = level_in(chosen)?;
+        Ok(Question {
+            user,
+            class,
+            resource,
+            console,
+            level,
+        })
+    }
+}

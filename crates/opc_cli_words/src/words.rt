@@ -1,0 +1,175 @@
+//! The words of the command line.
+ghost use Rattle.std.specs.Prelude.{◌≡◌, IfOk, OnOk, drop, false, if◌then◌else◌, is_err, true};
+ghost use Rattle.std.specs.Io.KnownBytes.{Appends};
+ghost use Rattle.clap.specs.Faults.{fault_of};
+ghost use Rattle.clap.specs.Kinds.{FailsBy};
+ghost use Rattle.clap.specs.Matches.{first_value, found_of};
+ghost use Rattle.clap.specs.Simple.{subcommand_of, subcommand_rows_of};
+ghost use Rattle.clap.specs.Values.{kind_of};
+ghost use Rattle.opc_cli_failures.specs.Statuses.{IsFailure};
+ghost use Rattle.opc_cli_words.specs.CommandLine.{command_line};
+ghost use Rattle.opc_cli_words.specs.Reading.{AreRead, IsHelpTold, IsKindTold, IsTaskRead, IsToldFailure, unread_line, words_after};
+ghost use Rattle.opc_cli_words.specs.Tasks.{AreReadAs, IsTaskOf, options_of};
+
+use crate::command_line::command_line;
+use crate::import::Import;
+use crate::question::Question;
+use crate::serve::Serve;
+use clap::error::ErrorKind;
+use clap::{ArgMatches, Error};
+use opc_cli_failures::failure::{Failure, NO_PATHS, Paths, Place};
+use opc_cli_failures::status::Status;
+use opc_io::sink::{Sink, WriteFault, write_whole};
+use opc_io::watched::Watched;
+use opc_terms::fault::Fault;
+use std::alloc::Global;
+use std::io::Write;
+
+/// What the words ask for.
+#[derive(Clone, Copy)]
+pub enum Task<'a> {
+    Explain(Question),
+    Run(Paths<'a>),
+    Import(Import<'a>),
+    /// The policy in the tables of the file at this path is written.
+    Export(&'a str),
+    Serve(Serve<'a>),
+}
+
+/// What the words ask for, of which the first is the program's own name. Where they ask for help or do not read, that is
+/// told, and the status is given.
+pub fn read_words<'a, W: Write, E: Write>(
+    alloc: Global,
+    words: &'a [String],
+    output: &mut Watched<W>,
+    errors: &mut Watched<E>,
+) -> Result<Task<'a>, Status>
+    ensures { AreRead (words_after words.entry.now) E.contents output.old output.new errors.old errors.new result }
+{
+    match matches_of(alloc, words) {
+        Ok(matches) => task_of(&matches, errors),
+        Err(error) => Err(tell_words(&error, output, errors)),
+    }
+}
+
+/// What `clap` finds of the words.
+fn matches_of<'a>(alloc: Global, words: &'a [String]) -> Result<ArgMatches<'a>, Error>
+    ensures found { IfOk result (λ found. subcommand_rows_of found ≡ subcommand_of command_line (words_after words.entry.now)) }
+    ensures fails { FailsBy (fault_of command_line (words_after words.entry.now)) result }
+{
+    command_line(alloc)?.try_get_matches_from(after_first(words))
+}
+
+/// The words after the first, which is the program's own name.
+fn after_first<'a>(words: &'a [String]) -> &'a [String]
+    ensures { result.now ≡ drop 1 words.entry.now }
+{
+    match words.split_first() {
+        Some((_, rest)) => rest,
+        None => words,
+    }
+}
+
+/// The task of what `clap` found. Where an option's value does not read, that is told.
+fn task_of<'a, E: Write>(
+    matches: &ArgMatches<'a>,
+    errors: &mut Watched<E>,
+) -> Result<Task<'a>, Status>
+    ensures { IsTaskRead E.contents errors.old errors.new (subcommand_rows_of matches.now) result }
+{
+    let Some((command, chosen)) = matches.subcommand() else {
+        return Err(Status::BadInput);
+    };
+    match asked(command, chosen) {
+        Ok(task) => Ok(task),
+        Err(option) => {
+            tell_unread(command, option, errors);
+            Err(Status::BadInput)
+        }
+    }
+}
+
+/// What a command with these options asks for, or the name of the first one that does not read.
+fn asked<'a>(command: &str, chosen: &ArgMatches<'a>) -> Result<Task<'a>, &'static str>
+    ensures { AreReadAs (IsTaskOf (first_value (found_of chosen.now)) command.now) (options_of (first_value (found_of chosen.now)) command.now) result }
+{
+    match command {
+        "explain" => match Question::read(chosen) {
+            Ok(question) => Ok(Task::Explain(question)),
+            Err(word) => Err(word),
+        },
+        "run" => Ok(Task::Run(Paths {
+            database: chosen.get_str("db"),
+            policy: chosen.get_str("policy"),
+        })),
+        "import" => match Import::read(chosen) {
+            Ok(import) => Ok(Task::Import(import)),
+            Err(word) => Err(word),
+        },
+        "export" => Ok(Task::Export(chosen.get_str("db").unwrap_or(""))),
+        "serve" => match Serve::read(chosen) {
+            Ok(serve) => Ok(Task::Serve(serve)),
+            Err(word) => Err(word),
+        },
+        _ => Err("COMMAND"),
+    }
+}
+
+/// Tells that the value of an option does not read.
+fn tell_unread<K: Sink>(command: &str, option: &str, errors: &mut K)
+    ensures { K.has_failed errors.new ≡ false → Appends (K.held errors.old) (K.held errors.new) (unread_line command.now option.now) }
+{
+    // The status tells it too, where no word can be printed.
+    let _ = print_unread(command, option, errors);
+}
+
+fn print_unread<K: Sink>(command: &str, option: &str, errors: &mut K) -> Result<(), WriteFault>
+    ensures text { OnOk result (Appends (K.held errors.old) (K.held errors.new) (unread_line command.now option.now)) }
+    ensures failed { K.has_failed errors.new ≡ (if is_err result then true else K.has_failed errors.old) }
+{
+    write_whole(errors, b"error: the value of ")?;
+    write_whole(errors, option.as_bytes())?;
+    write_whole(errors, b" does not read; see opcmds ")?;
+    write_whole(errors, command.as_bytes())?;
+    write_whole(errors, b" --help\n")
+}
+
+/// Tells what `clap` says: help to the output, a mistake to the errors.
+fn tell_words<W: Write, E: Write>(
+    error: &Error,
+    output: &mut Watched<W>,
+    errors: &mut Watched<E>,
+) -> Status
+    ensures { IsKindTold E.contents output.old output.new errors.old errors.new (kind_of error.now) result }
+{
+    match error.kind() {
+        ErrorKind::OutOfMemory => tell_failure(&Failure::from(Fault::NoMemory), errors),
+        ErrorKind::DisplayHelp | ErrorKind::DisplayVersion => tell_help(error, output, errors),
+        _ => {
+            let _ = write!(errors.inner, "{error}");
+            Status::BadInput
+        }
+    }
+}
+
+fn tell_help<W: Write, E: Write>(
+    help: &Error,
+    output: &mut Watched<W>,
+    errors: &mut Watched<E>,
+) -> Status
+    ensures { IsHelpTold E.contents errors.old errors.new result }
+{
+    match write!(output.inner, "{help}") {
+        Ok(()) => Status::Done,
+        Err(error) => tell_failure(&Failure::at(Place::Output, error), errors),
+    }
+}
+
+/// Tells that there was no memory, or that the output failed.
+fn tell_failure<E: Write>(failure: &Failure, errors: &mut Watched<E>) -> Status
+    requires { IsFailure failure.now.fault }
+    ensures status { result ≡ Status.Failed }
+    ensures told { IsToldFailure E.contents errors.old errors.new }
+{
+    failure.tell(&NO_PATHS, errors)
+}

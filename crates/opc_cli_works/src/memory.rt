@@ -1,0 +1,26 @@
+//! A run over new tables in memory.
+ghost use Rattle.opc_cli_works.specs.Works.{IsRunInMemory};
+
+use opc_cli_failures::failure::Failure;
+use opc_cli_failures::status::Status;
+use opc_io::sink::Sink;
+use opc_cli_policy_files::openings::Openings;
+use opc_cli_program::run::run_on;
+use opc_store::store::Store;
+use opc_terms::fault::Fault;
+use std::io::Read;
+
+/// Takes the first policy, if one is named, and then runs the script on the input over new tables in memory.
+pub fn run_in_memory<H: AllocGlobal + Openings, R: Read, K: Sink>(
+    rt: &H,
+    policy: Option<&str>,
+    input: &mut R,
+    output: &mut K,
+) -> Result<Status, Failure>
+    ensures ran { IsRunInMemory K.held K.has_failed (H.holds rt.now) policy.entry (R.remaining input.old) output.old output.new result }
+{
+    match Store::in_memory(rt.alloc()) {
+        Ok(tables) => run_on(rt, tables, policy, input, output).0,
+        Err(fault) => Err(Failure::from(Fault::from(fault))),
+    }
+}

@@ -1,4 +1,0 @@
-pub mod Appending
-pub mod Taken
-pub mod Policies
-pub mod Boards

@@ -1,4 +1,0 @@
-pub mod Boards
-pub mod Keeping
-pub mod Orders
-pub mod Policies

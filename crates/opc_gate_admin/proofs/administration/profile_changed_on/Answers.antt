@@ -1,0 +1,17 @@
+use Rattle.std.proofs.Common.{IfOk, subst, sym}
+use Rattle.opc_policy_members.specs.declared.profile.Profile.{Profile}
+use Rattle.opc_state.specs.Facts.{IsKeyed}
+use Rattle.opc_machine.specs.Administration.{changed, policy_changed}
+use Rattle.opc_machine.specs.Deeds.{IsOutcome}
+use Rattle.opc_machine.specs.declared.operation.Operation.{Operation}
+use Rattle.opc_machine.specs.declared.operation.Operation.TheVariants as operation
+use Rattle.opc_gate_admin.specs.Operations.{policy_outcome, state_outcome}
+use Rattle.opc_gate_admin.proofs.Done.{to_state}
+use Rattle.opc_gate_admin.proofs.administration.profile_changed_on.Goals as goal
+
+pub returns-in-RAlter-clause-outcome : goal.returns-in-RAlter-clause-outcome
+returns-in-RAlter-clause-outcome g c = λ sure s represents.
+    let comes =
+    subst (λ (p : Profile). IfOk c.ralter.result (λ o. IsKeyed s → IsOutcome s (policy_outcome s (policy_changed s.board (operation.RAlter p.class p.pattern p.owner p.uacc p.warning) s.policy)) o))
+    c.definition-profile-in-RAlter.ensures (c.ralter.ensures.outcome sure s represents) in
+    subst (λ (op : Operation). IfOk c.ralter.result (λ o. IsKeyed s → IsOutcome s (state_outcome (changed s op)) o)) (sym c.in-RAlter.is) (to_state s _ _ comes)

@@ -1,0 +1,73 @@
+-- What an operation comes to, by what it makes of a policy or of a state.
+use Rattle.std.specs.Prelude.{◌≡◌, ◌&&◌, ℕ, Bool, true, false, List, [], ◌∷◌, Option, Some, None, Result, Ok, Err}
+use Rattle.std.specs.Option.{option_map}
+use Rattle.std.specs.Str.{bytes_eq}
+use Rattle.opc_names.specs.declared.class.Class.{Class}
+use Rattle.opc_names.specs.declared.level.Level.{Level}
+use Rattle.opc_names.specs.Spellings.{auth_text, level_text}
+use Rattle.opc_terms.specs.declared.fault.Fault.{Fault}
+use Rattle.opc_terms.specs.declared.store_fault.StoreFault.{StoreFault}
+use Rattle.opc_policy_members.specs.declared.policy.Policy.{Policy}
+use Rattle.opc_policy_members.specs.declared.profile.Profile.{Profile}
+use Rattle.opc_policy_members.specs.Access.{entry_level}
+use Rattle.opc_terms.specs.Modes.{mode_text}
+use Rattle.opc_policy_members.specs.Profiles.{profile_of}
+use Rattle.opc_board.specs.declared.rows.ConsoleRow.{ConsoleRow}
+use Rattle.opc_state.specs.declared.change.Edit.{Edit}
+use Rattle.opc_state.specs.Difference.{same_flag}
+use Rattle.opc_state.specs.Asked.{Answers}
+use Rattle.opc_state.specs.Facts.{IsKeyed}
+use Rattle.opc_state.specs.State.{State}
+use Rattle.opc_machine.specs.declared.outcome.Deed as found
+use Rattle.opc_machine.specs.declared.outcome.Denial as found_denial
+use Rattle.opc_machine.specs.declared.operation.Operation.{Operation}
+use Rattle.opc_machine.specs.declared.operation.Operation.TheVariants as operation
+use Rattle.opc_machine.specs.Administration.{changed}
+use Rattle.opc_machine.specs.Deeds.{IsOutcome}
+use Rattle.opc_machine.specs.Outcome.{Outcome, ◌>>=◌, does, or_refused, refused}
+
+-- what is done where the policy becomes another one, or is left
+abbrev pub policy_outcome : State → Result Policy Fault → Outcome
+policy_outcome s (Ok p) = does (record s { policy = p }) [] None
+policy_outcome s (Err fault) = refused fault None
+
+-- and where the state does
+abbrev pub state_outcome : Result State Fault → Outcome
+state_outcome made = do
+  new ← or_refused made
+  does new [] None
+
+-- Where the tables are sure, and represent a state with each key once, this is what the operation comes to.
+abbrev pub ComesTo : Type 0 → (State → Type 0) → Result (Result found.Deed found_denial.Denial) StoreFault → Operation → Type 0
+ComesTo sure represents result op = Answers sure represents result (λ s o. IsKeyed s → IsOutcome s (state_outcome (changed s op)) o)
+
+-- the operations on a profile and on its access list
+abbrev pub is_of_profiles : Operation → Bool
+is_of_profiles (operation.RDefine class pattern owner uacc warning) = true
+is_of_profiles (operation.RAlter class pattern owner uacc warning) = true
+is_of_profiles (operation.RDelete class pattern) = true
+is_of_profiles (operation.Permit class pattern id level when) = true
+is_of_profiles (operation.PermitDelete class pattern id when) = true
+is_of_profiles other = false
+
+-- a deed by one edit, without lines and without a rule
+abbrev pub IsDoneBy : Edit → Result found.Deed found_denial.Denial → Type 0
+IsDoneBy edit (Ok deed) = (deed.edits.items ≡ edit ∷ []) × (deed.lines ≡ []) × (deed.rule ≡ None)
+IsDoneBy edit (Err denial) = ⊥
+
+-- the level of the entry for an id in the access list of a profile, where there is such a profile
+abbrev pub level_in : Policy → Class → List ℕ → List ℕ → Option (List ℕ) → Option (Option Level)
+level_in p class pattern id when = option_map (λ (q : Profile). entry_level q.entries when id) (profile_of p.profiles class pattern)
+
+-- whether a level is this one
+abbrev pub has_level : Option Level → Level → Bool
+has_level None level = false
+has_level (Some held) level = bytes_eq (level_text held) (level_text level)
+
+-- whether two profiles of one class and pattern are defined alike, whatever their access lists
+abbrev pub same_definition : Profile → Profile → Bool
+same_definition p q = bytes_eq p.owner q.owner && (bytes_eq (level_text p.uacc) (level_text q.uacc) && same_flag p.warning q.warning)
+
+-- whether two consoles have one authority and one mode
+abbrev pub same_setting : ConsoleRow → ConsoleRow → Bool
+same_setting c d = bytes_eq (auth_text c.auth) (auth_text d.auth) && bytes_eq (mode_text c.mode) (mode_text d.mode)

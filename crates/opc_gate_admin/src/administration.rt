@@ -1,0 +1,240 @@
+//! Who has the right to an operation, and what it comes to.
+ghost use Rattle.std.specs.Prelude.{◌≡◌, true};
+ghost use Rattle.opc_board.specs.Facts.{Name, console_at};
+ghost use Rattle.opc_policy_members.specs.Profiles.{profile_of};
+ghost use Rattle.opc_state.specs.Asked.{Answers};
+ghost use Rattle.opc_state.specs.Changes.{IsKept};
+ghost use Rattle.opc_state.specs.Facts.{IsKeyed};
+ghost use Rattle.opc_machine.specs.Administration.{admin_outcome, definition};
+ghost use Rattle.opc_machine.specs.Deeds.{IsOutcome};
+ghost use Rattle.opc_machine.specs.Rights.{is_owner, may_change, right_fault};
+ghost use Rattle.opc_machine.specs.Rulings.{acting};
+ghost use Rattle.opc_gate_admin.specs.Operations.{ComesTo, is_of_profiles};
+
+use crate::consoles::define_console;
+use crate::members::{add_group, add_user, alt_user, class_active, connect, del_user, remove};
+use crate::profiles::{permit, permit_delete, ralter, rdefine, rdelete};
+use opc_board::rows::ConsoleRow;
+use opc_machine::operation::Operation;
+use opc_machine::outcome::{Decided, denied};
+use opc_names::class::Class;
+use opc_names::level::Level;
+use opc_names::name::{Pattern, UserId};
+use opc_policy_members::connect::Connect;
+use opc_policy_members::entries::Entries;
+use opc_policy_members::entry::Entry;
+use opc_policy_members::profile::Profile;
+use opc_policy_members::user::User;
+use opc_gate_rulings::asking::{Asking, asking_on, is_owner, is_special};
+use opc_state::tables::Tables;
+use opc_terms::fault::Fault;
+use opc_terms::store_fault::StoreFault;
+use std::alloc::Global;
+
+fn right_fault(op: &Operation) -> Fault
+    ensures { result ≡ right_fault op.now }
+{
+    match op {
+        Operation::RAlter { .. }
+        | Operation::RDelete { .. }
+        | Operation::Permit { .. }
+        | Operation::PermitDelete { .. } => Fault::NotOwner,
+        _ => Fault::NotSpecial,
+    }
+}
+
+// Whether whoever acts owns the profile of a class and a pattern. Nobody owns one that is not there.
+fn owns<T: Tables>(
+    tables: &mut T,
+    alloc: Global,
+    user: &Option<User>,
+    class: Class,
+    pattern: &Pattern,
+) -> Result<bool, StoreFault>
+    ensures kept { IsKept T.is_sure T.represents T.may_leave tables.old tables.new }
+    ensures owns { Answers (T.is_sure tables.new) (T.represents tables.old) result (λ s owns. owns ≡ is_owner user.now (profile_of s.policy.profiles class pattern.now)) }
+{
+    match tables.definition(alloc, class, pattern)? {
+        Some(profile) => Ok(is_owner(user, &profile)),
+        None => Ok(false),
+    }
+}
+
+// Whether whoever asks has the right to an operation.
+fn may_change<T: Tables>(
+    tables: &mut T,
+    alloc: Global,
+    asking: &Asking,
+    op: &Operation,
+) -> Result<bool, StoreFault>
+    ensures kept { IsKept T.is_sure T.represents T.may_leave tables.old tables.new }
+    ensures may { Answers (T.is_sure tables.new) (T.represents tables.old) result (λ s may. asking.now.user ≡ acting s asking.now.console → may ≡ may_change s asking.now.console op.now) }
+{
+    if is_special(&asking.user) {
+        return Ok(true);
+    }
+    match op {
+        Operation::RAlter { class, pattern, .. }
+        | Operation::RDelete { class, pattern }
+        | Operation::Permit { class, pattern, .. }
+        | Operation::PermitDelete { class, pattern, .. } => {
+            owns(tables, alloc, &asking.user, *class, pattern)
+        }
+        _ => Ok(false),
+    }
+}
+
+// The user that an operation gives.
+fn given_user(
+    id: UserId,
+    special: bool,
+    auditor: bool,
+    revoked: bool,
+    digest: Option<[u8; 32]>,
+    restricted: bool,
+) -> User
+    ensures { result ≡ record { id = id; special = special; auditor = auditor; revoked = revoked; digest = digest; restricted = restricted } }
+{
+    User {
+        id,
+        special,
+        auditor,
+        revoked,
+        digest,
+        restricted,
+    }
+}
+
+// The profile that an operation defines, without an access list.
+fn definition(
+    alloc: Global,
+    class: Class,
+    pattern: Pattern,
+    owner: UserId,
+    uacc: Level,
+    warning: bool,
+) -> Profile
+    ensures { result ≡ definition class pattern owner uacc warning }
+{
+    Profile {
+        class,
+        pattern,
+        owner,
+        uacc,
+        warning,
+        entries: Entries::new(alloc),
+    }
+}
+
+// What an operation on a profile or its access list comes to that whoever asks has the right to.
+fn profile_changed_on<T: Tables>(tables: &mut T, alloc: Global, op: &Operation) -> Decided
+    requires { is_of_profiles op.now ≡ true }
+    ensures kept { IsKept T.is_sure T.represents T.may_leave tables.old tables.new }
+    ensures outcome { ComesTo (T.is_sure tables.new) (T.represents tables.old) result op.now }
+{
+    match *op {
+        Operation::RDefine {
+            class,
+            pattern,
+            owner,
+            uacc,
+            warning,
+        } => {
+            let profile = definition(alloc, class, pattern, owner, uacc, warning);
+            rdefine(tables, alloc, profile)
+        }
+        Operation::RAlter {
+            class,
+            pattern,
+            owner,
+            uacc,
+            warning,
+        } => {
+            let profile = definition(alloc, class, pattern, owner, uacc, warning);
+            ralter(tables, alloc, profile)
+        }
+        Operation::RDelete { class, pattern } => rdelete(tables, alloc, class, &pattern),
+        Operation::Permit {
+            class,
+            pattern,
+            id,
+            level,
+            when,
+        } => permit(tables, alloc, class, &pattern, Entry { id, when, level }),
+        Operation::PermitDelete {
+            class,
+            pattern,
+            id,
+            when,
+        } => permit_delete(tables, alloc, class, &pattern, &id, when),
+        _ => unreachable!(),
+    }
+}
+
+// What an operation comes to that whoever asks has the right to. Each operation is one function: tests in the order of
+// its definition, and at the end one edit, or none if nothing changes. The lemma `one_edit` says for most of them what
+// the policy becomes.
+fn changed_on<T: Tables>(tables: &mut T, alloc: Global, op: &Operation) -> Decided
+    ensures kept { IsKept T.is_sure T.represents T.may_leave tables.old tables.new }
+    ensures outcome { ComesTo (T.is_sure tables.new) (T.represents tables.old) result op.now }
+{
+    match *op {
+        Operation::AddUser {
+            id,
+            special,
+            auditor,
+            digest,
+            restricted,
+        } => {
+            let user = given_user(id, special, auditor, false, digest, restricted);
+            add_user(tables, alloc, user)
+        }
+        Operation::AltUser {
+            id,
+            special,
+            auditor,
+            revoked,
+            digest,
+            restricted,
+        } => {
+            let user = given_user(id, special, auditor, revoked, digest, restricted);
+            alt_user(tables, alloc, user)
+        }
+        Operation::DelUser { id } => del_user(tables, alloc, id),
+        Operation::AddGroup { name } => add_group(tables, alloc, name),
+        Operation::Connect { user, group } => connect(tables, alloc, Connect { user, group }),
+        Operation::Remove { user, group } => remove(tables, alloc, Connect { user, group }),
+        Operation::ClassActive { class, active } => class_active(tables, alloc, class, active),
+        Operation::DefineConsole { name, auth, mode } => {
+            define_console(tables, alloc, name, auth, mode)
+        }
+        Operation::RDefine { .. }
+        | Operation::RAlter { .. }
+        | Operation::RDelete { .. }
+        | Operation::Permit { .. }
+        | Operation::PermitDelete { .. } => profile_changed_on(tables, alloc, op),
+    }
+}
+
+/// What an operation of administration comes to that is asked at a console, whose row is loaded: who may ask (E10 to
+/// E13), the right (E50, E51), and what the operation itself refuses.
+/// It loads, by key, what the operation names: no access list, no policy, no board. A profile's definition is looked up
+/// three times at most, in an RAlter by an owner: for the right, for the operation, and by the cache.
+pub fn admin_on<T: Tables>(
+    tables: &mut T,
+    alloc: Global,
+    console: Option<ConsoleRow>,
+    op: &Operation,
+) -> Decided
+    ensures kept { IsKept T.is_sure T.represents T.may_leave tables.old tables.new }
+    ensures outcome { Answers (T.is_sure tables.new) (T.represents tables.old) result (λ s o. (name : Name) → console ≡ console_at s.board name → IsKeyed s → IsOutcome s (admin_outcome s name op.now) o) }
+{
+    let asking = match asking_on(tables, alloc, console)? {
+        Ok(asking) => asking,
+        Err(denial) => return Ok(Err(denial)),
+    };
+    if !may_change(tables, alloc, &asking, op)? {
+        return denied(right_fault(op), None);
+    }
+    changed_on(tables, alloc, op)
+}

@@ -1,0 +1,109 @@
+//! What is done to consoles.
+ghost use Rattle.std.specs.Prelude.{◌≡◌, ◌&&◌, not};
+ghost use Rattle.std.specs.List.{list_any};
+ghost use Rattle.opc_board.specs.Consoles.{new_console};
+ghost use Rattle.opc_board.specs.Facts.{is, is_master};
+ghost use Rattle.opc_board.specs.Sight.{has_other_master};
+ghost use Rattle.opc_state.specs.Asked.{Answers};
+ghost use Rattle.opc_state.specs.Changes.{IsKept};
+ghost use Rattle.opc_state.specs.Facts.{IsKeyed};
+ghost use Rattle.opc_machine.specs.declared.operation.Operation.TheVariants as operation;
+ghost use Rattle.opc_gate_admin.specs.Operations.{ComesTo, same_setting};
+
+use crate::deeds::done_by;
+use opc_board::rows::ConsoleRow;
+use opc_machine::outcome::{Decided, denied, done};
+use opc_names::auth::Auth;
+use opc_names::name::ConsoleName;
+use opc_state::change::Edit;
+use opc_state::tables::Tables;
+use opc_terms::fault::Fault;
+use opc_terms::mode::Mode;
+use opc_terms::store_fault::StoreFault;
+use std::alloc::Global;
+
+// A new console is online with nobody on.
+fn new_console(name: ConsoleName, auth: Auth, mode: Mode) -> ConsoleRow
+    ensures { result ≡ new_console name auth mode }
+{
+    ConsoleRow {
+        name,
+        auth,
+        mode,
+        online: true,
+        user: None,
+        monitor: false,
+    }
+}
+
+fn same_setting(console: &ConsoleRow, other: &ConsoleRow) -> bool
+    ensures { result ≡ same_setting console.now other.now }
+{
+    console.auth.text() == other.auth.text() && console.mode.text() == other.mode.text()
+}
+
+fn any_other(consoles: &[ConsoleRow], name: &ConsoleName) -> bool
+    ensures { result ≡ list_any (λ c. not (is c.name name.now)) consoles.now }
+{
+    consoles.iter().any(|console| console.name != *name)
+}
+
+// Whether an online console with AUTH MASTER is another than this one. Of two masters one is another.
+fn has_other_master<T: Tables>(
+    tables: &mut T,
+    alloc: Global,
+    name: &ConsoleName,
+) -> Result<bool, StoreFault>
+    ensures kept { IsKept T.is_sure T.represents T.may_leave tables.old tables.new }
+    ensures other { Answers (T.is_sure tables.new) (T.represents tables.old) result (λ s other. IsKeyed s → other ≡ has_other_master name.now s.board.consoles) }
+{
+    let masters = tables.masters(alloc)?;
+    Ok(any_other(masters.as_slice(), name))
+}
+
+// Whether the last master is lost where a console becomes another.
+fn loses_master<T: Tables>(
+    tables: &mut T,
+    alloc: Global,
+    old: &ConsoleRow,
+    new: &ConsoleRow,
+) -> Result<bool, StoreFault>
+    ensures kept { IsKept T.is_sure T.represents T.may_leave tables.old tables.new }
+    ensures lost { Answers (T.is_sure tables.new) (T.represents tables.old) result (λ s lost. IsKeyed s →
+        lost ≡ is_master old.now && (not (is_master new.now) && not (has_other_master old.now.name s.board.consoles))) }
+{
+    if !old.is_master() || new.is_master() {
+        return Ok(false);
+    }
+    Ok(!has_other_master(tables, alloc, &old.name)?)
+}
+
+/// A console gets an authority and a mode; a new one is online with nobody on. One that is there keeps all else, and the
+/// last online console with AUTH MASTER is not lost by it (E41).
+pub(crate) fn define_console<T: Tables>(
+    tables: &mut T,
+    alloc: Global,
+    name: ConsoleName,
+    auth: Auth,
+    mode: Mode,
+) -> Decided
+    ensures kept { IsKept T.is_sure T.represents T.may_leave tables.old tables.new }
+    ensures outcome { ComesTo (T.is_sure tables.new) (T.represents tables.old) result (operation.DefineConsole name auth mode) }
+{
+    let stored = match tables.console(&name)? {
+        Some(stored) => stored,
+        None => return done_by(alloc, Edit::PutConsole(new_console(name, auth, mode))),
+    };
+    let console = ConsoleRow {
+        auth,
+        mode,
+        ..stored
+    };
+    if same_setting(&stored, &console) {
+        return done(alloc, Vec::new(alloc), None);
+    }
+    if loses_master(tables, alloc, &stored, &console)? {
+        return denied(Fault::LastMaster, None);
+    }
+    done_by(alloc, Edit::PutConsole(console))
+}

@@ -1,0 +1,295 @@
+//! What commands and events come to: loads, and no change.
+ghost use Rattle.std.specs.Prelude.{◌≡◌, ◌≢◌, IfOk, None, Some, [], false};
+ghost use Rattle.opc_board.specs.declared.fault.BoardFault.TheVariants.{NoMemory};
+ghost use Rattle.opc_board.specs.Consoles.{logged_on};
+ghost use Rattle.opc_board.specs.Effect.{is_session_command};
+ghost use Rattle.opc_board.specs.Facts.{Name, console_at, kind_at};
+ghost use Rattle.opc_reader.specs.Reading.{reading};
+ghost use Rattle.opc_state.specs.Asked.{Answers};
+ghost use Rattle.opc_state.specs.Changes.{IsKept};
+ghost use Rattle.opc_gate_commands.specs.Acted.{allowed_command};
+ghost use Rattle.opc_machine.specs.Commands.{board_command as board_outcome, command_outcome, denial_fault, event_outcome, is_display, is_password, kind_named, known_by, logoff as logoff_outcome, logon_fault, logon as logon_outcome, without_need as no_need_outcome, typed as typed_outcome, need_of};
+ghost use Rattle.opc_machine.specs.Deeds.{IsOutcome};
+ghost use Rattle.opc_machine.specs.Faults.{board_fault};
+ghost use Rattle.opc_machine.specs.Outcome.{does};
+ghost use Rattle.opc_gate_rulings.specs.Standing.{IsStanding};
+
+use crate::displays::{display_on, is_display};
+use crate::effects::{act_on, come_on, log_off, log_on};
+use opc_board::event::Event;
+use opc_board::fault::BoardFault;
+use opc_board::rows::ConsoleRow;
+use opc_policy::ruling::Ruling;
+use opc_machine::fault;
+use opc_machine::outcome::{Decided, Deed, Denial, denied, done};
+use opc_names::name::{UnitName, UserId};
+use opc_table::need;
+use opc_policy_members::user::User;
+use opc_reader::command::{Command, Password};
+use opc_reader::line::{ReadFault, read_command};
+use opc_gate_rulings::asking::console_for;
+use opc_gate_rulings::ruling::{Standing, logon_ruling_on, ruling_on, shown_lines, standing_at};
+use opc_gate_footprints::sight::{console_sight_on, event_sight_on, sight_on};
+use opc_state::tables::Tables;
+use opc_terms::fault::Fault;
+use opc_terms::need::Need;
+use opc_terms::rule::Rule;
+use opc_terms::store_fault::StoreFault;
+use opc_terms::unit_kind::UnitKindAt;
+use sha2::{Digest, Sha256};
+use std::alloc::Global;
+
+fn read(text: &str) -> Result<Command<'_>, ReadFault>
+    ensures { result ≡ reading text.now }
+{
+    read_command(text)
+}
+
+fn denial_fault(rule: &Rule) -> Fault
+    ensures { result ≡ denial_fault rule.now }
+{
+    match rule {
+        Rule::LogonRequired => Fault::LogonRequired,
+        Rule::Revoked => Fault::Revoked,
+        Rule::Profile { .. } | Rule::NoProfile => Fault::DeniedProfile,
+        Rule::ConsoleGroup { .. } => Fault::DeniedGroup,
+    }
+}
+
+fn logon_fault(rule: &Rule) -> Fault
+    ensures { result ≡ logon_fault rule.now }
+{
+    match rule {
+        Rule::Revoked => Fault::Revoked,
+        _ => Fault::DeniedConsole,
+    }
+}
+
+fn kind_at<T: Tables>(tables: &mut T, name: &UnitName) -> Result<UnitKindAt, StoreFault>
+    ensures kept { IsKept T.is_sure T.represents T.may_leave tables.old tables.new }
+    ensures kind { Answers (T.is_sure tables.new) (T.represents tables.old) result (λ s kind. kind ≡ kind_at s.board name.now) }
+{
+    match tables.unit(name)? {
+        Some(unit) => Ok(unit.kind.found()),
+        None => Ok(UnitKindAt::Absent),
+    }
+}
+
+// What the unit is that a command names, if it is one whose need goes by that.
+fn kind_named<T: Tables>(tables: &mut T, command: &Command<'_>) -> Result<UnitKindAt, StoreFault>
+    ensures kept { IsKept T.is_sure T.represents T.may_leave tables.old tables.new }
+    ensures kind { Answers (T.is_sure tables.new) (T.represents tables.old) result (λ s kind. kind ≡ kind_named s.board command.now) }
+{
+    match command {
+        Command::Cancel(name) => kind_at(tables, &name.value),
+        Command::Force(name) => kind_at(tables, &name.value),
+        Command::Stop(name) => kind_at(tables, &name.value),
+        Command::Modify(name, _) => kind_at(tables, &name.value),
+        _ => Ok(UnitKindAt::Absent),
+    }
+}
+
+// Why the board refuses; out of memory the request is given up.
+fn refusal(fault: BoardFault) -> Result<Fault, StoreFault>
+    ensures { IfOk result (λ why. (fault ≢ NoMemory) × (why ≡ board_fault fault)) }
+{
+    match fault {
+        BoardFault::NoMemory => Err(StoreFault::NoMemory),
+        fault => Ok(fault::of_board(fault)),
+    }
+}
+
+// What a command comes to that a rule allows, and that does more than show.
+fn deed_on<T: Tables>(
+    tables: &mut T,
+    alloc: Global,
+    standing: &Standing,
+    console: &ConsoleRow,
+    command: &Command<'_>,
+    rule: Rule,
+) -> Decided
+    requires session { is_session_command command.now ≡ false }
+    requires display { is_display command.now ≡ false }
+    ensures kept { IsKept T.is_sure T.represents T.may_leave tables.old tables.new }
+    ensures outcome { Answers (T.is_sure tables.new) (T.represents tables.old) result (λ s o. console_at s.board console.now.name ≡ Some console.now → IsStanding s console.now standing.now → IsOutcome s (allowed_command s console.now command.now rule) o) }
+{
+    let board = sight_on(tables, alloc, command, console)?;
+    let acted = match act_on(alloc, board, command, &console.name) {
+        Ok(acted) => acted,
+        Err(fault) => return denied(refusal(fault)?, Some(rule)),
+    };
+    let lines = shown_lines(tables, alloc, standing, console, acted.lines)?;
+    Ok(Ok(Deed {
+        edits: acted.edits,
+        lines,
+        rule: Some(rule),
+    }))
+}
+
+fn board_command<T: Tables>(
+    tables: &mut T,
+    alloc: Global,
+    console: &ConsoleRow,
+    command: &Command<'_>,
+    need: &Need,
+) -> Decided
+    requires { is_session_command command.now ≡ false }
+    ensures kept { IsKept T.is_sure T.represents T.may_leave tables.old tables.new }
+    ensures outcome { Answers (T.is_sure tables.new) (T.represents tables.old) result (λ s o. console_at s.board console.now.name ≡ Some console.now → IsOutcome s (board_outcome s console.now command.now need.now) o) }
+{
+    let standing = standing_at(tables, alloc, console)?;
+    let rule = match ruling_on(tables, alloc, &standing, console, need)? {
+        Ruling::Allowed(rule) => rule,
+        Ruling::Denied(rule) => return denied(denial_fault(&rule), Some(rule)),
+    };
+    if is_display(command) {
+        display_on(tables, alloc, &standing, console, command, rule)
+    } else {
+        deed_on(tables, alloc, &standing, console, command, rule)
+    }
+}
+
+fn is_password(password: &Password, digest: &Option<[u8; 32]>) -> bool
+    ensures { result ≡ is_password password.now digest.now }
+{
+    match digest {
+        Some(digest) => {
+            let typed = Sha256::digest(password.text().as_bytes());
+            digest.as_slice() == typed.as_slice()
+        }
+        None => false,
+    }
+}
+
+// The user of a logon, if the password is the user's.
+fn known_by<T: Tables>(
+    tables: &mut T,
+    alloc: Global,
+    id: &UserId,
+    password: &Password,
+) -> Result<Option<User>, StoreFault>
+    ensures kept { IsKept T.is_sure T.represents T.may_leave tables.old tables.new }
+    ensures user { Answers (T.is_sure tables.new) (T.represents tables.old) result (λ s user. user ≡ known_by s id.now password.now) }
+{
+    match tables.user(alloc, id)? {
+        Some(user) if is_password(password, &user.digest) => Ok(Some(user)),
+        _ => Ok(None),
+    }
+}
+
+// A logon that is let on.
+fn let_on<T: Tables>(
+    tables: &mut T,
+    alloc: Global,
+    console: &ConsoleRow,
+    user: UserId,
+    rule: Rule,
+) -> Decided
+    requires { console.now.user ≡ None }
+    ensures kept { IsKept T.is_sure T.represents T.may_leave tables.old tables.new }
+    ensures outcome { Answers (T.is_sure tables.new) (T.represents tables.old) result (λ s o. console_at s.board console.now.name ≡ Some console.now → IsOutcome s (does (record s { board = logged_on console.now.name user s.board }) [] (Some rule)) o) }
+{
+    let board = console_sight_on(tables, alloc, console)?;
+    let edits = log_on(alloc, board, console, user)?;
+    done(alloc, edits, Some(rule))
+}
+
+fn logon<T: Tables>(
+    tables: &mut T,
+    alloc: Global,
+    console: &ConsoleRow,
+    id: &UserId,
+    password: &Password,
+) -> Decided
+    ensures kept { IsKept T.is_sure T.represents T.may_leave tables.old tables.new }
+    ensures outcome { Answers (T.is_sure tables.new) (T.represents tables.old) result (λ s o. console_at s.board console.now.name ≡ Some console.now → IsOutcome s (logon_outcome s console.now id.now password.now) o) }
+{
+    if let Some(user) = console.user {
+        return denied(Fault::AlreadyOn(user), None);
+    }
+    let Some(user) = known_by(tables, alloc, id, password)? else {
+        return denied(Fault::BadLogon, None);
+    };
+    match logon_ruling_on(tables, alloc, console, &user)? {
+        Ruling::Allowed(rule) => let_on(tables, alloc, console, *id, rule),
+        Ruling::Denied(rule) => denied(logon_fault(&rule), Some(rule)),
+    }
+}
+
+fn logoff<T: Tables>(tables: &mut T, alloc: Global, console: &ConsoleRow) -> Decided
+    ensures kept { IsKept T.is_sure T.represents T.may_leave tables.old tables.new }
+    ensures outcome { Answers (T.is_sure tables.new) (T.represents tables.old) result (λ s o. console_at s.board console.now.name ≡ Some console.now → IsOutcome s (logoff_outcome s console.now) o) }
+{
+    if console.user.is_none() {
+        return denied(Fault::NotOn, None);
+    }
+    let board = console_sight_on(tables, alloc, console)?;
+    let edits = log_off(alloc, board, console)?;
+    done(alloc, edits, None)
+}
+
+// LOGON and LOGOFF, which need nothing.
+fn without_need<T: Tables>(
+    tables: &mut T,
+    alloc: Global,
+    console: &ConsoleRow,
+    command: &Command<'_>,
+) -> Decided
+    ensures kept { IsKept T.is_sure T.represents T.may_leave tables.old tables.new }
+    ensures outcome { Answers (T.is_sure tables.new) (T.represents tables.old) result (λ s o. console_at s.board console.now.name ≡ Some console.now → IsOutcome s (no_need_outcome s console.now command.now) o) }
+{
+    match command {
+        Command::Logon(id, password) => logon(tables, alloc, console, &id.value, &password.value),
+        Command::Logoff => logoff(tables, alloc, console),
+        _ => done(alloc, Vec::new(alloc), None),
+    }
+}
+
+fn typed<T: Tables>(
+    tables: &mut T,
+    alloc: Global,
+    console: &ConsoleRow,
+    command: &Command<'_>,
+) -> Decided
+    ensures kept { IsKept T.is_sure T.represents T.may_leave tables.old tables.new }
+    ensures outcome { Answers (T.is_sure tables.new) (T.represents tables.old) result (λ s o. console_at s.board console.now.name ≡ Some console.now → IsOutcome s (typed_outcome s console.now command.now (need_of s.board command.now)) o) }
+{
+    let kind = kind_named(tables, command)?;
+    match need(command, kind) {
+        Some(need) => board_command(tables, alloc, console, command, &need),
+        None => without_need(tables, alloc, console, command),
+    }
+}
+
+/// What a command comes to that is typed at a console, whose row is loaded. It loads only what the tests need that are
+/// reached: a command that is denied sees no board.
+pub fn command_on<T: Tables>(
+    tables: &mut T,
+    alloc: Global,
+    console: Option<ConsoleRow>,
+    text: &str,
+) -> Decided
+    ensures kept { IsKept T.is_sure T.represents T.may_leave tables.old tables.new }
+    ensures outcome { Answers (T.is_sure tables.new) (T.represents tables.old) result (λ s o. (name : Name) → console ≡ console_at s.board name → IsOutcome s (command_outcome s name text.now) o) }
+{
+    let console = match console_for(console) {
+        Ok(console) => console,
+        Err(denial) => return Ok(Err(denial)),
+    };
+    match read(text) {
+        Ok(command) => typed(tables, alloc, &console, &command),
+        Err(fault) => denied(fault::of_line(fault), None),
+    }
+}
+
+/// What an event comes to.
+pub fn event_on<T: Tables>(tables: &mut T, alloc: Global, event: &Event) -> Decided
+    ensures kept { IsKept T.is_sure T.represents T.may_leave tables.old tables.new }
+    ensures outcome { Answers (T.is_sure tables.new) (T.represents tables.old) result (λ s o. IsOutcome s (event_outcome s event.now) o) }
+{
+    let board = event_sight_on(tables, alloc, event)?;
+    match come_on(alloc, board, event) {
+        Ok(edits) => done(alloc, edits, None),
+        Err(fault) => denied(refusal(fault)?, None),
+    }
+}

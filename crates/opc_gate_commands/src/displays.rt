@@ -1,0 +1,77 @@
+//! Commands that only show.
+ghost use Rattle.std.specs.Prelude.{◌≡◌, Some, true};
+ghost use Rattle.opc_board.specs.Effect.{effect};
+ghost use Rattle.opc_board.specs.Facts.{Name};
+ghost use Rattle.opc_board.specs.Outcome.{done_with};
+ghost use Rattle.opc_gate_commands.specs.Acted.{allowed_command};
+ghost use Rattle.opc_machine.specs.Commands.{is_display};
+ghost use Rattle.opc_machine.specs.Deeds.{IsOutcome};
+ghost use Rattle.opc_gate_rulings.specs.Standing.{IsStanding};
+ghost use Rattle.opc_state.specs.Asked.{Answers};
+ghost use Rattle.opc_state.specs.Changes.{IsKept};
+
+use opc_board::line::{Line, console_lines, device_lines, lines_of, reply_lines, unit_lines};
+use opc_board::rows::ConsoleRow;
+use opc_machine::outcome::{Decided, Deed};
+use opc_reader::command::Command;
+use opc_gate_rulings::ruling::{Standing, shown_lines};
+use opc_state::tables::Tables;
+use opc_terms::rule::Rule;
+use opc_terms::store_fault::StoreFault;
+use std::alloc::Global;
+
+pub(crate) fn is_display(command: &Command<'_>) -> bool
+    ensures { result ≡ is_display command.now }
+{
+    match command {
+        Command::DisplayUnits
+        | Command::DisplayUnit(_)
+        | Command::DisplayDevices
+        | Command::DisplayConsoles
+        | Command::DisplayReplies => true,
+        _ => false,
+    }
+}
+
+// The lines of a display, whoever may see them; it reads the one table that it shows.
+fn lines_on<T: Tables>(
+    tables: &mut T,
+    alloc: Global,
+    command: &Command<'_>,
+) -> Result<Vec<Line>, StoreFault>
+    requires { is_display command.now ≡ true }
+    ensures kept { IsKept T.is_sure T.represents T.may_leave tables.old tables.new }
+    ensures lines { Answers (T.is_sure tables.new) (T.represents tables.old) result (λ s lines. (console : Name) → effect s.board command.now console ≡ done_with s.board lines.items) }
+{
+    let lines = match command {
+        Command::DisplayUnits => unit_lines(alloc, tables.units(alloc)?.as_slice())?,
+        Command::DisplayUnit(name) => lines_of(alloc, tables.unit(&name.value)?.as_ref())?,
+        Command::DisplayDevices => device_lines(alloc, tables.devices(alloc)?.as_slice())?,
+        Command::DisplayConsoles => console_lines(alloc, tables.consoles(alloc)?.as_slice())?,
+        Command::DisplayReplies => reply_lines(alloc, tables.replies(alloc)?.as_slice())?,
+        _ => unreachable!(),
+    };
+    Ok(lines)
+}
+
+/// What a display comes to that a rule allows: those lines that may be shown, and no change.
+pub(crate) fn display_on<T: Tables>(
+    tables: &mut T,
+    alloc: Global,
+    standing: &Standing,
+    console: &ConsoleRow,
+    command: &Command<'_>,
+    rule: Rule,
+) -> Decided
+    requires { is_display command.now ≡ true }
+    ensures kept { IsKept T.is_sure T.represents T.may_leave tables.old tables.new }
+    ensures outcome { Answers (T.is_sure tables.new) (T.represents tables.old) result (λ s o. IsStanding s console.now standing.now → IsOutcome s (allowed_command s console.now command.now rule) o) }
+{
+    let lines = lines_on(tables, alloc, command)?;
+    let lines = shown_lines(tables, alloc, standing, console, lines)?;
+    Ok(Ok(Deed {
+        edits: Vec::new(alloc),
+        lines,
+        rule: Some(rule),
+    }))
+}

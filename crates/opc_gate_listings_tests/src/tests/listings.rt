@@ -1,0 +1,86 @@
+//! What listings come to, for each kind of user.
+use super::small_room::SmallRoom;
+use opc_gate_listings::account::account_on;
+use opc_gate_listings::profiles::profiles_on;
+use opc_names::class::Class;
+use opc_names::name::{ConsoleName, UserId};
+use opc_policy_members::user::User;
+use opc_state::tables::Tables;
+use opc_terms::fault::Fault;
+use std::test::Fail;
+
+const ALL: &str =
+    "A.B UACC NONE OWNER CARL/A.* UACC NONE OWNER FRED WARNING/** UACC NONE OWNER FRED/";
+
+fn room(id: &str, special: bool, auditor: bool, revoked: bool) -> Result<SmallRoom, Fail> {
+    Ok(SmallRoom {
+        user: User {
+            id: UserId::read(id)?,
+            special,
+            auditor,
+            revoked,
+            digest: None,
+            restricted: false,
+        },
+    })
+}
+
+#[test]
+fn profiles_are_listed(rt: HostRuntime) -> Result<(), Fail> {
+    for (id, special, auditor, console, wanted) in [
+        ("SECADM", true, false, "C1", ALL),
+        ("AUDIT", false, true, "C1", ALL),
+        ("CARL", false, false, "C2", "A.B UACC NONE OWNER CARL/"),
+        ("ANNA", false, false, "C1", "** UACC NONE OWNER FRED/"),
+        ("ANNA", false, false, "C2", ""),
+    ] {
+        let mut tables = room(id, special, auditor, false)?;
+        let console = tables.console(&ConsoleName::read(console)?)?;
+        let decided = profiles_on(&mut tables, rt.alloc(), console, Class::Opercmds)?;
+        let mut told = String::new(rt.alloc());
+        if let Ok(deed) = decided {
+            for line in deed.lines.as_slice() {
+                told.push_str(line.text.as_str())?;
+                told.push_str("/")?;
+            }
+            assert!(rt; deed.rule.is_none() && deed.edits.is_empty());
+        }
+        assert_eq!(rt; told.as_str(), wanted, "{id}");
+    }
+    Ok(())
+}
+
+#[test]
+fn the_account_is_listed(rt: HostRuntime) -> Result<(), Fail> {
+    let mut tables = room("AUDIT", false, true, false)?;
+    let console = tables.console(&ConsoleName::read("C1")?)?;
+    let decided = account_on(&mut tables, rt.alloc(), console, 2, 1)?;
+    let mut told = String::new(rt.alloc());
+    if let Ok(deed) = decided {
+        for line in deed.lines.as_slice() {
+            told.push_str(line.text.as_str())?;
+            told.push_str("/")?;
+        }
+    }
+    assert_eq!(rt; told.as_str(), "2 102 C3 - E12 LOGONREQUIRED/");
+    Ok(())
+}
+
+#[test]
+fn listings_are_refused(rt: HostRuntime) -> Result<(), Fail> {
+    let mut tables = room("CARL", false, false, false)?;
+    let console = tables.console(&ConsoleName::read("C1")?)?;
+    let refused = account_on(&mut tables, rt.alloc(), console, 1, 10)?;
+    assert_eq!(rt;
+        refused.err().map(|denial| denial.fault),
+        Some(Fault::NotSpecial)
+    );
+    let mut tables = room("OLD", true, true, true)?;
+    let console = tables.console(&ConsoleName::read("C1")?)?;
+    let refused = profiles_on(&mut tables, rt.alloc(), console, Class::Opercmds)?;
+    assert_eq!(rt;
+        refused.err().map(|denial| denial.fault),
+        Some(Fault::Revoked)
+    );
+    Ok(())
+}

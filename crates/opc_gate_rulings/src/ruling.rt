@@ -1,0 +1,315 @@
+//! Rulings, from what is loaded for them.
+ghost use Rattle.std.specs.Prelude.{◌≡◌, ◌≤◌, Some, IsTrue, true, filter, length};
+ghost use Rattle.std.specs.Option.{option_and_then};
+ghost use Rattle.opc_names.specs.Names.{is_plain, is_resource};
+ghost use Rattle.opc_names.specs.declared.class.Class.TheVariants.{Opercmds};
+ghost use Rattle.opc_policy_members.specs.Members.{groups_of, user_of};
+ghost use Rattle.opc_policy.specs.Rulings.{ruling as policy_ruling};
+ghost use Rattle.opc_state.specs.Asked.{Answers};
+ghost use Rattle.opc_state.specs.State.{deciding_in};
+ghost use Rattle.opc_state.specs.Changes.{IsKept};
+ghost use Rattle.opc_gate_rulings.specs.Held.{class_ruling};
+ghost use Rattle.opc_gate_rulings.specs.Standing.{IsStanding};
+ghost use Rattle.opc_machine.specs.Rulings.{acting, acting_user, is_auto, is_required, is_allowed, logon_ruling, own_user, need_to_show, ruling, shown, to_show};
+
+use crate::held::level_on;
+use opc_board::line::{Item, Line};
+use opc_board::rows::ConsoleRow;
+use opc_policy::ruling::{Ruling, console_ruling, ruling_at};
+use opc_names::class::Class;
+use opc_names::group::Group;
+use opc_names::level::Level;
+use opc_names::name::{ConsoleName, Name, NameKind, Resource, UserId};
+use opc_policy_members::user::User;
+use opc_rows::Rows;
+use opc_state::tables::Tables;
+use opc_terms::mode::Mode;
+use opc_terms::need::Need;
+use opc_terms::rule::Rule;
+use opc_terms::store_fault::StoreFault;
+use std::alloc::Global;
+
+fn is_required(mode: Mode) -> bool
+    ensures { result ≡ is_required mode }
+{
+    match mode {
+        Mode::Required => true,
+        Mode::Optional | Mode::Auto => false,
+    }
+}
+
+fn is_auto(mode: Mode) -> bool
+    ensures { result ≡ is_auto mode }
+{
+    match mode {
+        Mode::Auto => true,
+        Mode::Optional | Mode::Required => false,
+    }
+}
+
+// What the profile that decides in a class that is active rules on a user at a console, where one does.
+fn profile_ruling_on<T: Tables>(
+    tables: &mut T,
+    alloc: Global,
+    class: Class,
+    resource: &Resource,
+    user: &User,
+    console: &ConsoleName,
+    needed: Level,
+) -> Result<Option<Ruling>, StoreFault>
+    ensures kept { IsKept T.is_sure T.represents T.may_leave tables.old tables.new }
+    ensures ruling { Answers (T.is_sure tables.new) (T.represents tables.old) result (λ s r. r ≡
+        class_ruling true (deciding_in s.policy class resource.now) user.now (Some console.now) (groups_of s.policy.connects user.now.id) needed) }
+{
+    let found = tables.deciding(alloc, class, resource)?;
+    let Some(profile) = found.profile else {
+        return Ok(None);
+    };
+    let held = level_on(tables, alloc, &profile, user, console)?;
+    Ok(Some(ruling_at(&profile, held, needed)))
+}
+
+// By the profile that decides for a user where the class is active, else by the authority of the console.
+fn by_profile<T: Tables>(
+    tables: &mut T,
+    alloc: Global,
+    user: &User,
+    console: &ConsoleRow,
+    need: &Need,
+) -> Result<Ruling, StoreFault>
+    ensures kept { IsKept T.is_sure T.represents T.may_leave tables.old tables.new }
+    ensures ruling { Answers (T.is_sure tables.new) (T.represents tables.old) result (λ s r. r ≡
+        policy_ruling true (deciding_in s.policy Opercmds need.now.resource) (Some user.now) (Some console.now.name) (groups_of s.policy.connects user.now.id) console.now.auth need.now) }
+{
+    let ruling = profile_ruling_on(
+        tables,
+        alloc,
+        Class::Opercmds,
+        &need.resource,
+        user,
+        &console.name,
+        need.level,
+    )?;
+    Ok(ruling.unwrap_or(console_ruling(console.auth, need)))
+}
+
+// The id of a console's own user, which is the console's name.
+fn own_id(name: &ConsoleName) -> UserId
+    ensures { result ≡ name.now }
+{
+    match UserId::read(name.text()) {
+        Ok(id) => id,
+        Err(_) => unreachable!(),
+    }
+}
+
+// The user of a console's own, where it acts for one.
+fn own_user_on<T: Tables>(
+    tables: &mut T,
+    alloc: Global,
+    console: &ConsoleRow,
+) -> Result<Option<User>, StoreFault>
+    ensures kept { IsKept T.is_sure T.represents T.may_leave tables.old tables.new }
+    ensures user { Answers (T.is_sure tables.new) (T.represents tables.old) result (λ s u. u ≡ option_and_then (user_of s.policy.users) (own_user s console.now)) }
+{
+    if !is_auto(console.mode) {
+        return Ok(None);
+    }
+    tables.user(alloc, &own_id(&console.name))
+}
+
+/// For whom a console acts: the user who is on; where nobody is, the console's own.
+pub fn acting_user_on<T: Tables>(
+    tables: &mut T,
+    alloc: Global,
+    console: &ConsoleRow,
+) -> Result<Option<UserId>, StoreFault>
+    ensures kept { IsKept T.is_sure T.represents T.may_leave tables.old tables.new }
+    ensures user { Answers (T.is_sure tables.new) (T.represents tables.old) result (λ s u. u ≡ acting_user s console.now) }
+{
+    if console.user.is_some() {
+        return Ok(console.user);
+    }
+    match own_user_on(tables, alloc, console)? {
+        Some(_) => Ok(Some(own_id(&console.name))),
+        None => Ok(None),
+    }
+}
+
+/// The same as a user, if one is stored.
+pub(crate) fn acting_on<T: Tables>(
+    tables: &mut T,
+    alloc: Global,
+    console: &ConsoleRow,
+) -> Result<Option<User>, StoreFault>
+    ensures kept { IsKept T.is_sure T.represents T.may_leave tables.old tables.new }
+    ensures user { Answers (T.is_sure tables.new) (T.represents tables.old) result (λ s u. u ≡ acting s console.now) }
+{
+    match console.user {
+        Some(id) => tables.user(alloc, &id),
+        None => own_user_on(tables, alloc, console),
+    }
+}
+
+/// How needs are ruled on at a console, whatever is needed.
+#[derive(Clone, Copy)]
+pub enum Standing {
+    /// The logon rule denies everything.
+    Denied(Rule),
+    /// Profiles decide for this user.
+    User(User),
+    /// Nobody acts, or the class is inactive: the console's authority decides.
+    Console,
+}
+
+/// How needs are ruled on at a console: who acts is loaded once, for the command and for all lines that it shows.
+pub fn standing_at<T: Tables>(
+    tables: &mut T,
+    alloc: Global,
+    console: &ConsoleRow,
+) -> Result<Standing, StoreFault>
+    ensures kept { IsKept T.is_sure T.represents T.may_leave tables.old tables.new }
+    ensures standing { Answers (T.is_sure tables.new) (T.represents tables.old) result (λ s standing. IsStanding s console.now standing) }
+{
+    if is_required(console.mode) && console.user.is_none() {
+        return Ok(Standing::Denied(Rule::LogonRequired));
+    }
+    let Some(user) = acting_on(tables, alloc, console)? else {
+        return Ok(Standing::Console);
+    };
+    if user.revoked {
+        return Ok(Standing::Denied(Rule::Revoked));
+    }
+    // If the class is inactive, nothing is searched.
+    if !tables.is_active(Class::Opercmds)? {
+        return Ok(Standing::Console);
+    }
+    Ok(Standing::User(user))
+}
+
+/// The ruling on a need at a console, where it is known how needs are ruled on.
+pub fn ruling_on<T: Tables>(
+    tables: &mut T,
+    alloc: Global,
+    standing: &Standing,
+    console: &ConsoleRow,
+    need: &Need,
+) -> Result<Ruling, StoreFault>
+    ensures kept { IsKept T.is_sure T.represents T.may_leave tables.old tables.new }
+    ensures ruling { Answers (T.is_sure tables.new) (T.represents tables.old) result (λ s r. IsStanding s console.now standing.now → r ≡ ruling s console.now need.now) }
+{
+    match standing {
+        Standing::Denied(rule) => Ok(Ruling::Denied(*rule)),
+        Standing::User(user) => by_profile(tables, alloc, user, console, need),
+        Standing::Console => Ok(console_ruling(console.auth, need)),
+    }
+}
+
+fn resource_of(name: &ConsoleName) -> Resource
+    ensures { result ≡ name.now }
+{
+    match Resource::read(name.text()) {
+        Ok(resource) => resource,
+        Err(_) => unreachable!(),
+    }
+}
+
+/// The ruling on a user who logs on at a console.
+pub fn logon_ruling_on<T: Tables>(
+    tables: &mut T,
+    alloc: Global,
+    console: &ConsoleRow,
+    user: &User,
+) -> Result<Ruling, StoreFault>
+    ensures kept { IsKept T.is_sure T.represents T.may_leave tables.old tables.new }
+    ensures ruling { Answers (T.is_sure tables.new) (T.represents tables.old) result (λ s r. r ≡ logon_ruling s console.now user.now) }
+{
+    if user.revoked {
+        return Ok(Ruling::Denied(Rule::Revoked));
+    }
+    if !tables.is_active(Class::Console)? {
+        return Ok(Ruling::Allowed(Rule::NoProfile));
+    }
+    let ruling = profile_ruling_on(
+        tables,
+        alloc,
+        Class::Console,
+        &resource_of(&console.name),
+        user,
+        &console.name,
+        Level::Read,
+    )?;
+    Ok(ruling.unwrap_or(Ruling::Allowed(Rule::NoProfile)))
+}
+
+fn is_allowed(ruling: Ruling) -> bool
+    ensures { result ≡ is_allowed ruling }
+{
+    match ruling {
+        Ruling::Allowed(_) => true,
+        Ruling::Denied(_) => false,
+    }
+}
+
+fn to_show<K: NameKind<8>>(words: &str, name: &Name<K, 8>) -> Option<Need>
+    requires words { IsTrue (is_resource words.now) }
+    requires room { length words.now ≤ 30 }
+    requires plain { IsTrue (is_plain K.rule.alphabet) }
+    ensures { result ≡ to_show words.now name.now }
+{
+    Some(Need {
+        resource: Resource::of_words(words).with(name),
+        level: Level::Read,
+        group: Group::Info,
+    })
+}
+
+fn need_to_show(item: Item) -> Option<Need>
+    ensures { result ≡ need_to_show item }
+{
+    match item {
+        Item::Plain => None,
+        Item::Unit(name) => to_show("MVS.DISPLAY.JOB", &name),
+        Item::Console(name) => to_show("MVS.DISPLAY.CN", &name),
+    }
+}
+
+// Whether a line may be shown.
+fn is_shown<T: Tables>(
+    tables: &mut T,
+    alloc: Global,
+    standing: &Standing,
+    console: &ConsoleRow,
+    line: &Line,
+) -> Result<bool, StoreFault>
+    ensures kept { IsKept T.is_sure T.represents T.may_leave tables.old tables.new }
+    ensures shown { Answers (T.is_sure tables.new) (T.represents tables.old) result (λ s b. IsStanding s console.now standing.now → b ≡ shown s console.now line.now) }
+{
+    match need_to_show(line.item) {
+        None => Ok(true),
+        Some(need) => {
+            let ruling = ruling_on(tables, alloc, standing, console, &need)?;
+            Ok(is_allowed(ruling))
+        }
+    }
+}
+
+/// Those lines that may be shown at a console, where it is known how needs are ruled on.
+pub fn shown_lines<T: Tables>(
+    tables: &mut T,
+    alloc: Global,
+    standing: &Standing,
+    console: &ConsoleRow,
+    lines: Vec<Line>,
+) -> Result<Rows<Line>, StoreFault>
+    ensures kept { IsKept T.is_sure T.represents T.may_leave tables.old tables.new }
+    ensures lines { Answers (T.is_sure tables.new) (T.represents tables.old) result (λ s kept. IsStanding s console.now standing.now → kept ≡ filter (shown s console.now) lines.items) }
+{
+    let mut kept = Rows::new(alloc);
+    for line in lines {
+        if is_shown(tables, alloc, standing, console, &line)? {
+            kept.push(line)?;
+        }
+    }
+    Ok(kept)
+}

@@ -1,0 +1,213 @@
+-- Clients that are served, one more after some.
+use Rattle.std.proofs.Common.{◌≡◌, inl, inr, ℕ, ◌+◌, ◌<◌, ◌≤◌, List, [], ◌∷◌, ◌++◌, length, take, get_or, Ok, Err, true, false, refl, subst, sym, ap, arith, length-append}
+use Rattle.std.specs.Prelude.{Option, Result, IfErr, IfOk, OnOk, Bool, if◌then◌else◌, zero, suc, ⊤}
+use Rattle.std.specs.IoError.{error_kind}
+use Rattle.std.specs.declared.io.Error.{Error}
+use Rattle.std.specs.declared.time.Duration.{Duration}
+use Rattle.std.proofs.lemmas.Result.{IfOk-at_ok}
+use Rattle.std.specs.List.{All}
+use Rattle.std.proofs.Math.Seq.{get_or-append_seam, take-append_seam}
+use Rattle.std.proofs.lemmas.List.{take_all}
+use Rattle.std.proofs.lemmas.List.Elements.{All-nil, All-push}
+use Rattle.opc_state.specs.State.{State}
+use Rattle.opc_machine.specs.declared.request.Request.{Request}
+use Rattle.opc_machine.specs.declared.request.Answer.{Answer}
+use Rattle.opc_machine.specs.Inputs.{input_of}
+use Rattle.opc_gate.specs.Handling.{IsHandled, IsRun}
+use Rattle.opc_gate.proofs.Running.{run_more}
+use Rattle.opc_http.specs.Exchange.{IsFaulty, IsServed as IsReplyServed, IsUnserved, Replies, Reply}
+use Rattle.opc_http.specs.declared.exchange.LinkFault.{LinkFault}
+use Rattle.opc_http.specs.declared.exchange.LinkFault.TheVariants as fault
+use Rattle.opc_http.specs.declared.exchange.Served.{Served}
+use Rattle.opc_http_serve.specs.declared.clock.TheConstants.{LAST_MOMENT}
+use Rattle.opc_http_serve.specs.Handled.{AreHandled, Handled, IsConversation, IsExchange, IsReplied, IsRunOf, RepliesOnce, handled_with, none_handled}
+use Rattle.opc_http_serve.specs.Arriving.{Arrives, IsArrival}
+use Rattle.opc_http_serve.specs.Moments.{is_before_1970, moment_of}
+use Rattle.opc_http_serve.specs.Serving.{AreServed, IsCutShort, IsServed, ServesAll, ServesClients}
+use Rattle.opc_http_serve.specs.declared.arrival.Arrival.{Arrival}
+use Rattle.opc_http_serve.specs.declared.arrival.ServeFault.{ServeFault}
+use Rattle.opc_http_serve.specs.declared.arrival.ServeFault.TheVariants as why
+
+next : (n : ℕ) → n + 1 ≡ suc n
+next n = omega arith
+
+-- a list that ends with an element has one
+some_one : (rs : List (ℕ × Request)) (r : ℕ × Request) → rs ++ r ∷ [] ≡ [] → ⊥
+some_one rs r e = omega (arith, ap length e, length-append rs (r ∷ []))
+
+-- a moment by the clock may be one
+zero_or_error : (early : Bool) (error : Error) → IfOk (if early then Ok 0 else Err error) (λ moment. moment ≤ LAST_MOMENT)
+zero_or_error true error = omega arith
+zero_or_error false error = tt
+
+pub low : (reading : Result Duration Error) → IfOk (moment_of reading) (λ moment. moment ≤ LAST_MOMENT)
+low (Ok since) = grind arith
+low (Err error) = zero_or_error (is_before_1970 (error_kind error)) error
+
+within : (reading : Result Duration Error) (moment : ℕ) → moment_of reading ≡ Ok moment → moment ≤ LAST_MOMENT
+within reading moment e = IfOk-at_ok (λ m. m ≤ LAST_MOMENT) e (low reading)
+
+-- one more client was served
+module _ {C G D : Type 0} (limits : C → Duration → Bool → Type 0) (remaining contents : C → Option (List ℕ))
+    (made : G → Option (List ℕ) → ℕ → Option (List ℕ) → Option (List ℕ) → Result Served LinkFault → G → Type 0) (timeout : Option Duration)
+    (accepts : D → Result (C × C) Error → D → Type 0) (tells : D → Result Duration Error → D → Type 0) (first : D) (old : G) where
+  pub one_served : (n : ℕ) (met last : D) (was new : G) (came gone : Arrival C) → AreServed limits remaining contents made timeout accepts tells first old n met was
+      → IsArrival accepts tells met came last → IsServed limits remaining contents made timeout came gone was new
+      → AreServed limits remaining contents made timeout accepts tells first old (n + 1) last new
+  one_served n met last was new came gone are arrival served =
+      subst (λ m. AreServed limits remaining contents made timeout accepts tells first old m last new) (sym (next n)) (met, was, came, gone, are, arrival, served)
+
+  -- wherever they came from
+  anyhow : (n : ℕ) (last : D) (new : G) → AreServed limits remaining contents made timeout accepts tells first old n last new
+      → ServesAll limits remaining contents made timeout old n new
+  anyhow zero last new are = (refl, are.1)
+  anyhow (suc n) last new (met, was, came, gone, are, arrival, served) =
+      (tt, was, came, gone, anyhow n met was are, record { reading = arrival.reading; dated = record { mid = tt; accepted = tt; told = tt }; moment = arrival.moment }, served)
+
+  none_came : (f : ServeFault) (met last : D) → Arrives accepts tells met (Err f) last → Arrives {D = ⊤} {C = C} (λ _ _ _. ⊤) (λ _ _ _. ⊤) tt (Err f) tt
+  none_came (why.Accept error) met last h = tt
+  none_came (why.Clock error) met last h = record {
+    reader = h.reader;
+    writer = h.writer;
+    reading = h.reading;
+    dated = record { mid = tt; accepted = tt; told = tt };
+    failed = h.failed;
+  }
+
+  pub from_anywhere : {A : Type 0} (count : ℕ) (last : D) (new : G) (end : Result A ServeFault)
+      → OnOk end (AreServed limits remaining contents made timeout accepts tells first old count last new)
+      → IfErr end (λ f. IsCutShort limits remaining contents made timeout accepts tells first old count f last new)
+      → ServesClients limits remaining contents made timeout old count end new
+  from_anywhere count last new (Ok a) are cut = anyhow count last new are
+  from_anywhere count last new (Err f) are cut = record {
+    done = cut.done;
+    fewer = cut.fewer;
+    met = tt;
+    served = anyhow cut.done cut.met new cut.served;
+    failed = none_came f cut.met last cut.failed;
+  }
+
+module _ {T : Type 0} (is_sure : T → Type 0) (represents may_leave : T → State → Type 0) where
+  begins : (now : T) → IsRunOf is_sure represents may_leave now now none_handled
+  begins now = record {
+    moments = All-nil (λ (r : ℕ × Request). r.0 ≤ LAST_MOMENT);
+    run = λ sure s represented. record { last = s; runs = refl; represented = represented; crash = λ left h. inl h; acknowledged = λ _. inr (refl, λ left h. h) };
+    idle = λ _. refl;
+  }
+
+  -- a run of the machine goes on by one request
+  run_on : (old mid new : T) (s : State) (rs : List (ℕ × Request)) (answers : List Answer) (r : ℕ × Request) (answer : Answer)
+      → (run : IsRun represents may_leave old mid s rs answers) → IsHandled represents may_leave mid new run.last r.0 (input_of r.1) answer
+      → IsRun represents may_leave old new s (rs ++ r ∷ []) (answers ++ answer ∷ [])
+  run_on old mid new s rs answers r answer run handled =
+      let all = rs ++ r ∷ [] in
+      let long : length all ≡ length rs + 1 = length-append rs (r ∷ []) in
+      let seam : take (length rs) all ≡ rs = take-append_seam rs (r ∷ []) in
+      let whole : take (length rs + 1) all ≡ all = take_all (length rs + 1) all (omega (arith, long)) in
+      let is : r ≡ get_or all (length rs) r = sym (get_or-append_seam rs r [] r) in
+      let low : length rs < length all = omega (arith, long) in
+      let step : (first : IsRun represents may_leave old mid s (take (length rs) all) answers) → IsHandled represents may_leave mid new first.last r.0 (input_of r.1) answer
+      → IsRun represents may_leave old new s (take (length rs + 1) all) (answers ++ answer ∷ []) =
+      λ first step. run_more represents may_leave all (length rs) r old mid new s answers answer low is first step in
+      let same : (first : IsRun represents may_leave old mid s rs answers) → IsHandled represents may_leave mid new first.last r.0 (input_of r.1) answer
+      → IsRun represents may_leave old new s (take (length rs + 1) all) (answers ++ answer ∷ []) =
+      subst (λ qs. (first : IsRun represents may_leave old mid s qs answers) → IsHandled represents may_leave mid new first.last r.0 (input_of r.1) answer
+      → IsRun represents may_leave old new s (take (length rs + 1) all) (answers ++ answer ∷ [])) seam step in
+      subst (λ qs. IsRun represents may_leave old new s qs (answers ++ answer ∷ [])) whole (same run handled)
+
+  none_more : (old mid new : T) (handled : Handled) → new ≡ mid → IsRunOf is_sure represents may_leave old mid handled → IsRunOf is_sure represents may_leave old new handled
+  none_more old mid new handled same run = subst (λ t. IsRunOf is_sure represents may_leave old t handled) (sym same) run
+
+  one_more : (old mid new : T) (handled : Handled) (moment : ℕ) (request : Request) (answer : Answer) → moment ≤ LAST_MOMENT → (is_sure new → is_sure mid)
+      → (is_sure new → (s : State) → represents mid s → IsHandled represents may_leave mid new s moment (input_of request) answer)
+      → IsRunOf is_sure represents may_leave old mid handled → IsRunOf is_sure represents may_leave old new (handled_with handled moment request answer)
+  one_more old mid new handled moment request answer low sure step run = record {
+    moments = All-push (λ (r : ℕ × Request). r.0 ≤ LAST_MOMENT) handled.requests (moment, request) run.moments low;
+    run = λ known s represented.
+        let was = run.run (sure known) s represented in
+        run_on old mid new s handled.requests handled.answers (moment, request) answer was (step known was.last was.represented);
+    idle = λ none. absurd (some_one handled.requests (moment, request) none);
+  }
+
+  -- what an exchange adds to what was handled, by what is replied in it
+  module _ (old mid new : T) (handled : Handled) (left : Option (List ℕ)) (moment : ℕ) (low : moment ≤ LAST_MOMENT) (sure : is_sure new → is_sure mid)
+      (run : IsRunOf is_sure represents may_leave old mid handled) where
+    by_reply : (reply : Reply) → Replies is_sure represents may_leave left mid new moment reply
+        → (more : Handled) × IsReplied left handled more moment reply × IsRunOf is_sure represents may_leave old new more
+    by_reply (Ok answer) one =
+        (handled_with handled moment one.request answer, (one.request, one.asked, refl), one_more old mid new handled moment one.request answer low sure one.handled run)
+    by_reply (Err refusal) none = (handled, (none.0, refl), none_more old mid new handled none.1 run)
+
+    module _ (before after : Option (List ℕ)) where
+      replied : (served : Served) → IsReplyServed is_sure represents may_leave (λ held. held) left before after mid new moment served
+          → (more : Handled) × RepliesOnce handled left moment before after (Ok served) more × IsRunOf is_sure represents may_leave old new more
+      replied served one = let r = by_reply one.reply one.replies in (r.0, record { reply = one.reply; replied = r.1; written = one.told }, r.2)
+
+      cut_off : (f : LinkFault) → IsUnserved is_sure represents may_leave (λ held. held) left before after mid new moment f
+          → (more : Handled) × RepliesOnce handled left moment before after (Err f) more × IsRunOf is_sure represents may_leave old new more
+      cut_off f one = let r = by_reply one.reply one.replies in (r.0, record { reply = one.reply; replied = r.1; written = one.cut_off }, r.2)
+
+      broken : (f : LinkFault) → IsFaulty is_sure represents may_leave (λ held. held) left before after mid new moment f
+          → (more : Handled) × IsConversation handled left moment before after (Err f) more × IsRunOf is_sure represents may_leave old new more
+      broken fault.Read h = (handled, (h.0, refl), none_more old mid new handled h.1 run)
+      broken (fault.Write told) h = cut_off (fault.Write told) h
+      broken (fault.NoMemory false) h = (handled, (h.0, refl), none_more old mid new handled h.1 run)
+      broken (fault.NoMemory true) h = cut_off (fault.NoMemory true) h
+
+      exchanged : (ended : Result Served LinkFault) → IsExchange is_sure represents may_leave mid left moment before after ended new
+          → (more : Handled) × IsConversation handled left moment before after ended more × IsRunOf is_sure represents may_leave old new more
+      exchanged (Ok served) one = replied served one.served
+      exchanged (Err f) one = broken f one.fault
+
+  -- what clients that came and were served make of the tables
+  module _ {C : Type 0} (limits : C → Duration → Bool → Type 0) (remaining contents : C → Option (List ℕ)) (timeout : Option Duration) where
+    served_one : (came gone : Arrival C) (old mid new : T) (handled : Handled) → came.moment ≤ LAST_MOMENT
+        → IsServed limits remaining contents (IsExchange is_sure represents may_leave) timeout came gone mid new → IsRunOf is_sure represents may_leave old mid handled
+        → (more : Handled) × IsServed limits remaining contents IsConversation timeout came gone handled more
+        × IsRunOf is_sure represents may_leave old new more × (is_sure new → is_sure mid)
+    served_one came gone old mid new handled low (inl one) run =
+        let r = exchanged old mid new handled _ came.moment low one.made.sure run _ _ one.ended one.made in
+        (r.0, inl (record { limited = one.limited; ended = one.ended; made = r.1 }), r.2, one.made.sure)
+    served_one came gone old mid new handled low (inr none) run =
+        (handled, inr (record { failed = none.failed; same = none.same; idle = refl }), none_more old mid new handled none.idle run, λ sure. subst is_sure none.idle sure)
+
+    module _ {D : Type 0} (accepts : D → Result (C × C) Error → D → Type 0) (tells : D → Result Duration Error → D → Type 0) (first : D) (old : T) where
+      handled_for : (n : ℕ) (last : D) (new : T) → AreServed limits remaining contents (IsExchange is_sure represents may_leave) timeout accepts tells first old n last new
+          → (handled : Handled) × AreServed limits remaining contents IsConversation timeout accepts tells first none_handled n last handled
+          × IsRunOf is_sure represents may_leave old new handled × (is_sure new → is_sure old)
+      handled_for zero last new are = (none_handled, (are.0, refl), none_more old old new none_handled are.1 (begins old), λ sure. subst is_sure are.1 sure)
+      handled_for (suc n) last new (met, was, came, gone, are, arrival, served) =
+          let before = handled_for n met was are in
+          let one = served_one came gone old was new before.0 (within arrival.reading came.moment arrival.moment) served before.2 in
+          (one.0, (met, before.0, came, gone, before.1, arrival, one.1), one.2, λ sure. before.3 (one.3 sure))
+
+      module _ {A : Type 0} (count : ℕ) (last : D) (new : T) where
+        pub all_handled : (end : Result A ServeFault)
+            → OnOk end (AreServed limits remaining contents (IsExchange is_sure represents may_leave) timeout accepts tells first old count last new)
+            → IfErr end (λ f. IsCutShort limits remaining contents (IsExchange is_sure represents may_leave) timeout accepts tells first old count f last new)
+            → AreHandled is_sure represents may_leave limits remaining contents timeout old new count end
+        all_handled (Ok a) are cut =
+            let h = handled_for count last new are in record {
+              handled = h.0;
+              served = anyhow limits remaining contents IsConversation timeout accepts tells first none_handled count last h.0 h.1;
+              run = h.2;
+            }
+        all_handled (Err f) are cut =
+            let h = handled_for cut.done cut.met new cut.served in record {
+              handled = h.0;
+              served = record {
+                done = cut.done;
+                fewer = cut.fewer;
+                met = tt;
+                served = anyhow limits remaining contents IsConversation timeout accepts tells first none_handled cut.done cut.met h.0 h.1;
+                failed = none_came limits remaining contents IsConversation timeout accepts tells first none_handled f cut.met last cut.failed;
+              };
+              run = h.2;
+            }
+
+        pub sure : (end : Result A ServeFault)
+            → OnOk end (AreServed limits remaining contents (IsExchange is_sure represents may_leave) timeout accepts tells first old count last new)
+            → IfErr end (λ f. IsCutShort limits remaining contents (IsExchange is_sure represents may_leave) timeout accepts tells first old count f last new)
+            → is_sure new → is_sure old
+        sure (Ok a) are cut = (handled_for count last new are).3
+        sure (Err f) are cut = (handled_for cut.done cut.met new cut.served).3

@@ -1,0 +1,46 @@
+//! What serves a client.
+ghost use Rattle.opc_http_serve.specs.Handled.{IsExchange};
+
+use opc_gate::gate::Gate;
+use opc_http::exchange::{LinkFault, Served, exchange};
+use opc_http_head::routes::Routes;
+use opc_io::sink::Sink;
+use opc_io::source::Source;
+use opc_state::tables::Tables;
+use std::alloc::Global;
+
+/// What serves one client after another, each by one exchange.
+pub trait Exchanges {
+    ghost use Rattle.std.specs.Prelude.{ℕ, List, Option, Result};
+    ghost use Rattle.opc_http.specs.declared.exchange.LinkFault.{LinkFault};
+    ghost use Rattle.opc_http.specs.declared.exchange.Served.{Served};
+
+    /// That an exchange was made: with what the reader had left, at this moment, with what the writer held before it and
+    /// after it, and how it ended. What a function over any of these says by it can only be shown by such an exchange.
+    ghost exchanged: { Self → Option (List ℕ) → ℕ → Option (List ℕ) → Option (List ℕ) → Result Served LinkFault → Self → Type 0 };
+
+    fn serve_one<S: Source, K: Sink>(
+        &mut self,
+        alloc: Global,
+        routes: &Routes,
+        source: &mut S,
+        sink: &mut K,
+        moment: u64,
+    ) -> Result<Served, LinkFault>
+        ensures { exchanged self.old (S.left source.old) moment (K.held sink.old) (K.held sink.new) result self.new };
+}
+
+impl<T: Tables> Exchanges for Gate<T> {
+    ghost exchanged = { λ old left moment before after result new. IsExchange T.is_sure T.represents T.may_leave old left moment before after result new };
+
+    fn serve_one<S: Source, K: Sink>(
+        &mut self,
+        alloc: Global,
+        routes: &Routes,
+        source: &mut S,
+        sink: &mut K,
+        moment: u64,
+    ) -> Result<Served, LinkFault> {
+        exchange(alloc, routes, source, sink, self, moment)
+    }
+}

@@ -1,1 +1,0 @@
-pub use Rattle.opc_machine.specs.Imports

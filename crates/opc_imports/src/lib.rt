@@ -1,4 +1,0 @@
-//! Policies that are imported in numbered batches: what a batch comes to.
-#![tactic(auto)]
-
-pub mod import;

@@ -1,5 +1,0 @@
-use Rattle.opc_laws.proofs.Acting.{only_where}
-use Rattle.opc_laws.proofs.laws.acts_only_where_allowed.Goals as goal
-
-pub returns : goal.returns
-returns c = only_where

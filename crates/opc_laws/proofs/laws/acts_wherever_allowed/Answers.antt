@@ -1,5 +1,0 @@
-use Rattle.opc_laws.proofs.Acting.{wherever}
-use Rattle.opc_laws.proofs.laws.acts_wherever_allowed.Goals as goal
-
-pub returns : goal.returns
-returns c = wherever

@@ -1,5 +1,0 @@
-use Rattle.opc_laws.proofs.Numbering.{authorities_enter}
-use Rattle.opc_laws.proofs.laws.authorities_enter_their_groups.Goals as goal
-
-pub returns : goal.returns
-returns c = authorities_enter

@@ -1,5 +1,0 @@
-use Rattle.opc_laws.proofs.Answering.{denials_answered}
-use Rattle.opc_laws.proofs.laws.denials_are_answered.Goals as goal
-
-pub returns : goal.returns
-returns c = denials_answered

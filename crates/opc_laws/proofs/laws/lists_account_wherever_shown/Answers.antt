@@ -1,5 +1,0 @@
-use Rattle.opc_laws.proofs.Changing.{account_wherever}
-use Rattle.opc_laws.proofs.laws.lists_account_wherever_shown.Goals as goal
-
-pub returns : goal.returns
-returns c = account_wherever

@@ -1,5 +1,0 @@
-use Rattle.opc_laws.proofs.Displaying.{every_console}
-use Rattle.opc_laws.proofs.laws.lists_every_console.Goals as goal
-
-pub returns : goal.returns
-returns c = every_console

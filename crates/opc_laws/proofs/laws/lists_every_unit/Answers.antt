@@ -1,5 +1,0 @@
-use Rattle.opc_laws.proofs.Displaying.{every_unit}
-use Rattle.opc_laws.proofs.laws.lists_every_unit.Goals as goal
-
-pub returns : goal.returns
-returns c = every_unit

@@ -1,5 +1,0 @@
-use Rattle.opc_laws.proofs.Displaying.{the_unit}
-use Rattle.opc_laws.proofs.laws.lists_the_unit.Goals as goal
-
-pub returns : goal.returns
-returns c = the_unit

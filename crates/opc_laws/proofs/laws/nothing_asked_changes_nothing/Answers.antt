@@ -1,5 +1,0 @@
-use Rattle.opc_laws.proofs.Hearing.{nothing_asked}
-use Rattle.opc_laws.proofs.laws.nothing_asked_changes_nothing.Goals as goal
-
-pub returns : goal.returns
-returns c = nothing_asked

@@ -1,5 +1,0 @@
-use Rattle.opc_laws.proofs.Denying.{rules_named}
-use Rattle.opc_laws.proofs.laws.refusals_of_authority_name_their_rule.Goals as goal
-
-pub returns : goal.returns
-returns c = rules_named

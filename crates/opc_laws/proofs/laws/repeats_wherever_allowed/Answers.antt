@@ -1,5 +1,0 @@
-use Rattle.opc_laws.proofs.Changing.{repeats_wherever}
-use Rattle.opc_laws.proofs.laws.repeats_wherever_allowed.Goals as goal
-
-pub returns : goal.returns
-returns c = repeats_wherever

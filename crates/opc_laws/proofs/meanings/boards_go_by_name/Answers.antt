@@ -1,5 +1,0 @@
-use Rattle.opc_laws.proofs.LinesTold.{go_by_name}
-use Rattle.opc_laws.proofs.meanings.boards_go_by_name.Goals as goal
-
-pub returns : goal.returns
-returns c = go_by_name

@@ -1,5 +1,0 @@
-use Rattle.opc_laws.proofs.Needing.{commands_need}
-use Rattle.opc_laws.proofs.meanings.commands_need_so.Goals as goal
-
-pub returns : goal.returns
-returns c = commands_need

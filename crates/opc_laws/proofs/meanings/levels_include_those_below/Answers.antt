@@ -1,5 +1,0 @@
-use Rattle.opc_laws.proofs.Groups.{include_those_below}
-use Rattle.opc_laws.proofs.meanings.levels_include_those_below.Goals as goal
-
-pub returns : goal.returns
-returns c = include_those_below

@@ -1,5 +1,0 @@
-use Rattle.opc_laws.proofs.Specific.{cover_so}
-use Rattle.opc_laws.proofs.meanings.patterns_cover_so.Goals as goal
-
-pub returns : goal.returns
-returns c = cover_so

@@ -1,5 +1,0 @@
-use Rattle.opc_laws.proofs.Stored.{connects_connect, named_is, on_is, stored}
-use Rattle.opc_laws.proofs.meanings.stored_is_what_is_there.Goals as goal
-
-pub returns : goal.returns
-returns c = record { names = stored; connects = connects_connect; named = named_is; on = on_is }

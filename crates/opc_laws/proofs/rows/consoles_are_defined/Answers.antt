@@ -1,5 +1,0 @@
-use Rattle.opc_laws.proofs.RowsKept.{consoles_defined}
-use Rattle.opc_laws.proofs.rows.consoles_are_defined.Goals as goal
-
-pub returns : goal.returns
-returns c = consoles_defined

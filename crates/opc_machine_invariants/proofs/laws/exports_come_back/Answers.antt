@@ -1,0 +1,10 @@
+use Rattle.std.proofs.Common.{ap₂}
+use Rattle.opc_state.specs.State.{empty}
+use Rattle.opc_machine.specs.Bootstrap.{with_rows_of}
+use Rattle.opc_machine_invariants.proofs.ExportedBoards.{consoles_come_back}
+use Rattle.opc_machine_invariants.proofs.ExportedPolicies.{policy_comes_back}
+use Rattle.opc_machine_invariants.proofs.laws.exports_come_back.Goals as goal
+
+pub returns : goal.returns
+returns c = λ s facts.
+    ap₂ (with_rows_of empty) (consoles_come_back s.policy s.board.consoles facts.state.board.consoles_rise) (policy_comes_back s.policy facts.state.policy facts.order s.board.consoles)

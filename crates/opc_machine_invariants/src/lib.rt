@@ -1,0 +1,5 @@
+//! That whatever is asked of the access machine keeps the facts of a state.
+#![tactic(auto)]
+
+pub mod kept;
+pub mod laws;

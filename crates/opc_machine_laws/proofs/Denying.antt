@@ -1,0 +1,260 @@
+-- Refusals of authority name their rule, whatever is asked.
+use Rattle.std.proofs.Common.{◌≡◌, inl, inr, ℕ, Bool, true, false, not, ◌&&◌, if◌then◌else◌, is_some, List, [], ◌∷◌, Option, Some, None, Result, Ok, Err, filter, map, refl, rules, subst, codes}
+use Rattle.std.specs.Option.{is_none}
+use Rattle.opc_names.specs.declared.class.Class.{Class}
+use Rattle.opc_terms.specs.declared.fault.Fault.{Fault}
+use Rattle.opc_terms.specs.declared.fault.Fault.TheVariants as fault
+use Rattle.opc_policy_members.specs.declared.policy.Policy.{Policy}
+use Rattle.opc_policy_members.specs.declared.row.Row.{Row}
+use Rattle.opc_policy_members.specs.declared.row.Row.TheVariants as rows
+use Rattle.opc_terms.specs.declared.rule.Rule.{Rule}
+use Rattle.opc_terms.specs.declared.rule.Rule.TheVariants as rule
+use Rattle.opc_policy_members.specs.Profiles.{of_class, profile_of, with_definition, with_permission}
+use Rattle.opc_policy_members.specs.Members.{with_user, with_group, with_connect}
+use Rattle.opc_policy_members.specs.Taken.{after_row, has_user, has_group, has_holder, unless, needing}
+use Rattle.opc_board.specs.declared.board.BoardRows.{BoardRows}
+use Rattle.opc_board.specs.declared.event.Event.{Event}
+use Rattle.opc_board.specs.declared.rows.ConsoleRow.{ConsoleRow}
+use Rattle.opc_board.specs.Effect.{event_effect}
+use Rattle.opc_board.specs.Facts.{console_at}
+use Rattle.opc_board.specs.Outcome.{Outcome as BoardOutcome}
+use Rattle.opc_state.specs.declared.change.Batch.{Batch}
+use Rattle.opc_state.specs.Members.{with_batch, without_user, without_connect, without_profile, without_permission}
+use Rattle.opc_state.specs.State.{State}
+use Rattle.opc_state.specs.Loads.{asked_for, is_connected}
+use Rattle.opc_machine.specs.Administration.{admin_outcome, changed, policy_changed, board_changed, definition, has_name, is_in_use, is_permitted, unless_in_use}
+use Rattle.opc_machine.specs.Bootstrap.{with_rows_of, with_rows, loses_master, mastered, policy_after, then_policy, consoles_after}
+use Rattle.opc_machine.specs.Commands.{acted, console_for, denial_fault, event_outcome}
+use Rattle.opc_machine.specs.Imports.{batch_line, batch_of, batch_outcome, import_outcome, same_rows}
+use Rattle.opc_machine.specs.Inputs.{Input}
+use Rattle.opc_machine.specs.Inputs as input
+use Rattle.opc_machine_laws.specs.Laws.{GivenUpChangesNothing, IsDeniedBy, IsNamedBy, IsOfAuthority, IsRefusedByBoard, IsShutOut, RefusalsNameNoOtherRule, RefusalsOfAuthorityNameTheirRule}
+use Rattle.opc_machine.specs.Listings.{account_line, account_outcome, profile_line, profiles_outcome}
+use Rattle.opc_machine.specs.declared.request.Answer.TheVariants.{Refused}
+use Rattle.opc_machine.specs.Machine.{IsGivenUp, answer_of, outcome}
+use Rattle.opc_machine.specs.declared.operation.Operation.{Operation}
+use Rattle.opc_machine.specs.declared.operation.Operation.TheVariants as operation
+use Rattle.opc_machine.specs.Outcome.{Denial, Outcome, ◌>>=◌, does, or_refused, refuse_if, refused}
+use Rattle.opc_machine.specs.Rights.{account_shown, console_asking, is_special, may_change, profile_shown, right_fault, unless_denied}
+use Rattle.opc_machine.specs.Rulings.{acting, is_required, is_revoked, logon_denial}
+use Rattle.opc_machine.proofs.Inversion.{console_is, refused_is}
+use Rattle.opc_machine_laws.proofs.Plain.{IsPlain, IsPlainIfFault, event_plain, none_of_authority, not_given_up}
+use Rattle.opc_machine_laws.proofs.Naming.{IfRefused, IsTold, IsToldBy, then_told, console_told, command_told, board_has_none, given_up_has_none}
+
+-- what is in the way of a change is neither of authority nor given up
+abbrev pub IfInTheWay : {A : Type 0} → Result A Fault → Type 0
+IfInTheWay (Ok x) = Unit {0}
+IfInTheWay (Err f) = IsPlain f
+
+unless_none : (b : Bool) (name : List ℕ) (made : Result Policy Fault) → IfInTheWay made → IfInTheWay (unless b name made)
+unless_none true name made none = tt
+unless_none false name made none = none
+
+needing_none : (b : Bool) (name : List ℕ) (made : Result Policy Fault) → IfInTheWay made → IfInTheWay (needing b name made)
+needing_none true name made none = none
+needing_none false name made none = tt
+
+in_use_none : (b : Bool) (name : List ℕ) (made : Result Policy Fault) → IfInTheWay made → IfInTheWay (unless_in_use b name made)
+in_use_none true name made none = tt
+in_use_none false name made none = none
+
+policy_none : (b : BoardRows) (o : Operation) (p : Policy) → IfInTheWay (policy_changed b o p)
+policy_none b (operation.AddUser id special auditor digest restricted) p =
+    unless_none (has_name p id) id (Ok (record p { users = with_user (record { id = id; special = special; auditor = auditor; revoked = false; digest = digest; restricted = restricted }) p.users })) tt
+policy_none b (operation.AltUser id special auditor revoked digest restricted) p =
+    needing_none (has_user p id) id (Ok (record p { users = with_user (record { id = id; special = special; auditor = auditor; revoked = revoked; digest = digest; restricted = restricted }) p.users })) tt
+policy_none b (operation.DelUser id) p =
+    needing_none (has_user p id) id (unless_in_use (is_in_use p b id) id (Ok (record p { users = without_user id p.users }))) (in_use_none (is_in_use p b id) id (Ok (record p { users = without_user id p.users })) tt)
+policy_none b (operation.AddGroup name) p =
+    unless_none (has_name p name) name (Ok (record p { groups = with_group name p.groups })) tt
+policy_none b (operation.Connect user group) p =
+    needing_none (has_user p user) user (needing (has_group p group) group (unless (is_connected p user group) group (Ok (record p { connects = with_connect (record { user = user; group = group }) p.connects })))) (needing_none (has_group p group) group (unless (is_connected p user group) group (Ok (record p { connects = with_connect (record { user = user; group = group }) p.connects }))) (unless_none (is_connected p user group) group (Ok (record p { connects = with_connect (record { user = user; group = group }) p.connects })) tt))
+policy_none b (operation.Remove user group) p =
+    needing_none (has_user p user) user (needing (has_group p group) group (needing (is_connected p user group) group (Ok (record p { connects = without_connect (record { user = user; group = group }) p.connects })))) (needing_none (has_group p group) group (needing (is_connected p user group) group (Ok (record p { connects = without_connect (record { user = user; group = group }) p.connects }))) (needing_none (is_connected p user group) group (Ok (record p { connects = without_connect (record { user = user; group = group }) p.connects })) tt))
+policy_none b (operation.RDefine class pattern owner uacc warning) p =
+    unless_none (is_some (profile_of p.profiles class pattern)) pattern (needing (has_user p owner) owner (Ok (record p { profiles = with_definition (definition class pattern owner uacc warning) p.profiles }))) (needing_none (has_user p owner) owner (Ok (record p { profiles = with_definition (definition class pattern owner uacc warning) p.profiles })) tt)
+policy_none b (operation.RAlter class pattern owner uacc warning) p =
+    needing_none (is_some (profile_of p.profiles class pattern)) pattern (needing (has_user p owner) owner (Ok (record p { profiles = with_definition (definition class pattern owner uacc warning) p.profiles }))) (needing_none (has_user p owner) owner (Ok (record p { profiles = with_definition (definition class pattern owner uacc warning) p.profiles })) tt)
+policy_none b (operation.RDelete class pattern) p =
+    needing_none (is_some (profile_of p.profiles class pattern)) pattern (Ok (record p { profiles = without_profile class pattern p.profiles })) tt
+policy_none b (operation.Permit class pattern id level when) p =
+    needing_none (is_some (profile_of p.profiles class pattern)) pattern (needing (has_holder p id) id (Ok (record p { profiles = with_permission class pattern (record { id = id; when = when; level = level }) p.profiles }))) (needing_none (has_holder p id) id (Ok (record p { profiles = with_permission class pattern (record { id = id; when = when; level = level }) p.profiles })) tt)
+policy_none b (operation.PermitDelete class pattern id when) p =
+    needing_none (is_some (profile_of p.profiles class pattern)) pattern (needing (is_permitted p class pattern id when) id (Ok (record p { profiles = without_permission class pattern id when p.profiles }))) (needing_none (is_permitted p class pattern id when) id (Ok (record p { profiles = without_permission class pattern id when p.profiles })) tt)
+policy_none b (operation.ClassActive class active) p = tt
+policy_none b (operation.DefineConsole name auth mode) p = tt
+
+row_none : (row : Row) (p : Policy) → IfInTheWay (after_row row p)
+row_none (rows.Class class active) p = tt
+row_none (rows.Group name) p =
+    unless_none (has_user p name) name (Ok (record p { groups = with_group name p.groups })) tt
+row_none (rows.User user) p =
+    unless_none (has_group p user.id) user.id (Ok (record p { users = with_user user p.users })) tt
+row_none (rows.Connect user group) p =
+    needing_none (has_user p user) user (needing (has_group p group) group (Ok (record p { connects = with_connect (record { user = user; group = group }) p.connects }))) (needing_none (has_group p group) group (Ok (record p { connects = with_connect (record { user = user; group = group }) p.connects })) tt)
+row_none (rows.Console name auth mode) p = tt
+row_none (rows.Profile class pattern uacc owner warning) p =
+    needing_none (has_user p owner) owner (Ok (record p { profiles = with_definition (record { class = class; pattern = pattern; owner = owner; uacc = uacc; warning = warning; entries = [] }) p.profiles })) tt
+row_none (rows.Permit class pattern id level when) p =
+    needing_none (is_some (profile_of p.profiles class pattern)) pattern (needing (has_holder p id) id (Ok (record p { profiles = with_permission class pattern (record { id = id; when = when; level = level }) p.profiles }))) (needing_none (has_holder p id) id (Ok (record p { profiles = with_permission class pattern (record { id = id; when = when; level = level }) p.profiles })) tt)
+
+then_none : (r : Result Policy Fault) (next : Policy → Result Policy Fault) → IfInTheWay r → ((p : Policy) → IfInTheWay (next p)) → IfInTheWay (then_policy r next)
+then_none (Ok p) next none later = later p
+then_none (Err f) next none later = none
+
+rows_none : (all : List Row) (p : Policy) → IfInTheWay (policy_after all p)
+rows_none [] p = tt
+rows_none (row ∷ more) p = then_none (after_row row p) (λ q. policy_after more q) (row_none row p) (λ q. rows_none more q)
+
+with_rows_none : (s : State) (b : BoardRows) (r : Result Policy Fault) → IfInTheWay r → IfInTheWay (with_rows_of s b r)
+with_rows_none s b (Ok p) none = go (loses_master s.board b)
+  where
+    go : (lost : Bool) → IfInTheWay (mastered lost (record s { policy = p; board = b }))
+    go true = tt
+    go false = tt
+with_rows_none s b (Err f) none = none
+
+right_plain : (o : Operation) → IsPlain (right_fault o)
+right_plain (operation.RAlter class pattern owner uacc warning) = tt
+right_plain (operation.RDelete class pattern) = tt
+right_plain (operation.Permit class pattern id level when) = tt
+right_plain (operation.PermitDelete class pattern id when) = tt
+right_plain other = tt
+
+-- the logon rule names itself
+abbrev pub IsLogonRule : Option Rule → Type 0
+IsLogonRule None = Unit {0}
+IsLogonRule (Some why) = IsNamedBy (denial_fault why) why
+
+pub logon_rule : (s : State) (c : ConsoleRow) → IsLogonRule (logon_denial s c)
+logon_rule s c = go (is_required c.mode) (is_none c.user) (is_revoked (acting s c))
+  where
+    go : (required nobody revoked : Bool) → IsLogonRule (if required && nobody then Some rule.LogonRequired else (if revoked then Some rule.Revoked else None))
+    go true true revoked = refl
+    go true false true = refl
+    go true false false = tt
+    go false nobody true = refl
+    go false nobody false = tt
+
+module _ (s : State) (r : Input) where
+  refuse_told : (f : Fault) (b : Bool) → IsPlain f → IfRefused (IsTold s r) (refuse_if f None b)
+  refuse_told f true none = none
+  refuse_told f false none = tt
+
+  or_told : {A : Type 0} (x : Result A Fault) → IfInTheWay x → IfRefused (IsTold s r) (or_refused x)
+  or_told (Ok x) none = tt
+  or_told (Err f) none = none
+
+  acted_told : (a : BoardOutcome) → IsPlainIfFault a → IfRefused (IsTold s r) (acted None a)
+  acted_told (Ok d) plain = tt
+  acted_told (Err f) plain = plain
+
+  module _ (name : List ℕ) (shut_out : (why : Rule) → IsShutOut s name why → IsDeniedBy s r why) where
+    asking_told : IfRefused (IsTold s r) (console_asking s name)
+    asking_told = then_told (IsTold s r) (console_for s name) (λ c. unless_denied (logon_denial s c) >>= λ _. Ok c) (console_told s r name)
+        (λ c is. then_told (IsTold s r) (unless_denied (logon_denial s c)) (λ _. Ok c) (at_logon c (console_is s name c is) (logon_denial s c) refl (logon_rule s c)) (λ _ _. tt))
+      where
+        at_logon : (c : ConsoleRow) → (console_at s.board name ≡ Some c) × (c.online ≡ true) → (o : Option Rule) → logon_denial s c ≡ o → IsLogonRule o → IfRefused (IsTold s r) (unless_denied o)
+        at_logon c at None is proper = tt
+        at_logon c at (Some why) is proper = inl (proper, shut_out why (record { console = c; there = at.0; online = at.1; denied = is }))
+
+admin_told : (s : State) (name : List ℕ) (o : Operation) → IfRefused (IsTold s (input.Admin name o)) (admin_outcome s name o)
+admin_told s name o =
+    then_told P (console_asking s name) (λ c. refuse_if (right_fault o) None (not (may_change s c o)) >>= λ _. or_refused (changed s o) >>= λ new. does new [] None)
+    (asking_told s r name (λ why told. told))
+    (λ c _. then_told P (refuse_if (right_fault o) None (not (may_change s c o))) (λ _. or_refused (changed s o) >>= λ new. does new [] None)
+    (refuse_told s r (right_fault o) (not (may_change s c o)) (right_plain o))
+    (λ _ _. then_told P (or_refused (changed s o)) (λ new. does new [] None) (or_told s r (changed s o) (with_rows_none s (board_changed o s.board) (policy_changed s.board o s.policy) (policy_none s.board o s.policy))) (λ _ _. tt)))
+  where
+    r : Input
+    r = input.Admin name o
+
+    P : Denial → Type 0
+    P = IsTold s r
+
+profiles_told : (s : State) (name : List ℕ) (class : Class) → IfRefused (IsTold s (input.ListProfiles name class)) (profiles_outcome s name class)
+profiles_told s name class =
+    then_told (IsTold s (input.ListProfiles name class)) (console_asking s name) (λ c. does s (map profile_line (filter (profile_shown s c) (of_class class s.policy.profiles))) None)
+    (asking_told s (input.ListProfiles name class) name (λ why told. told)) (λ _ _. tt)
+
+account_told : (s : State) (name : List ℕ) (from count : ℕ) → IfRefused (IsTold s (input.ListAccount name from count)) (account_outcome s name from count)
+account_told s name from count =
+    then_told (IsTold s r) (console_asking s name) (λ c. refuse_if fault.NotSpecial None (not (account_shown s c)) >>= λ _. does s (map account_line (asked_for from count s.account)) None)
+    (asking_told s r name (λ why told. told))
+    (λ c _. then_told (IsTold s r) (refuse_if fault.NotSpecial None (not (account_shown s c))) (λ _. does s (map account_line (asked_for from count s.account)) None)
+    (refuse_told s r fault.NotSpecial (not (account_shown s c)) tt) (λ _ _. tt))
+  where
+    r : Input
+    r = input.ListAccount name from count
+
+import_told : (s : State) (name : List ℕ) (number : ℕ) (all : List Row) → IfRefused (IsTold s (input.Import name number all)) (import_outcome s name number all)
+import_told s name number all =
+    then_told (IsTold s r) (console_asking s name) (λ c. refuse_if fault.NotSpecial None (not (is_special (acting s c))) >>= λ _. batch_outcome s number all (batch_of s.batches number))
+    (asking_told s r name (λ why told. told))
+    (λ c _. then_told (IsTold s r) (refuse_if fault.NotSpecial None (not (is_special (acting s c)))) (λ _. batch_outcome s number all (batch_of s.batches number))
+    (refuse_told s r fault.NotSpecial (not (is_special (acting s c))) tt) (λ _ _. batch_told (batch_of s.batches number)))
+  where
+    r : Input
+    r = input.Import name number all
+
+    again : (same : Bool) → IfRefused (IsTold s r) (if same then does s (batch_line number (codes "AGAIN") ∷ []) None else refused fault.BatchChanged None)
+    again true = tt
+    again false = tt
+
+    batch_told : (kept : Option Batch) → IfRefused (IsTold s r) (batch_outcome s number all kept)
+    batch_told None = then_told (IsTold s r) (or_refused (with_rows all s)) (λ new. does (record new { batches = with_batch (record { number = number; rows = all }) new.batches }) (batch_line number (codes "KEPT") ∷ []) None)
+        (or_told s r (with_rows all s) (with_rows_none s (consoles_after all s.board) (policy_after all s.policy) (rows_none all s.policy))) (λ _ _. tt)
+    batch_told (Some kept) = again (same_rows kept.rows all)
+
+event_told : (s : State) (e : Event) → IfRefused (IsTold s (input.Event e)) (event_outcome s e)
+event_told s e = then_told (IsTold s (input.Event e)) (acted None (event_effect s.board e)) (λ act. does (record s { board = act.board }) [] None) (acted_told s (input.Event e) (event_effect s.board e) (event_plain s.board e)) (λ _ _. tt)
+
+outcome_told : (s : State) (r : Input) → IfRefused (IsTold s r) (outcome s r)
+outcome_told s (input.Command name text) = command_told s name text
+outcome_told s (input.Admin name o) = admin_told s name o
+outcome_told s (input.ListProfiles name class) = profiles_told s name class
+outcome_told s (input.ListAccount name from count) = account_told s name from count
+outcome_told s (input.Import name batch all) = import_told s name batch all
+outcome_told s (input.Event e) = event_told s e
+
+-- of what is refused in the end, too
+pub told_of : (s : State) (r : Input) (f : Fault) (why : Option Rule) → Refused f why ≡ answer_of (outcome s r) → IsToldBy s r f why
+told_of s r f why answers = let P : Outcome → Type 0 = IfRefused (IsTold s r) in subst P (refused_is (outcome s r) f why answers) (outcome_told s r)
+
+-- what the board refuses is no refusal of authority
+by_board : (s : State) (r : Input) (f : Fault) (why : Rule) → IsRefusedByBoard s r f why → IsOfAuthority f → ⊥
+by_board s (input.Command name text) f why way authority = board_has_none way.refused (subst IsOfAuthority way.told authority)
+by_board s (input.Admin name operation) f why way authority = way
+by_board s (input.ListProfiles name class) f why way authority = way
+by_board s (input.ListAccount name from count) f why way authority = way
+by_board s (input.Import name batch all) f why way authority = way
+by_board s (input.Event e) f why way authority = way
+
+pub rules_named : RefusalsOfAuthorityNameTheirRule
+rules_named s moment r f why new authority (inl left) = absurd (given_up_has_none f why left.gives_up authority)
+rules_named s moment r f why new authority (inr (inl full)) = absurd (given_up_has_none f why (inr full.answers) authority)
+rules_named s moment r f why new authority (inr (inr done)) = go why (told_of s r f why done.answers)
+  where
+    go : (o : Option Rule) → IsToldBy s r f o → (because : Rule) × (o ≡ Some because) × IsNamedBy f because × IsDeniedBy s r because
+    go None plain = absurd (none_of_authority f plain authority)
+    go (Some because) (inl told) = (because, refl, told.0, told.1)
+    go (Some because) (inr way) = absurd (by_board s r f because way authority)
+
+-- what is given up names no rule
+named_none : (f : Fault) (why : Rule) → IsGivenUp (Refused f (Some why)) → ⊥
+named_none f why (inl h) = search (rules, h)
+named_none f why (inr h) = search (rules, h)
+
+pub no_other_named : RefusalsNameNoOtherRule
+no_other_named s moment r f why new (inl left) = absurd (named_none f why left.gives_up)
+no_other_named s moment r f why new (inr (inl full)) = absurd (named_none f why (inr full.answers))
+no_other_named s moment r f why new (inr (inr done)) = told_of s r f (Some why) done.answers
+
+pub given_up_left : GivenUpChangesNothing
+given_up_left s moment r f why new given (inl left) = left.same
+given_up_left s moment r f why new given (inr (inl full)) = full.same
+given_up_left s moment r f why new given (inr (inr done)) = absurd (go why (told_of s r f why done.answers) given)
+  where
+    go : (o : Option Rule) → IsToldBy s r f o → IsGivenUp (Refused f o) → ⊥
+    go None plain gives_up = not_given_up f plain gives_up
+    go (Some because) told gives_up = named_none f because gives_up

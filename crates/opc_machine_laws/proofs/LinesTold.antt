@@ -1,0 +1,86 @@
+-- The lines of each command.
+use Rattle.std.proofs.Common.{◌≡◌, Bool, true, false, if◌then◌else◌, List, [], ◌∷◌, Option, Some, None, Ok, Err, filter, refl, sym, ap, ◌∙◌, rules}
+use Rattle.opc_reader.specs.declared.command.Command.{Command}
+use Rattle.opc_reader.specs.declared.command.Command.TheVariants as command
+use Rattle.opc_board.specs.declared.board.BoardRows.{BoardRows}
+use Rattle.opc_board.specs.declared.fault.BoardFault.{BoardFault}
+use Rattle.opc_board.specs.declared.fault.BoardFault.TheVariants.{NoDevice, NoReply, NoTarget, NoUnit}
+use Rattle.opc_board.specs.declared.line.Line.{Line}
+use Rattle.opc_board.specs.declared.rows.ReplyRow.{ReplyRow}
+use Rattle.opc_board.specs.Consoles.{put_offline, vary_faults}
+use Rattle.opc_board.specs.Devices.{mount_faults, offline_faults, online_faults, swap_faults, unload_faults}
+use Rattle.opc_board.specs.Effect.{effect}
+use Rattle.opc_board.specs.Facts.{Name, console_at, device_at, reply_at, unit_at}
+use Rattle.opc_board.specs.Outcome.{Done as BoardDone, Outcome, ◌>>=◌, done, done_with, faults_or, found}
+use Rattle.opc_board.specs.Replies.{halt_faults, send_faults}
+use Rattle.opc_board.specs.Units.{cancel_faults, cancel_user_faults, come_faults, force_faults, kind_faults}
+use Rattle.opc_machine.specs.Rulings.{shown}
+use Rattle.opc_machine_laws.specs.DisplayLaws.{BoardsGoByName, CommandsTellTheirLines, lines_on}
+
+abbrev lines_in : Outcome → List Line
+lines_in (Ok act) = act.lines
+lines_in (Err fault) = []
+
+-- what may be refused and gives no line
+
+no_lines : (faults : List (Bool × BoardFault)) (b : BoardRows) → lines_in (faults_or faults (done b)) ≡ []
+no_lines [] b = refl
+no_lines ((there, fault) ∷ faults) b = go there (no_lines faults b)
+  where
+    go : (t : Bool) → lines_in (faults_or faults (done b)) ≡ [] → lines_in (if t then Err fault else faults_or faults (done b)) ≡ []
+    go true later = refl
+    go false later = later
+
+of_found : {A : Type 0} (fault : BoardFault) (o : Option A) (next : A → Outcome) → ((x : A) → lines_in (next x) ≡ []) → lines_in (found fault o >>= next) ≡ []
+of_found fault None next h = refl
+of_found fault (Some x) next h = h x
+
+-- Where a command does something these are its lines.
+abbrev AreLines : BoardRows → Command → Outcome → Type 0
+AreLines b k o = (act : BoardDone) → o ≡ Ok act → act.lines ≡ lines_on b k
+
+told : (o : Outcome) (lines : List Line) → lines_in o ≡ lines → (act : BoardDone) → o ≡ Ok act → act.lines ≡ lines
+told o lines h act is = ap lines_in (sym is) ∙ h
+
+replied : (b : BoardRows) (o : Option ReplyRow) (new : BoardRows) (lines : List Line) (act : BoardDone) → (found NoReply o >>= λ (r : ReplyRow). done_with new lines) ≡ Ok act → act.lines ≡ lines
+replied b None new lines act is = absurd (search (rules, is))
+replied b (Some r) new lines act is = ap lines_in (sym is)
+
+lines_told : (b : BoardRows) (at : Name) (k : Command) → AreLines b k (effect b k at)
+lines_told b at command.DisplayUnits = told _ _ refl
+lines_told b at (command.DisplayUnit name) = told _ _ refl
+lines_told b at command.DisplayDevices = told _ _ refl
+lines_told b at command.DisplayConsoles = told _ _ refl
+lines_told b at command.DisplayReplies = told _ _ refl
+lines_told b at (command.Cancel name) = told _ _ (of_found NoUnit (unit_at b name.value) _ (λ u. no_lines (cancel_faults u) _))
+lines_told b at (command.CancelUser user) = told _ _ (of_found NoUnit (unit_at b user.value) _ (λ u. no_lines (cancel_user_faults u) _))
+lines_told b at (command.Force name) = told _ _ (of_found NoUnit (unit_at b name.value) _ (λ u. no_lines (force_faults u) _))
+lines_told b at (command.Start member) = told _ _ (no_lines (come_faults member.value b) _)
+lines_told b at (command.StartAs member id) = told _ _ (no_lines (come_faults id.value b) _)
+lines_told b at (command.Stop name) = told _ _ (of_found NoUnit (unit_at b name.value) _ (λ u. no_lines (kind_faults u) _))
+lines_told b at (command.Modify name text) = told _ _ (of_found NoUnit (unit_at b name.value) _ (λ u. no_lines (kind_faults u) _))
+lines_told b at (command.Reply id text) = replied b (reply_at b id.value) _ _
+lines_told b at (command.VaryDeviceOnline device) = told _ _ (of_found NoDevice (device_at b device.value) _ (λ d. no_lines (online_faults d) _))
+lines_told b at (command.VaryDeviceOffline device) = told _ _ (of_found NoDevice (device_at b device.value) _ (λ d. no_lines (offline_faults d) _))
+lines_told b at (command.VaryConsoleOnline name) = told _ _ (of_found NoTarget (console_at b name.value) _ (λ c. no_lines (vary_faults (record c { online = true }) b) _))
+lines_told b at (command.VaryConsoleOffline name) = told _ _ (of_found NoTarget (console_at b name.value) _ (λ c. no_lines (vary_faults (put_offline c) b) _))
+lines_told b at (command.VaryConsoleAuth name auth) = told _ _ (of_found NoTarget (console_at b name.value) _ (λ c. no_lines (vary_faults (record c { auth = auth.value }) b) _))
+lines_told b at (command.Mount device volume) = told _ _ (of_found NoDevice (device_at b device.value) _ (λ d. no_lines (mount_faults d) _))
+lines_told b at (command.Unload device) = told _ _ (of_found NoDevice (device_at b device.value) _ (λ d. no_lines (unload_faults d) _))
+lines_told b at (command.Swap from to) = told _ _ (of_found NoDevice (device_at b from.value) _ (λ c. of_found NoDevice (device_at b to.value) _ (λ d. no_lines (swap_faults c d) _)))
+lines_told b at (command.ResetConsole name) = told _ _ (of_found NoTarget (console_at b name.value) _ (λ c. refl))
+lines_told b at (command.Send text user) = told _ _ (no_lines (send_faults user.value b) _)
+lines_told b at (command.Log text) = told _ _ refl
+lines_told b at command.Monitor = told _ _ refl
+lines_told b at command.StopMonitor = told _ _ refl
+lines_told b at command.Halt = told _ _ (no_lines (halt_faults b) _)
+lines_told b at (command.Logon id password) = told _ _ refl
+lines_told b at command.Logoff = told _ _ refl
+
+pub tell_their_lines : CommandsTellTheirLines
+tell_their_lines s c k why lines rule new acts =
+    let given : lines ≡ filter (shown s c) acts.act.lines = search (rules, acts.answered) in
+    given ∙ ap (filter (shown s c)) (lines_told s.board c.name k acts.act acts.makes)
+
+pub go_by_name : BoardsGoByName
+go_by_name b order = record { units = order.units; devices = order.devices; consoles = order.consoles; replies = order.replies }

@@ -1,0 +1,394 @@
+//! What the access machine means to those who use it, each law as what a call without a body ensures.
+ghost use Rattle.opc_machine_laws.specs.ActingLaws.{AutoConsolesActForTheirOwn, OptionalConsolesActAlone, OtherAutoConsolesActAlone, OthersAreAccountedToNobody, RequiredConsolesActForNobody, WhoIsOnComesFirst};
+ghost use Rattle.opc_machine_laws.specs.ChangingLaws.{AccountIsPaged, AdministersOnlyWhereAllowed, AdministersWhereverAllowed, ImportsOnlyWhereAllowed, ImportsWhereverAllowed, ListsAccountOnlyWhereShown, ListsAccountWhereverShown, ListsExactlyProfilesShown, ListsProfilesWhereverAsked, MoreSpecificProfilesComeFirst, RepeatsWhereverAllowed, SameRowsAreEqual};
+ghost use Rattle.opc_machine_laws.specs.DisplayLaws.{LinesAreAboutWhatTheyList, ListsEachConsoleOnce, ListsEachUnitOnce, ListsEveryConsole, ListsEveryUnit, ListsTheUnit, ListsTheUnitOnce};
+ghost use Rattle.opc_machine_laws.specs.FaultLaws.{AdministrationFaultsAreAnswered, BadLinesAreAnswered, ChangedBatchesAreAnswered, ImportFaultsAreAnswered, LogonFaultsAreAnswered, MissingConsolesAreAnswered, MissingRightsAreAnswered, OfflineConsolesAreAnswered};
+ghost use Rattle.opc_machine_laws.specs.HoldingLaws.{ConsoleEntriesRaise, ConsolesNeverLower, EntriesCountAtTheirConsole, FirstSourceDecides, LevelsAreGiven, RestrictedUsersAreNamed};
+ghost use Rattle.opc_machine_laws.specs.Laws.{ActsOnlyWhereAllowed, ActsWhereverAllowed, BoardFaultsAreAnswered, DenialsAreAnswered, GivenUpChangesNothing, GivenUpWithoutMemoryOrStore, ListsExactlyWhatMayBeShown, LogsOffOnlyWhereSomebodyIsOn, LogsOffWhereverSomebodyIsOn, LogsOnOnlyWhereAllowed, LogsOnWhereverAllowed, NothingAskedChangesNothing, OnlyWhatIsHeardIsDone, RefusalsChangeNothing, RefusalsNameNoOtherRule, RefusalsOfAuthorityNameTheirRule, RequestsAreJudgedInTurn};
+ghost use Rattle.opc_machine_laws.specs.LeavingLaws.{AccountRowsTell, EventFaultsAreAnswered, EventsHappenWhereverPossible, EventsOnlyDoTheirEffect, RequestsNameTheirConsole, WhatIsDoneLeavesRest};
+ghost use Rattle.opc_machine_laws.specs.NeedLaws.{AuthoritiesEnterTheirGroups, NeedsAreOfTheTable};
+ghost use Rattle.opc_machine_laws.specs.NumberLaws.{BoardFaultsAreToldApart, LineFaultsAreToldApart};
+ghost use Rattle.opc_machine_laws.specs.ObstacleLaws.{ObstaclesAreFaults, OperationsAreDoneWithoutObstacle};
+ghost use Rattle.opc_machine_laws.specs.RightLaws.{AccountIsSeenByAuditors, ImportsAreOfSpecial, ProfilesAreSeenByReaders, RightsAreOfSpecialAndOwners};
+ghost use Rattle.opc_machine_laws.specs.RulingLaws.{LogonRuleSaysWhy, LogonRulingsSayWhy, RulingsSayWhy};
+ghost use Rattle.opc_machine_laws.specs.TakingLaws.{BatchesAreFoundByNumber, FirstPoliciesAreFirst, OperationsDoWhatTheySay, OperationsKeepAMaster, RowsAreTakenInTurn};
+
+/// A command acts only where the written policy of that moment allows it.
+pub fn acts_only_where_allowed()
+    ensures { ActsOnlyWhereAllowed }
+{}
+
+/// A command acts wherever the written policy of that moment allows it, unless the board is in the way or the request
+/// is given up.
+pub fn acts_wherever_allowed()
+    ensures { ActsWhereverAllowed }
+{}
+
+/// Nothing else that is typed is done: only a line that is heard, of a command that needs something, or of LOGON or LOGOFF.
+pub fn only_what_is_heard_is_done()
+    ensures { OnlyWhatIsHeardIsDone }
+{}
+
+/// What a command needs is that of the table, and goes by the kind of the unit that C, FORCE, P and F name.
+pub fn needs_are_of_the_table()
+    ensures { NeedsAreOfTheTable }
+{}
+
+/// A console enters the command groups of its authority's row in the table, and no other.
+pub fn authorities_enter_their_groups()
+    ensures { AuthoritiesEnterTheirGroups }
+{}
+
+/// Each request of a list is judged by the state that those before it leave.
+pub fn requests_are_judged_in_turn()
+    ensures { RequestsAreJudgedInTurn }
+{}
+
+/// Where nothing is asked nothing is answered, and nothing changes.
+pub fn nothing_asked_changes_nothing()
+    ensures { NothingAskedChangesNothing }
+{}
+
+/// A unit's or a console's line is listed exactly where the written policy of that moment lets it be shown.
+pub fn lists_exactly_what_may_be_shown()
+    ensures { ListsExactlyWhatMayBeShown }
+{}
+
+/// The line of a unit or a console is about it, is shown where READ on its resource is allowed, and a plain one always is.
+pub fn lines_are_about_what_they_list()
+    ensures { LinesAreAboutWhatTheyList }
+{}
+
+/// `D A,L` lists every unit that may be shown,
+pub fn lists_every_unit()
+    ensures { ListsEveryUnit }
+{}
+
+/// `D A` with a name has a line for that unit alone.
+pub fn lists_the_unit()
+    ensures { ListsTheUnit }
+{}
+
+/// `D C` has a line for every console.
+pub fn lists_every_console()
+    ensures { ListsEveryConsole }
+{}
+
+/// They list each of these once, in the order of the board.
+pub fn displays_list_each_once()
+    ensures units { ListsEachUnitOnce }
+    ensures unit { ListsTheUnitOnce }
+    ensures consoles { ListsEachConsoleOnce }
+{}
+
+/// A user is logged on only where nobody is on, the password is the user's, and the written policy of that moment
+/// allows it.
+pub fn logs_on_only_where_allowed()
+    ensures { LogsOnOnlyWhereAllowed }
+{}
+
+/// A user is logged on wherever all that holds, unless the request is given up.
+pub fn logs_on_wherever_allowed()
+    ensures { LogsOnWhereverAllowed }
+{}
+
+/// LOGOFF is done only where somebody is on.
+pub fn logs_off_only_where_somebody_is_on()
+    ensures { LogsOffOnlyWhereSomebodyIsOn }
+{}
+
+/// LOGOFF is done wherever somebody is on, unless the request is given up.
+pub fn logs_off_wherever_somebody_is_on()
+    ensures { LogsOffWhereverSomebodyIsOn }
+{}
+
+/// Administration is done only where the written policy of that moment gives the right.
+pub fn administers_only_where_allowed()
+    ensures { AdministersOnlyWhereAllowed }
+{}
+
+/// Administration is done wherever the written policy of that moment gives the right, unless something is in the way or
+/// the request is given up.
+pub fn administers_wherever_allowed()
+    ensures { AdministersWhereverAllowed }
+{}
+
+/// The right to administer: of SPECIAL, or of the owner of the profile that is altered, deleted or permitted.
+pub fn rights_are_of_special_and_owners()
+    ensures { RightsAreOfSpecialAndOwners }
+{}
+
+/// An operation does what it says and nothing else, and leaves an online console with AUTH MASTER where there is one.
+pub fn operations_do_what_they_say()
+    ensures done { OperationsDoWhatTheySay }
+    ensures master { OperationsKeepAMaster }
+{}
+
+/// Each operation is refused by the first of what is in its way (E52, E53, E55), and without any is done, unless the last
+/// online console with AUTH MASTER were lost (E41).
+pub fn operations_are_refused_by_what_is_in_their_way()
+    ensures refused { ObstaclesAreFaults }
+    ensures done { OperationsAreDoneWithoutObstacle }
+{}
+
+/// A profile's line is listed exactly where the written policy of that moment lets it be shown.
+pub fn lists_exactly_profiles_shown()
+    ensures { ListsExactlyProfilesShown }
+{}
+
+/// Profiles are listed wherever somebody may ask, unless the request is given up.
+pub fn lists_profiles_wherever_asked()
+    ensures { ListsProfilesWhereverAsked }
+{}
+
+/// A profile may be shown to SPECIAL, AUDITOR, its owner and whoever holds READ in it,
+pub fn profiles_are_seen_by_readers()
+    ensures { ProfilesAreSeenByReaders }
+{}
+
+/// and of two of a class that are listed the more specific comes first.
+pub fn more_specific_profiles_come_first()
+    ensures { MoreSpecificProfilesComeFirst }
+{}
+
+/// The account is listed only where the written policy of that moment lets it be shown.
+pub fn lists_account_only_where_shown()
+    ensures { ListsAccountOnlyWhereShown }
+{}
+
+/// The account is listed wherever it may be shown, unless the request is given up.
+pub fn lists_account_wherever_shown()
+    ensures { ListsAccountWhereverShown }
+{}
+
+/// The n-th line of such a list is the row that was asked for or the n-th from there, with its number; there are as many as
+/// were asked for, or as there are rows.
+pub fn account_is_paged()
+    ensures { AccountIsPaged }
+{}
+
+/// The account may be shown to SPECIAL and AUDITOR.
+pub fn account_is_seen_by_auditors()
+    ensures { AccountIsSeenByAuditors }
+{}
+
+/// Only where whoever acts has SPECIAL is anything imported.
+pub fn imports_are_of_special()
+    ensures { ImportsAreOfSpecial }
+{}
+
+/// An import is done only for SPECIAL, and in whole.
+pub fn imports_only_where_allowed()
+    ensures { ImportsOnlyWhereAllowed }
+{}
+
+/// An import with a new number is done wherever SPECIAL asks, unless a row is refused or the request is given up,
+pub fn imports_wherever_allowed()
+    ensures { ImportsWhereverAllowed }
+{}
+
+/// and one that is kept with the same rows changes nothing.
+pub fn repeats_wherever_allowed()
+    ensures { RepeatsWhereverAllowed }
+{}
+
+/// Two batches are the same where their rows are equal.
+pub fn same_rows_are_equal()
+    ensures { SameRowsAreEqual }
+{}
+
+/// The rows of an import are taken one after another, each by what those before it leave, and all of them.
+pub fn rows_are_taken_in_turn()
+    ensures { RowsAreTakenInTurn }
+{}
+
+/// A first policy is taken as these rows are, and only where no user is stored (E57).
+pub fn first_policies_are_first()
+    ensures { FirstPoliciesAreFirst }
+{}
+
+/// The batch of a number is found exactly where one is kept.
+pub fn batches_are_found_by_number()
+    ensures { BatchesAreFoundByNumber }
+{}
+
+/// A refusal changes nothing but the account, to which it adds its row.
+pub fn refusals_change_nothing()
+    ensures { RefusalsChangeNothing }
+{}
+
+/// A request that is given up changes nothing, not even the account.
+pub fn given_up_changes_nothing()
+    ensures { GivenUpChangesNothing }
+{}
+
+/// A request is given up where memory is refused (E90) or because the store failed (E91), and is answered so.
+pub fn given_up_without_memory_or_store()
+    ensures { GivenUpWithoutMemoryOrStore }
+{}
+
+/// A refusal of authority names its rule, a profile, a console's group or the logon rule, and that rule denies by the
+/// written policy of that moment.
+pub fn refusals_of_authority_name_their_rule()
+    ensures { RefusalsOfAuthorityNameTheirRule }
+{}
+
+/// No refusal names another rule than one that denies, or that allowed what the board refused.
+pub fn refusals_name_no_other_rule()
+    ensures { RefusalsNameNoOtherRule }
+{}
+
+/// What the written policy of that moment denies is answered by that denial and its rule, unless the request is given up.
+pub fn denials_are_answered()
+    ensures { DenialsAreAnswered }
+{}
+
+/// Where the board is in the way of what is allowed, its fault is answered with the rule that allowed it.
+pub fn board_faults_are_answered()
+    ensures { BoardFaultsAreAnswered }
+{}
+
+/// At a console that is not there (E10) or offline (E11) nothing is asked.
+pub fn missing_consoles_are_answered()
+    ensures missing { MissingConsolesAreAnswered }
+    ensures offline { OfflineConsolesAreAnswered }
+{}
+
+/// A line that is no command is refused by its first fault.
+pub fn bad_lines_are_answered()
+    ensures { BadLinesAreAnswered }
+{}
+
+/// What is in the way on the board, and what is wrong with a line, is told by its number, and no two are told alike.
+pub fn faults_are_told_apart()
+    ensures board { BoardFaultsAreToldApart }
+    ensures line { LineFaultsAreToldApart }
+{}
+
+/// A LOGON is refused where somebody is on (E15), then where the password is not the user's (E14); LOGOFF where nobody is on
+/// (E16).
+pub fn logon_faults_are_answered()
+    ensures { LogonFaultsAreAnswered }
+{}
+
+/// Where the right is missing, that alone is answered, whatever else is in the way: that only SPECIAL may (E50), or only the
+/// owner of the profile too (E51).
+pub fn missing_rights_are_answered()
+    ensures { MissingRightsAreAnswered }
+{}
+
+/// Where the right is there, what is in the way of the change or of a row is answered, and of a batch that is kept with other
+/// rows that it is (E56).
+pub fn what_is_in_the_way_is_answered()
+    ensures administration { AdministrationFaultsAreAnswered }
+    ensures rows { ImportFaultsAreAnswered }
+    ensures batch { ChangedBatchesAreAnswered }
+{}
+
+/// What is done leaves the account and the batches as they are. Its row is added exactly where a warning alone let it
+/// pass, and an import keeps its batch.
+pub fn what_is_done_leaves_the_rest()
+    ensures { WhatIsDoneLeavesRest }
+{}
+
+/// A row of the account tells the moment, the console, what came of it and by which rule.
+pub fn account_rows_tell()
+    ensures { AccountRowsTell }
+{}
+
+/// A request names the console at which it is asked, and an event none.
+pub fn requests_name_their_console()
+    ensures { RequestsNameTheirConsole }
+{}
+
+/// An event changes the board by its effect, and nothing else.
+pub fn events_only_do_their_effect()
+    ensures { EventsOnlyDoTheirEffect }
+{}
+
+/// It happens wherever the board lets it, unless it is given up,
+pub fn events_happen_wherever_possible()
+    ensures { EventsHappenWhereverPossible }
+{}
+
+/// and is else refused by the board's fault.
+pub fn event_faults_are_answered()
+    ensures { EventFaultsAreAnswered }
+{}
+
+/// The logon rule denies where nobody is on at a REQUIRED console, and then where whoever acts is revoked.
+pub fn logon_rule_says_why()
+    ensures { LogonRuleSaysWhy }
+{}
+
+/// A ruling is that of the logon rule, else that of the profile of OPERCMDS that decides on whoever acts, else that of the
+/// console's authority.
+pub fn rulings_say_why()
+    ensures { RulingsSayWhy }
+{}
+
+/// Whoever logs on is refused where revoked, then ruled on by the profile of CONSOLE that decides, and else let on.
+pub fn logon_rulings_say_why()
+    ensures { LogonRulingsSayWhy }
+{}
+
+/// A level above NONE is held by an entry for the user, at every console or at this one, or by the universal access.
+pub fn levels_are_given()
+    ensures { LevelsAreGiven }
+{}
+
+/// An entry for a console never lowers what a user holds there,
+pub fn consoles_never_lower()
+    ensures { ConsolesNeverLower }
+{}
+
+/// and the first source among those for a console raises it there to its level.
+pub fn console_entries_raise()
+    ensures { ConsoleEntriesRaise }
+{}
+
+/// An entry for a console counts there alone.
+pub fn entries_count_at_their_console()
+    ensures { EntriesCountAtTheirConsole }
+{}
+
+/// A RESTRICTED user has nothing of what is given everyone: neither by `*` nor by universal access.
+pub fn restricted_users_are_named()
+    ensures { RestrictedUsersAreNamed }
+{}
+
+/// The user's own entry decides, then those for the user's groups, then that for everyone, then the universal access: the
+/// first that is there, also where it says NONE.
+pub fn the_first_source_decides()
+    ensures { FirstSourceDecides }
+{}
+
+/// An AUTO console where nobody is on acts for the user of its own name,
+pub fn auto_consoles_act_for_their_own()
+    ensures { AutoConsolesActForTheirOwn }
+{}
+
+/// and for nobody where no such user is stored.
+pub fn other_auto_consoles_act_alone()
+    ensures { OtherAutoConsolesActAlone }
+{}
+
+/// An OPTIONAL console where nobody is on acts for nobody.
+pub fn optional_consoles_act_alone()
+    ensures { OptionalConsolesActAlone }
+{}
+
+/// A REQUIRED console where nobody is on acts for nobody.
+pub fn required_consoles_act_for_nobody()
+    ensures { RequiredConsolesActForNobody }
+{}
+
+/// A console of any mode acts for the user who is on there.
+pub fn who_is_on_comes_first()
+    ensures { WhoIsOnComesFirst }
+{}
+
+/// What is asked at no console, or at one that is not there, is accounted to nobody.
+pub fn others_are_accounted_to_nobody()
+    ensures { OthersAreAccountedToNobody }
+{}

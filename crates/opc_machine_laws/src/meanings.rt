@@ -1,0 +1,90 @@
+//! What tables, tests and texts mean, to those who read them.
+ghost use Rattle.opc_machine_laws.specs.DisplayLaws.{BoardsGoByName, CommandsTellTheirLines};
+ghost use Rattle.opc_machine_laws.specs.HoldingLaws.{EachGroupCounts, LevelsIncludeThoseBelow};
+ghost use Rattle.opc_machine_laws.specs.LeavingLaws.{RequestsAreAsked};
+ghost use Rattle.opc_machine_laws.specs.NeedLaws.{CommandsNeedSo};
+ghost use Rattle.opc_machine_laws.specs.NumberLaws.{FaultsHaveTheirNumbers};
+ghost use Rattle.opc_machine_laws.specs.ReadingLaws.{LinesAreReadSo};
+ghost use Rattle.opc_machine_laws.specs.RowLaws.{BatchesAreKept};
+ghost use Rattle.opc_machine_laws.specs.SpecificLaws.{NarrowerComesFirst, PatternsCoverSo};
+ghost use Rattle.opc_machine_laws.specs.StoredLaws.{ConnectsConnect, NamedIsWhoIsNamed, OnIsWhoIsOn, StoredIsWhatIsThere};
+ghost use Rattle.opc_machine_laws.specs.TellingLaws.{LinesReadSo, RulesReadSo, SpellingsReadBack, TypedTextsSay, VerbsAreSpelledSo, WordsReadSo};
+
+/// What each command needs: a group, a level and a resource, which names the unit that is there.
+pub fn commands_need_so()
+    ensures { CommandsNeedSo }
+{}
+
+/// Where two patterns differ first, the one comes before whose character, `%`, `*` or `**` stands for less.
+pub fn narrower_patterns_come_first()
+    ensures { NarrowerComesFirst }
+{}
+
+/// Worked examples of what patterns cover, and of what they do not.
+pub fn patterns_cover_so()
+    ensures { PatternsCoverSo }
+{}
+
+/// Of a user's groups each counts: a user without an own entry holds at least what an entry for a group gives.
+pub fn each_group_counts()
+    ensures { EachGroupCounts }
+{}
+
+/// A level includes itself and those below it, in the order NONE, READ, UPDATE, CONTROL, ALTER.
+pub fn levels_include_those_below()
+    ensures { LevelsIncludeThoseBelow }
+{}
+
+/// What is taken as stored is stored: users, groups and whom entries may be for, connects and the groups of a user, who is named
+/// anywhere, and who is on.
+pub fn stored_is_what_is_there()
+    ensures names { StoredIsWhatIsThere }
+    ensures connects { ConnectsConnect }
+    ensures named { NamedIsWhoIsNamed }
+    ensures on { OnIsWhoIsOn }
+{}
+
+/// A batch that is kept is found by its number from then on, and each other one as before.
+pub fn batches_are_kept()
+    ensures { BatchesAreKept }
+{}
+
+/// A display lists what the board has, in its order, R tells the reply that it answers, and no other command tells anything.
+pub fn commands_tell_their_lines()
+    ensures { CommandsTellTheirLines }
+{}
+
+/// Each fault has its number.
+pub fn faults_have_their_numbers()
+    ensures { FaultsHaveTheirNumbers }
+{}
+
+/// Each level, class, authority and mode is read back from its text, each verb has its two words, and a typed text says what
+/// stands between its apostrophes.
+pub fn what_is_read_is_what_is_written()
+    ensures spellings { SpellingsReadBack }
+    ensures verbs { VerbsAreSpelledSo }
+    ensures texts { TypedTextsSay }
+{}
+
+/// Worked examples of the text of each rule, of the words in it, and of each kind of line.
+pub fn rules_and_lines_read_so()
+    ensures rules { RulesReadSo }
+    ensures words { WordsReadSo }
+    ensures lines { LinesReadSo }
+{}
+
+/// A board that is in order goes by names and numbers.
+pub fn boards_go_by_name()
+    ensures { BoardsGoByName }
+{}
+
+/// What the machine is asked is the request, as it was sent.
+pub fn requests_are_asked()
+    ensures { RequestsAreAsked }
+{}
+
+/// A worked example of each command, as it is typed and as it is read.
+pub fn lines_are_read_so()
+    ensures { LinesAreReadSo }
+{}

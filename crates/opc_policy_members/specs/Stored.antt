@@ -1,0 +1,20 @@
+-- How a policy is kept in memory.
+use Rattle.std.specs.Prelude.{◌≡◌, ℕ, List}
+use Rattle.std.specs.List.{AllByRecursion}
+use Rattle.opc_names.specs.Names.{IsPattern}
+use Rattle.opc_names.specs.Order.{sort_key}
+use Rattle.opc_names.specs.declared.class.Class.{Class}
+use Rattle.opc_policy_members.specs.declared.profile.Profile.{Profile}
+use Rattle.opc_policy_members.specs.declared.user.User.{User}
+
+-- each user is at its id
+abbrev pub AreById : List (List ℕ × User) → Type 0
+AreById entries = AllByRecursion (λ (e : List ℕ × User). e.0 ≡ e.1.id) entries
+
+-- a profile is at its class and sort key
+abbrev pub IsAtItsKey : (Class × List ℕ) × Profile → Type 0
+IsAtItsKey e = (e.0.0 ≡ e.1.class) × (e.0.1 ≡ sort_key e.1.pattern) × IsPattern e.1.pattern
+
+-- each profile is at its key
+abbrev pub AreByKey : List ((Class × List ℕ) × Profile) → Type 0
+AreByKey entries = AllByRecursion IsAtItsKey entries

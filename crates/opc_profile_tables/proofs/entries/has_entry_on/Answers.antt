@@ -1,9 +1,0 @@
-use Rattle.opc_statements.proofs.Asked.{never_writes}
-use Rattle.opc_profile_tables.proofs.EntryLoads.{any_entry_asked, any_entry_told}
-use Rattle.opc_profile_tables.proofs.entries.has_entry_on.Goals as goal
-
-pub is_there_on-requires-clause-quiet : goal.is_there_on-requires-clause-quiet
-is_there_on-requires-clause-quiet g c = never_writes any_entry_asked
-
-pub returns-clause-found : goal.returns-clause-found
-returns-clause-found g c clean s was = c.is_there_on.ensures.found clean _ (λ rows shown. any_entry_told _ _ s was c.args.user.now rows (rw (c.params-to_sql.ensures, c.text.ensures.text) at shown))

@@ -1,8 +1,0 @@
-use Rattle.std.proofs.Common.{◌≡◌, map, take, List}
-use Rattle.opc_policy.specs.declared.profile.Profile.{Profile}
-use Rattle.opc_stored.specs.Represented.{profile_row}
-use Rattle.opc_profile_tables.specs.Lists.{HaveLists}
-use Rattle.opc_profile_tables.proofs.lists.whole_in.Given as goal
-
-abbrev pub invariant-loop-row : goal.invariant-loop-row
-invariant-loop-row l = (profiles : List Profile) → HaveLists l.entries profiles → l.rows ≡ map profile_row profiles → l.profiles.items ≡ take l.row-index profiles

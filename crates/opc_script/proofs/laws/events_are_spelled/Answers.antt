@@ -1,5 +1,0 @@
-use Rattle.opc_script.proofs.Spelled.{spelled}
-use Rattle.opc_script.proofs.laws.events_are_spelled.Goals as goal
-
-pub returns : goal.returns
-returns c = spelled

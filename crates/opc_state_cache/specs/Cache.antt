@@ -1,0 +1,70 @@
+-- Which pattern decides a name, and what a cache of it may keep.
+use Rattle.std.specs.Prelude.{◌≡◌, ◌⊎◌, ℕ, Bool, true, false, ◌&&◌, if◌then◌else◌, List, [], ◌∷◌, Option, Contains}
+use Rattle.std.specs.List.{list_any}
+use Rattle.std.specs.Option.{is_none, option_map}
+use Rattle.std.specs.Str.{bytes_eq}
+use Rattle.lru.specs.LruCache.{lru_cache, put_entries}
+use Rattle.opc_names.specs.Authority.{same_class}
+use Rattle.opc_names.specs.declared.class.Class.{Class}
+use Rattle.opc_policy_members.specs.declared.policy.Policy.{Policy}
+use Rattle.opc_policy_members.specs.declared.profile.Profile.{Profile}
+use Rattle.opc_policy_members.specs.Profiles.{profile_of}
+use Rattle.opc_state.specs.declared.change.Edit.{Edit}
+use Rattle.opc_state.specs.declared.change.Edit.TheVariants as edit
+use Rattle.opc_state.specs.Facts.{IsKeyed}
+use Rattle.opc_state.specs.State.{State, deciding_in}
+
+-- a class and a resource
+abbrev pub Name : Type 0
+Name = Class × List ℕ
+
+-- names with the pattern that decides each, or none, the most recently used first
+abbrev pub Entries : Type 0
+Entries = List (Name × Option (List ℕ))
+
+abbrev pub same_name : Name → Name → Bool
+same_name name other = same_class name.0 other.0 && bytes_eq name.1 other.1
+
+abbrev pub pattern_of : Profile → List ℕ
+pattern_of p = p.pattern
+
+-- the pattern of the profile that decides, if one does
+abbrev pub deciding_pattern : Policy → Name → Option (List ℕ)
+deciding_pattern p name = option_map pattern_of (deciding_in p name.0 name.1)
+
+-- Each cached name has the pattern that decides it, or none where none does.
+abbrev pub IsRight : Policy → Entries → Type 0
+IsRight p entries = (e : Name × Option (List ℕ)) → Contains entries e → e.1 ≡ deciding_pattern p e.0
+
+-- Tables represent a state, and what is cached of it is right. Where anything is cached the state is in the order of its
+-- keys, so that its profiles are found by their patterns.
+pub record IsCached {T : Type 0} (represents : T → State → Type 0) (tables : T) (entries : Entries) (s : State) : Type 0 where
+  pub represented : represents tables s
+  pub right : IsRight s.policy entries
+  pub keyed : (e : Name × Option (List ℕ)) → Contains entries e → IsKeyed s
+
+-- One more name is kept, or memory was refused for it.
+abbrev pub IsKeptWith : Entries → Entries → Name → Option (List ℕ) → Type 0
+IsKeptWith old new name pattern = (new ≡ old) ⊎ (new ≡ put_entries same_name (lru_cache old 256) name pattern)
+
+-- the edits of profiles, and an import
+abbrev pub redefines : Edit → Bool
+redefines (edit.PutProfile profile) = true
+redefines (edit.RemoveProfile class pattern) = true
+redefines (edit.PutBatch batch) = true
+redefines other = false
+
+-- one edit alone: a profile that is there may be put again
+abbrev pub redefines_alone : Policy → Edit → Bool
+redefines_alone p (edit.PutProfile profile) = is_none (profile_of p.profiles profile.class profile.pattern)
+redefines_alone p other = redefines other
+
+-- whether edits may change which profile decides
+abbrev pub may_redecide : Policy → List Edit → Bool
+may_redecide p [] = false
+may_redecide p (e ∷ []) = redefines_alone p e
+may_redecide p (e ∷ (f ∷ more)) = list_any redefines (e ∷ f ∷ more)
+
+-- what is cached as these edits are made: all of it, or nothing
+abbrev pub remembered : Policy → List Edit → Entries → Entries
+remembered p edits entries = if may_redecide p edits then [] else entries

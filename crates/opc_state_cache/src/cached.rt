@@ -1,0 +1,171 @@
+//! Tables with a cache of which profile decides.
+ghost use Rattle.std.specs.Prelude.{◌≡◌, ◌≤◌, [], IfErr, IfOk, OnErr, None, length};
+ghost use Rattle.std.specs.List.{list_any};
+ghost use Rattle.std.specs.Option.{option_and_then, option_map};
+ghost use Rattle.opc_terms.specs.declared.fault.Fault.TheVariants as why;
+ghost use Rattle.opc_policy_members.specs.Profiles.{profile_of};
+ghost use Rattle.opc_state.specs.Asked.{Answers};
+ghost use Rattle.opc_state.specs.Changes.{IsKept};
+ghost use Rattle.opc_state.specs.Facts.{IsKeyed};
+ghost use Rattle.opc_state.specs.Loads.{bare};
+ghost use Rattle.opc_state.specs.State.{deciding_in};
+ghost use Rattle.opc_state_cache.specs.Cache.{IsKeptWith, may_redecide, pattern_of, redefines, redefines_alone, remembered};
+
+use crate::recent::Recent;
+use opc_policy::search::Found;
+use opc_names::class::Class;
+use opc_names::name::{Pattern, Resource};
+use opc_policy_members::profile::Profile;
+use opc_state::change::{Change, Edit};
+use opc_state::tables::Tables;
+use opc_terms::fault::Fault;
+use opc_terms::store_fault::StoreFault;
+use std::alloc::Global;
+
+/// Tables that know which profile decides the names that were asked most recently. What they answer is what the tables
+/// answer.
+#[derive(Drop)]
+pub struct Cached<T: Tables> {
+    pub(crate) tables: T,
+    pub(crate) recent: Recent,
+}
+
+impl<T: Tables> Cached<T> {
+    /// These tables, with nothing cached yet. Where memory is refused (E90) they are handed back.
+    pub fn new(alloc: Global, tables: T) -> Result<Self, (Fault, T)>
+        ensures made { IfOk result (λ cached. (cached.tables ≡ tables) × (cached.recent ≡ [])) }
+        ensures refused { IfErr result (λ back. (back.0 ≡ why.NoMemory) × (back.1 ≡ tables)) }
+    {
+        match Recent::new(alloc) {
+            Ok(recent) => Ok(Cached { tables, recent }),
+            Err(_) => Err((Fault::NoMemory, tables)),
+        }
+    }
+
+    /// How many names are cached, 256 at most.
+    pub fn cached(&self) -> u32
+        ensures count { result ≡ length self.now.recent }
+        ensures most { result ≤ 256 }
+    {
+        self.recent.len()
+    }
+
+    /// The tables, as they are.
+    pub fn into_tables(self) -> T
+        ensures { result ≡ self.tables }
+    {
+        self.tables
+    }
+
+    /// Asks the tables which profile decides, and keeps that.
+    pub(crate) fn search(
+        &mut self,
+        alloc: Global,
+        class: Class,
+        resource: &Resource,
+    ) -> Result<Found, StoreFault>
+        ensures kept { IsKept T.is_sure T.represents T.may_leave self.old.tables self.new.tables }
+        ensures found { Answers (T.is_sure self.new.tables) (T.represents self.old.tables) result (λ s found. found.profile ≡ option_map bare (deciding_in s.policy class resource.now)) }
+        ensures keyed { Answers (T.is_sure self.new.tables) (T.represents self.old.tables) result (λ s _. IsKeyed s) }
+        ensures keeps { IfOk result (λ found. IsKeptWith self.old.recent self.new.recent (class, resource.now) (option_map pattern_of found.profile)) }
+        ensures failed { OnErr result (self.new.recent ≡ self.old.recent) }
+    {
+        let found = self.tables.deciding(alloc, class, resource)?;
+        self.recent.put(class, resource, pattern_of(&found.profile));
+        Ok(found)
+    }
+
+    /// Forgets all names before a change that may change which profile decides. Before the commit, since afterwards the
+    /// cache would be stale when a commit succeeded but could not report success.
+    pub(crate) fn forget_before(&mut self, alloc: Global, change: &Change) -> Result<(), StoreFault>
+        ensures kept { IsKept T.is_sure T.represents T.may_leave self.old.tables self.new.tables }
+        ensures forgets { Answers (T.is_sure self.new.tables) (T.represents self.old.tables) result (λ s _. self.new.recent ≡ remembered s.policy change.now.edits.items self.old.recent) }
+        ensures failed { OnErr result (self.new.recent ≡ self.old.recent) }
+    {
+        if may_redecide(&mut self.tables, alloc, change.edits.as_slice())? {
+            self.recent.clear();
+        }
+        Ok(())
+    }
+}
+
+fn pattern_of(profile: &Option<Profile>) -> Option<Pattern>
+    ensures { result ≡ option_map pattern_of profile.now }
+{
+    match profile {
+        Some(profile) => Some(profile.pattern),
+        None => None,
+    }
+}
+
+/// The profile of a pattern that is known to decide, or none where none does. A hit loads the profile by its key. That
+/// it is found there rests on the order of the keys, which the search gives with its answer and the cache keeps.
+pub(crate) fn known<T: Tables>(
+    tables: &mut T,
+    alloc: Global,
+    class: Class,
+    pattern: Option<Pattern>,
+) -> Result<Found, StoreFault>
+    ensures kept { IsKept T.is_sure T.represents T.may_leave tables.old tables.new }
+    ensures found { Answers (T.is_sure tables.new) (T.represents tables.old) result (λ s found. found.profile ≡ option_map bare (option_and_then (profile_of s.policy.profiles class) pattern)) }
+{
+    let profile = match pattern {
+        Some(pattern) => tables.definition(alloc, class, &pattern)?,
+        None => None,
+    };
+    Ok(Found {
+        profile,
+        ranges: 0,
+        rows: 0,
+    })
+}
+
+fn redefines(edit: &Edit) -> bool
+    ensures { result ≡ redefines edit.now }
+{
+    matches!(
+        edit,
+        Edit::PutProfile(_) | Edit::RemoveProfile(..) | Edit::PutBatch(_)
+    )
+}
+
+fn any_redefines(edits: &[Edit]) -> bool
+    ensures { result ≡ list_any redefines edits.now }
+{
+    edits.iter().any(redefines)
+}
+
+// A profile that is defined anew decides what it decided.
+fn redefines_alone<T: Tables>(
+    tables: &mut T,
+    alloc: Global,
+    edit: &Edit,
+) -> Result<bool, StoreFault>
+    ensures kept { IsKept T.is_sure T.represents T.may_leave tables.old tables.new }
+    ensures redefines { Answers (T.is_sure tables.new) (T.represents tables.old) result (λ s redefines. redefines ≡ redefines_alone s.policy edit.now) }
+{
+    let Edit::PutProfile(profile) = edit else {
+        return Ok(redefines(edit));
+    };
+    match tables.definition(alloc, profile.class, &profile.pattern)? {
+        Some(_) => Ok(false),
+        None => Ok(true),
+    }
+}
+
+// Whether edits may change which profile decides. Only where there is one are the tables asked: whether a profile that
+// it puts is there is one look-up by its key. A change without a profile asks nothing.
+fn may_redecide<T: Tables>(
+    tables: &mut T,
+    alloc: Global,
+    edits: &[Edit],
+) -> Result<bool, StoreFault>
+    ensures kept { IsKept T.is_sure T.represents T.may_leave tables.old tables.new }
+    ensures redecides { Answers (T.is_sure tables.new) (T.represents tables.old) result (λ s redecides. redecides ≡ may_redecide s.policy edits.now) }
+{
+    match edits {
+        [] => Ok(false),
+        [edit] => redefines_alone(tables, alloc, edit),
+        [_, _, ..] => Ok(any_redefines(edits)),
+    }
+}

@@ -1,0 +1,7 @@
+//! The laws of what tables represent.
+ghost use Rattle.opc_store_schema.specs.Laws.{TablesTellTheState};
+
+/// Tables represent one state alone: no two states have the same rows.
+pub fn tables_tell_the_state()
+    ensures { TablesTellTheState }
+{}

@@ -1,6 +1,0 @@
-use Rattle.std.proofs.Common.{◌∙◌, ◌==◌, ap, length, not}
-use Rattle.opc_stored.proofs.there.is_there_on.Goals as goal
-
-pub returns-clause-found : goal.returns-clause-found
-returns-clause-found g c clean there told =
-    ap not (c.is_empty.ensures ∙ ap (λ l. length l == 0) c.as_slice.ensures.value) ∙ told _ (c.in_ok-rows.ensures.shown clean)

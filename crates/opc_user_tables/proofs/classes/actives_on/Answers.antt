@@ -1,7 +1,0 @@
-use Rattle.opc_statements.proofs.Looking.{looks_as, looks_then}
-use Rattle.opc_user_tables.proofs.classes.actives_on.Goals as goal
-
-pub returns-clause-looks : goal.returns-clause-looks
-returns-clause-looks g c =
-    let both = looks_then g.S.Store _ _ _ _ _ _ _ c.active_on.new.conn _ c.in_ok-console.ensures.looks c.in_ok-opercmds.ensures.looks in
-    looks_as g.S.Store _ _ _ _ _ _ _ _ both

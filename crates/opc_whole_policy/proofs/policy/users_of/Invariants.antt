@@ -1,7 +1,0 @@
-use Rattle.std.proofs.Common.{◌≡◌, take}
-use Rattle.opc_statements.specs.Order.{Rises}
-use Rattle.opc_policy.specs.Members.{user_cmp}
-use Rattle.opc_whole_policy.proofs.policy.users_of.Given as goal
-
-abbrev pub invariant-loop-user : goal.invariant-loop-user
-invariant-loop-user l = Rises user_cmp l.list → l.users ≡ take l.user-index l.list

@@ -1,7 +1,0 @@
-use Rattle.std.proofs.lemmas.Result.{IfOk-weaker}
-use Rattle.opc_words.proofs.CommandLine.{one_option_more}
-use Rattle.opc_words.proofs.command_line.export_command.Goals as goal
-
-pub returns : goal.returns
-returns c =
-    IfOk-weaker c.arg.result _ _ (λ built. one_option_more _ built _ _ _ _ c.command.ensures c.needed.ensures.rule c.needed.ensures.alone) c.arg.ensures

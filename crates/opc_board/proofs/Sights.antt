@@ -1,7 +1,7 @@
 -- A command or an event does on what it sees of a board what it does on the board.
 use Rattle.std.proofs.Common.{true, false, [], Some, None, map, refl, ap}
-use Rattle.opc_reader.specs.declared.command.Command.TheVariants as command
-use Rattle.opc_reader.specs.Quotes.{text_value}
+use Rattle.opc_reader_commands.specs.declared.command.Command.TheVariants as command
+use Rattle.opc_reader_commands.specs.Quotes.{text_value}
 use Rattle.opc_board.specs.declared.event.Event.TheVariants as event
 use Rattle.opc_board.specs.declared.rows.UnitKind.TheVariants.{Stc}
 use Rattle.opc_board.specs.Consoles.{put_offline}

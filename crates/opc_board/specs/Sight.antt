@@ -3,8 +3,8 @@
 use Rattle.std.specs.Prelude.{◌≡◌, ℕ, Bool, true, not, ◌&&◌, List, Ok, Err, filter}
 use Rattle.std.specs.List.{AllByRecursion, list_any}
 use Rattle.opc_rows.specs.Ordered.{Ascends}
-use Rattle.opc_reader.specs.declared.command.Command.{Command}
-use Rattle.opc_reader.specs.declared.command.Command.TheVariants.{DisplayUnits, DisplayUnit, DisplayDevices, DisplayConsoles, DisplayReplies, Cancel, CancelUser, Force, Start, StartAs, Stop, Modify, Reply, VaryDeviceOnline, VaryDeviceOffline, VaryConsoleOnline, VaryConsoleOffline, VaryConsoleAuth, Mount, Unload, Swap, ResetConsole, Send, Log, Monitor, StopMonitor, Halt, Logon, Logoff}
+use Rattle.opc_reader_commands.specs.declared.command.Command.{Command}
+use Rattle.opc_reader_commands.specs.declared.command.Command.TheVariants.{DisplayUnits, DisplayUnit, DisplayDevices, DisplayConsoles, DisplayReplies, Cancel, CancelUser, Force, Start, StartAs, Stop, Modify, Reply, VaryDeviceOnline, VaryDeviceOffline, VaryConsoleOnline, VaryConsoleOffline, VaryConsoleAuth, Mount, Unload, Swap, ResetConsole, Send, Log, Monitor, StopMonitor, Halt, Logon, Logoff}
 use Rattle.opc_board.specs.declared.board.BoardRows.{BoardRows}
 use Rattle.opc_board.specs.declared.event.Event.{Event}
 use Rattle.opc_board.specs.declared.event.Event.TheVariants.{JobIn, JobEnd, Ask, Attach, Allocate, Free, Resume}

@@ -1,6 +1,6 @@
 //! Commands and events on a board.
 ghost use Rattle.std.specs.Prelude.{◌≡◌, ◌≢◌, IfErr, IfOk, IsSome, Err, OnErr, OnOk, true, false};
-ghost use Rattle.opc_reader.specs.Quotes.{text_value};
+ghost use Rattle.opc_reader_commands.specs.Quotes.{text_value};
 ghost use Rattle.opc_board.specs.declared.fault.BoardFault.TheVariants.{NoMemory};
 ghost use Rattle.opc_board.specs.Facts.{console_at, unit_at};
 ghost use Rattle.opc_board.specs.Texts.{lines_of};
@@ -14,7 +14,7 @@ use crate::line::{Line, console_lines, device_lines, lines_of, reply_lines, unit
 use crate::replies::session_of;
 use crate::text::KeptText;
 use opc_names::name::{ConsoleName, UnitName};
-use opc_reader::command::{Command, Text};
+use opc_reader_commands::command::{Command, Text};
 use std::alloc::{AllocError, Global};
 
 // What a text says, to be kept.

@@ -1,6 +1,6 @@
 -- What a line reads as.
 use Rattle.std.proofs.Common.{◌≡◌, ◌↔◌, ℕ, List, Result, Ok, Err, refl, sym}
-use Rattle.opc_reader.specs.declared.command.Command.{Command}
+use Rattle.opc_reader_commands.specs.declared.command.Command.{Command}
 use Rattle.opc_reader.specs.declared.line.ReadFault.{ReadFault}
 use Rattle.opc_reader.specs.Lines.{Reads, IsReadFault}
 use Rattle.opc_reader.specs.Reading.{reading}

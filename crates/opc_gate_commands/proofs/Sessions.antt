@@ -2,8 +2,8 @@
 use Rattle.std.proofs.Common.{◌≡◌, Some, false, refl, rules}
 use Rattle.opc_terms.specs.declared.need.Need.{Need}
 use Rattle.opc_terms.specs.declared.unit_kind.UnitKindAt.{UnitKindAt}
-use Rattle.opc_reader.specs.declared.command.Command.{Command}
-use Rattle.opc_reader.specs.declared.command.Command.TheVariants as command
+use Rattle.opc_reader_commands.specs.declared.command.Command.{Command}
+use Rattle.opc_reader_commands.specs.declared.command.Command.TheVariants as command
 use Rattle.opc_table.specs.Table.{need}
 use Rattle.opc_board.specs.Effect.{is_session_command}
 

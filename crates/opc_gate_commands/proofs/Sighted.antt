@@ -1,7 +1,7 @@
 -- What comes of what a command, an event, a logon or a logoff sees of a state's board comes of the state.
 use Rattle.std.proofs.Common.{◌≡◌, ℕ, List, [], Ok, Err, sym, ap, ◌∙◌}
 use Rattle.std.proofs.lemmas.List.{append-nil}
-use Rattle.opc_reader.specs.declared.command.Command.{Command}
+use Rattle.opc_reader_commands.specs.declared.command.Command.{Command}
 use Rattle.opc_board.specs.declared.board.BoardRows.{BoardRows}
 use Rattle.opc_board.specs.declared.event.Event.{Event}
 use Rattle.opc_board.specs.declared.fault.BoardFault.{BoardFault}

@@ -1,6 +1,6 @@
 -- What commands and events make of the board, as edits of the state.
 use Rattle.std.specs.Prelude.{◌≡◌, ℕ, List, [], Some, filter}
-use Rattle.opc_reader.specs.declared.command.Command.{Command}
+use Rattle.opc_reader_commands.specs.declared.command.Command.{Command}
 use Rattle.opc_terms.specs.declared.rule.Rule.{Rule}
 use Rattle.opc_board.specs.declared.board.BoardRows.{BoardRows}
 use Rattle.opc_board.specs.declared.line.Line.{Line}

@@ -25,7 +25,7 @@ use opc_machine::outcome::{Decided, Deed, Denial, denied, done};
 use opc_names::name::{UnitName, UserId};
 use opc_table::need;
 use opc_policy_members::user::User;
-use opc_reader::command::{Command, Password};
+use opc_reader_commands::command::{Command, Password};
 use opc_reader::line::{ReadFault, read_command};
 use opc_gate_rulings::asking::console_for;
 use opc_gate_rulings::ruling::{Standing, logon_ruling_on, ruling_on, shown_lines, standing_at};

@@ -16,7 +16,7 @@ use opc_board::laws::{histories_only_grow, sights_suffice};
 use opc_board::line::Line;
 use opc_board::rows::ConsoleRow;
 use opc_names::name::{ConsoleName, UserId};
-use opc_reader::command::Command;
+use opc_reader_commands::command::Command;
 use opc_state::change::Edit;
 use opc_state::difference::{copied, difference};
 use std::alloc::{AllocError, Global};

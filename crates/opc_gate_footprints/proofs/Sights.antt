@@ -1,6 +1,6 @@
 -- Parts of a state's board that a command, an event, a logon or a logoff sees.
 use Rattle.std.proofs.Common.{◌≡◌, true, take, Result, Ok, Err, IfOk, ◌∙◌}
-use Rattle.opc_reader.specs.declared.command.Command.{Command}
+use Rattle.opc_reader_commands.specs.declared.command.Command.{Command}
 use Rattle.opc_rows.proofs.Orders.{all_weaker}
 use Rattle.opc_board.specs.declared.board.BoardRows.{BoardRows}
 use Rattle.opc_board.specs.declared.event.Event.{Event}

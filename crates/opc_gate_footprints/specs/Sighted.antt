@@ -1,6 +1,6 @@
 -- The part of a state's board that a command, an event, a logon or a logoff sees.
 use Rattle.std.specs.Prelude.{◌≡◌, ℕ, true}
-use Rattle.opc_reader.specs.declared.command.Command.{Command}
+use Rattle.opc_reader_commands.specs.declared.command.Command.{Command}
 use Rattle.opc_board.specs.declared.board.BoardRows.{BoardRows}
 use Rattle.opc_board.specs.declared.event.Event.{Event}
 use Rattle.opc_board.specs.Enough.{no_rows}

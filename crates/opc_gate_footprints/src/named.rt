@@ -10,7 +10,7 @@ use opc_board::event::Event;
 use opc_board::replies::session_of;
 use opc_names::name::{ConsoleName, Device, UnitName, UserId};
 use opc_names::reply_id::ReplyId;
-use opc_reader::command::Command;
+use opc_reader_commands::command::Command;
 
 /// What a command or an event names on the board or asks about, besides the console where it is typed.
 #[derive(Clone, Copy)]

@@ -17,7 +17,7 @@ use crate::parts::{see_addressed, see_leaving, see_swapped, see_taken, see_varie
 use opc_board::board::{Board, BoardRows};
 use opc_board::event::Event;
 use opc_board::rows::ConsoleRow;
-use opc_reader::command::Command;
+use opc_reader_commands::command::Command;
 use opc_rows::Rows;
 use opc_state::tables::Tables;
 use opc_terms::store_fault::StoreFault;

@@ -5,9 +5,9 @@ use Rattle.std.specs.Option.{is_some}
 use Rattle.opc_names.specs.declared.auth.Auth.{Auth}
 use Rattle.opc_terms.specs.declared.mode.Mode.{Mode}
 use Rattle.opc_policy_members.specs.declared.policy.Policy.{Policy}
-use Rattle.opc_reader.specs.declared.command.Command.{Command}
-use Rattle.opc_reader.specs.declared.command.Command.TheVariants as command
-use Rattle.opc_reader.specs.Quotes.{text_value}
+use Rattle.opc_reader_commands.specs.declared.command.Command.{Command}
+use Rattle.opc_reader_commands.specs.declared.command.Command.TheVariants as command
+use Rattle.opc_reader_commands.specs.Quotes.{text_value}
 use Rattle.opc_rows.specs.Ordered.{put}
 use Rattle.opc_rows.proofs.Orders.{all_changed, all_found, all_put}
 use Rattle.opc_board.specs.declared.board.BoardRows.{BoardRows}

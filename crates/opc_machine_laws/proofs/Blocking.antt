@@ -1,9 +1,9 @@
 -- What is in the way of commands and events on the board.
 use Rattle.std.proofs.Common.{◌≡◌, inl, inr, Bool, true, false, not, ◌++◌, if◌then◌else◌, List, [], ◌∷◌, Option, Some, None, Ok, Err, refl, ap, rules}
 use Rattle.std.specs.Option.{is_none, is_some}
-use Rattle.opc_reader.specs.declared.command.Command.{Command}
-use Rattle.opc_reader.specs.declared.command.Command.TheVariants as command
-use Rattle.opc_reader.specs.Quotes.{text_value}
+use Rattle.opc_reader_commands.specs.declared.command.Command.{Command}
+use Rattle.opc_reader_commands.specs.declared.command.Command.TheVariants as command
+use Rattle.opc_reader_commands.specs.Quotes.{text_value}
 use Rattle.opc_rows.specs.Ordered.{put}
 use Rattle.opc_board.specs.declared.board.BoardRows.{BoardRows}
 use Rattle.opc_board.specs.declared.event.Event.{Event}

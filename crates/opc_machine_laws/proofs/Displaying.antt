@@ -7,7 +7,7 @@ use Rattle.opc_terms.specs.declared.need.Need.{Need}
 use Rattle.opc_terms.specs.declared.rule.Rule.{Rule}
 use Rattle.opc_policy.specs.declared.ruling.Ruling.{Ruling}
 use Rattle.opc_policy.specs.declared.ruling.Ruling.TheVariants.{Allowed, Denied}
-use Rattle.opc_reader.specs.declared.command.Command.TheVariants as command
+use Rattle.opc_reader_commands.specs.declared.command.Command.TheVariants as command
 use Rattle.opc_table.specs.Table.{qualified}
 use Rattle.opc_board.specs.declared.line.Item.{Item}
 use Rattle.opc_board.specs.declared.line.Item.TheVariants as item

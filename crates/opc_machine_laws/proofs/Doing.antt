@@ -3,9 +3,9 @@ use Rattle.std.proofs.Common.{◌≡◌, inl, inr, ℕ, suc, Bool, true, false, 
 use Rattle.std.specs.List.{Contains, list_any}
 use Rattle.std.specs.Option.{is_some}
 use Rattle.opc_terms.specs.declared.need.Need.{Need}
-use Rattle.opc_reader.specs.declared.command.Command.{Command}
-use Rattle.opc_reader.specs.declared.command.Command.TheVariants as command
-use Rattle.opc_reader.specs.Quotes.{text_value}
+use Rattle.opc_reader_commands.specs.declared.command.Command.{Command}
+use Rattle.opc_reader_commands.specs.declared.command.Command.TheVariants as command
+use Rattle.opc_reader_commands.specs.Quotes.{text_value}
 use Rattle.opc_rows.specs.Ordered.{put}
 use Rattle.opc_rows.proofs.Filtered.{find_seen}
 use Rattle.opc_board.specs.declared.board.BoardRows.{BoardRows}

@@ -1,8 +1,8 @@
 -- What is done of what is typed, and in which turn.
 use Rattle.std.proofs.Common.{◌≡◌, ◌⊎◌, inl, inr, List, [], ◌∷◌, Some, refl, ap}
 use Rattle.opc_terms.specs.declared.need.Need.{Need}
-use Rattle.opc_reader.specs.declared.command.Command.{Command}
-use Rattle.opc_reader.specs.declared.command.Command.TheVariants as command
+use Rattle.opc_reader_commands.specs.declared.command.Command.{Command}
+use Rattle.opc_reader_commands.specs.declared.command.Command.TheVariants as command
 use Rattle.opc_reader.specs.Reading.{reading}
 use Rattle.opc_reader.proofs.Exact.{so_reads}
 use Rattle.opc_board.specs.declared.board.BoardRows.{BoardRows}

@@ -11,8 +11,8 @@ use Rattle.opc_policy_members.specs.declared.row.Row.{Row}
 use Rattle.opc_terms.specs.declared.rule.Rule.{Rule}
 use Rattle.opc_terms.specs.declared.rule.Rule.TheVariants as rule
 use Rattle.opc_policy_members.specs.Profiles.{of_class}
-use Rattle.opc_reader.specs.declared.command.Command.{Command}
-use Rattle.opc_reader.specs.declared.command.Command.TheVariants as command
+use Rattle.opc_reader_commands.specs.declared.command.Command.{Command}
+use Rattle.opc_reader_commands.specs.declared.command.Command.TheVariants as command
 use Rattle.opc_board.specs.declared.board.BoardRows.{BoardRows}
 use Rattle.opc_board.specs.declared.event.Event.{Event}
 use Rattle.opc_board.specs.declared.line.Line.{Line}

@@ -5,8 +5,8 @@ use Rattle.opc_terms.specs.declared.fault.Fault.TheVariants as fault
 use Rattle.opc_terms.specs.declared.rule.Rule.{Rule}
 use Rattle.opc_policy.specs.declared.ruling.Ruling.{Ruling}
 use Rattle.opc_policy.specs.declared.ruling.Ruling.TheVariants.{Allowed, Denied}
-use Rattle.opc_reader.specs.declared.command.Command.{Command}
-use Rattle.opc_reader.specs.declared.command.Command.TheVariants as command
+use Rattle.opc_reader_commands.specs.declared.command.Command.{Command}
+use Rattle.opc_reader_commands.specs.declared.command.Command.TheVariants as command
 use Rattle.opc_reader.proofs.Exact.{reads_so}
 use Rattle.opc_board.specs.declared.rows.ConsoleRow.{ConsoleRow}
 use Rattle.opc_board.specs.Consoles.{logged_on, logged_off}

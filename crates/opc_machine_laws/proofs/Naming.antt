@@ -20,9 +20,9 @@ use Rattle.opc_policy_members.specs.Held.{held}
 use Rattle.opc_policy_members.specs.Members.{groups_of}
 use Rattle.opc_policy.specs.Rulings.{verdict, verdict_rule, profile_rule, by_verdict, console_ruling, ruling as policy_ruling}
 use Rattle.opc_policy_members.specs.Taken.{is_active}
-use Rattle.opc_reader.specs.declared.command.Command.{Command}
-use Rattle.opc_reader.specs.declared.command.Command.TheVariants as command
-use Rattle.opc_reader.specs.declared.command.Operand.{Operand}
+use Rattle.opc_reader_commands.specs.declared.command.Command.{Command}
+use Rattle.opc_reader_commands.specs.declared.command.Command.TheVariants as command
+use Rattle.opc_reader_commands.specs.declared.command.Operand.{Operand}
 use Rattle.opc_reader.specs.declared.line.ReadFault.{ReadFault}
 use Rattle.opc_reader.specs.declared.line.ReadFault.TheVariants as line
 use Rattle.opc_reader.specs.Reading.{reading}

@@ -2,7 +2,7 @@
 use Rattle.std.proofs.Common.{◌≡◌, ◌++◌, Option, Some, None, codes, refl, ap}
 use Rattle.opc_names.specs.declared.group.Group.TheVariants.{Master, Sys}
 use Rattle.opc_names.specs.declared.level.Level.TheVariants.{Control, Update}
-use Rattle.opc_reader.specs.declared.command.Command.TheVariants as command
+use Rattle.opc_reader_commands.specs.declared.command.Command.TheVariants as command
 use Rattle.opc_table.specs.Table.{forced, of_unit as of_kind_at}
 use Rattle.opc_board.specs.declared.rows.UnitKind.{UnitKind}
 use Rattle.opc_board.specs.declared.rows.UnitKind.TheVariants.{Job, Stc, Tsu}

@@ -2,7 +2,7 @@
 use Rattle.std.proofs.Common.{refl}
 use Rattle.std.specs.Str.{chars}
 use Rattle.opc_reader.specs.Reading.{any_text, authority, cancel, command, display, force, last_name, log, logon, modify, mount, name, number_prefix, quoted_prefix, quoted_text, reply, reset, send, start, stop, swap, unload, vary, vary_console, vary_device}
-use Rattle.opc_reader.specs.Stretches.{word}
+use Rattle.opc_reader_commands.specs.Stretches.{word}
 use Rattle.opc_machine_laws.specs.ReadingLaws.{LinesAreReadSo}
 
 pub read_so : LinesAreReadSo

@@ -4,7 +4,7 @@ use Rattle.std.specs.Option.{is_none}
 use Rattle.opc_terms.specs.declared.fault.Fault.{Fault}
 use Rattle.opc_terms.specs.declared.fault.Fault.TheVariants as fault
 use Rattle.opc_policy_members.specs.Profiles.{of_class}
-use Rattle.opc_reader.specs.declared.command.Command.TheVariants as command
+use Rattle.opc_reader_commands.specs.declared.command.Command.TheVariants as command
 use Rattle.opc_reader.proofs.Exact.{fault_so}
 use Rattle.opc_board.specs.Consoles.{logged_off, logged_on}
 use Rattle.opc_board.specs.Facts.{console_at}

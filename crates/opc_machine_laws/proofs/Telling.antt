@@ -13,9 +13,9 @@ use Rattle.opc_terms.specs.declared.mode.Mode.TheVariants as mode
 use Rattle.opc_terms.specs.Modes.{mode_text, modes}
 use Rattle.opc_reader.specs.declared.verb.Verb.{Verb}
 use Rattle.opc_reader.specs.declared.verb.Verb.TheVariants as verb
-use Rattle.opc_reader.specs.Quotes.{text_value}
+use Rattle.opc_reader_commands.specs.Quotes.{text_value}
 use Rattle.opc_reader.specs.Verbs.{verbs}
-use Rattle.opc_reader.proofs.Quoted.{says}
+use Rattle.opc_reader_commands.proofs.Quoted.{says}
 use Rattle.opc_machine_laws.specs.TellingLaws.{LinesReadSo, RulesReadSo, SpellingsReadBack, TypedTextsSay, VerbsAreSpelledSo, WordsReadSo}
 
 level_back : (x : Level) → lookup levels (level_text x) ≡ Some x

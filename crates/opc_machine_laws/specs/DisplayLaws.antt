@@ -6,10 +6,10 @@ use Rattle.opc_names.specs.declared.group.Group.TheVariants.{Info}
 use Rattle.opc_names.specs.declared.level.Level.TheVariants.{Read}
 use Rattle.opc_terms.specs.declared.rule.Rule.{Rule}
 use Rattle.opc_policy.specs.declared.ruling.Ruling.TheVariants.{Allowed}
-use Rattle.opc_reader.specs.declared.command.Command.{Command}
-use Rattle.opc_reader.specs.declared.command.Command.TheVariants as command
-use Rattle.opc_reader.specs.declared.command.Operand.{Operand}
-use Rattle.opc_reader.specs.Quotes.{text_value}
+use Rattle.opc_reader_commands.specs.declared.command.Command.{Command}
+use Rattle.opc_reader_commands.specs.declared.command.Command.TheVariants as command
+use Rattle.opc_reader_commands.specs.declared.command.Operand.{Operand}
+use Rattle.opc_reader_commands.specs.Quotes.{text_value}
 use Rattle.opc_table.specs.Table.{qualified}
 use Rattle.opc_rows.specs.Ordered.{IsInKeyOrder}
 use Rattle.opc_board.specs.declared.board.BoardRows.{BoardRows}

@@ -5,8 +5,8 @@ use Rattle.opc_terms.specs.declared.fault.Fault.{Fault}
 use Rattle.opc_terms.specs.declared.fault.Fault.TheVariants as fault
 use Rattle.opc_policy_members.specs.declared.row.Row.{Row}
 use Rattle.opc_policy_members.specs.declared.user.User.{User}
-use Rattle.opc_reader.specs.declared.command.Command.TheVariants as command
-use Rattle.opc_reader.specs.declared.command.Operand.{Operand}
+use Rattle.opc_reader_commands.specs.declared.command.Command.TheVariants as command
+use Rattle.opc_reader_commands.specs.declared.command.Operand.{Operand}
 use Rattle.opc_reader.specs.declared.line.ReadFault.{ReadFault}
 use Rattle.opc_reader.specs.Lines.{IsReadFault}
 use Rattle.opc_board.specs.declared.rows.ConsoleRow.{ConsoleRow}

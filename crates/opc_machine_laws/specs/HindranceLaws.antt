@@ -1,8 +1,8 @@
 -- What is in the way of commands and events on the board, to those who are refused.
 use Rattle.std.specs.Prelude.{◌≡◌, ◌⊎◌, Bool, true, false, not, ◌||◌, List, [], ◌∷◌, Option, Some, None, Ok, Err}
 use Rattle.std.specs.Option.{is_none, is_some}
-use Rattle.opc_reader.specs.declared.command.Command.{Command}
-use Rattle.opc_reader.specs.declared.command.Command.TheVariants as command
+use Rattle.opc_reader_commands.specs.declared.command.Command.{Command}
+use Rattle.opc_reader_commands.specs.declared.command.Command.TheVariants as command
 use Rattle.opc_board.specs.declared.board.BoardRows.{BoardRows}
 use Rattle.opc_board.specs.declared.event.Event.{Event}
 use Rattle.opc_board.specs.declared.event.Event.TheVariants as event

@@ -13,9 +13,9 @@ use Rattle.opc_policy.specs.declared.ruling.Ruling.TheVariants.{Allowed, Denied}
 use Rattle.opc_policy_members.specs.declared.user.User.{User}
 use Rattle.opc_terms.specs.Faults.{fault_code}
 use Rattle.opc_policy_members.specs.Members.{user_of}
-use Rattle.opc_reader.specs.declared.command.Command.{Command}
-use Rattle.opc_reader.specs.declared.command.Command.TheVariants as command
-use Rattle.opc_reader.specs.declared.command.Operand.{Operand}
+use Rattle.opc_reader_commands.specs.declared.command.Command.{Command}
+use Rattle.opc_reader_commands.specs.declared.command.Command.TheVariants as command
+use Rattle.opc_reader_commands.specs.declared.command.Operand.{Operand}
 use Rattle.opc_reader.specs.Lines.{Reads}
 use Rattle.opc_board.specs.declared.fault.BoardFault.{BoardFault}
 use Rattle.opc_board.specs.declared.line.Line.{Line}

@@ -9,8 +9,8 @@ use Rattle.opc_names.specs.declared.level.Level.TheVariants.{Control, Read, Upda
 use Rattle.opc_names.specs.Authority.{enters}
 use Rattle.opc_terms.specs.declared.need.Need.{Need}
 use Rattle.opc_terms.specs.declared.unit_kind.UnitKindAt.{UnitKindAt}
-use Rattle.opc_reader.specs.declared.command.Command.{Command}
-use Rattle.opc_reader.specs.declared.command.Command.TheVariants as command
+use Rattle.opc_reader_commands.specs.declared.command.Command.{Command}
+use Rattle.opc_reader_commands.specs.declared.command.Command.TheVariants as command
 use Rattle.opc_table.specs.Table.{need}
 use Rattle.opc_board.specs.declared.board.BoardRows.{BoardRows}
 use Rattle.opc_board.specs.declared.rows.UnitKind.{UnitKind}

@@ -1,12 +1,12 @@
 -- How lines are read, to those who type them: a worked example of each command.
 use Rattle.std.specs.Prelude.{◌≡◌, ℕ, List, Ok, codes}
 use Rattle.opc_names.specs.declared.auth.Auth.TheVariants.{SysIo}
-use Rattle.opc_reader.specs.declared.command.Command.{Command}
-use Rattle.opc_reader.specs.declared.command.Command.TheVariants.{Cancel, CancelUser, DisplayConsoles, DisplayDevices, DisplayReplies, DisplayUnit, DisplayUnits, Force, Halt, Log, Logoff, Logon, Modify, Monitor, Mount, Reply, ResetConsole, Send, Start, StartAs, Stop, StopMonitor, Swap, Unload, VaryConsoleAuth, VaryConsoleOffline, VaryConsoleOnline, VaryDeviceOffline, VaryDeviceOnline}
-use Rattle.opc_reader.specs.declared.command.Operand.{Operand}
-use Rattle.opc_reader.specs.declared.command.Text.{Text}
+use Rattle.opc_reader_commands.specs.declared.command.Command.{Command}
+use Rattle.opc_reader_commands.specs.declared.command.Command.TheVariants.{Cancel, CancelUser, DisplayConsoles, DisplayDevices, DisplayReplies, DisplayUnit, DisplayUnits, Force, Halt, Log, Logoff, Logon, Modify, Monitor, Mount, Reply, ResetConsole, Send, Start, StartAs, Stop, StopMonitor, Swap, Unload, VaryConsoleAuth, VaryConsoleOffline, VaryConsoleOnline, VaryDeviceOffline, VaryDeviceOnline}
+use Rattle.opc_reader_commands.specs.declared.command.Operand.{Operand}
+use Rattle.opc_reader_commands.specs.declared.command.Text.{Text}
 use Rattle.opc_reader.specs.Reading.{reading}
-use Rattle.opc_reader.specs.Stretches.{Stretch}
+use Rattle.opc_reader_commands.specs.Stretches.{Stretch}
 
 -- what was typed, and at which place of the line
 abbrev pub typed : List ℕ → ℕ → Stretch

@@ -15,7 +15,7 @@ use Rattle.opc_terms.specs.Modes.{mode_text, modes}
 use Rattle.opc_terms.specs.Rules.{rule_text, rule_text_or_none}
 use Rattle.opc_reader.specs.declared.verb.Verb.{Verb}
 use Rattle.opc_reader.specs.declared.verb.Verb.TheVariants as verb
-use Rattle.opc_reader.specs.Quotes.{Says, text_value}
+use Rattle.opc_reader_commands.specs.Quotes.{Says, text_value}
 use Rattle.opc_reader.specs.Verbs.{verbs}
 use Rattle.opc_board.specs.declared.rows.UnitKind.TheVariants.{Job, Stc, Tsu}
 use Rattle.opc_board.specs.Texts.{console_line, device_line, reply_line, unit_line}

@@ -5,13 +5,13 @@ use Rattle.std.proofs.lemmas.List.{append-nil, length-append}
 use Rattle.std.proofs.lemmas.Option.{same_Some}
 use Rattle.opc_names.specs.Names.{name_fault, user_rule, unit_rule}
 use Rattle.opc_reader.specs.declared.verb.Verb.TheVariants as verb
-use Rattle.opc_reader.specs.declared.command.Operand.{Operand}
-use Rattle.opc_reader.specs.declared.command.Command.{Command}
-use Rattle.opc_reader.specs.declared.command.Command.TheVariants.{Cancel, CancelUser, Force, Stop}
+use Rattle.opc_reader_commands.specs.declared.command.Operand.{Operand}
+use Rattle.opc_reader_commands.specs.declared.command.Command.{Command}
+use Rattle.opc_reader_commands.specs.declared.command.Command.TheVariants.{Cancel, CancelUser, Force, Stop}
 use Rattle.opc_reader.specs.Forms.{Name, parts, AreTyped}
 use Rattle.opc_reader.specs.Operands.{in_name}
 use Rattle.opc_reader.specs.Reading.{last_name, cancel_after, cancel, force, stop}
-use Rattle.opc_reader.specs.Stretches.{Stretch, folded, word}
+use Rattle.opc_reader_commands.specs.Stretches.{Stretch, folded, word}
 use Rattle.opc_reader.proofs.Leaves.{length_folded, word_found, word_run, name_chars}
 use Rattle.opc_reader.proofs.Steps.{over_word, back_word, over_last_name, back_last_name, bind_some, Gives, gives}
 

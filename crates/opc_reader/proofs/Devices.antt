@@ -3,12 +3,12 @@ use Rattle.std.proofs.Common.{◌≡◌, ℕ, List, [], ◌∷◌, Some, refl, c
 use Rattle.std.proofs.lemmas.Option.{same_Some}
 use Rattle.opc_names.specs.Names.{volume_rule, device_rule}
 use Rattle.opc_reader.specs.declared.verb.Verb.TheVariants as verb
-use Rattle.opc_reader.specs.declared.command.Operand.{Operand}
-use Rattle.opc_reader.specs.declared.command.Command.{Command}
-use Rattle.opc_reader.specs.declared.command.Command.TheVariants.{Mount, Unload, Swap}
+use Rattle.opc_reader_commands.specs.declared.command.Operand.{Operand}
+use Rattle.opc_reader_commands.specs.declared.command.Command.{Command}
+use Rattle.opc_reader_commands.specs.declared.command.Command.TheVariants.{Mount, Unload, Swap}
 use Rattle.opc_reader.specs.Forms.{Word, Name, parts, AreTyped}
 use Rattle.opc_reader.specs.Reading.{name, last_name, mount, unload, swap}
-use Rattle.opc_reader.specs.Stretches.{Stretch, word}
+use Rattle.opc_reader_commands.specs.Stretches.{Stretch, word}
 use Rattle.opc_reader.proofs.Steps.{over_word, back_word, over_name, back_name, over_last_name, back_last_name, bind_some, Gives, gives}
 
 pub mounted : (device volume : Operand (List ℕ)) (s : Stretch) → AreTyped (parts (Mount device volume)) s → mount s ≡ Some (Mount device volume)

@@ -7,12 +7,12 @@ use Rattle.std.proofs.lemmas.Option.{same_Some}
 use Rattle.std.proofs.lemmas.Bool.{false≢true}
 use Rattle.opc_names.specs.Names.{unit_rule}
 use Rattle.opc_reader.specs.declared.verb.Verb.TheVariants as verb
-use Rattle.opc_reader.specs.declared.command.Operand.{Operand}
-use Rattle.opc_reader.specs.declared.command.Command.{Command}
-use Rattle.opc_reader.specs.declared.command.Command.TheVariants.{DisplayUnits, DisplayUnit, DisplayDevices, DisplayConsoles, DisplayReplies}
+use Rattle.opc_reader_commands.specs.declared.command.Operand.{Operand}
+use Rattle.opc_reader_commands.specs.declared.command.Command.{Command}
+use Rattle.opc_reader_commands.specs.declared.command.Command.TheVariants.{DisplayUnits, DisplayUnit, DisplayDevices, DisplayConsoles, DisplayReplies}
 use Rattle.opc_reader.specs.Forms.{Word, Name, parts, IsMeant, AreTyped}
 use Rattle.opc_reader.specs.Reading.{◌>>=◌, last_name, display}
-use Rattle.opc_reader.specs.Stretches.{Stretch, folded, word}
+use Rattle.opc_reader_commands.specs.Stretches.{Stretch, folded, word}
 use Rattle.opc_reader.proofs.Leaves.{bytes_same, bytes_refl, bytes_other, after_part}
 use Rattle.opc_reader.proofs.Steps.{over_word, back_word, over_last, back_last, over_last_name, back_last_name, bind_some, cond_cases, Gives, gives}
 

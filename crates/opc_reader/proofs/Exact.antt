@@ -6,10 +6,10 @@ use Rattle.std.proofs.lemmas.Bool.Decides.{nat_tests}
 use Rattle.std.proofs.lemmas.List.{append_assoc, length-append, take-append-drop, length-take-le, length-drop}
 use Rattle.std.proofs.lemmas.List.Folds.{length-prefix_len}
 use Rattle.opc_reader.specs.declared.verb.Verb.{Verb}
-use Rattle.opc_reader.specs.declared.command.Command.{Command}
+use Rattle.opc_reader_commands.specs.declared.command.Command.{Command}
 use Rattle.opc_reader.specs.declared.line.ReadFault.{ReadFault}
 use Rattle.opc_reader.specs.declared.line.ReadFault.TheVariants.{Empty, TooLong, BadCharacter, BadOperand}
-use Rattle.opc_reader.specs.Stretches.{Stretch, folded}
+use Rattle.opc_reader_commands.specs.Stretches.{Stretch, folded}
 use Rattle.opc_names.specs.Spellings.{lookup}
 use Rattle.opc_reader.specs.Verbs.{verbs}
 use Rattle.opc_reader.specs.Forms.{verb_of, parts, AreTyped}

@@ -16,8 +16,8 @@ use Rattle.opc_names.specs.declared.rule.Alphabet.TheVariants.{NameCharacters, N
 use Rattle.opc_names.specs.declared.rule.NameRule.{NameRule}
 use Rattle.opc_names.specs.declared.rule.NameFault.TheVariants.{Empty, TooShort, TooLong, BadCharacter, BadQualifier}
 use Rattle.opc_names.specs.Names.{is_name_character, may_begin, may_follow, bad_character, bad_qualifier, is_plain, name_fault}
-use Rattle.opc_reader.specs.declared.command.Operand.{Operand}
-use Rattle.opc_reader.specs.Stretches.{Stretch, folded, prefix, after, word}
+use Rattle.opc_reader_commands.specs.declared.command.Operand.{Operand}
+use Rattle.opc_reader_commands.specs.Stretches.{Stretch, folded, prefix, after, word}
 use Rattle.opc_reader.specs.Operands.{in_name}
 use Rattle.opc_reader.specs.Reading.{name}
 

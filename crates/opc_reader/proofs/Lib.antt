@@ -7,7 +7,6 @@ pub mod Leaves
 pub mod Messages
 pub mod OneWay
 pub mod Opens
-pub mod Quoted
 pub mod Resets
 pub mod Runs
 pub mod Scans

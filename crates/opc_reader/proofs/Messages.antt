@@ -3,13 +3,13 @@ use Rattle.std.proofs.Common.{◌≡◌, ℕ, List, [], ◌∷◌, Some, refl, c
 use Rattle.std.proofs.lemmas.Option.{same_Some}
 use Rattle.opc_names.specs.Names.{user_rule, unit_rule}
 use Rattle.opc_reader.specs.declared.verb.Verb.TheVariants as verb
-use Rattle.opc_reader.specs.declared.command.Operand.{Operand}
-use Rattle.opc_reader.specs.declared.command.Text.{Text}
-use Rattle.opc_reader.specs.declared.command.Command.{Command}
-use Rattle.opc_reader.specs.declared.command.Command.TheVariants.{Modify, Reply, Send, Log}
+use Rattle.opc_reader_commands.specs.declared.command.Operand.{Operand}
+use Rattle.opc_reader_commands.specs.declared.command.Text.{Text}
+use Rattle.opc_reader_commands.specs.declared.command.Command.{Command}
+use Rattle.opc_reader_commands.specs.declared.command.Command.TheVariants.{Modify, Reply, Send, Log}
 use Rattle.opc_reader.specs.Forms.{Part, Word, Name, AnyText, parts, AreTyped}
 use Rattle.opc_reader.specs.Reading.{name, number_prefix, quoted_text, quoted_prefix, any_text, modify, reply, send, log}
-use Rattle.opc_reader.specs.Stretches.{Stretch, word}
+use Rattle.opc_reader_commands.specs.Stretches.{Stretch, word}
 use Rattle.opc_reader.proofs.Steps.{over_word, back_word, over_name, back_name, over_number, back_number, over_text, back_text, over_quoted, back_quoted, over_quoted_prefix, back_quoted_prefix, only_read, only_found, bind_some, Gives, gives}
 
 pub modified : (name : Operand (List ℕ)) (text : Text) (s : Stretch) → AreTyped (parts (Modify name text)) s → modify s ≡ Some (Modify name text)

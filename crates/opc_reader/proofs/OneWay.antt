@@ -1,6 +1,6 @@
 -- Each line is read in one way.
 use Rattle.std.proofs.Common.{◌≡◌, ◌↔◌, ℕ, List, Result, Ok, Err, refl, sym, ◌∙◌, inl, inr, IfOk}
-use Rattle.opc_reader.specs.declared.command.Command.{Command}
+use Rattle.opc_reader_commands.specs.declared.command.Command.{Command}
 use Rattle.opc_reader.specs.declared.line.ReadFault.{ReadFault}
 use Rattle.opc_reader.specs.Lines.{Reads, IsReadFault, ReadsInOneWay, OperandsAreSlices}
 use Rattle.opc_reader.specs.Reading.{reading}

@@ -7,17 +7,17 @@ use Rattle.std.proofs.lemmas.Bool.Decides.{nat_tests}
 use Rattle.std.proofs.lemmas.List.{append_assoc, length-append}
 use Rattle.std.proofs.Math.Seq.{drop-append_seam}
 use Rattle.opc_names.specs.Names.{name_fault, user_rule, unit_rule}
-use Rattle.opc_reader.specs.declared.command.Text.{Text}
-use Rattle.opc_reader.specs.declared.command.Command.{Command}
-use Rattle.opc_reader.specs.declared.command.Command.TheVariants.{DisplayUnits, DisplayUnit, DisplayDevices, DisplayConsoles, DisplayReplies, Cancel, CancelUser, Force, Start, StartAs, Stop, Modify, Reply, VaryDeviceOnline, VaryDeviceOffline, VaryConsoleOnline, VaryConsoleOffline, VaryConsoleAuth, Mount, Unload, Swap, ResetConsole, Send, Log, Monitor, StopMonitor, Halt, Logon, Logoff}
+use Rattle.opc_reader_commands.specs.declared.command.Text.{Text}
+use Rattle.opc_reader_commands.specs.declared.command.Command.{Command}
+use Rattle.opc_reader_commands.specs.declared.command.Command.TheVariants.{DisplayUnits, DisplayUnit, DisplayDevices, DisplayConsoles, DisplayReplies, Cancel, CancelUser, Force, Start, StartAs, Stop, Modify, Reply, VaryDeviceOnline, VaryDeviceOffline, VaryConsoleOnline, VaryConsoleOffline, VaryConsoleAuth, Mount, Unload, Swap, ResetConsole, Send, Log, Monitor, StopMonitor, Halt, Logon, Logoff}
 use Rattle.opc_reader.specs.Forms.{Word, Name, QuotedText, AnyText, verb_of, parts, IsTyped, AreTyped}
 use Rattle.opc_reader.specs.Lines.{open_after, open_place}
 use Rattle.opc_reader.specs.Operands.{in_name}
-use Rattle.opc_reader.specs.Quotes.{closing_len, quoted_len, is_open}
+use Rattle.opc_reader_commands.specs.Quotes.{closing_len, quoted_len, is_open}
 use Rattle.opc_reader.specs.Reading.{quoted_prefix}
-use Rattle.opc_reader.specs.Stretches.{Stretch, folded, prefix, after}
+use Rattle.opc_reader_commands.specs.Stretches.{Stretch, folded, prefix, after}
 use Rattle.opc_reader.proofs.Leaves.{name_chars}
-use Rattle.opc_reader.proofs.Quoted.{closed, plain_closed, not_opens}
+use Rattle.opc_reader_commands.proofs.Quoted.{closed, plain_closed, not_opens}
 use Rattle.opc_reader.proofs.Steps.{over_last, over_quoted_prefix, number_digits, map_some}
 
 -- the first comma is that after a run of other characters

@@ -2,12 +2,12 @@
 use Rattle.std.proofs.Common.{◌≡◌, ℕ, List, [], ◌∷◌, Some, refl, codes}
 use Rattle.opc_names.specs.Names.{console_rule}
 use Rattle.opc_reader.specs.declared.verb.Verb.TheVariants as verb
-use Rattle.opc_reader.specs.declared.command.Operand.{Operand}
-use Rattle.opc_reader.specs.declared.command.Command.{Command}
-use Rattle.opc_reader.specs.declared.command.Command.TheVariants.{ResetConsole}
+use Rattle.opc_reader_commands.specs.declared.command.Operand.{Operand}
+use Rattle.opc_reader_commands.specs.declared.command.Command.{Command}
+use Rattle.opc_reader_commands.specs.declared.command.Command.TheVariants.{ResetConsole}
 use Rattle.opc_reader.specs.Forms.{Word, Name, parts, AreTyped}
 use Rattle.opc_reader.specs.Reading.{name, reset}
-use Rattle.opc_reader.specs.Stretches.{Stretch, word}
+use Rattle.opc_reader_commands.specs.Stretches.{Stretch, word}
 use Rattle.opc_reader.proofs.Steps.{over_word, back_word, over_name, back_name, only_read, only_found, bind_some, Gives, gives}
 
 pub of_console : (console : Operand (List ℕ)) (s : Stretch) → AreTyped (parts (ResetConsole console)) s → reset s ≡ Some (ResetConsole console)

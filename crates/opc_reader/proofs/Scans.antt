@@ -8,12 +8,12 @@ use Rattle.std.proofs.lemmas.List.{append_assoc, length-reverse, length-append, 
 use Rattle.std.proofs.lemmas.List.Folds.{prefix_len-append}
 use Rattle.std.proofs.Math.Seq.{take-append_seam, drop-append_seam}
 use Rattle.opc_reader.specs.declared.verb.Verb.{Verb}
-use Rattle.opc_reader.specs.Stretches.{Stretch, folded}
+use Rattle.opc_reader_commands.specs.Stretches.{Stretch, folded}
 use Rattle.opc_names.specs.Spellings.{lookup}
 use Rattle.opc_reader.specs.Verbs.{verbs}
 use Rattle.opc_reader.specs.Lines.{is_space, IsBare, trimmed, verb_place, skip_spaces, operands_place}
 use Rattle.opc_reader.proofs.Leaves.{bytes_same}
-use Rattle.opc_reader.proofs.Quoted.{both_true}
+use Rattle.opc_reader_commands.proofs.Quoted.{both_true}
 use Rattle.opc_reader.proofs.Runs.{all_run, suffix_append, suffix_all}
 
 abbrev pub no_space : ℕ → Bool

@@ -3,12 +3,12 @@ use Rattle.std.proofs.Common.{◌≡◌, ℕ, List, [], ◌∷◌, Option, Some,
 use Rattle.std.proofs.lemmas.Option.{same_Some}
 use Rattle.opc_names.specs.Names.{unit_rule}
 use Rattle.opc_reader.specs.declared.verb.Verb.TheVariants as verb
-use Rattle.opc_reader.specs.declared.command.Operand.{Operand}
-use Rattle.opc_reader.specs.declared.command.Command.{Command}
-use Rattle.opc_reader.specs.declared.command.Command.TheVariants.{Start, StartAs}
+use Rattle.opc_reader_commands.specs.declared.command.Operand.{Operand}
+use Rattle.opc_reader_commands.specs.declared.command.Command.{Command}
+use Rattle.opc_reader_commands.specs.declared.command.Command.TheVariants.{Start, StartAs}
 use Rattle.opc_reader.specs.Forms.{Word, Name, parts, AreTyped}
 use Rattle.opc_reader.specs.Reading.{name, last_name, start_after, start}
-use Rattle.opc_reader.specs.Stretches.{Stretch, word}
+use Rattle.opc_reader_commands.specs.Stretches.{Stretch, word}
 use Rattle.opc_reader.proofs.Steps.{over_word, back_word, over_name, back_name, over_last_name, back_last_name, only_read, only_found, nothing_left, bind_some, Gives, gives}
 
 pub alone : (member : Operand (List ℕ)) (s : Stretch) → AreTyped (parts (Start member)) s → start s ≡ Some (Start member)

@@ -17,17 +17,17 @@ use Rattle.opc_names.specs.declared.rule.NameRule.{NameRule}
 use Rattle.opc_names.specs.Names.{is_name_character, is_plain, name_fault}
 use Rattle.opc_names.specs.Spellings.{lookup}
 use Rattle.opc_reader.specs.declared.verb.Verb.{Verb}
-use Rattle.opc_reader.specs.declared.command.Operand.{Operand}
-use Rattle.opc_reader.specs.declared.command.Text.{Text}
-use Rattle.opc_reader.specs.declared.command.Command.{Command}
+use Rattle.opc_reader_commands.specs.declared.command.Operand.{Operand}
+use Rattle.opc_reader_commands.specs.declared.command.Text.{Text}
+use Rattle.opc_reader_commands.specs.declared.command.Command.{Command}
 use Rattle.opc_reader.specs.Authorities.{authorities}
 use Rattle.opc_reader.specs.Forms.{Part, Word, Name, Number, Authority, QuotedText, AnyText, verb_of, parts, IsMeant, IsTyped, AreTyped}
 use Rattle.opc_reader.specs.Operands.{in_name, number}
-use Rattle.opc_reader.specs.Quotes.{doubled, closing_len, quoted_len, opens_quote, is_quoted, IsQuoted, OpensQuote}
+use Rattle.opc_reader_commands.specs.Quotes.{doubled, closing_len, quoted_len, opens_quote, is_quoted, IsQuoted, OpensQuote}
 use Rattle.opc_reader.specs.Reading.{◌>>=◌, only, fixed, name, last_name, number_prefix, valued, authority, quoted_text, quoted_prefix, any_text}
-use Rattle.opc_reader.specs.Stretches.{Stretch, folded, prefix, after, word}
+use Rattle.opc_reader_commands.specs.Stretches.{Stretch, folded, prefix, after, word}
 use Rattle.opc_reader.proofs.Leaves.{bytes_same, bytes_refl, joined, after_part, length_folded, word_read, word_found, name_read, name_found}
-use Rattle.opc_reader.proofs.Quoted.{quoted_is, is_quoted_of, quoted_opens, not_opens, opens_not, both_true, quote_prefix, prefix_found, same_code}
+use Rattle.opc_reader_commands.proofs.Quoted.{quoted_is, is_quoted_of, quoted_opens, not_opens, opens_not, both_true, quote_prefix, prefix_found, same_code}
 
 -- What follows a name begins with no name character.
 abbrev pub Stops : List Part → Type 0

@@ -14,13 +14,13 @@ use Rattle.std.proofs.lemmas.Str.Ascii.{IsAscii-cons, IsAscii-nil}
 use Rattle.opc_names.specs.declared.auth.Auth.{Auth}
 use Rattle.opc_names.specs.Names.{name_fault, device_rule, console_rule}
 use Rattle.opc_reader.specs.declared.verb.Verb.TheVariants as verb
-use Rattle.opc_reader.specs.declared.command.Operand.{Operand}
-use Rattle.opc_reader.specs.declared.command.Command.{Command}
-use Rattle.opc_reader.specs.declared.command.Command.TheVariants.{VaryDeviceOnline, VaryDeviceOffline, VaryConsoleOnline, VaryConsoleOffline, VaryConsoleAuth}
+use Rattle.opc_reader_commands.specs.declared.command.Operand.{Operand}
+use Rattle.opc_reader_commands.specs.declared.command.Command.{Command}
+use Rattle.opc_reader_commands.specs.declared.command.Command.TheVariants.{VaryDeviceOnline, VaryDeviceOffline, VaryConsoleOnline, VaryConsoleOffline, VaryConsoleAuth}
 use Rattle.opc_reader.specs.Forms.{Part, Word, Name, Authority, parts, AreTyped}
 use Rattle.opc_reader.specs.Operands.{in_name}
 use Rattle.opc_reader.specs.Reading.{◌>>=◌, name, authority, vary_device, vary_console, vary_opened, vary}
-use Rattle.opc_reader.specs.Stretches.{Stretch, folded, word}
+use Rattle.opc_reader_commands.specs.Stretches.{Stretch, folded, word}
 use Rattle.opc_reader.proofs.Leaves.{bytes_same, length_folded, word_found, word_run, name_chars, name_long}
 use Rattle.opc_reader.proofs.Steps.{Stops, stops, over_word, back_word, over_name, back_name, over_last, back_last, over_authority, back_authority, bind_some, cond_cases, Gives, gives}
 

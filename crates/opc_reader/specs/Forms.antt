@@ -6,14 +6,14 @@ use Rattle.opc_names.specs.Names.{name_fault, user_rule, unit_rule, console_rule
 use Rattle.opc_names.specs.Spellings.{lookup}
 use Rattle.opc_reader.specs.declared.verb.Verb.{Verb}
 use Rattle.opc_reader.specs.declared.verb.Verb.TheVariants as verb
-use Rattle.opc_reader.specs.declared.command.Operand.{Operand}
-use Rattle.opc_reader.specs.declared.command.Text.{Text}
-use Rattle.opc_reader.specs.declared.command.Command.{Command}
-use Rattle.opc_reader.specs.declared.command.Command.TheVariants.{DisplayUnits, DisplayUnit, DisplayDevices, DisplayConsoles, DisplayReplies, Cancel, CancelUser, Force, Start, StartAs, Stop, Modify, Reply, VaryDeviceOnline, VaryDeviceOffline, VaryConsoleOnline, VaryConsoleOffline, VaryConsoleAuth, Mount, Unload, Swap, ResetConsole, Send, Log, Monitor, StopMonitor, Halt, Logon, Logoff}
+use Rattle.opc_reader_commands.specs.declared.command.Operand.{Operand}
+use Rattle.opc_reader_commands.specs.declared.command.Text.{Text}
+use Rattle.opc_reader_commands.specs.declared.command.Command.{Command}
+use Rattle.opc_reader_commands.specs.declared.command.Command.TheVariants.{DisplayUnits, DisplayUnit, DisplayDevices, DisplayConsoles, DisplayReplies, Cancel, CancelUser, Force, Start, StartAs, Stop, Modify, Reply, VaryDeviceOnline, VaryDeviceOffline, VaryConsoleOnline, VaryConsoleOffline, VaryConsoleAuth, Mount, Unload, Swap, ResetConsole, Send, Log, Monitor, StopMonitor, Halt, Logon, Logoff}
 use Rattle.opc_reader.specs.Authorities.{authorities}
 use Rattle.opc_reader.specs.Operands.{number}
-use Rattle.opc_reader.specs.Quotes.{OpensQuote, IsQuoted}
-use Rattle.opc_reader.specs.Stretches.{Stretch, folded}
+use Rattle.opc_reader_commands.specs.Quotes.{OpensQuote, IsQuoted}
+use Rattle.opc_reader_commands.specs.Stretches.{Stretch, folded}
 
 -- a part of what stands after a verb
 pub data Part : Type 0 where

@@ -5,15 +5,15 @@ use Rattle.std.specs.Option.{option_map}
 use Rattle.std.specs.List.{list_all, position, prefix_len, suffix_len, slice_range, flat_map, AllByRecursion}
 use Rattle.std.specs.Str.{chars}
 use Rattle.opc_names.specs.Spellings.{lookup}
-use Rattle.opc_reader.specs.declared.piece.Span.{Span}
+use Rattle.opc_reader_commands.specs.declared.piece.Span.{Span}
 use Rattle.opc_reader.specs.declared.verb.Verb.{Verb}
 use Rattle.opc_reader.specs.declared.verb.Verb.TheVariants as verb
-use Rattle.opc_reader.specs.declared.command.Command.{Command}
+use Rattle.opc_reader_commands.specs.declared.command.Command.{Command}
 use Rattle.opc_reader.specs.declared.line.ReadFault.{ReadFault}
 use Rattle.opc_reader.specs.declared.line.ReadFault.TheVariants.{Empty, TooLong, BadCharacter, UnknownVerb, OpenQuote, BadOperand}
 use Rattle.opc_reader.specs.Forms.{Part, Word, Name, Number, Authority, QuotedText, AnyText, verb_of, parts, IsMeant, AreTyped}
-use Rattle.opc_reader.specs.Quotes.{is_open}
-use Rattle.opc_reader.specs.Stretches.{Stretch, folded, prefix, after}
+use Rattle.opc_reader_commands.specs.Quotes.{is_open}
+use Rattle.opc_reader_commands.specs.Stretches.{Stretch, folded, prefix, after}
 use Rattle.opc_reader.specs.Verbs.{verbs}
 
 abbrev pub is_space : ℕ → Bool

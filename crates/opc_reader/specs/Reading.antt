@@ -10,17 +10,17 @@ use Rattle.opc_names.specs.Names.{name_fault, user_rule, unit_rule, console_rule
 use Rattle.opc_names.specs.Spellings.{lookup}
 use Rattle.opc_reader.specs.declared.verb.Verb.{Verb}
 use Rattle.opc_reader.specs.declared.verb.Verb.TheVariants as verb
-use Rattle.opc_reader.specs.declared.command.Operand.{Operand}
-use Rattle.opc_reader.specs.declared.command.Text.{Text}
-use Rattle.opc_reader.specs.declared.command.Command.{Command}
-use Rattle.opc_reader.specs.declared.command.Command.TheVariants.{DisplayUnits, DisplayUnit, DisplayDevices, DisplayConsoles, DisplayReplies, Cancel, CancelUser, Force, Start, StartAs, Stop, Modify, Reply, VaryDeviceOnline, VaryDeviceOffline, VaryConsoleOnline, VaryConsoleOffline, VaryConsoleAuth, Mount, Unload, Swap, ResetConsole, Send, Log, Monitor, StopMonitor, Halt, Logon, Logoff}
+use Rattle.opc_reader_commands.specs.declared.command.Operand.{Operand}
+use Rattle.opc_reader_commands.specs.declared.command.Text.{Text}
+use Rattle.opc_reader_commands.specs.declared.command.Command.{Command}
+use Rattle.opc_reader_commands.specs.declared.command.Command.TheVariants.{DisplayUnits, DisplayUnit, DisplayDevices, DisplayConsoles, DisplayReplies, Cancel, CancelUser, Force, Start, StartAs, Stop, Modify, Reply, VaryDeviceOnline, VaryDeviceOffline, VaryConsoleOnline, VaryConsoleOffline, VaryConsoleAuth, Mount, Unload, Swap, ResetConsole, Send, Log, Monitor, StopMonitor, Halt, Logon, Logoff}
 use Rattle.opc_reader.specs.declared.line.ReadFault.{ReadFault}
 use Rattle.opc_reader.specs.declared.line.ReadFault.TheVariants.{BadOperand}
 use Rattle.opc_reader.specs.Authorities.{authorities}
 use Rattle.opc_reader.specs.Lines.{trimmed, verb_place, operands_place, span, early_fault}
 use Rattle.opc_reader.specs.Operands.{in_name, number}
-use Rattle.opc_reader.specs.Quotes.{quoted_len, is_quoted, opens_quote}
-use Rattle.opc_reader.specs.Stretches.{Stretch, folded, prefix, after, word}
+use Rattle.opc_reader_commands.specs.Quotes.{quoted_len, is_quoted, opens_quote}
+use Rattle.opc_reader_commands.specs.Stretches.{Stretch, folded, prefix, after, word}
 use Rattle.opc_reader.specs.Verbs.{verbs}
 
 infixl 10 ◌>>=◌

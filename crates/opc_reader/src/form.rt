@@ -2,11 +2,11 @@
 ghost use Rattle.std.specs.Prelude.{◌≡◌};
 ghost use Rattle.opc_reader.specs.Reading.{fixed, only, display, cancel, force, start, stop, modify, reply, vary_device, vary_console, vary, mount, unload, swap, reset, send, log, logon, command};
 
-use crate::command::Command;
+use opc_reader_commands::command::Command;
 use crate::operand::{
     any_text, authority, last_name, name, number_prefix, quoted_prefix, quoted_text,
 };
-use crate::piece::Piece;
+use opc_reader_commands::piece::Piece;
 use crate::verb::Verb;
 
 /// The command, where a piece is one word.

@@ -7,9 +7,9 @@ ghost use Rattle.opc_reader.specs.Authorities.{authorities};
 ghost use Rattle.opc_reader.specs.Operands.{in_name, number};
 ghost use Rattle.opc_reader.specs.Reading.{name, last_name, number_prefix, authority, quoted_text, quoted_prefix, any_text};
 
-use crate::command::{Operand, Text};
-use crate::piece::Piece;
-use crate::quote::{is_quoted, opens_quote, quoted_len};
+use opc_reader_commands::command::{Operand, Text};
+use opc_reader_commands::piece::Piece;
+use opc_reader_commands::quote::{is_quoted, opens_quote, quoted_len};
 use opc_names::auth::Auth;
 use opc_names::name::{Name, NameKind};
 use opc_names::reply_id::ReplyId;

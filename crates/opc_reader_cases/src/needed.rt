@@ -2,7 +2,7 @@
 use anyhow::Result;
 use opc_names::name::UnitName;
 use opc_table::need;
-use opc_reader::command::Command;
+use opc_reader_commands::command::Command;
 use opc_reader::line::read_command;
 use opc_terms::need::Need;
 use opc_terms::unit_kind::UnitKindAt;

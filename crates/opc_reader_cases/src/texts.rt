@@ -1,6 +1,6 @@
 //! What texts say, and which characters may stand in them.
 use anyhow::{Result, anyhow};
-use opc_reader::command::{Command, Text};
+use opc_reader_commands::command::{Command, Text};
 use opc_reader::line::{ReadFault, read_command};
 use std::alloc::Global;
 

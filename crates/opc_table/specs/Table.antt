@@ -7,8 +7,8 @@ use Rattle.opc_names.specs.declared.level.Level.TheVariants.{Read, Update, Contr
 use Rattle.opc_terms.specs.declared.need.Need.{Need}
 use Rattle.opc_terms.specs.declared.unit_kind.UnitKindAt.{UnitKindAt}
 use Rattle.opc_terms.specs.declared.unit_kind.UnitKindAt.TheVariants.{Absent, Job, Stc, Tsu}
-use Rattle.opc_reader.specs.declared.command.Command.{Command}
-use Rattle.opc_reader.specs.declared.command.Command.TheVariants.{DisplayUnits, DisplayUnit, DisplayDevices, DisplayConsoles, DisplayReplies, Cancel, CancelUser, Force, Start, StartAs, Stop, Modify, Reply, VaryDeviceOnline, VaryDeviceOffline, VaryConsoleOnline, VaryConsoleOffline, VaryConsoleAuth, Mount, Unload, Swap, ResetConsole, Send, Log, Monitor, StopMonitor, Halt, Logon, Logoff}
+use Rattle.opc_reader_commands.specs.declared.command.Command.{Command}
+use Rattle.opc_reader_commands.specs.declared.command.Command.TheVariants.{DisplayUnits, DisplayUnit, DisplayDevices, DisplayConsoles, DisplayReplies, Cancel, CancelUser, Force, Start, StartAs, Stop, Modify, Reply, VaryDeviceOnline, VaryDeviceOffline, VaryConsoleOnline, VaryConsoleOffline, VaryConsoleAuth, Mount, Unload, Swap, ResetConsole, Send, Log, Monitor, StopMonitor, Halt, Logon, Logoff}
 
 abbrev pub needs : Group → Level → List ℕ → Option Need
 needs group level resource = Some (record { resource = resource; level = level; group = group })

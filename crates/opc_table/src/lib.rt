@@ -10,7 +10,7 @@ ghost use Rattle.opc_names.specs.declared.level.Level.TheVariants.{Read, Update}
 use opc_names::group::Group::{self, Cons, Info, Io, Master, Sys};
 use opc_names::level::Level::{self, Control, Read, Update};
 use opc_names::name::{Resource, UnitName};
-use opc_reader::command::Command;
+use opc_reader_commands::command::Command;
 use opc_terms::need::Need;
 use opc_terms::unit_kind::UnitKindAt;
 

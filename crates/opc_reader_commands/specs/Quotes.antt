@@ -1,7 +1,7 @@
 -- Quoted text.
 use Rattle.std.specs.Prelude.{ℕ, ◌+◌, ◌≡◌, ◌==◌, ◌&&◌, Bool, false, List, [], ◌∷◌, ◌++◌, Option, Some, None, if◌then◌else◌, length}
 use Rattle.std.specs.Option.{option_map, is_none}
-use Rattle.opc_reader.specs.Stretches.{folded}
+use Rattle.opc_reader_commands.specs.Stretches.{folded}
 
 -- a text with each apostrophe as a pair
 abbrev pub doubled : List ℕ → List ℕ

@@ -1,8 +1,8 @@
 //! Quoted text, and what a text says.
 ghost use Rattle.std.specs.Prelude.{◌≡◌, ◌≤◌, ◌++◌, length, IfSome, IfOk, OnOk, string_bytes};
 ghost use Rattle.std.specs.Str.{IsAscii};
-ghost use Rattle.opc_reader.specs.Stretches.{folded};
-ghost use Rattle.opc_reader.specs.Quotes.{closing_len, quoted_len, is_quoted, is_open, opens_quote, unquoted, text_value, Says};
+ghost use Rattle.opc_reader_commands.specs.Stretches.{folded};
+ghost use Rattle.opc_reader_commands.specs.Quotes.{closing_len, quoted_len, is_quoted, is_open, opens_quote, unquoted, text_value, Says};
 
 use crate::command::Text;
 use std::alloc::{AllocError, Global};
@@ -23,7 +23,7 @@ fn closing_len(bytes: &[u8]) -> Option<usize>
 }
 
 /// How many bytes the quoted text has that a text begins with.
-pub(crate) fn quoted_len(text: &[u8]) -> Option<usize>
+pub fn quoted_len(text: &[u8]) -> Option<usize>
     ensures value { result ≡ quoted_len text.now }
     ensures within { IfSome result (λ n. n ≤ length text.now) }
 {
@@ -34,7 +34,7 @@ pub(crate) fn quoted_len(text: &[u8]) -> Option<usize>
 }
 
 /// Whether a whole text is quoted text.
-pub(crate) fn is_quoted(text: &[u8]) -> bool
+pub fn is_quoted(text: &[u8]) -> bool
     ensures { result ≡ is_quoted text.now }
 {
     match text {
@@ -44,7 +44,7 @@ pub(crate) fn is_quoted(text: &[u8]) -> bool
 }
 
 /// Whether it begins as quoted text and isn't closed.
-pub(crate) fn is_open(text: &[u8]) -> bool
+pub fn is_open(text: &[u8]) -> bool
     ensures { result ≡ is_open text.now }
 {
     match text {
@@ -53,7 +53,7 @@ pub(crate) fn is_open(text: &[u8]) -> bool
     }
 }
 
-pub(crate) fn opens_quote(text: &[u8]) -> bool
+pub fn opens_quote(text: &[u8]) -> bool
     ensures { result ≡ opens_quote text.now }
 {
     matches!(text, [APOSTROPHE, ..])

@@ -3,7 +3,7 @@ use Rattle.std.specs.Char.{to_ascii_uppercase}
 use Rattle.std.specs.Str.{IsAscii}
 use Rattle.std.proofs.lemmas.List.{length-map, take_at}
 use Rattle.std.proofs.lemmas.Str.Ascii.{IsAscii-map, uppercase_ascii}
-use Rattle.opc_reader.proofs.folded.Folded.of.Goals as goal
+use Rattle.opc_reader_commands.proofs.folded.Folded.of.Goals as goal
 
 upper_prefix : (text prefix rest : List ℕ) → prefix ≡ map to_ascii_uppercase text → IsAscii text → IsAscii (take (length text) (prefix ++ rest))
 upper_prefix text prefix rest e ascii =

@@ -1,7 +1,7 @@
 //! Texts in upper case that lie in the value itself.
 ghost use Rattle.std.specs.Prelude.{◌≡◌, ◌≤◌, length};
 ghost use Rattle.std.specs.Str.{IsAscii};
-ghost use Rattle.opc_reader.specs.Stretches.{folded};
+ghost use Rattle.opc_reader_commands.specs.Stretches.{folded};
 
 use std::marker::Model;
 use std::str;
@@ -10,7 +10,7 @@ const ROOM: usize = 126;
 
 /// An ASCII text of a line in upper case.
 #[derive(Drop)]
-pub(crate) struct Folded {
+pub struct Folded {
     room: [u8; ROOM],
     len: usize,
 }
@@ -27,7 +27,7 @@ impl Model for Folded {
 }
 
 impl Folded {
-    pub(crate) fn of(text: &str) -> Self
+    pub fn of(text: &str) -> Self
         requires fits { length text.now ≤ 126 }
         requires ascii { IsAscii text.now }
         ensures { result ≡ folded text.now }
@@ -42,7 +42,7 @@ impl Folded {
         }
     }
 
-    pub(crate) fn as_str(&self) -> &str
+    pub fn as_str(&self) -> &str
         ensures { result.now ≡ self.now }
     {
         match str::from_utf8(&self.room[..self.len]) {

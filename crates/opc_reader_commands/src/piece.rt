@@ -1,7 +1,7 @@
 //! Pieces of a line.
 ghost use Rattle.std.specs.Prelude.{◌≡◌, ◌+◌, ◌≤◌, length};
 ghost use Rattle.std.specs.Str.{IsAscii};
-ghost use Rattle.opc_reader.specs.Stretches.{folded, prefix, after, word};
+ghost use Rattle.opc_reader_commands.specs.Stretches.{folded, prefix, after, word};
 
 use crate::folded::Folded;
 use std::fmt;
@@ -23,7 +23,7 @@ impl fmt::Debug for Piece<'_> {
 impl<'a> Model for Piece<'a> {
     ghost use Rattle.std.specs.Prelude.{◌≤◌, ◌+◌, length};
     ghost use Rattle.std.specs.Str.{IsAscii};
-    ghost use Rattle.opc_reader.specs.Stretches.{Stretch};
+    ghost use Rattle.opc_reader_commands.specs.Stretches.{Stretch};
 
     ghost Value = { Stretch };
 
@@ -41,7 +41,7 @@ pub struct Span {
 
 impl<'a> Piece<'a> {
     /// A line as one piece.
-    pub(crate) fn whole(line: &'a str) -> Piece<'a>
+    pub fn whole(line: &'a str) -> Piece<'a>
         requires ascii { IsAscii line.now }
         requires short { length line.now ≤ 126 }
         ensures { result ≡ record { text = line.now; from = 0 } }
@@ -71,7 +71,7 @@ impl<'a> Piece<'a> {
     }
 
     /// Its first bytes, and those after them.
-    pub(crate) fn split(&self, at: usize) -> (Piece<'a>, Piece<'a>)
+    pub fn split(&self, at: usize) -> (Piece<'a>, Piece<'a>)
         requires { at ≤ length self.now.text }
         ensures prefix { result.0 ≡ prefix at self.now }
         ensures after { result.1 ≡ after at self.now }
@@ -90,7 +90,7 @@ impl<'a> Piece<'a> {
     }
 
     /// In upper case.
-    pub(crate) fn folded(&self) -> Folded
+    pub fn folded(&self) -> Folded
         ensures { result ≡ folded self.now.text }
     {
         Folded::of(self.text)
@@ -98,7 +98,7 @@ impl<'a> Piece<'a> {
 
     /// What stands after a word, where the piece begins with it in any case.
     #[tactic(auto, unfolding(crate::specs::Stretches::word))]
-    pub(crate) fn word(&self, text: &str) -> Option<Piece<'a>>
+    pub fn word(&self, text: &str) -> Option<Piece<'a>>
         ensures { result ≡ word text.now self.now }
     {
         if self.text.len() < text.len() {

@@ -1,10 +1,10 @@
 -- A quoted text is read in one way.
 use Rattle.std.proofs.Common.{◌≡◌, ℕ, ◌+◌, ◌==◌, ◌&&◌, Bool, true, false, cond, List, [], ◌∷◌, ◌++◌, length, Option, Some, None, refl, sym, ap, ◌∙◌, arith, Result, Ok, Err, IfOk}
 use Rattle.std.specs.Option.{option_map}
-use Rattle.opc_reader.specs.Stretches.{folded}
+use Rattle.opc_reader_commands.specs.Stretches.{folded}
 use Rattle.std.proofs.lemmas.Option.{none-some}
 use Rattle.std.proofs.lemmas.Bool.Decides.{nat_tests}
-use Rattle.opc_reader.specs.Quotes.{doubled, closing_len, ends_at, is_quoted, is_open, opens_quote, unquoted, text_value, Says, IsQuoted, OpensQuote}
+use Rattle.opc_reader_commands.specs.Quotes.{doubled, closing_len, ends_at, is_quoted, is_open, opens_quote, unquoted, text_value, Says, IsQuoted, OpensQuote}
 
 pub same_code : (a b : ℕ) → (a == b) ≡ true → a ≡ b
 same_code a b h = grind (arith, nat_tests)

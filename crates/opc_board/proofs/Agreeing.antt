@@ -5,9 +5,9 @@ use Rattle.std.proofs.lemmas.Bool.Decides.{nat_tests}
 use Rattle.opc_board.specs.declared.board.BoardRows.{BoardRows}
 use Rattle.opc_board.specs.declared.fault.BoardFault.{BoardFault}
 use Rattle.opc_board.specs.declared.line.Line.{Line}
-use Rattle.opc_board.specs.Facts.{Name, console_at, device_at, is, reply_at, unit_at}
+use Rattle.opc_board.specs.Invariants.{Name, console_at, device_at, is, reply_at, unit_at}
 use Rattle.opc_board.specs.Outcome.{Outcome, ◌>>=◌, done_with, faults_or, found}
-use Rattle.opc_board.specs.Sight.{AreLeft, IsInOrder, LeavesRest, Seen, only, outcome_only, sees_console, sees_device, sees_reply, sees_unit}
+use Rattle.opc_board.specs.Footprint.{AreLeft, IsInOrder, LeavesRest, Footprint, only, outcome_only, has_console_of, has_device_of, has_reply_of, has_unit_of}
 use Rattle.opc_board.proofs.Names.{is_same_name}
 use Rattle.opc_rows.proofs.Filtered.{find_seen}
 
@@ -35,12 +35,12 @@ pub is_not : (a : Bool) → not a ≡ false → a ≡ true
 is_not true e = refl
 is_not false e = absurd (cc)
 
-module _ (seen : Seen) where
+module _ (footprint : Footprint) where
   -- what comes of the part, and what comes of the whole
   abbrev pub Agrees : BoardRows → Outcome → Outcome → Type 0
-  Agrees b part whole = (part ≡ outcome_only seen whole) × LeavesRest seen b whole
+  Agrees b part whole = (part ≡ outcome_only footprint whole) × LeavesRest footprint b whole
 
-  pub left_alone : (b : BoardRows) → AreLeft seen b b
+  pub left_alone : (b : BoardRows) → AreLeft footprint b b
   left_alone b = record { units = refl; devices = refl; consoles = refl; replies = refl }
 
   pub found_then : {A : Type 0} (b : BoardRows) (f : BoardFault) (part whole : Option A) → part ≡ whole → (run more : A → Outcome) → ((x : A) → whole ≡ Some x → Agrees b (run x) (more x)) → Agrees b (found f part >>= run) (found f whole >>= more)
@@ -59,19 +59,19 @@ module _ (seen : Seen) where
   pub faults_same : (b : BoardRows) (few faults : List (Bool × BoardFault)) (part whole : Outcome) → few ≡ faults → Agrees b part whole → Agrees b (faults_or few part) (faults_or faults whole)
   faults_same b few faults part whole same h = rw same (faults_then b faults part whole h)
 
-  pub done_then : (b part whole : BoardRows) (lines : List Line) → part ≡ only seen whole → IsInOrder whole → AreLeft seen b whole → Agrees b (done_with part lines) (done_with whole lines)
+  pub done_then : (b part whole : BoardRows) (lines : List Line) → part ≡ only footprint whole → IsInOrder whole → AreLeft footprint b whole → Agrees b (done_with part lines) (done_with whole lines)
   done_then b part whole lines same order left = (ap (λ c. done_with c lines) same, (order, left))
 
   -- look-ups at names that are seen
 
-  pub unit_seen : (b : BoardRows) (name : Name) → seen.units name ≡ true → unit_at (only seen b) name ≡ unit_at b name
-  unit_seen b name sees = find_seen (λ u. is u.name name) (sees_unit seen) (λ u here. named seen.units name u.name sees here) b.units
+  pub unit_seen : (b : BoardRows) (name : Name) → footprint.units name ≡ true → unit_at (only footprint b) name ≡ unit_at b name
+  unit_seen b name sees = find_seen (λ u. is u.name name) (has_unit_of footprint) (λ u here. named footprint.units name u.name sees here) b.units
 
-  pub device_seen : (b : BoardRows) (number : Name) → seen.devices number ≡ true → device_at (only seen b) number ≡ device_at b number
-  device_seen b number sees = find_seen (λ d. is d.number number) (sees_device seen) (λ d here. named seen.devices number d.number sees here) b.devices
+  pub device_seen : (b : BoardRows) (number : Name) → footprint.devices number ≡ true → device_at (only footprint b) number ≡ device_at b number
+  device_seen b number sees = find_seen (λ d. is d.number number) (has_device_of footprint) (λ d here. named footprint.devices number d.number sees here) b.devices
 
-  pub console_seen : (b : BoardRows) (name : Name) → seen.consoles name ≡ true → console_at (only seen b) name ≡ console_at b name
-  console_seen b name sees = find_seen (λ c. is c.name name) (sees_console seen) (λ c here. named seen.consoles name c.name sees here) b.consoles
+  pub console_seen : (b : BoardRows) (name : Name) → footprint.consoles name ≡ true → console_at (only footprint b) name ≡ console_at b name
+  console_seen b name sees = find_seen (λ c. is c.name name) (has_console_of footprint) (λ c here. named footprint.consoles name c.name sees here) b.consoles
 
-  pub reply_seen : (b : BoardRows) (id : ℕ) → seen.replies id ≡ true → reply_at (only seen b) id ≡ reply_at b id
-  reply_seen b id sees = find_seen (λ r. r.id == id) (sees_reply seen) (λ r here. ap seen.replies (same_number r.id id here) ∙ sees) b.replies
+  pub reply_seen : (b : BoardRows) (id : ℕ) → footprint.replies id ≡ true → reply_at (only footprint b) id ≡ reply_at b id
+  reply_seen b id sees = find_seen (λ r. r.id == id) (has_reply_of footprint) (λ r here. ap footprint.replies (same_number r.id id here) ∙ sees) b.replies

@@ -12,9 +12,9 @@ use Rattle.opc_board.specs.declared.event.Event.TheVariants as event
 use Rattle.opc_board.specs.declared.rows.ConsoleRow.{ConsoleRow}
 use Rattle.opc_board.specs.declared.rows.DeviceRow.{DeviceRow}
 use Rattle.opc_board.specs.Enough.{FewRowsSuffice, addressed, enough, enough_for_event, has, leaving, varying}
-use Rattle.opc_board.specs.Facts.{Name, console_at, console_before, device_at, device_before, earlier, is, is_master}
+use Rattle.opc_board.specs.Invariants.{Name, console_at, console_before, device_at, device_before, earlier, is, is_master}
 use Rattle.opc_board.specs.Replies.{is_on}
-use Rattle.opc_board.specs.Sight.{IsInOrder, Sees, SeesEvent, SeesLeaving, SeesVaried, only, sees_console, sees_device}
+use Rattle.opc_board.specs.Footprint.{IsInOrder, IsFootprintOf, IsFootprintOfEvent, HasLeaving, HasVaried, only, has_console_of, has_device_of}
 use Rattle.opc_board.specs.Units.{is_holder}
 use Rattle.opc_board.proofs.Kept.{apart_names}
 use Rattle.opc_board.proofs.Names.{is_itself, is_mirrored}
@@ -44,25 +44,25 @@ module _ (b : BoardRows) (order : IsInOrder b) where
   consoles_found : AllByRecursion (λ c. console_at b c.name ≡ Some c) b.consoles
   consoles_found = found_each (λ (x y : ConsoleRow). is x.name y.name) console_before (λ c. is_itself c.name) (λ x y after. apart x.name y.name after) b.consoles order.consoles
 
-  leaving_seen : (name : Name) → SeesLeaving (leaving b name) b name
+  leaving_seen : (name : Name) → HasLeaving (leaving b name) b name
   leaving_seen name =
-      (is_itself name, all_weaker (λ d. device_at b d.number ≡ Some d) (λ d. is_holder name d.unit ≡ true → sees_device (leaving b name) d ≡ true) (λ d found held. ap (has (λ (e : DeviceRow). is_holder name e.unit)) found ∙ held) b.devices devices_found)
+      (is_itself name, all_weaker (λ d. device_at b d.number ≡ Some d) (λ d. is_holder name d.unit ≡ true → has_device_of (leaving b name) d ≡ true) (λ d found held. ap (has (λ (e : DeviceRow). is_holder name e.unit)) found ∙ held) b.devices devices_found)
 
-  varied_seen : (name : Name) → SeesVaried (varying b name) b name
+  varied_seen : (name : Name) → HasVaried (varying b name) b name
   varied_seen name = (
     or_first (is name name) (has is_master (console_at b name)) (is_itself name),
-    any_seen (λ c. is_master c && not (is c.name name)) (sees_console (varying b name)) b.consoles
-        (all_weaker (λ c. console_at b c.name ≡ Some c) (λ c. is_master c && not (is c.name name) ≡ true → sees_console (varying b name) c ≡ true) (λ c found other. or_second (is c.name name) (has is_master (console_at b c.name)) (ap (has is_master) found ∙ and_first (is_master c) (not (is c.name name)) other)) b.consoles consoles_found),
+    any_seen (λ c. is_master c && not (is c.name name)) (has_console_of (varying b name)) b.consoles
+        (all_weaker (λ c. console_at b c.name ≡ Some c) (λ c. is_master c && not (is c.name name) ≡ true → has_console_of (varying b name) c ≡ true) (λ c found other. or_second (is c.name name) (has is_master (console_at b c.name)) (ap (has is_master) found ∙ and_first (is_master c) (not (is c.name name)) other)) b.consoles consoles_found),
   )
 
   addressed_seen : (user : Name) → (is_on user (only (addressed b user) b) ≡ is_on user b) × ((addressed b user).units user ≡ true)
   addressed_seen user = (
-    any_seen (λ c. is_holder user c.user) (sees_console (addressed b user)) b.consoles
-        (all_weaker (λ c. console_at b c.name ≡ Some c) (λ c. is_holder user c.user ≡ true → sees_console (addressed b user) c ≡ true) (λ c found on. ap (has (λ (e : ConsoleRow). is_holder user e.user)) found ∙ on) b.consoles consoles_found),
+    any_seen (λ c. is_holder user c.user) (has_console_of (addressed b user)) b.consoles
+        (all_weaker (λ c. console_at b c.name ≡ Some c) (λ c. is_holder user c.user ≡ true → has_console_of (addressed b user) c ≡ true) (λ c found on. ap (has (λ (e : ConsoleRow). is_holder user e.user)) found ∙ on) b.consoles consoles_found),
     is_itself user,
   )
 
-commands_see : (b : BoardRows) → IsInOrder b → (command : Command) (console : Name) → Sees (enough b command console) b command console
+commands_see : (b : BoardRows) → IsInOrder b → (command : Command) (console : Name) → IsFootprintOf (enough b command console) b command console
 commands_see b order command.DisplayUnits console = λ name. refl
 commands_see b order command.DisplayDevices console = λ number. refl
 commands_see b order command.DisplayConsoles console = λ name. refl
@@ -93,7 +93,7 @@ commands_see b order command.Halt console = tt
 commands_see b order (command.Logon user password) console = tt
 commands_see b order command.Logoff console = tt
 
-events_see : (b : BoardRows) → IsInOrder b → (event : Event) → SeesEvent (enough_for_event b event) b event
+events_see : (b : BoardRows) → IsInOrder b → (event : Event) → IsFootprintOfEvent (enough_for_event b event) b event
 events_see b order (event.JobIn name kind cancelable) = is_itself name
 events_see b order (event.JobEnd name) = leaving_seen b order name
 events_see b order (event.Ask id text) = number_itself id

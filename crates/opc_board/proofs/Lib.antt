@@ -3,9 +3,9 @@ pub mod Kept
 pub mod Padding
 pub mod Tested
 pub mod Agreeing
-pub mod UnitSights
-pub mod DeviceSights
-pub mod ConsoleSights
-pub mod ReplySights
-pub mod Sights
+pub mod UnitFootprints
+pub mod DeviceFootprints
+pub mod ConsoleFootprints
+pub mod ReplyFootprints
+pub mod Footprints
 pub mod Enough

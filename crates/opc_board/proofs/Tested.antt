@@ -2,7 +2,7 @@
 use Rattle.std.proofs.Common.{◌≡◌, Ordering, ap, Some, None, Option, Bool, true, false, List, [], ◌∷◌, refl, ◌&&◌, IfSome, MatchBool}
 use Rattle.std.specs.Option.{is_some}
 use Rattle.std.specs.List.{find, list_all, AllByRecursion, IsAllAdjacentAnswer}
-use Rattle.opc_board.specs.Facts.{Name, is, IsHeldRightly, held_rightly, holds_rightly, unit_before, device_before, console_before, reply_before}
+use Rattle.opc_board.specs.Invariants.{Name, is, IsHeldRightly, held_rightly, holds_rightly, unit_before, device_before, console_before, reply_before}
 use Rattle.opc_rows.specs.Ordered.{Ascends}
 use Rattle.opc_rows.proofs.Orders.{ascends_or_not}
 use Rattle.opc_board.proofs.Names.{earlier_on}

@@ -7,7 +7,7 @@ use Rattle.opc_board.specs.declared.rows.ConsoleRow.{ConsoleRow}
 use Rattle.opc_board.specs.declared.board.BoardRows.{BoardRows}
 use Rattle.opc_board.specs.declared.fault.BoardFault.{BoardFault}
 use Rattle.opc_board.specs.declared.fault.BoardFault.TheVariants.{NoTarget, LastMaster}
-use Rattle.opc_board.specs.Facts.{Name, is, console_before, console_at, has_master}
+use Rattle.opc_board.specs.Invariants.{Name, is, console_before, console_at, has_master}
 use Rattle.opc_board.specs.Outcome.{Outcome, done, faults_or, found, ◌>>=◌}
 
 -- consoles with this row in place of the one of its name

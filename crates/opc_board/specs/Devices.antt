@@ -6,7 +6,7 @@ use Rattle.opc_board.specs.declared.rows.DeviceRow.{DeviceRow}
 use Rattle.opc_board.specs.declared.board.BoardRows.{BoardRows}
 use Rattle.opc_board.specs.declared.fault.BoardFault.{BoardFault}
 use Rattle.opc_board.specs.declared.fault.BoardFault.TheVariants.{NoUnit, NoDevice, DeviceState, DeviceInUse, NoVolume}
-use Rattle.opc_board.specs.Facts.{Name, is, device_before, unit_at, device_at}
+use Rattle.opc_board.specs.Invariants.{Name, is, device_before, unit_at, device_at}
 use Rattle.opc_board.specs.Outcome.{Outcome, done, faults_or, found, ◌>>=◌}
 
 -- the board with this row in place of the one of its number

@@ -6,7 +6,7 @@ use Rattle.opc_reader_commands.specs.Quotes.{text_value}
 use Rattle.opc_board.specs.declared.board.BoardRows.{BoardRows}
 use Rattle.opc_board.specs.declared.event.Event.{Event}
 use Rattle.opc_board.specs.declared.event.Event.TheVariants.{JobIn, JobEnd, Ask, Attach, Allocate, Free, Resume}
-use Rattle.opc_board.specs.Facts.{Name, unit_at}
+use Rattle.opc_board.specs.Invariants.{Name, unit_at}
 use Rattle.opc_board.specs.Texts.{unit_line, lines_of, device_line, console_line, reply_line}
 use Rattle.opc_board.specs.Outcome.{Outcome, done, done_with}
 use Rattle.opc_board.specs.Units.{cancel, cancel_user, force, job_end, job_in, start, stop, modify}

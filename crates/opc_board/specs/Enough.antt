@@ -5,43 +5,43 @@ use Rattle.opc_reader_commands.specs.declared.command.Command.TheVariants.{Displ
 use Rattle.opc_board.specs.declared.board.BoardRows.{BoardRows}
 use Rattle.opc_board.specs.declared.event.Event.{Event}
 use Rattle.opc_board.specs.declared.event.Event.TheVariants.{JobIn, JobEnd, Ask, Attach, Allocate, Free, Resume}
-use Rattle.opc_board.specs.Facts.{Name, is, is_master, console_at, device_at}
+use Rattle.opc_board.specs.Invariants.{Name, is, is_master, console_at, device_at}
 use Rattle.opc_board.specs.Units.{is_holder}
-use Rattle.opc_board.specs.Sight.{IsInOrder, Seen, Sees, SeesEvent}
+use Rattle.opc_board.specs.Footprint.{IsInOrder, Footprint, IsFootprintOf, IsFootprintOfEvent}
 
 -- a row is there, and passes
 abbrev pub has : {R : Type 0} → (R → Bool) → Option R → Bool
 has test (Some row) = test row
 has test None = false
 
-abbrev pub no_rows : Seen
+abbrev pub no_rows : Footprint
 no_rows = record { units = λ _. false; devices = λ _. false; consoles = λ _. false; replies = λ _. false }
 
-abbrev pub unit_alone : Name → Seen
+abbrev pub unit_alone : Name → Footprint
 unit_alone name = record no_rows { units = λ n. is n name }
 
-abbrev pub device_alone : Name → Seen
+abbrev pub device_alone : Name → Footprint
 device_alone number = record no_rows { devices = λ n. is n number }
 
-abbrev pub console_alone : Name → Seen
+abbrev pub console_alone : Name → Footprint
 console_alone name = record no_rows { consoles = λ n. is n name }
 
-abbrev pub reply_alone : ℕ → Seen
+abbrev pub reply_alone : ℕ → Footprint
 reply_alone id = record no_rows { replies = λ n. n == id }
 
 -- a unit and the devices that it has
-abbrev pub leaving : BoardRows → Name → Seen
+abbrev pub leaving : BoardRows → Name → Footprint
 leaving b name = record (unit_alone name) { devices = λ n. has (λ d. is_holder name d.unit) (device_at b n) }
 
 -- a console and the masters
-abbrev pub varying : BoardRows → Name → Seen
+abbrev pub varying : BoardRows → Name → Footprint
 varying b name = record no_rows { consoles = λ n. is n name || has is_master (console_at b n) }
 
 -- a user's session and the consoles where the user is on
-abbrev pub addressed : BoardRows → Name → Seen
+abbrev pub addressed : BoardRows → Name → Footprint
 addressed b user = record (unit_alone user) { consoles = λ n. has (λ c. is_holder user c.user) (console_at b n) }
 
-abbrev pub enough : BoardRows → Command → Name → Seen
+abbrev pub enough : BoardRows → Command → Name → Footprint
 enough b DisplayUnits console = record no_rows { units = λ _. true }
 enough b (DisplayUnit name) console = unit_alone name.value
 enough b DisplayDevices console = record no_rows { devices = λ _. true }
@@ -72,7 +72,7 @@ enough b Halt console = no_rows
 enough b (Logon user password) console = no_rows
 enough b Logoff console = no_rows
 
-abbrev pub enough_for_event : BoardRows → Event → Seen
+abbrev pub enough_for_event : BoardRows → Event → Footprint
 enough_for_event b (JobIn name kind cancelable) = unit_alone name
 enough_for_event b (JobEnd name) = leaving b name
 enough_for_event b (Ask id text) = reply_alone id
@@ -85,4 +85,4 @@ enough_for_event b Resume = no_rows
 abbrev pub FewRowsSuffice : Type 0
 FewRowsSuffice =
     (b : BoardRows) → IsInOrder b
-    → ((command : Command) (console : Name) → Sees (enough b command console) b command console) × ((event : Event) → SeesEvent (enough_for_event b event) b event)
+    → ((command : Command) (console : Name) → IsFootprintOf (enough b command console) b command console) × ((event : Event) → IsFootprintOfEvent (enough_for_event b event) b event)

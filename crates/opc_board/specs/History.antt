@@ -5,7 +5,7 @@ use Rattle.opc_board.specs.declared.board.BoardRows.{BoardRows}
 use Rattle.opc_board.specs.declared.rows.ReplyRow.{ReplyRow}
 use Rattle.opc_board.specs.declared.rows.MessageRow.{MessageRow}
 use Rattle.opc_board.specs.declared.event.Event.{Event}
-use Rattle.opc_board.specs.Facts.{Name}
+use Rattle.opc_board.specs.Invariants.{Name}
 use Rattle.opc_board.specs.Outcome.{Outcome}
 use Rattle.opc_board.specs.Effect.{effect, event_effect}
 

@@ -1,4 +1,4 @@
-pub mod Facts
+pub mod Invariants
 pub mod Texts
 pub mod Outcome
 pub mod Units
@@ -7,5 +7,5 @@ pub mod Consoles
 pub mod Replies
 pub mod Effect
 pub mod History
-pub mod Sight
+pub mod Footprint
 pub mod Enough

@@ -7,7 +7,7 @@ use Rattle.opc_board.specs.declared.rows.UnitRow.{UnitRow}
 use Rattle.opc_board.specs.declared.board.BoardRows.{BoardRows}
 use Rattle.opc_board.specs.declared.fault.BoardFault.{BoardFault}
 use Rattle.opc_board.specs.declared.fault.BoardFault.TheVariants.{NoReply, NoTarget, Halted, ReplyExists}
-use Rattle.opc_board.specs.Facts.{Name, reply_before, unit_at, reply_at}
+use Rattle.opc_board.specs.Invariants.{Name, reply_before, unit_at, reply_at}
 use Rattle.opc_board.specs.Units.{is_tsu, is_holder}
 use Rattle.opc_board.specs.Outcome.{Outcome, done, done_with, faults_or, found, ◌>>=◌}
 use Rattle.opc_board.specs.Texts.{reply_line}

@@ -9,7 +9,7 @@ use Rattle.opc_board.specs.declared.rows.DeviceRow.{DeviceRow}
 use Rattle.opc_board.specs.declared.board.BoardRows.{BoardRows}
 use Rattle.opc_board.specs.declared.fault.BoardFault.{BoardFault}
 use Rattle.opc_board.specs.declared.fault.BoardFault.TheVariants.{NoUnit, NonCancelable, Cancelable, UnitExists, Halted, WrongKind}
-use Rattle.opc_board.specs.Facts.{Name, is, unit_before, unit_at}
+use Rattle.opc_board.specs.Invariants.{Name, is, unit_before, unit_at}
 use Rattle.opc_board.specs.Outcome.{Outcome, done, faults_or, found, ◌>>=◌}
 
 abbrev pub is_tsu : UnitKind → Bool

@@ -2,7 +2,7 @@
 ghost use Rattle.std.specs.Prelude.{◌≡◌, ◌≢◌, IfErr, IfOk, IsSome, Err, OnErr, OnOk, true, false};
 ghost use Rattle.opc_reader_commands.specs.Quotes.{text_value};
 ghost use Rattle.opc_board.specs.declared.fault.BoardFault.TheVariants.{NoMemory};
-ghost use Rattle.opc_board.specs.Facts.{console_at, unit_at};
+ghost use Rattle.opc_board.specs.Invariants.{console_at, unit_at};
 ghost use Rattle.opc_board.specs.Texts.{lines_of};
 ghost use Rattle.opc_board.specs.Outcome.{ComesToOrNoMemory, done, done_with};
 ghost use Rattle.opc_board.specs.Effect.{effect, event_effect, is_change, is_session_command};

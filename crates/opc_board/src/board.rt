@@ -2,7 +2,7 @@
 ghost use Rattle.std.specs.Prelude.{◌≡◌, ◌&&◌, MatchResult};
 ghost use Rattle.std.specs.List.{list_all};
 ghost use Rattle.opc_rows.specs.Ordered.{Ascends};
-ghost use Rattle.opc_board.specs.Facts.{IsBoard, held_rightly, unit_before, kind_at, kind_found, has_master, is_master};
+ghost use Rattle.opc_board.specs.Invariants.{IsBoard, held_rightly, unit_before, kind_at, kind_found, has_master, is_master};
 
 use crate::rows::{ConsoleRow, DeviceRow, MessageRow, ReplyRow, UnitKind, UnitRow};
 use crate::text::KeptText;
@@ -54,7 +54,7 @@ impl Model for Board {
 
     ghost Value = { BoardRows };
 
-    ghost use Rattle.opc_board.specs.Facts.{IsBoard};
+    ghost use Rattle.opc_board.specs.Invariants.{IsBoard};
 
     ghost view = { λ board. board.rows };
 
@@ -142,7 +142,7 @@ impl Board {
     /// The rows of the board.
     pub fn rows(&self) -> &BoardRows
         ensures rows { result.now ≡ self.now }
-        ensures facts { IsBoard self.now }
+        ensures invariants { IsBoard self.now }
     {
         &self.rows
     }

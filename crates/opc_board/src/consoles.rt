@@ -2,7 +2,7 @@
 ghost use Rattle.std.specs.Prelude.{◌≡◌, if◌then◌else◌, IsSome, IsSomeAnd, None, OnErr, OnOk};
 ghost use Rattle.std.specs.List.{list_any};
 ghost use Rattle.opc_board.specs.declared.fault.BoardFault.TheVariants.{NoTarget};
-ghost use Rattle.opc_board.specs.Facts.{console_at, has_master, is, is_master};
+ghost use Rattle.opc_board.specs.Invariants.{console_at, has_master, is, is_master};
 ghost use Rattle.opc_board.specs.Outcome.{ComesTo, found};
 ghost use Rattle.opc_board.specs.Consoles.{at_console, console_defined, defined, logged_off, logged_on, monitored, replaced, varied, with_console, vary_console_online as vary_console_online_outcome, vary_console_offline as vary_console_offline_outcome, vary_console_auth as vary_console_auth_outcome, reset_console as reset_console_outcome};
 

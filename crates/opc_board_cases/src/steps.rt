@@ -1,6 +1,6 @@
 //! Rows that become a board, and what is done to it.
 ghost use Rattle.std.specs.Prelude.{IsSome, IsTrue};
-ghost use Rattle.opc_board.specs.Facts.{console_at};
+ghost use Rattle.opc_board.specs.Invariants.{console_at};
 
 use crate::gathered::gathered;
 use anyhow::{Context, Result, anyhow};

@@ -14,7 +14,7 @@ pub mod script;
 pub mod service;
 
 use crate::database::reason_at;
-use opc_cli_failures::failure::{Failure, Paths, Place, told};
+use opc_cli_failures::failure::{Failure, Paths, Place, reported};
 use opc_cli_failures::reason::Reason;
 use opc_cli_failures::status::Status;
 use opc_io::watched::Watched;
@@ -106,7 +106,7 @@ fn run_without_file<R: Read, W: Write, E: Write>(
 ) -> Status
     ensures { IsDoneInMemory W.contents E.contents (R.remaining input.old) output.old output.new errors.old errors.new result paths.now.policy }
 {
-    told(
+    reported(
         run_in_memory(rt, paths.policy, input, output),
         paths,
         errors,
@@ -141,7 +141,7 @@ fn work_in_file<S: Start, R: Read, W: Write, E: Write>(
         Ok((end, closed)) => ended(end, closed, &paths_of(path, work), errors),
         Err(fault) => {
             let failure = not_opened(rt, path, fault);
-            told(Err(failure), &paths_of(path, work), errors)
+            reported(Err(failure), &paths_of(path, work), errors)
         }
     }
 }
@@ -154,12 +154,12 @@ fn ended<S: Start, E: Write>(
     errors: &mut Watched<E>,
 ) -> Status
     ensures status { result ≡ status_of_work end closed }
-    ensures told { IsWorkTold E.contents errors.old errors.new end closed }
+    ensures reported { IsWorkTold E.contents errors.old errors.new end closed }
 {
-    let status = told(end, paths, errors);
+    let status = reported(end, paths, errors);
     match closed {
         Ok(_) => status,
-        Err((error, _)) => told(Err(not_closed(error)), paths, errors),
+        Err((error, _)) => reported(Err(not_closed(error)), paths, errors),
     }
 }
 

@@ -5,7 +5,7 @@ use Rattle.std.specs.Io.KnownBytes.{Appends}
 use Rattle.opc_io.proofs.Writing.{appends-more, appends-none}
 use Rattle.opc_terms.specs.declared.fault.Fault.{Fault}
 use Rattle.opc_terms.specs.Faults.{fault_code, fault_text}
-use Rattle.opc_cli_failures.specs.Printing.{Grows, fault_line, IsLineOf, IsTold}
+use Rattle.opc_cli_failures.specs.Printing.{Grows, fault_line, IsLineOf, IsReported}
 
 pub nothing_yet : (a : Option (List ℕ)) → Grows a a
 nothing_yet a = ([], appends-none a)
@@ -50,10 +50,10 @@ module _ {A E : Type 0} (result : Result A E) (a b c : Option (List ℕ)) where
       go (Err e) k = tt
 
   -- a fault's line, and then what failed
-  pub told_whole : (fault : Fault) → IsLineOf fault a b → OnOk result (Grows b c) → OnOk result (IsTold fault a c)
+  pub told_whole : (fault : Fault) → IsLineOf fault a b → OnOk result (Grows b c) → OnOk result (IsReported fault a c)
   told_whole fault line k = go result k
     where
-      go : (r : Result A E) → OnOk r (Grows b c) → OnOk r (IsTold fault a c)
+      go : (r : Result A E) → OnOk r (Grows b c) → OnOk r (IsReported fault a c)
       go (Ok v) more = record { line = line.line; is = line.is; more = more.0; text = appends-more a b c line.line more.0 line.text more.1 }
       go (Err e) more = tt
 

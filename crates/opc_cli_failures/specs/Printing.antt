@@ -26,7 +26,7 @@ pub record IsLineOf (fault : Fault) (before written : Option (List ℕ)) : Type 
   pub text : Appends before written line
 
 -- The line of a fault was printed first.
-pub record IsTold (fault : Fault) (before written : Option (List ℕ)) : Type 0 where
+pub record IsReported (fault : Fault) (before written : Option (List ℕ)) : Type 0 where
   pub line : List ℕ
   pub is : IsFaultLine fault line
   pub more : List ℕ

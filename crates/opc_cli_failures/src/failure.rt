@@ -1,7 +1,7 @@
 //! What made the program fail, and how that is told.
 ghost use Rattle.std.specs.Prelude.{◌≡◌, IfErr, OnOk, Some, false};
 ghost use Rattle.std.specs.IoError.{error_kind};
-ghost use Rattle.opc_cli_failures.specs.Printing.{IsTold};
+ghost use Rattle.opc_cli_failures.specs.Printing.{IsReported};
 ghost use Rattle.opc_cli_failures.specs.Statuses.{IsFailure, cause_in_gate, fault_of_kind, status_of, status_of_end};
 
 use crate::printing::print_failure;
@@ -93,9 +93,9 @@ impl Failure {
 
     /// Prints the fault, as its code and its text, and then, in a line of its own, what failed and why. Answers the status.
     /// Takes no memory, so that it can print where there is none; then the first line alone is printed.
-    pub fn tell<K: Sink>(&self, paths: &Paths<'_>, errors: &mut K) -> Status
+    pub fn report<K: Sink>(&self, paths: &Paths<'_>, errors: &mut K) -> Status
         ensures status { result ≡ status_of self.now.fault }
-        ensures told { K.has_failed errors.new ≡ false → IsTold self.now.fault (K.held errors.old) (K.held errors.new) }
+        ensures reported { K.has_failed errors.new ≡ false → IsReported self.now.fault (K.held errors.old) (K.held errors.new) }
         ensures kept { K.has_failed errors.new ≡ false → K.has_failed errors.old ≡ false }
     {
         // The status tells the fault too, where no word can be printed.
@@ -105,15 +105,15 @@ impl Failure {
 }
 
 /// The status of what was to be done; where it failed, that is told.
-pub fn told<K: Sink>(end: Result<Status, Failure>, paths: &Paths<'_>, errors: &mut K) -> Status
+pub fn reported<K: Sink>(end: Result<Status, Failure>, paths: &Paths<'_>, errors: &mut K) -> Status
     ensures status { result ≡ status_of_end end }
-    ensures told { IfErr end (λ failure. K.has_failed errors.new ≡ false → IsTold failure.fault (K.held errors.old) (K.held errors.new)) }
+    ensures reported { IfErr end (λ failure. K.has_failed errors.new ≡ false → IsReported failure.fault (K.held errors.old) (K.held errors.new)) }
     ensures silent { OnOk end (errors.new ≡ errors.old) }
     ensures kept { K.has_failed errors.new ≡ false → K.has_failed errors.old ≡ false }
 {
     match end {
         Ok(status) => status,
-        Err(failure) => failure.tell(paths, errors),
+        Err(failure) => failure.report(paths, errors),
     }
 }
 

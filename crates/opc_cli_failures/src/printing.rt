@@ -1,6 +1,6 @@
 //! How a failure is printed, where there may be no memory.
 ghost use Rattle.std.specs.Prelude.{◌≡◌, OnOk, if◌then◌else◌, is_err, true};
-ghost use Rattle.opc_cli_failures.specs.Printing.{Grows, IsLineOf, IsTold};
+ghost use Rattle.opc_cli_failures.specs.Printing.{Grows, IsLineOf, IsReported};
 
 use crate::failure::{Failure, Paths, Place};
 use crate::reason::Reason;
@@ -24,7 +24,7 @@ pub(crate) fn print_failure<K: Sink>(
     paths: &Paths<'_>,
     errors: &mut K,
 ) -> Result<(), WriteFault>
-    ensures text { OnOk result (IsTold failure.now.fault (K.held errors.old) (K.held errors.new)) }
+    ensures text { OnOk result (IsReported failure.now.fault (K.held errors.old) (K.held errors.new)) }
     ensures failed { K.has_failed errors.new ≡ (if is_err result then true else K.has_failed errors.old) }
 {
     print_fault(&failure.fault, errors)?;

@@ -22,7 +22,7 @@ module _ (bytes all : List ℕ) (are : bytes ≡ take (policy_limit + 1) all) wh
   no_text (inr short) = inr (subst (λ b. (length b ≤ policy_limit) × (IsUtf8 b → ⊥)) (same short.0) short)
 
   no_file : (fault : Fault) → IsNoPolicyFile bytes fault → IsNoPolicyFile all fault
-  no_file fault (inl told) = inl (no_text told.0, told.1)
+  no_file fault (inl reported) = inl (no_text reported.0, reported.1)
   no_file fault (inr bad) = inr (subst (λ b. IsBadFile b fault) (same bad.fits) bad)
 
 -- at most one byte past the limit of what was left

@@ -25,7 +25,7 @@ pub record IsBadFile (bytes : List ℕ) (fault : Fault) : Type 0 where
   pub utf8 : IsUtf8 bytes
   pub bad : ImportFault
   pub reads : policy_of bytes ≡ Err bad
-  pub told : fault ≡ as_fault bad
+  pub reported : fault ≡ as_fault bad
 
 -- too many, or no UTF-8
 abbrev pub IsNoText : List ℕ → Type 0

@@ -12,7 +12,7 @@ use Rattle.opc_machine.specs.Bootstrap.{policy_after}
 use Rattle.opc_cli_failures.specs.declared.failure.Failure.{Failure}
 use Rattle.opc_cli_failures.specs.declared.status.Status.{Status}
 use Rattle.opc_cli_failures.specs.declared.status.Status.TheVariants.{Done, Refused}
-use Rattle.opc_cli_failures.specs.Printing.{IsTold}
+use Rattle.opc_cli_failures.specs.Printing.{IsReported}
 use Rattle.opc_cli_failures.specs.Statuses.{IsFailure, status_of_end}
 use Rattle.opc_cli_words.specs.declared.question.Question.{Question}
 use Rattle.opc_cli_policy_files.specs.PolicyFiles.{AreRead, IsUnread}
@@ -48,8 +48,8 @@ module _ {W : Type 0} (contents : W → Option (List ℕ)) (before written : W) 
       ⊎ ((rows : List Row) × AreRead left rows × IsAnswer (answer_of question rows) end)
 
 -- The question was answered, and the status returned; a fault is printed, unless a write of it failed.
-pub record IsToldAnswer {W K : Type 0} (contents : W → Option (List ℕ)) (held : K → Option (List ℕ)) (has_failed : K → Bool) (before written : W) (quiet told : K) (left : Option (List ℕ)) (question : Question) (status : Status) : Type 0 where
+pub record IsReportedAnswer {W K : Type 0} (contents : W → Option (List ℕ)) (held : K → Option (List ℕ)) (has_failed : K → Bool) (before written : W) (quiet reported : K) (left : Option (List ℕ)) (question : Question) (status : Status) : Type 0 where
   pub end : Result Status Failure
   pub answered : IsAnswered contents before written left question end
   pub status_is : status ≡ status_of_end end
-  pub printed : IfErr end (λ failure. has_failed told ≡ false → IsTold failure.fault (held quiet) (held told))
+  pub printed : IfErr end (λ failure. has_failed reported ≡ false → IsReported failure.fault (held quiet) (held reported))

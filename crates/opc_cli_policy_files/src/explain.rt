@@ -4,12 +4,12 @@ ghost use Rattle.std.specs.Io.KnownBytes.{Appends};
 ghost use Rattle.opc_policy.specs.Explained.{explained_text};
 ghost use Rattle.opc_terms.specs.declared.fault.Fault.TheVariants.{NoMemory};
 ghost use Rattle.opc_cli_failures.specs.Statuses.{IsFailure};
-ghost use Rattle.opc_cli_policy_files.specs.Questions.{IsAnswered, IsToldAnswer, answer_of, policy_made, status_of_verdict};
+ghost use Rattle.opc_cli_policy_files.specs.Questions.{IsAnswered, IsReportedAnswer, answer_of, policy_made, status_of_verdict};
 
 use crate::policy_file::read_rows;
 use opc_policy::explained::{Explained, explain};
 use opc_policy::verdict::Verdict;
-use opc_cli_failures::failure::{Failure, NO_PATHS, Place, told};
+use opc_cli_failures::failure::{Failure, NO_PATHS, Place, reported};
 use opc_cli_failures::status::Status;
 use opc_io::sink::Sink;
 use opc_policy_members::policy::Policy;
@@ -27,9 +27,9 @@ pub fn answer_question<R: Read, W: Write, K: Sink>(
     output: &mut W,
     errors: &mut K,
 ) -> Status
-    ensures { IsToldAnswer W.contents K.held K.has_failed output.old output.new errors.old errors.new (R.remaining input.old) question.now result }
+    ensures { IsReportedAnswer W.contents K.held K.has_failed output.old output.new errors.old errors.new (R.remaining input.old) question.now result }
 {
-    told(answer(alloc, question, input, output), &NO_PATHS, errors)
+    reported(answer(alloc, question, input, output), &NO_PATHS, errors)
 }
 
 fn answer<R: Read, W: Write>(

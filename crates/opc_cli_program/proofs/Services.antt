@@ -15,7 +15,7 @@ use Rattle.opc_cli_program.proofs.Uncached.{run}
 
 pub says_where : {P L : Type 0} (binds : P → SocketAddr → L → Type 0) (is_at : P → L → SocketAddr → Type 0) (ports : P) (asked : ℕ) (before after : Option (List ℕ))
     → Listens binds is_at ports asked before after → SaysWhere before after
-says_where binds is_at ports asked before after told = (told.1.port, told.1.told)
+says_where binds is_at ports asked before after reported = (reported.1.port, reported.1.reported)
 
 -- `tables` are those below the cache. What both represent in the end the tables represent, and what the tables represent
 -- at first both do.
@@ -38,8 +38,8 @@ module _ {T C : Type 0} (tables : C → T) (is_sure : T → Type 0) (represents 
         → IsServiceAfter (λ c. is_sure (tables c)) kept (λ c s. may_leave (tables c) s) limits remaining contents old new serve end said
         → IsServiceAfter is_sure represents may_leave limits remaining contents (tables old) (tables new) serve end wanted
     uncached serve end said wanted says (inl none) = inl (record { failed = none.failed; same = ap tables none.same })
-    uncached serve end said wanted says (inr (told, are)) =
-        inr (says told, record { served = are.served; handled = clients serve.timeout serve.count are.served are.handled; ends = are.ends })
+    uncached serve end said wanted says (inr (reported, are)) =
+        inr (says reported, record { served = are.served; handled = clients serve.timeout serve.count are.served are.handled; ends = are.ends })
 
     -- the same over tables that are these
     pub handed_back : (first last : T) → tables old ≡ first → last ≡ tables new → (serve : Serve) (end : Result Status Failure) (said wanted : Type 0) → (said → wanted)

@@ -37,7 +37,7 @@ module _ {T C : Type 0} (tables : C → T) (is_sure : T → Type 0) (represents 
   cut : (rs : List (ℕ × Request)) (before written : Option (List ℕ)) (fault : ScriptFault) → IsCut sure kept leaves old new rs before written fault
       → IsCut is_sure represents may_leave (tables old) (tables new) rs before written fault
   cut rs before written fault w = record {
-    told = w.told;
+    reported = w.reported;
     request = w.request;
     later = w.later;
     are = w.are;

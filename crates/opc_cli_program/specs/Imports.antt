@@ -40,10 +40,10 @@ abbrev pub FailsAsWritten : {K : Type 0} → (K → Bool) → (before written : 
 FailsAsWritten has_failed before written end = has_failed written ≡ (if is_err end then true else has_failed before)
 
 -- An answer is told: what is done by its lines, and what is refused by its fault, of which nothing is printed.
-abbrev pub IsTold : {K : Type 0} → (K → Option (List ℕ)) → (K → Bool) → Answer → (before written : K) → Result Status Failure → Type 0
-IsTold held has_failed (answer.Done lines rule) before written end =
+abbrev pub IsReported : {K : Type 0} → (K → Option (List ℕ)) → (K → Bool) → Answer → (before written : K) → Result Status Failure → Type 0
+IsReported held has_failed (answer.Done lines rule) before written end =
     IsEnded end × IsWritten (lines_text lines) (held before) (held written) end × FailsAsWritten has_failed before written end
-IsTold held has_failed (answer.Refused fault rule) before written end = IsErrAnd end (λ failure. failure.fault ≡ fault) × (written ≡ before)
+IsReported held has_failed (answer.Refused fault rule) before written end = IsErrAnd end (λ failure. failure.fault ≡ fault) × (written ≡ before)
 
 -- the text of the policy file of a state
 abbrev pub exported : State → List ℕ
@@ -79,7 +79,7 @@ module _ {T : Type 0} (is_sure : T → Type 0) (represents may_leave : T → Sta
     pub record IsOneStep (moment : ℕ) (r : Input) : Type 0 where
       pub answer : Answer
       pub handled : is_sure new → (s : State) → represents old s → IsHandled represents may_leave old new s moment r answer
-      pub told : IsTold held has_failed answer before written end
+      pub reported : IsReported held has_failed answer before written end
 
     -- The rows are a batch with this number at the console that is named; where none is, they are a first policy, and
     -- nothing is printed.

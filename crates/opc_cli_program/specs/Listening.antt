@@ -29,11 +29,11 @@ module _ {P L : Type 0} (binds : P → SocketAddr → L → Type 0) (is_at : P �
     pub port_is : socket_port given ≡ port
 
   -- And the output says at which.
-  pub record IsTold (before after : Option (List ℕ)) : Type 0 where
+  pub record IsReported (before after : Option (List ℕ)) : Type 0 where
     pub port : ℕ
     pub listens : IsListening port
-    pub told : Appends before after (listening_line port)
+    pub reported : Appends before after (listening_line port)
 
 -- A listener was bound to the port that was asked for, and the output says at which it is.
 abbrev pub Listens : {P L : Type 0} → (P → SocketAddr → L → Type 0) → (P → L → SocketAddr → Type 0) → P → ℕ → (before after : Option (List ℕ)) → Type 0
-Listens binds is_at ports asked before after = (listener : _) × IsTold binds is_at ports asked listener before after
+Listens binds is_at ports asked before after = (listener : _) × IsReported binds is_at ports asked listener before after

@@ -4,7 +4,7 @@ ghost use Rattle.opc_state.specs.Changes.{IsKept};
 ghost use Rattle.opc_machine.specs.Inputs.{input_of};
 ghost use Rattle.opc_cli_program.specs.Imports.{IsExport, IsFirstPolicy, IsImport, IsOneStep};
 
-use crate::printing::{print_text, tell_answer};
+use crate::printing::{print_text, print_answer};
 use opc_cli_failures::failure::{Failure, Place};
 use opc_cli_failures::status::Status;
 use opc_gate::gate::Gate;
@@ -87,7 +87,7 @@ fn handle_alone<T: Tables, K: Sink>(
     ensures handles { IsOneStep T.is_sure T.represents T.may_leave gate.old gate.new result K.held K.has_failed output.old output.new moment (input_of request.now) }
 {
     let answer = gate.handle(alloc, moment, request);
-    tell_answer(&answer, output)
+    print_answer(&answer, output)
 }
 
 fn listed(alloc: Global, rows: &[Row]) -> Result<Rows<Row>, Failure>

@@ -3,7 +3,7 @@ ghost use Rattle.std.specs.Prelude.{◌≡◌, IfErr, IfOk, OnOk};
 ghost use Rattle.std.specs.Io.KnownBytes.{Appends};
 ghost use Rattle.std.specs.Net.Socket.{socket_port};
 ghost use Rattle.opc_cli_failures.specs.Statuses.{status_of};
-ghost use Rattle.opc_cli_program.specs.Listening.{IsLocalhost, IsListening, IsTold, listening_line};
+ghost use Rattle.opc_cli_program.specs.Listening.{IsLocalhost, IsListening, IsReported, listening_line};
 
 use arrayvec::ArrayString;
 use itoa::Buffer;
@@ -95,7 +95,7 @@ fn listening_line(port: u16) -> ArrayString<LISTENING_LINE>
 }
 
 /// Says where the program listens, in one write.
-fn tell_port<W: Write>(port: u16, output: &mut W) -> io::Result<()>
+fn print_port<W: Write>(port: u16, output: &mut W) -> io::Result<()>
     ensures { OnOk result (Appends (W.contents output.old) (W.contents output.new) (listening_line port)) }
 {
     let line = listening_line(port);
@@ -111,10 +111,10 @@ pub fn open_port<P: Ports, W: Write>(
     output: &mut W,
 ) -> Result<P::Listener, Failure>
     ensures status { IfErr result (λ failure. status_of failure.fault ≡ Status.Failed) }
-    ensures listens { IfOk result (λ listener. IsTold P.binds P.is_at ports.now port listener (W.contents output.old) (W.contents output.new)) }
+    ensures listens { IfOk result (λ listener. IsReported P.binds P.is_at ports.now port listener (W.contents output.old) (W.contents output.new)) }
 {
     let (listener, given) = listen(ports, port)?;
-    match tell_port(given, output) {
+    match print_port(given, output) {
         Ok(()) => Ok(listener),
         Err(error) => Err(Failure::at(Place::Output, error)),
     }

@@ -3,7 +3,7 @@ ghost use Rattle.std.specs.Prelude.{◌≡◌, IsErr, IsOk, MatchResult, if◌th
 ghost use Rattle.std.specs.Io.KnownBytes.{Appends};
 ghost use Rattle.opc_cli_script.specs.Running.{AppendsPrefix};
 ghost use Rattle.opc_cli_script.specs.Transcripts.{ended};
-ghost use Rattle.opc_cli_program.specs.Imports.{FailsAsWritten, IsEnded, IsTold, IsWritten, lines_text};
+ghost use Rattle.opc_cli_program.specs.Imports.{FailsAsWritten, IsEnded, IsReported, IsWritten, lines_text};
 
 use opc_board::line::Line;
 use opc_cli_failures::failure::{Failure, Place};
@@ -54,8 +54,8 @@ pub fn print_text<K: Sink>(output: &mut K, text: &str) -> Result<Status, Failure
 }
 
 /// Prints the lines of an answer, or gives its fault.
-pub fn tell_answer<K: Sink>(answer: &Answer, output: &mut K) -> Result<Status, Failure>
-    ensures { IsTold K.held K.has_failed answer.now output.old output.new result }
+pub fn print_answer<K: Sink>(answer: &Answer, output: &mut K) -> Result<Status, Failure>
+    ensures { IsReported K.held K.has_failed answer.now output.old output.new result }
 {
     match answer {
         Answer::Done { lines, .. } => printed(write_lines(output, lines.as_slice())),

@@ -12,7 +12,7 @@ use opc_io::sink::Sink;
 use opc_cli_policy_files::openings::Openings;
 use opc_cli_policy_files::policy_file::read_rows_at;
 use opc_cli_policy_files::streams::read_up_to;
-use opc_cli_script::run::{run_script, tell_bad_line};
+use opc_cli_script::run::{run_script, print_bad_line};
 use opc_cli_script::script::{SCRIPT_LIMIT, ScriptFault};
 use opc_state::tables::Tables;
 use opc_terms::fault::Fault;
@@ -114,7 +114,7 @@ fn run_bytes<T: Tables, K: Sink>(
 {
     match str::from_utf8(bytes) {
         Ok(script) => run_script(gate, alloc, script, output),
-        Err(_) => Err(tell_bad_line(alloc, 0, output)),
+        Err(_) => Err(print_bad_line(alloc, 0, output)),
     }
 }
 

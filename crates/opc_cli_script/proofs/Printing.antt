@@ -72,7 +72,7 @@ module _ {L N : Type 0} (heard : L → ℕ → Answer → L → Type 0) (same : 
     cut missed fault prints cuts run =
         let done = printed prints run.before run.answers from run.met run.heard_before in
         record {
-          told = run.before;
+          reported = run.before;
           request = run.request;
           later = run.later;
           are = run.are;

@@ -88,14 +88,14 @@ allocate_back device unit d u =
     let parts : separated (device ++ 32 ∷ unit) ≡ Some (device, unit) = separated_back device unit (name_is_word device_rule device d) in
     rw (parts, name_back device_rule device d, name_back unit_rule unit u) refl
 
-told_back : (told : List ℕ) → 0 < length told → not_empty told ≡ Some told
-told_back told h = grind (arith, nat_tests, h)
+told_back : (reported : List ℕ) → 0 < length reported → not_empty reported ≡ Some reported
+told_back reported h = grind (arith, nat_tests, h)
 
-ask_back : (id : ℕ) (told : List ℕ) → id < 100 → 0 < length told → ask (two_digits id ++ 32 ∷ told) ≡ Some (event.Ask id told)
+ask_back : (id : ℕ) (reported : List ℕ) → id < 100 → 0 < length reported → ask (two_digits id ++ 32 ∷ reported) ≡ Some (event.Ask id reported)
 unfolding asked
-ask_back id told low long =
-    let parts : separated (two_digits id ++ 32 ∷ told) ≡ Some (two_digits id, told) = separated_back (two_digits id) told (digits_are_word id low) in
-    rw (parts, id_back id low, told_back told long) refl
+ask_back id reported low long =
+    let parts : separated (two_digits id ++ 32 ∷ reported) ≡ Some (two_digits id, reported) = separated_back (two_digits id) reported (digits_are_word id low) in
+    rw (parts, id_back id low, told_back reported long) refl
 
 -- what follows a verb is read by the verb
 verb_back : (verb rest : List ℕ) (e : Event) → IsWord verb → event_of (verb ++ 32 ∷ rest) (Some (verb, rest)) ≡ Some e → event_in (verb ++ 32 ∷ rest) ≡ Some e
@@ -106,7 +106,7 @@ reads_back (event.JobIn name kind cancelable) h =
     let text : event_text (event.JobIn name kind cancelable) ≡ codes "JOBIN" ++ 32 ∷ (name ++ 32 ∷ columns (kind_words kind ++ cancelable_words cancelable)) = ap (λ t. codes "JOBIN" ++ 32 ∷ t) (before_kind name kind (cancelable_words cancelable)) in
     ap event_in text ∙ verb_back (codes "JOBIN") _ _ refl (job_back name kind cancelable h.0 h.1)
 reads_back (event.JobEnd name) h = verb_back (codes "JOBEND") name _ refl (ap (option_map event.JobEnd) (name_back unit_rule name h))
-reads_back (event.Ask id told) h = verb_back (codes "ASK") (two_digits id ++ 32 ∷ told) _ refl (ask_back id told h.0 h.1)
+reads_back (event.Ask id reported) h = verb_back (codes "ASK") (two_digits id ++ 32 ∷ reported) _ refl (ask_back id reported h.0 h.1)
 reads_back (event.Attach device) h = verb_back (codes "ATTACH") device _ refl (ap (option_map event.Attach) (name_back device_rule device h))
 reads_back (event.Allocate device unit) h = verb_back (codes "ALLOCATE") (device ++ 32 ∷ unit) _ refl (allocate_back device unit h.0 h.1)
 reads_back (event.Free device) h = verb_back (codes "FREE") device _ refl (ap (option_map event.Free) (name_back device_rule device h))

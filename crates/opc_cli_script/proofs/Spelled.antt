@@ -116,10 +116,10 @@ allocate_is text e h =
       ap (λ t. codes "ALLOCATE" ++ 32 ∷ t) (separated_is text w.0 w.1 ∙ ap (λ t. t ++ 32 ∷ w.0.1) device.1 ∙ ap (λ t. d.0 ++ 32 ∷ t) unit.1),
     )
 
-told_is : (text told : List ℕ) → not_empty text ≡ Some told → (0 < length told) × (text ≡ told)
-told_is [] told h = absurd (search (rules, h))
-told_is (c ∷ text) told h =
-    let same : c ∷ text ≡ told = search (rules, h) in
+told_is : (text reported : List ℕ) → not_empty text ≡ Some reported → (0 < length reported) × (text ≡ reported)
+told_is [] reported h = absurd (search (rules, h))
+told_is (c ∷ text) reported h =
+    let same : c ∷ text ≡ reported = search (rules, h) in
     subst (λ t. (0 < length t) × (c ∷ text ≡ t)) same (omega arith, refl)
 
 asked_is : (text : List ℕ) (parts : ℕ × List ℕ) → asked text ≡ Some parts → IsEvent (event.Ask parts.0 parts.1) × (text ≡ two_digits parts.0 ++ 32 ∷ parts.1)
@@ -129,11 +129,11 @@ asked_is text parts h =
     let i = bind_some (id_in w.0.0) _ parts w.2 in
     let t = bind_some (not_empty w.0.1) _ parts i.2 in
     let id = id_is w.0.0 i.0 i.1 in
-    let told = told_is w.0.1 t.0 t.1 in
+    let reported = told_is w.0.1 t.0 t.1 in
     let same : (i.0, t.0) ≡ parts = search (rules, t.2) in
     subst (λ q. IsEvent (event.Ask q.0 q.1) × (text ≡ two_digits q.0 ++ 32 ∷ q.1)) same (
-      (id.0, told.0),
-      separated_is text w.0 w.1 ∙ ap (λ x. x ++ 32 ∷ w.0.1) id.1 ∙ ap (λ x. two_digits i.0 ++ 32 ∷ x) told.1,
+      (id.0, reported.0),
+      separated_is text w.0 w.1 ∙ ap (λ x. x ++ 32 ∷ w.0.1) id.1 ∙ ap (λ x. two_digits i.0 ++ 32 ∷ x) reported.1,
     )
 
 ask_is : (text : List ℕ) (e : Event) → ask text ≡ Some e → After (codes "ASK") text e

@@ -85,8 +85,8 @@ unfoldable pub asked : List ℕ → Option (ℕ × List ℕ)
 asked text = do
   words ← separated text
   id ← id_in words.0
-  told ← not_empty words.1
-  Some (id, told)
+  reported ← not_empty words.1
+  Some (id, reported)
 
 abbrev pub ask : List ℕ → Option Event
 ask text = option_map (λ (parts : ℕ × List ℕ). event.Ask parts.0 parts.1) (asked text)

@@ -34,16 +34,16 @@ module _ {T : Type 0} (is_sure : T → Type 0) (represents may_leave : T → Sta
 
   -- The run ended at the first request whose answer was not written in whole. That request is the last one that is handled.
   pub record IsCut (old new : T) (requests : List (ℕ × Request)) (before written : Option (List ℕ)) (fault : ScriptFault) : Type 0 where
-    pub told : List (ℕ × Request)
+    pub reported : List (ℕ × Request)
     pub request : ℕ × Request
     pub later : List (ℕ × Request)
-    pub are : requests ≡ told ++ request ∷ later
+    pub are : requests ≡ reported ++ request ∷ later
     pub answers : List Answer
-    pub each : length answers ≡ length told
+    pub each : length answers ≡ length reported
     pub answer : Answer
-    pub run : is_sure new → (s : State) → represents old s → IsRun represents may_leave old new s (told ++ request ∷ []) (answers ++ answer ∷ [])
+    pub run : is_sure new → (s : State) → represents old s → IsRun represents may_leave old new s (reported ++ request ∷ []) (answers ++ answer ∷ [])
     pub met : Option (List ℕ)
-    pub text : Appends before met (transcript told answers)
+    pub text : Appends before met (transcript reported answers)
     pub cut_off : IsCutOff fault met written (answer_text request.0 answer)
 
   -- There was no memory for the requests, and nothing was done.
@@ -57,14 +57,14 @@ module _ {T : Type 0} (is_sure : T → Type 0) (represents may_leave : T → Sta
   IsScriptRun old new requests before written (Err fault) = IsNotBegun old new before written fault ⊎ IsCut old new requests before written fault
 
 -- What is written says that the line is bad, or that was cut off.
-abbrev pub IsBadLineTold : ℕ → (before written : Option (List ℕ)) → ScriptFault → Type 0
-IsBadLineTold number before written (BadLine found) = (found ≡ number) × Appends before written (bad_line_text number)
-IsBadLineTold number before written NoMemory = IsCutOff NoMemory before written (bad_line_text number)
-IsBadLineTold number before written (Output error) = IsCutOff (Output error) before written (bad_line_text number)
+abbrev pub IsBadLinePrinted : ℕ → (before written : Option (List ℕ)) → ScriptFault → Type 0
+IsBadLinePrinted number before written (BadLine found) = (found ≡ number) × Appends before written (bad_line_text number)
+IsBadLinePrinted number before written NoMemory = IsCutOff NoMemory before written (bad_line_text number)
+IsBadLinePrinted number before written (Output error) = IsCutOff (Output error) before written (bad_line_text number)
 
 abbrev pub IsBadRun : ℕ → (before written : Option (List ℕ)) → Result Status ScriptFault → Type 0
 IsBadRun number before written (Ok status) = ⊥
-IsBadRun number before written (Err fault) = IsBadLineTold number before written fault
+IsBadRun number before written (Err fault) = IsBadLinePrinted number before written fault
 
 -- A script was run, or its bad line was told and nothing was run.
 abbrev pub IsAnswered : {T : Type 0} → (T → Type 0) → (represents may_leave : T → State → Type 0) → (old new : T) → (script : List ℕ) → (before written : Option (List ℕ)) → Result Status ScriptFault → Type 0

@@ -7,10 +7,10 @@ use Rattle.opc_machine.specs.declared.request.Answer.TheVariants as answer
 use Rattle.opc_cli_failures.specs.declared.status.Status.{Status}
 use Rattle.opc_cli_failures.specs.declared.status.Status.TheVariants.{Done, Refused, Failed}
 
-abbrev pub is_given_up : Answer → Bool
-is_given_up (answer.Refused fault.NoMemory rule) = true
-is_given_up (answer.Refused fault.Store rule) = true
-is_given_up other = false
+abbrev pub is_aborted : Answer → Bool
+is_aborted (answer.Refused fault.NoMemory rule) = true
+is_aborted (answer.Refused fault.Store rule) = true
+is_aborted other = false
 
 abbrev pub is_refused : Answer → Bool
 is_refused (answer.Refused fault rule) = true
@@ -18,4 +18,4 @@ is_refused (answer.Done lines rule) = false
 
 -- Failed where there was no memory or the store failed, else refused where anything was refused, else done.
 abbrev pub status_of : List Answer → Status
-status_of answers = if list_any is_given_up answers then Failed else (if list_any is_refused answers then Refused else Done)
+status_of answers = if list_any is_aborted answers then Failed else (if list_any is_refused answers then Refused else Done)

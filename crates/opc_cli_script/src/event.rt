@@ -112,21 +112,21 @@ fn id_in(text: &str) -> Option<ReplyId>
 fn asked(text: &str) -> Option<(ReplyId, &str)>
     ensures { MatchOption result (asked text.now ≡ None) (λ parts. asked text.now ≡ Some (parts.0, parts.1.now)) }
 {
-    let (id, told) = separated(text)?;
+    let (id, reported) = separated(text)?;
     let id = id_in(id)?;
-    if told.is_empty() {
+    if reported.is_empty() {
         return None;
     }
-    Some((id, told))
+    Some((id, reported))
 }
 
 fn ask(alloc: Global, text: &str) -> Result<Option<Event>, AllocError>
     ensures { IfOk result (λ event. event ≡ ask text.now) }
 {
     match asked(text) {
-        Some((id, told)) => Ok(Some(Event::Ask {
+        Some((id, reported)) => Ok(Some(Event::Ask {
             id,
-            text: KeptText::new(alloc, told)?,
+            text: KeptText::new(alloc, reported)?,
         })),
         None => Ok(None),
     }
@@ -140,12 +140,12 @@ pub(crate) fn event_in(alloc: Global, text: &str) -> Result<Option<Event>, Alloc
         None if text == "RESUME" => Ok(Some(Event::Resume)),
         None => Ok(None),
         Some(("ASK", rest)) => ask(alloc, rest),
-        Some((verb, rest)) => Ok(told(verb, rest)),
+        Some((verb, rest)) => Ok(reported(verb, rest)),
     }
 }
 
 // The event of a word but ASK, with what stands after it.
-fn told(verb: &str, rest: &str) -> Option<Event>
+fn reported(verb: &str, rest: &str) -> Option<Event>
     ensures { result ≡ event_by verb.now rest.now }
 {
     match verb {

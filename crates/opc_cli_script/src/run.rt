@@ -2,7 +2,7 @@
 ghost use Rattle.std.specs.Prelude.{◌≡◌, IfSome, MatchResult, None, if◌then◌else◌, true};
 ghost use Rattle.std.specs.Io.KnownBytes.{Appends};
 ghost use Rattle.opc_cli_script.specs.Refusals.{is_cut_by_output, is_output};
-ghost use Rattle.opc_cli_script.specs.Running.{IsBadLineTold, IsBadRun, IsCutOff, IsScriptRun};
+ghost use Rattle.opc_cli_script.specs.Running.{IsBadLinePrinted, IsBadRun, IsCutOff, IsScriptRun};
 ghost use Rattle.opc_cli_script.specs.Scripts.{bad_line, requests_in};
 ghost use Rattle.opc_cli_script.specs.Transcripts.{bad_line_text};
 
@@ -25,8 +25,8 @@ fn write_bad_line<K: Sink>(alloc: Global, number: usize, output: &mut K) -> Resu
 }
 
 /// Writes which line is bad, and answers the fault that ends the run: that line, or why it could not be told.
-pub fn tell_bad_line<K: Sink>(alloc: Global, number: usize, output: &mut K) -> ScriptFault
-    ensures told { IsBadLineTold number (K.held output.old) (K.held output.new) result }
+pub fn print_bad_line<K: Sink>(alloc: Global, number: usize, output: &mut K) -> ScriptFault
+    ensures reported { IsBadLinePrinted number (K.held output.old) (K.held output.new) result }
     ensures failed { K.has_failed output.new ≡ (if is_output result then true else K.has_failed output.old) }
 {
     match write_bad_line(alloc, number, output) {
@@ -53,7 +53,7 @@ pub fn run_script<T: Tables, K: Sink>(
 {
     let requests = match requests_in(alloc, script) {
         Ok(requests) => requests,
-        Err(ScriptFault::BadLine(number)) => return Err(tell_bad_line(alloc, number, output)),
+        Err(ScriptFault::BadLine(number)) => return Err(print_bad_line(alloc, number, output)),
         Err(fault) => return Err(fault),
     };
     let mut printer = Printer {

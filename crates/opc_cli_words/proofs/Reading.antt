@@ -53,20 +53,20 @@ not_memory : (kind : ErrorKind) → IsHelp kind → kind ≡ OutOfMemory → ⊥
 not_memory kind (inl help) memory = absurd (cc)
 not_memory kind (inr version) memory = absurd (cc)
 
-module _ {E : Type 0} (shown : E → Option (List ℕ)) (quiet told : Watched E) where
+module _ {E : Type 0} (shown : E → Option (List ℕ)) (quiet reported : Watched E) where
   -- where the command line takes the words
   pub task_read : {W : Type 0} (output : W) (words : List (List ℕ)) → fault_of command_line words ≡ []
       → (found : Option (List ℕ × List Row)) → found ≡ subcommand_of command_line words
-      → (result : Result Task Status) → IsTaskRead shown quiet told found result → AreRead words shown output output quiet told result
+      → (result : Result Task Status) → IsTaskRead shown quiet reported found result → AreRead words shown output output quiet reported result
   task_read output words taken found is (Ok task) (asks, silent) = (record { taken = taken; asks = subst (λ f. AsksFor f task) is asks }, refl, silent)
-  task_read output words taken found is (Err status) (bad, why) = subst (AskForNone words shown output output quiet told) (sym bad) (go why)
+  task_read output words taken found is (Err status) (bad, why) = subst (AskForNone words shown output output quiet reported) (sym bad) (go why)
     where
-      go : (found ≡ None) ⊎ IsToldUnread shown quiet told found → AskForNone words shown output output quiet told BadInput
+      go : (found ≡ None) ⊎ IsToldUnread shown quiet reported found → AskForNone words shown output output quiet reported BadInput
       go (inl none) = absurd (some_command words taken (sym is ∙ none))
-      go (inr unread) = (inr (record { taken = taken; unread = subst (IsToldUnread shown quiet told) is unread }), refl)
+      go (inr unread) = (inr (record { taken = taken; unread = subst (IsToldUnread shown quiet reported) is unread }), refl)
 
   module _ {W : Type 0} (before written : W) where
-    pub help_told : (kind : ErrorKind) → IsHelp kind → (status : Status) → IsHelpTold shown quiet told status → IsKindTold shown before written quiet told kind status
+    pub help_told : (kind : ErrorKind) → IsHelp kind → (status : Status) → IsHelpTold shown quiet reported status → IsKindTold shown before written quiet reported kind status
     help_told kind help Done silent = (help, silent)
     help_told kind help Refused none = absurd none
     help_told kind help BadInput none = absurd none
@@ -74,7 +74,7 @@ module _ {E : Type 0} (shown : E → Option (List ℕ)) (quiet told : Watched E)
 
     -- where it does not
     pub kind_told : (words : List (List ℕ)) (error : Error) → HasKind (fault_of command_line words) error
-        → (status : Status) → IsKindTold shown before written quiet told (kind_of error) status → AskForNone words shown before written quiet told status
+        → (status : Status) → IsKindTold shown before written quiet reported (kind_of error) status → AskForNone words shown before written quiet reported status
     kind_told words error (inl memory) Done (help, silent) = absurd (not_memory (kind_of error) help memory)
     kind_told words error (inr among) Done (help, silent) = (record { kind = kind_of error; among = among; help = help }, silent)
     kind_told words error has Refused none = absurd none

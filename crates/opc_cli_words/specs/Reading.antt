@@ -12,7 +12,7 @@ use Rattle.opc_terms.specs.declared.fault.Fault.{Fault}
 use Rattle.opc_io.specs.declared.watched.Watched.{Watched}
 use Rattle.opc_cli_failures.specs.declared.status.Status.{Status}
 use Rattle.opc_cli_failures.specs.declared.status.Status.TheVariants.{Done, Refused, BadInput, Failed}
-use Rattle.opc_cli_failures.specs.Printing.{IsTold}
+use Rattle.opc_cli_failures.specs.Printing.{IsReported}
 use Rattle.opc_cli_failures.specs.Statuses.{IsFailure}
 use Rattle.opc_cli_words.specs.declared.words.Task.{Task}
 use Rattle.opc_cli_words.specs.CommandLine.{command_line}
@@ -48,54 +48,54 @@ module _ (words : List (List ℕ)) where
     pub among : IsAmong kind (fault_of command_line words)
     pub mistake : IsHelp kind → ⊥
 
-module _ {E : Type 0} (shown : E → Option (List ℕ)) (quiet told : Watched E) where
+module _ {E : Type 0} (shown : E → Option (List ℕ)) (quiet reported : Watched E) where
   -- There was no memory, or the output failed, and that is printed, unless a write failed.
   pub record IsToldFailure : Type 0 where
     pub fault : Fault
     pub failure : IsFailure fault
-    pub printed : told.failed ≡ false → IsTold fault (shown quiet.inner) (shown told.inner)
+    pub printed : reported.failed ≡ false → IsReported fault (shown quiet.inner) (shown reported.inner)
 
   -- What was found is a command, and the value of this option of it does not read; that is printed, unless a write failed.
   pub record IsToldUnread (found : Option (List ℕ × List Row)) : Type 0 where
     pub command : List ℕ
     pub option : List ℕ
     pub fails : FailsAt found command option
-    pub printed : told.failed ≡ false → Appends (shown quiet.inner) (shown told.inner) (unread_line command option)
+    pub printed : reported.failed ≡ false → Appends (shown quiet.inner) (shown reported.inner) (unread_line command option)
 
   -- What was found is a task, and nothing is printed; or it is no command, or an option's value does not read.
   abbrev pub IsTaskRead : Option (List ℕ × List Row) → Result Task Status → Type 0
-  IsTaskRead found (Ok task) = AsksFor found task × (told ≡ quiet)
+  IsTaskRead found (Ok task) = AsksFor found task × (reported ≡ quiet)
   IsTaskRead found (Err status) = (status ≡ BadInput) × ((found ≡ None) ⊎ IsToldUnread found)
 
   -- Help was given, or the output failed.
   abbrev pub IsHelpTold : Status → Type 0
-  IsHelpTold Done = told ≡ quiet
+  IsHelpTold Done = reported ≡ quiet
   IsHelpTold Refused = ⊥
   IsHelpTold BadInput = ⊥
   IsHelpTold Failed = IsToldFailure
 
-module _ {W E : Type 0} (shown : E → Option (List ℕ)) (before written : W) (quiet told : Watched E) where
+module _ {W E : Type 0} (shown : E → Option (List ℕ)) (before written : W) (quiet reported : Watched E) where
   -- What is told of an error of this kind, by the status.
   abbrev pub IsKindTold : ErrorKind → Status → Type 0
-  IsKindTold kind Done = IsHelp kind × (told ≡ quiet)
+  IsKindTold kind Done = IsHelp kind × (reported ≡ quiet)
   IsKindTold kind Refused = ⊥
   IsKindTold kind BadInput = (IsHelp kind → ⊥) × (kind ≢ OutOfMemory) × (written ≡ before)
-  IsKindTold kind Failed = IsToldFailure shown quiet told
+  IsKindTold kind Failed = IsToldFailure shown quiet reported
 
 -- The command line takes the words, but not the value of an option, and that is printed.
-pub record AreToldUnread {E : Type 0} (shown : E → Option (List ℕ)) (quiet told : Watched E) (words : List (List ℕ)) : Type 0 where
+pub record AreToldUnread {E : Type 0} (shown : E → Option (List ℕ)) (quiet reported : Watched E) (words : List (List ℕ)) : Type 0 where
   pub taken : fault_of command_line words ≡ []
-  pub unread : IsToldUnread shown quiet told (subcommand_of command_line words)
+  pub unread : IsToldUnread shown quiet reported (subcommand_of command_line words)
 
-module _ (words : List (List ℕ)) {W E : Type 0} (shown : E → Option (List ℕ)) (before written : W) (quiet told : Watched E) where
+module _ (words : List (List ℕ)) {W E : Type 0} (shown : E → Option (List ℕ)) (before written : W) (quiet reported : Watched E) where
   -- Why there is no task, by the status.
   abbrev pub AskForNone : Status → Type 0
-  AskForNone Done = AskForHelp words × (told ≡ quiet)
+  AskForNone Done = AskForHelp words × (reported ≡ quiet)
   AskForNone Refused = ⊥
-  AskForNone BadInput = (AreNotTaken words ⊎ AreToldUnread shown quiet told words) × (written ≡ before)
-  AskForNone Failed = IsToldFailure shown quiet told
+  AskForNone BadInput = (AreNotTaken words ⊎ AreToldUnread shown quiet reported words) × (written ≡ before)
+  AskForNone Failed = IsToldFailure shown quiet reported
 
   -- The task that the words ask for, and nothing is printed; or why there is none.
   abbrev pub AreRead : Result Task Status → Type 0
-  AreRead (Ok task) = Ask words task × (written ≡ before) × (told ≡ quiet)
+  AreRead (Ok task) = Ask words task × (written ≡ before) × (reported ≡ quiet)
   AreRead (Err status) = AskForNone status

@@ -48,7 +48,7 @@ pub fn read_words<'a, W: Write, E: Write>(
 {
     match matches_of(alloc, words) {
         Ok(matches) => task_of(&matches, errors),
-        Err(error) => Err(tell_words(&error, output, errors)),
+        Err(error) => Err(report_words(&error, output, errors)),
     }
 }
 
@@ -135,7 +135,7 @@ fn print_unread<K: Sink>(command: &str, option: &str, errors: &mut K) -> Result<
 }
 
 /// Tells what `clap` says: help to the output, a mistake to the errors.
-fn tell_words<W: Write, E: Write>(
+fn report_words<W: Write, E: Write>(
     error: &Error,
     output: &mut Watched<W>,
     errors: &mut Watched<E>,
@@ -169,7 +169,7 @@ fn tell_help<W: Write, E: Write>(
 fn tell_failure<E: Write>(failure: &Failure, errors: &mut Watched<E>) -> Status
     requires { IsFailure failure.now.fault }
     ensures status { result ≡ Status.Failed }
-    ensures told { IsToldFailure E.contents errors.old errors.new }
+    ensures reported { IsToldFailure E.contents errors.old errors.new }
 {
-    failure.tell(&NO_PATHS, errors)
+    failure.report(&NO_PATHS, errors)
 }

@@ -14,7 +14,7 @@ use Rattle.opc_board.specs.declared.rows.ReplyRow.{ReplyRow}
 use Rattle.opc_board.specs.declared.rows.UnitKind.TheVariants.{Job}
 use Rattle.opc_board.specs.declared.rows.UnitRow.{UnitRow}
 use Rattle.opc_board.specs.Effect.{event_effect}
-use Rattle.opc_board.specs.Facts.{console_at, device_at, reply_at, unit_at}
+use Rattle.opc_board.specs.Invariants.{console_at, device_at, reply_at, unit_at}
 use Rattle.opc_board.specs.Outcome.{◌>>=◌, done, found}
 use Rattle.opc_board.specs.Units.{without_unit}
 use Rattle.opc_board.proofs.Names.{is_itself}
@@ -24,7 +24,7 @@ use Rattle.opc_machine.specs.declared.request.Answer.{Answer}
 use Rattle.opc_machine.specs.declared.request.Answer.TheVariants.{Done, Refused}
 use Rattle.opc_machine.specs.Inputs.{Input, console_of}
 use Rattle.opc_machine.specs.Inputs as input
-use Rattle.opc_machine.specs.Machine.{IsGivenUp, Step}
+use Rattle.opc_machine.specs.Machine.{IsAborted, Step}
 use Rattle.opc_machine_laws.proofs.Leaving.{event_faults, events_wherever}
 use Rattle.opc_machine_laws.proofs.Refusing.{missing_console, offline_console}
 use Rattle.opc_cli_works.specs.Shut.{MayBeRefused}
@@ -72,13 +72,13 @@ asked_there id = rw (same id) refl
 
 -- ---- an answer to which both stand is neither
 
-not_both : (answer : Answer) (told other : Answer) → (told ≡ other → ⊥) → IsGivenUp answer ⊎ (answer ≡ told) → IsGivenUp answer ⊎ (answer ≡ other) → IsGivenUp answer
-not_both answer told other apart (inl up) second = up
-not_both answer told other apart (inr first) (inl up) = up
-not_both answer told other apart (inr first) (inr second) = absurd (apart (sym first ∙ second))
+not_both : (answer : Answer) (reported other : Answer) → (reported ≡ other → ⊥) → IsAborted answer ⊎ (answer ≡ reported) → IsAborted answer ⊎ (answer ≡ other) → IsAborted answer
+not_both answer reported other apart (inl up) second = up
+not_both answer reported other apart (inr first) (inl up) = up
+not_both answer reported other apart (inr first) (inr second) = absurd (apart (sym first ∙ second))
 
 abbrev TellApart : Input → State → State → Type 0
-TellApart r s t = (moment : ℕ) (answer : Answer) (new other : State) → Step s moment r answer new → Step t moment r answer other → IsGivenUp answer
+TellApart r s t = (moment : ℕ) (answer : Answer) (new other : State) → Step s moment r answer new → Step t moment r answer other → IsAborted answer
 
 abbrev AreApart : Input → Type 0
 AreApart r = (s : State) × (t : State) × TellApart r s t
@@ -93,7 +93,7 @@ at_console r name names = (
       (offline_console (with_offline name) r name (offline name) names (offline_there name) refl moment answer other two),
 )
 
-happens : (s : State) (e : Event) (b : BoardRows) → event_effect s.board e ≡ done b → (moment : ℕ) (answer : Answer) (new : State) → Step s moment (input.Event e) answer new → IsGivenUp answer ⊎ (answer ≡ Done [] None)
+happens : (s : State) (e : Event) (b : BoardRows) → event_effect s.board e ≡ done b → (moment : ℕ) (answer : Answer) (new : State) → Step s moment (input.Event e) answer new → IsAborted answer ⊎ (answer ≡ Done [] None)
 happens s e b does moment answer new step = elim (events_wherever s moment e _ answer new does step) [ inl up ↦ inl up | inr it ↦ inr it.answered ]
 
 an_event : (e : Event) → MayBeRefused (input.Event e) → AreApart (input.Event e)

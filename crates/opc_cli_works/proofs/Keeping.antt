@@ -22,7 +22,7 @@ use Rattle.opc_machine.specs.declared.request.Request.{Request}
 use Rattle.opc_machine.specs.Bootstrap.{bootstrapped}
 use Rattle.opc_machine.specs.Inputs.{Input}
 use Rattle.opc_machine.specs.Inputs as input
-use Rattle.opc_machine.specs.Machine.{IsGivenUp, Step, after, answer_of, outcome}
+use Rattle.opc_machine.specs.Machine.{IsAborted, Step, after, answer_of, outcome}
 use Rattle.opc_cli_failures.specs.declared.status.Status.{Status}
 use Rattle.opc_cli_failures.specs.declared.status.Status.TheVariants.{Done}
 use Rattle.opc_cli_failures.specs.declared.failure.Failure.{Failure}
@@ -33,7 +33,7 @@ use Rattle.opc_cli_script.specs.declared.script.ScriptFault.{ScriptFault}
 use Rattle.opc_cli_script.specs.declared.script.ScriptFault.TheVariants.{BadLine, NoMemory, Output}
 use Rattle.opc_cli_script.specs.Running.{IsAnswered, IsScriptRun, IsWhole}
 use Rattle.opc_cli_script.specs.Scripts.{bad_line, requests_in}
-use Rattle.opc_cli_program.specs.Imports.{AreTaken, IsOneStep, IsPolicyTaken, IsTold, lines_text}
+use Rattle.opc_cli_program.specs.Imports.{AreTaken, IsOneStep, IsPolicyTaken, IsReported, lines_text}
 use Rattle.opc_cli_program.specs.Runs.{IsAnsweredInput, IsEndOf, IsInputRun, IsRunOfBytes}
 use Rattle.opc_cli_program.specs.Works.{IsImportNow}
 use Rattle.opc_cli_program.specs.declared.work.Work.{Work}
@@ -53,20 +53,20 @@ without Y (Some a) is h = absurd (cc)
 -- ---- answers that are told
 
 -- what ended well was done, and its lines were written
-done_told : {K : Type 0} (held : K → Option (List ℕ)) (has_failed : K → Bool) (a : Answer) (before written : K) (status : Status) → IsTold held has_failed a before written (Ok status)
+done_told : {K : Type 0} (held : K → Option (List ℕ)) (has_failed : K → Bool) (a : Answer) (before written : K) (status : Status) → IsReported held has_failed a before written (Ok status)
     → (lines : List Line) × (rule : Option Rule) × (a ≡ answer.Done lines rule) × Appends (held before) (held written) (lines_text lines)
-done_told held has_failed (answer.Done lines rule) before written status told = (lines, rule, refl, told.1)
-done_told held has_failed (answer.Refused fault rule) before written status told = absurd told.0
+done_told held has_failed (answer.Done lines rule) before written status reported = (lines, rule, refl, reported.1)
+done_told held has_failed (answer.Refused fault rule) before written status reported = absurd reported.0
 
-not_given_up : (a : Answer) (lines : List Line) (rule : Option Rule) → a ≡ answer.Done lines rule → IsGivenUp a → ⊥
-not_given_up a lines rule is (inl memory) = absurd cc
-not_given_up a lines rule is (inr store) = absurd cc
+not_aborted : (a : Answer) (lines : List Line) (rule : Option Rule) → a ≡ answer.Done lines rule → IsAborted a → ⊥
+not_aborted a lines rule is (inl memory) = absurd cc
+not_aborted a lines rule is (inr store) = absurd cc
 
 -- what is done is what the machine makes of the state
 made : (s : State) (moment : ℕ) (r : Input) (a : Answer) (next : State) (lines : List Line) (rule : Option Rule) → a ≡ answer.Done lines rule → Step s moment r a next
     → (answer_of (outcome s r) ≡ answer.Done lines rule) × (next ≡ after s moment r (outcome s r))
-made s moment r a next lines rule is (inl left) = absurd (not_given_up a lines rule is left.gives_up)
-made s moment r a next lines rule is (inr (inl full)) = absurd (not_given_up a lines rule is (inr full.answers))
+made s moment r a next lines rule is (inl left) = absurd (not_aborted a lines rule is left.aborts)
+made s moment r a next lines rule is (inr (inl full)) = absurd (not_aborted a lines rule is (inr full.answers))
 made s moment r a next lines rule is (inr (inr done)) = (sym done.answers ∙ is, done.becomes)
 
 input_failed : (failure : Failure) → IsInputFailure failure → IsFailure failure.fault
@@ -121,11 +121,11 @@ module _ {D : Type 0} (g : disk.Ghosts D) where
 
   first_refused : (opened mid : Tables) (failure : Failure) (s : State) → Sure mid → Are opened s → (IsFailure failure.fault → ⊥) → IsPolicyTaken Sure Are Leave opened mid (Err failure) None
       → IsFirstRefused s failure.fault × Are mid s
-  first_refused opened mid failure s sure was told (inl (inl failed, same)) = absurd (told failed)
-  first_refused opened mid failure s sure was told (inl (inr refused, same)) = (inl refused, subst (λ (t : Tables). Are t s) (sym same) was)
-  first_refused opened mid failure s sure was told (inr it) =
+  first_refused opened mid failure s sure was reported (inl (inl failed, same)) = absurd (reported failed)
+  first_refused opened mid failure s sure was reported (inl (inr refused, same)) = (inl refused, subst (λ (t : Tables). Are t s) (sym same) was)
+  first_refused opened mid failure s sure was reported (inr it) =
       let over = it.2.taken sure s was in
-      (inr (it.0, it.1, over.refused (λ is. told (inl is)) (λ is. told (inr is))), over.unchanged)
+      (inr (it.0, it.1, over.refused (λ is. reported (inl is)) (λ is. reported (inr is))), over.unchanged)
 
   module _ {W : Type 0} (contents : W → Option (List ℕ)) where
     abbrev held : Watched W → Option (List ℕ)
@@ -143,7 +143,7 @@ module _ {D : Type 0} (g : disk.Ghosts D) where
 
     whole : (mid last : Tables) (requests : List (ℕ × Request)) (before written : Option (List ℕ)) (status : Status) (ran : Result Status ScriptFault) → IsEndOf ran (Ok status)
         → IsScriptRun Sure Are Leave mid last requests before written ran → IsWhole Sure Are Leave mid last requests before written status
-    whole mid last requests before written status (Ok told) ends w = subst (λ (x : Status). IsWhole Sure Are Leave mid last requests before written x) (cc) w
+    whole mid last requests before written status (Ok reported) ends w = subst (λ (x : Status). IsWhole Sure Are Leave mid last requests before written x) (cc) w
     whole mid last requests before written status (Err (BadLine number)) ends (inl w) = absurd (let same = w.no_memory in cc)
     whole mid last requests before written status (Err (BadLine number)) ends (inr w) = absurd w.cut_off
     whole mid last requests before written status (Err NoMemory) ends w = absurd ends
@@ -195,11 +195,11 @@ module _ {D : Type 0} (g : disk.Ghosts D) where
 
       refused_kept : (failure : Failure) → (IsFailure failure.fault → ⊥) → (taken : Result Status Failure) → IsPolicyTaken Sure Are Leave opened mid taken None → Then mid last left before written (Err failure) taken
           → IsFirstRefused s failure.fault × (written ≡ before) × HoldTablesOf g files s
-      refused_kept failure told (Ok ended) takes (inl nothing) = absurd (told (input_failed failure nothing.unread))
-      refused_kept failure told (Ok ended) takes (inr run) = absurd (told (script_failed run.ran failure run.ends))
-      refused_kept failure told (Err why) takes ended =
+      refused_kept failure reported (Ok ended) takes (inl nothing) = absurd (reported (input_failed failure nothing.unread))
+      refused_kept failure reported (Ok ended) takes (inr run) = absurd (reported (script_failed run.ran failure run.ends))
+      refused_kept failure reported (Err why) takes ended =
           let same : why ≡ failure = (let is = ended.0 in cc) in
-          let both = first_refused opened mid why s sure was (λ is. told (subst (λ (f : Failure). IsFailure f.fault) same is)) takes in (
+          let both = first_refused opened mid why s sure was (λ is. reported (subst (λ (f : Failure). IsFailure f.fault) same is)) takes in (
             subst (λ (f : Failure). IsFirstRefused s f.fault) same both.0,
             ended.2,
             holds_last last files ends clean s (subst (λ (t : Tables). Are t s) (sym ended.1) both.1),
@@ -210,13 +210,13 @@ module _ {D : Type 0} (g : disk.Ghosts D) where
         → IsKeptRequest g s moment r (held before) (held written) files
     request_kept opened last s moment r before written status files ends clean was step =
         let it = step.handled (ends.1 clean).was_clean s was in
-        let told = done_told held has_failed step.answer before written status step.told in
-        let becomes = made s moment r step.answer it.next told.0 told.1 told.2 it.step in
+        let reported = done_told held has_failed step.answer before written status step.reported in
+        let becomes = made s moment r step.answer it.next reported.0 reported.1 reported.2 it.step in
         record {
-          lines = told.0;
-          rule = told.1;
+          lines = reported.0;
+          rule = reported.1;
           answers = becomes.0;
-          text = told.3;
+          text = reported.3;
           kept = subst (HoldTablesOf g files) becomes.1 (holds_last last files ends clean it.next it.represented);
         }
 
@@ -242,9 +242,9 @@ module _ {D : Type 0} (g : disk.Ghosts D) where
         first_kept r.opened r.done.mid r.last s left before written files r.ends over.clean (r.done.sure (last_sure over)) (start over) status r.done.taken r.done.takes r.done.runs
 
     pub refused_change_nothing : RefusedPoliciesChangeNothing g contents
-    refused_change_nothing s path left before written failure files over told =
+    refused_change_nothing s path left before written failure files over reported =
         let r = over.works in
-        refused_kept r.opened r.done.mid r.last s left before written files r.ends over.clean (r.done.sure (last_sure over)) (start over) failure told r.done.taken r.done.takes r.done.runs
+        refused_kept r.opened r.done.mid r.last s left before written files r.ends over.clean (r.done.sure (last_sure over)) (start over) failure reported r.done.taken r.done.takes r.done.runs
 
     module _ (opened last : Tables) (s : State) (import : Asked) (left : Option (List ℕ)) (before written : Watched W) (status : Status) (files : Files D) (ends : IsEnd last (Ok files)) (clean : AreClean g files.log files.db) (was : Are opened s) where
       at_console : (console : List ℕ) → import.console ≡ Some console → IsImportNow Sure Are Leave contents opened last left before written (Ok status) import

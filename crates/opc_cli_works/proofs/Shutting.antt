@@ -12,7 +12,7 @@ use Rattle.opc_state.specs.State.{State, Fits, empty}
 use Rattle.opc_machine.specs.declared.request.Answer.{Answer}
 use Rattle.opc_machine.specs.declared.request.Answer.TheVariants.{Done, Refused}
 use Rattle.opc_machine.specs.Inputs.{Input}
-use Rattle.opc_machine.specs.Machine.{IsGivenUp, Step, after, answer_of, outcome}
+use Rattle.opc_machine.specs.Machine.{IsAborted, Step, after, answer_of, outcome}
 use Rattle.opc_machine.specs.Outcome.{Outcome}
 use Rattle.opc_machine_laws.proofs.Leaving.{leaves_rest}
 use Rattle.opc_store_schema.specs.Represented.{AreTablesOf}
@@ -103,8 +103,8 @@ module _ {S : Type 0} (g : Ghosts S) where
             | inr is ↦ absurd (too_long moment r n left (omega arith) (omega arith) is)
           ]
 
-      given_up : MayBeRefused r → IsGivenUp answer
-      given_up may =
+      aborted : MayBeRefused r → IsAborted answer
+      aborted may =
           let it = apart r may in
           it.2 moment answer _ _ (handled clean it.0 (every it.0)).step (handled clean it.1 (every it.1)).step
 
@@ -137,7 +137,7 @@ module _ {S : Type 0} (g : Ghosts S) where
   stay old new moment r answer handled clean shut = (still_shut old new moment r answer handled clean shut, nothing_new old new moment r answer handled clean shut)
 
   pub give_up : ShutTablesGiveUp g
-  give_up old new moment r answer handled clean shut may = given_up old new moment r answer handled clean shut may
+  give_up old new moment r answer handled clean shut may = aborted old new moment r answer handled clean shut may
 
 module _ {D : Type 0} (g : disk.Ghosts D) where
   pub left_whole_files : RequestsAreLeftWhole g

@@ -13,7 +13,7 @@ use Rattle.opc_state.specs.State.{State}
 use Rattle.opc_machine.specs.declared.request.Answer.{Answer}
 use Rattle.opc_machine.specs.Inputs.{Input}
 use Rattle.opc_machine.specs.Inputs as input
-use Rattle.opc_machine.specs.Machine.{IsGivenUp, after, outcome}
+use Rattle.opc_machine.specs.Machine.{IsAborted, after, outcome}
 use Rattle.opc_gate.specs.Handling.{IsHandled, LeavesAlone}
 use Rattle.opc_store_schema.specs.Represented.{Represents, AreTablesOf}
 use Rattle.opc_store.specs.StoreTables.{IsShut, IsSure, MayLeave, RepresentsIfOpen}
@@ -38,7 +38,7 @@ module _ {S : Type 0} (g : Ghosts S) where
   -- A request to them is given up.
   abbrev pub ShutTablesGiveUp : Type 0
   ShutTablesGiveUp =
-      (old new : Held S) (moment : ℕ) (r : Input) (answer : Answer) → IsHandledOver old new moment r answer → IsSure g new → IsShut g old → MayBeRefused r → IsGivenUp answer
+      (old new : Held S) (moment : ℕ) (r : Input) (answer : Answer) → IsHandledOver old new moment r answer → IsSure g new → IsShut g old → MayBeRefused r → IsAborted answer
 
 module _ {D : Type 0} (g : disk.Ghosts D) where
   -- Trees are tables of one of two states, and an opening of files that hold them finds that state.

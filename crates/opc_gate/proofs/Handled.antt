@@ -9,7 +9,7 @@ use Rattle.opc_state.specs.declared.change.Edit.{Edit}
 use Rattle.opc_state.specs.declared.change.Edit.TheVariants.{SetHalted}
 use Rattle.opc_machine.specs.declared.request.Answer.{Answer}
 use Rattle.opc_machine.specs.Inputs.{Input}
-use Rattle.opc_machine.specs.Machine.{IsGivenUp, outcome, after}
+use Rattle.opc_machine.specs.Machine.{IsAborted, outcome, after}
 use Rattle.opc_gate.specs.Handling.{IsDecision, IsHandled, IsNothingWhereSame}
 
 -- a row more is another list
@@ -43,13 +43,13 @@ some_change s moment r answer c d idle something same =
     cc
 
 module _ {T : Type 0} (represents may_leave : T → State → Type 0) where
-  pub given_up : (old new : T) (s : State) (moment : ℕ) (r : Input) (answer : Answer) → IsGivenUp answer → represents new s
+  pub aborted : (old new : T) (s : State) (moment : ℕ) (r : Input) (answer : Answer) → IsAborted answer → represents new s
       → ((left : State) → may_leave new left → may_leave old left ⊎ (left ≡ after s moment r (outcome s r)))
       → (after s moment r (outcome s r) ≡ s → (left : State) → may_leave new left → may_leave old left)
       → IsHandled represents may_leave old new s moment r answer
-  given_up old new s moment r answer gives represented crash idle = record {
+  aborted old new s moment r answer gives represented crash idle = record {
     next = s;
-    step = inl (record { gives_up = gives; same = refl });
+    step = inl (record { aborts = gives; same = refl });
     represented = represented;
     crash = crash;
     idle = idle;

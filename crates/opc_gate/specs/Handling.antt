@@ -7,7 +7,7 @@ use Rattle.opc_state.specs.Changes.{changed_by, is_nothing}
 use Rattle.opc_machine.specs.declared.request.Request.{Request}
 use Rattle.opc_machine.specs.declared.request.Answer.{Answer}
 use Rattle.opc_machine.specs.Inputs.{Input, input_of, inputs_of}
-use Rattle.opc_machine.specs.Machine.{outcome, after, answer_of, Step, Runs, IsGivenUp}
+use Rattle.opc_machine.specs.Machine.{outcome, after, answer_of, Step, Runs, IsAborted}
 
 -- the answer and the change are those of the machine
 pub record IsDecision (s : State) (moment : ℕ) (r : Input) (answer : Answer) (change : Change) : Type 0 where
@@ -32,7 +32,7 @@ IsAcknowledged may_leave old new s next = LeavesAlone may_leave new next ⊎ ((n
 
 -- the answer is that of the machine, and no word that the request was given up
 abbrev pub IsAnswered : Answer → Type 0
-IsAnswered answer = IsGivenUp answer → ⊥
+IsAnswered answer = IsAborted answer → ⊥
 
 -- One request, handled: a step of the machine, and what a crash may leave then.
 pub record IsHandled {T : Type 0} (represents may_leave : T → State → Type 0) (old new : T) (s : State) (moment : ℕ) (r : Input) (answer : Answer) : Type 0 where

@@ -3,10 +3,10 @@ ghost use Rattle.std.specs.Prelude.{◌≡◌, ◌≢◌, ◌≤◌, ◌⊎◌, 
 ghost use Rattle.opc_terms.specs.declared.fault.Fault.TheVariants as why;
 ghost use Rattle.std.specs.Option.{option_and_then};
 ghost use Rattle.opc_terms.specs.Faults.{store_fault};
-ghost use Rattle.opc_board.specs.Facts.{console_at};
+ghost use Rattle.opc_board.specs.Invariants.{console_at};
 ghost use Rattle.opc_board.specs.Texts.{text_or};
 ghost use Rattle.opc_state.specs.Asked.{Answers};
-ghost use Rattle.opc_state.specs.Facts.{IsKeyed};
+ghost use Rattle.opc_state.specs.Invariants.{IsKeyed};
 ghost use Rattle.opc_state.specs.PolicyFile.{rows_of};
 ghost use Rattle.opc_state.specs.State.{State};
 ghost use Rattle.opc_state.specs.Changes.{IsKept};
@@ -15,7 +15,7 @@ ghost use Rattle.opc_gate_imports.specs.RowEdits.{HaveNothingNew, IsBootstrap};
 ghost use Rattle.opc_machine.specs.Bootstrap.{bootstrapped};
 ghost use Rattle.opc_machine.specs.Inputs.{Input, console_of, input_of};
 ghost use Rattle.opc_machine.specs.Rulings.{acting_user};
-ghost use Rattle.opc_machine.specs.Machine.{IsGivenUp, account_row, is_warned, outcome as outcome_of, user_acting};
+ghost use Rattle.opc_machine.specs.Machine.{IsAborted, account_row, is_warned, outcome as outcome_of, user_acting};
 ghost use Rattle.opc_gate.specs.Handling.{IsDecision, IsHandled, IsNothingWhereSame};
 ghost use Rattle.opc_machine.specs.Deeds.{IsOutcome};
 
@@ -185,8 +185,8 @@ fn decide(
     }
 }
 
-fn given_up(fault: StoreFault) -> Answer
-    ensures gives_up { IsGivenUp result }
+fn aborted(fault: StoreFault) -> Answer
+    ensures aborts { IsAborted result }
     ensures told { result ≡ Answer.Refused (store_fault fault) None }
 {
     Answer::Refused {
@@ -246,7 +246,7 @@ fn committed<T: Tables>(tables: &mut T, alloc: Global, decision: Decision) -> An
     }
     match tables.commit(alloc, &change) {
         Ok(()) => answer,
-        Err(fault) => given_up(fault),
+        Err(fault) => aborted(fault),
     }
 }
 
@@ -256,7 +256,7 @@ fn handle<T: Tables>(tables: &mut T, alloc: Global, moment: u64, request: &Reque
 {
     match decision_on(tables, alloc, moment, request) {
         Ok(decision) => committed(tables, alloc, decision),
-        Err(fault) => given_up(fault),
+        Err(fault) => aborted(fault),
     }
 }
 

@@ -6,7 +6,7 @@ use Rattle.opc_policy_members.specs.declared.policy.Policy.{Policy}
 use Rattle.opc_terms.specs.declared.store_fault.StoreFault.{StoreFault}
 use Rattle.opc_state.specs.declared.change.Edit.{Edit}
 use Rattle.opc_state.specs.Changes.{all_edited, edited}
-use Rattle.opc_state.specs.Facts.{IsKeyed}
+use Rattle.opc_state.specs.Invariants.{IsKeyed}
 use Rattle.opc_state.specs.State.{State}
 use Rattle.opc_machine.specs.declared.outcome.Deed as found
 use Rattle.opc_machine.specs.declared.outcome.Denial as found_denial

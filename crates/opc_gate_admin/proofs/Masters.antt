@@ -14,13 +14,13 @@ use Rattle.opc_rows.proofs.Orders.{all_found, ascends_filter}
 use Rattle.opc_board.specs.declared.board.BoardRows.{BoardRows}
 use Rattle.opc_board.specs.declared.rows.ConsoleRow.{ConsoleRow}
 use Rattle.opc_board.specs.Consoles.{defined, new_console, replaced}
-use Rattle.opc_board.specs.Facts.{Name, console_at, console_before, has_master, is, is_master}
-use Rattle.opc_board.specs.Sight.{has_other_master}
+use Rattle.opc_board.specs.Invariants.{Name, console_at, console_before, has_master, is, is_master}
+use Rattle.opc_board.specs.Footprint.{has_other_master}
 use Rattle.opc_board.proofs.Kept.{apart_names}
 use Rattle.opc_board.proofs.Names.{is_itself, is_same_name}
 use Rattle.opc_state.specs.declared.change.Edit.TheVariants as edit
 use Rattle.opc_state.specs.Changes.{edited}
-use Rattle.opc_state.specs.Facts.{IsKeyed}
+use Rattle.opc_state.specs.Invariants.{IsKeyed}
 use Rattle.opc_state.specs.Loads.{masters}
 use Rattle.opc_state.specs.Members.{console_cmp}
 use Rattle.opc_state.specs.State.{State}

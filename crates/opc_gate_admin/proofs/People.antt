@@ -17,7 +17,7 @@ use Rattle.opc_policy_members.specs.Taken.{has_group, has_user, needing, unless}
 use Rattle.opc_board.specs.declared.board.BoardRows.{BoardRows}
 use Rattle.opc_state.specs.declared.change.Edit.TheVariants as edit
 use Rattle.opc_state.specs.Changes.{edited}
-use Rattle.opc_state.specs.Facts.{IsKeyed}
+use Rattle.opc_state.specs.Invariants.{IsKeyed}
 use Rattle.opc_state.specs.Loads.{is_connected}
 use Rattle.opc_state.specs.Members.{without_user}
 use Rattle.opc_state.specs.State.{State}

@@ -24,7 +24,7 @@ use Rattle.opc_rows.proofs.Orders.{all_found}
 use Rattle.opc_board.specs.declared.board.BoardRows.{BoardRows}
 use Rattle.opc_state.specs.declared.change.Edit.TheVariants as edit
 use Rattle.opc_state.specs.Changes.{edited}
-use Rattle.opc_state.specs.Facts.{IsKeyed}
+use Rattle.opc_state.specs.Invariants.{IsKeyed}
 use Rattle.opc_state.specs.Loads.{bare, level_for}
 use Rattle.opc_state.specs.Members.{without_entry, without_permission, without_profile}
 use Rattle.opc_state.specs.State.{State}

@@ -16,7 +16,7 @@ use Rattle.opc_board.specs.declared.rows.ConsoleRow.{ConsoleRow}
 use Rattle.opc_state.specs.declared.change.Edit.{Edit}
 use Rattle.opc_state.specs.Difference.{same_flag}
 use Rattle.opc_state.specs.Asked.{Answers}
-use Rattle.opc_state.specs.Facts.{IsKeyed}
+use Rattle.opc_state.specs.Invariants.{IsKeyed}
 use Rattle.opc_state.specs.State.{State}
 use Rattle.opc_machine.specs.declared.outcome.Deed as found
 use Rattle.opc_machine.specs.declared.outcome.Denial as found_denial

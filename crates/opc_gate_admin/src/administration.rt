@@ -1,10 +1,10 @@
 //! Who has the right to an operation, and what it comes to.
 ghost use Rattle.std.specs.Prelude.{◌≡◌, true};
-ghost use Rattle.opc_board.specs.Facts.{Name, console_at};
+ghost use Rattle.opc_board.specs.Invariants.{Name, console_at};
 ghost use Rattle.opc_policy_members.specs.Profiles.{profile_of};
 ghost use Rattle.opc_state.specs.Asked.{Answers};
 ghost use Rattle.opc_state.specs.Changes.{IsKept};
-ghost use Rattle.opc_state.specs.Facts.{IsKeyed};
+ghost use Rattle.opc_state.specs.Invariants.{IsKeyed};
 ghost use Rattle.opc_machine.specs.Administration.{admin_outcome, definition};
 ghost use Rattle.opc_machine.specs.Deeds.{IsOutcome};
 ghost use Rattle.opc_machine.specs.Rights.{is_owner, may_change, right_fault};
@@ -25,7 +25,7 @@ use opc_policy_members::entries::Entries;
 use opc_policy_members::entry::Entry;
 use opc_policy_members::profile::Profile;
 use opc_policy_members::user::User;
-use opc_gate_rulings::asking::{Asking, asking_on, is_owner, is_special};
+use opc_gate_rulings::requester::{Requester, requester_on, is_owner, is_special};
 use opc_state::tables::Tables;
 use opc_terms::fault::Fault;
 use opc_terms::store_fault::StoreFault;
@@ -64,7 +64,7 @@ fn owns<T: Tables>(
 fn may_change<T: Tables>(
     tables: &mut T,
     alloc: Global,
-    asking: &Asking,
+    asking: &Requester,
     op: &Operation,
 ) -> Result<bool, StoreFault>
     ensures kept { IsKept T.is_sure T.represents T.may_leave tables.old tables.new }
@@ -229,7 +229,7 @@ pub fn admin_on<T: Tables>(
     ensures kept { IsKept T.is_sure T.represents T.may_leave tables.old tables.new }
     ensures outcome { Answers (T.is_sure tables.new) (T.represents tables.old) result (λ s o. (name : Name) → console ≡ console_at s.board name → IsKeyed s → IsOutcome s (admin_outcome s name op.now) o) }
 {
-    let asking = match asking_on(tables, alloc, console)? {
+    let asking = match requester_on(tables, alloc, console)? {
         Ok(asking) => asking,
         Err(denial) => return Ok(Err(denial)),
     };

@@ -2,11 +2,11 @@
 ghost use Rattle.std.specs.Prelude.{◌≡◌, ◌&&◌, not};
 ghost use Rattle.std.specs.List.{list_any};
 ghost use Rattle.opc_board.specs.Consoles.{new_console};
-ghost use Rattle.opc_board.specs.Facts.{is, is_master};
-ghost use Rattle.opc_board.specs.Sight.{has_other_master};
+ghost use Rattle.opc_board.specs.Invariants.{is, is_master};
+ghost use Rattle.opc_board.specs.Footprint.{has_other_master};
 ghost use Rattle.opc_state.specs.Asked.{Answers};
 ghost use Rattle.opc_state.specs.Changes.{IsKept};
-ghost use Rattle.opc_state.specs.Facts.{IsKeyed};
+ghost use Rattle.opc_state.specs.Invariants.{IsKeyed};
 ghost use Rattle.opc_machine.specs.declared.operation.Operation.TheVariants as operation;
 ghost use Rattle.opc_gate_admin.specs.Operations.{ComesTo, same_setting};
 

@@ -4,7 +4,7 @@ ghost use Rattle.opc_policy_members.specs.Profiles.{profile_of};
 ghost use Rattle.opc_policy_members.specs.Taken.{has_holder};
 ghost use Rattle.opc_state.specs.Asked.{Answers};
 ghost use Rattle.opc_state.specs.Changes.{IsKept};
-ghost use Rattle.opc_state.specs.Facts.{IsKeyed};
+ghost use Rattle.opc_state.specs.Invariants.{IsKeyed};
 ghost use Rattle.opc_machine.specs.declared.operation.Operation.TheVariants as operation;
 ghost use Rattle.opc_machine.specs.Administration.{policy_changed};
 ghost use Rattle.opc_machine.specs.Deeds.{IsOutcome};

@@ -1,5 +1,5 @@
 pub mod Deeds
 pub mod Sessions
 pub mod Lines
-pub mod Sighted
+pub mod Loading
 pub mod Typed

@@ -10,7 +10,7 @@ use Rattle.opc_board.specs.Outcome.{Outcome as BoardOutcome, done_with}
 use Rattle.opc_state.specs.declared.change.Edit.{Edit}
 use Rattle.opc_state.specs.State.{State}
 use Rattle.opc_state.specs.Changes.{all_edited}
-use Rattle.opc_gate_footprints.specs.Sighted.{IsConsoleSight}
+use Rattle.opc_gate_footprints.specs.Loading.{IsConsoleFootprint}
 use Rattle.opc_machine.specs.Commands.{acted}
 use Rattle.opc_machine.specs.Outcome.{Outcome, ◌>>=◌, does}
 use Rattle.opc_machine.specs.Rulings.{shown}
@@ -24,7 +24,7 @@ pub record IsActed (s : State) (o : BoardOutcome) (edits : List Edit) (lines : L
 
 -- There is nothing to write of a logon or a logoff at a console, by what it sees of the board, where the state stays as it is.
 abbrev pub AreNoneWhereSame : List ℕ → BoardRows → List Edit → Type 0
-AreNoneWhereSame console board edits = (s : State) → IsConsoleSight s console board → all_edited edits s ≡ s → edits ≡ []
+AreNoneWhereSame console board edits = (s : State) → IsConsoleFootprint s console board → all_edited edits s ≡ s → edits ≡ []
 
 -- What a command comes to that a rule allows: it acts on the board, and of its lines those are given that may be shown.
 abbrev pub allowed_command : State → ConsoleRow → Command → Rule → Outcome

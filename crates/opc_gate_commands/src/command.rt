@@ -3,7 +3,7 @@ ghost use Rattle.std.specs.Prelude.{◌≡◌, ◌≢◌, IfOk, None, Some, [], 
 ghost use Rattle.opc_board.specs.declared.fault.BoardFault.TheVariants.{NoMemory};
 ghost use Rattle.opc_board.specs.Consoles.{logged_on};
 ghost use Rattle.opc_board.specs.Effect.{is_session_command};
-ghost use Rattle.opc_board.specs.Facts.{Name, console_at, kind_at};
+ghost use Rattle.opc_board.specs.Invariants.{Name, console_at, kind_at};
 ghost use Rattle.opc_reader.specs.Reading.{reading};
 ghost use Rattle.opc_state.specs.Asked.{Answers};
 ghost use Rattle.opc_state.specs.Changes.{IsKept};
@@ -12,10 +12,10 @@ ghost use Rattle.opc_machine.specs.Commands.{board_command as board_outcome, com
 ghost use Rattle.opc_machine.specs.Deeds.{IsOutcome};
 ghost use Rattle.opc_machine.specs.Faults.{board_fault};
 ghost use Rattle.opc_machine.specs.Outcome.{does};
-ghost use Rattle.opc_gate_rulings.specs.Standing.{IsStanding};
+ghost use Rattle.opc_gate_rulings.specs.RulingBasis.{IsRulingBasis};
 
 use crate::displays::{display_on, is_display};
-use crate::effects::{act_on, come_on, log_off, log_on};
+use crate::effects::{act_on, apply_event, log_off, log_on};
 use opc_board::event::Event;
 use opc_board::fault::BoardFault;
 use opc_board::rows::ConsoleRow;
@@ -27,9 +27,9 @@ use opc_table::need;
 use opc_policy_members::user::User;
 use opc_reader_commands::command::{Command, Password};
 use opc_reader::line::{ReadFault, read_command};
-use opc_gate_rulings::asking::console_for;
-use opc_gate_rulings::ruling::{Standing, logon_ruling_on, ruling_on, shown_lines, standing_at};
-use opc_gate_footprints::sight::{console_sight_on, event_sight_on, sight_on};
+use opc_gate_rulings::requester::console_for;
+use opc_gate_rulings::ruling::{RulingBasis, logon_ruling_on, ruling_on, shown_lines, ruling_basis_at};
+use opc_gate_footprints::footprint::{console_footprint_on, event_footprint_on, footprint_on};
 use opc_state::tables::Tables;
 use opc_terms::fault::Fault;
 use opc_terms::need::Need;
@@ -103,7 +103,7 @@ fn refusal(fault: BoardFault) -> Result<Fault, StoreFault>
 fn deed_on<T: Tables>(
     tables: &mut T,
     alloc: Global,
-    standing: &Standing,
+    basis: &RulingBasis,
     console: &ConsoleRow,
     command: &Command<'_>,
     rule: Rule,
@@ -111,14 +111,14 @@ fn deed_on<T: Tables>(
     requires session { is_session_command command.now ≡ false }
     requires display { is_display command.now ≡ false }
     ensures kept { IsKept T.is_sure T.represents T.may_leave tables.old tables.new }
-    ensures outcome { Answers (T.is_sure tables.new) (T.represents tables.old) result (λ s o. console_at s.board console.now.name ≡ Some console.now → IsStanding s console.now standing.now → IsOutcome s (allowed_command s console.now command.now rule) o) }
+    ensures outcome { Answers (T.is_sure tables.new) (T.represents tables.old) result (λ s o. console_at s.board console.now.name ≡ Some console.now → IsRulingBasis s console.now basis.now → IsOutcome s (allowed_command s console.now command.now rule) o) }
 {
-    let board = sight_on(tables, alloc, command, console)?;
+    let board = footprint_on(tables, alloc, command, console)?;
     let acted = match act_on(alloc, board, command, &console.name) {
         Ok(acted) => acted,
         Err(fault) => return denied(refusal(fault)?, Some(rule)),
     };
-    let lines = shown_lines(tables, alloc, standing, console, acted.lines)?;
+    let lines = shown_lines(tables, alloc, basis, console, acted.lines)?;
     Ok(Ok(Deed {
         edits: acted.edits,
         lines,
@@ -137,15 +137,15 @@ fn board_command<T: Tables>(
     ensures kept { IsKept T.is_sure T.represents T.may_leave tables.old tables.new }
     ensures outcome { Answers (T.is_sure tables.new) (T.represents tables.old) result (λ s o. console_at s.board console.now.name ≡ Some console.now → IsOutcome s (board_outcome s console.now command.now need.now) o) }
 {
-    let standing = standing_at(tables, alloc, console)?;
-    let rule = match ruling_on(tables, alloc, &standing, console, need)? {
+    let basis = ruling_basis_at(tables, alloc, console)?;
+    let rule = match ruling_on(tables, alloc, &basis, console, need)? {
         Ruling::Allowed(rule) => rule,
         Ruling::Denied(rule) => return denied(denial_fault(&rule), Some(rule)),
     };
     if is_display(command) {
-        display_on(tables, alloc, &standing, console, command, rule)
+        display_on(tables, alloc, &basis, console, command, rule)
     } else {
-        deed_on(tables, alloc, &standing, console, command, rule)
+        deed_on(tables, alloc, &basis, console, command, rule)
     }
 }
 
@@ -178,7 +178,7 @@ fn known_by<T: Tables>(
 }
 
 // A logon that is let on.
-fn let_on<T: Tables>(
+fn admit<T: Tables>(
     tables: &mut T,
     alloc: Global,
     console: &ConsoleRow,
@@ -189,7 +189,7 @@ fn let_on<T: Tables>(
     ensures kept { IsKept T.is_sure T.represents T.may_leave tables.old tables.new }
     ensures outcome { Answers (T.is_sure tables.new) (T.represents tables.old) result (λ s o. console_at s.board console.now.name ≡ Some console.now → IsOutcome s (does (record s { board = logged_on console.now.name user s.board }) [] (Some rule)) o) }
 {
-    let board = console_sight_on(tables, alloc, console)?;
+    let board = console_footprint_on(tables, alloc, console)?;
     let edits = log_on(alloc, board, console, user)?;
     done(alloc, edits, Some(rule))
 }
@@ -211,7 +211,7 @@ fn logon<T: Tables>(
         return denied(Fault::BadLogon, None);
     };
     match logon_ruling_on(tables, alloc, console, &user)? {
-        Ruling::Allowed(rule) => let_on(tables, alloc, console, *id, rule),
+        Ruling::Allowed(rule) => admit(tables, alloc, console, *id, rule),
         Ruling::Denied(rule) => denied(logon_fault(&rule), Some(rule)),
     }
 }
@@ -223,7 +223,7 @@ fn logoff<T: Tables>(tables: &mut T, alloc: Global, console: &ConsoleRow) -> Dec
     if console.user.is_none() {
         return denied(Fault::NotOn, None);
     }
-    let board = console_sight_on(tables, alloc, console)?;
+    let board = console_footprint_on(tables, alloc, console)?;
     let edits = log_off(alloc, board, console)?;
     done(alloc, edits, None)
 }
@@ -287,8 +287,8 @@ pub fn event_on<T: Tables>(tables: &mut T, alloc: Global, event: &Event) -> Deci
     ensures kept { IsKept T.is_sure T.represents T.may_leave tables.old tables.new }
     ensures outcome { Answers (T.is_sure tables.new) (T.represents tables.old) result (λ s o. IsOutcome s (event_outcome s event.now) o) }
 {
-    let board = event_sight_on(tables, alloc, event)?;
-    match come_on(alloc, board, event) {
+    let board = event_footprint_on(tables, alloc, event)?;
+    match apply_event(alloc, board, event) {
         Ok(edits) => done(alloc, edits, None),
         Err(fault) => denied(refusal(fault)?, None),
     }

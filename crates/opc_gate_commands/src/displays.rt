@@ -1,12 +1,12 @@
 //! Commands that only show.
 ghost use Rattle.std.specs.Prelude.{◌≡◌, Some, true};
 ghost use Rattle.opc_board.specs.Effect.{effect};
-ghost use Rattle.opc_board.specs.Facts.{Name};
+ghost use Rattle.opc_board.specs.Invariants.{Name};
 ghost use Rattle.opc_board.specs.Outcome.{done_with};
 ghost use Rattle.opc_gate_commands.specs.Acted.{allowed_command};
 ghost use Rattle.opc_machine.specs.Commands.{is_display};
 ghost use Rattle.opc_machine.specs.Deeds.{IsOutcome};
-ghost use Rattle.opc_gate_rulings.specs.Standing.{IsStanding};
+ghost use Rattle.opc_gate_rulings.specs.RulingBasis.{IsRulingBasis};
 ghost use Rattle.opc_state.specs.Asked.{Answers};
 ghost use Rattle.opc_state.specs.Changes.{IsKept};
 
@@ -14,7 +14,7 @@ use opc_board::line::{Line, console_lines, device_lines, lines_of, reply_lines, 
 use opc_board::rows::ConsoleRow;
 use opc_machine::outcome::{Decided, Deed};
 use opc_reader_commands::command::Command;
-use opc_gate_rulings::ruling::{Standing, shown_lines};
+use opc_gate_rulings::ruling::{RulingBasis, shown_lines};
 use opc_state::tables::Tables;
 use opc_terms::rule::Rule;
 use opc_terms::store_fault::StoreFault;
@@ -58,17 +58,17 @@ fn lines_on<T: Tables>(
 pub(crate) fn display_on<T: Tables>(
     tables: &mut T,
     alloc: Global,
-    standing: &Standing,
+    basis: &RulingBasis,
     console: &ConsoleRow,
     command: &Command<'_>,
     rule: Rule,
 ) -> Decided
     requires { is_display command.now ≡ true }
     ensures kept { IsKept T.is_sure T.represents T.may_leave tables.old tables.new }
-    ensures outcome { Answers (T.is_sure tables.new) (T.represents tables.old) result (λ s o. IsStanding s console.now standing.now → IsOutcome s (allowed_command s console.now command.now rule) o) }
+    ensures outcome { Answers (T.is_sure tables.new) (T.represents tables.old) result (λ s o. IsRulingBasis s console.now basis.now → IsOutcome s (allowed_command s console.now command.now rule) o) }
 {
     let lines = lines_on(tables, alloc, command)?;
-    let lines = shown_lines(tables, alloc, standing, console, lines)?;
+    let lines = shown_lines(tables, alloc, basis, console, lines)?;
     Ok(Ok(Deed {
         edits: Vec::new(alloc),
         lines,

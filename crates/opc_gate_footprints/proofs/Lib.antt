@@ -1,5 +1,5 @@
 pub mod Growing
 pub mod Joining
 pub mod Naming
-pub mod Sights
+pub mod Footprints
 pub mod Taken

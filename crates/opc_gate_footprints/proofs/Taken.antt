@@ -64,27 +64,27 @@ module _ {A : Type 0} (m s p : A → Bool) where
 
   -- where none is this one, the first that is seen is another
   first_seen : (xs : List A) → AllByRecursion (λ x. p x ≡ false) xs → AllByRecursion (λ x. s x ≡ true) (take 1 (filter m xs)) → list_any other (filter s xs) ≡ list_any other xs
-  first_seen [] others seen = refl
-  first_seen (x ∷ xs) others seen = go (m x) (s x) refl refl seen (first_seen xs others.1)
+  first_seen [] others footprint = refl
+  first_seen (x ∷ xs) others footprint = go (m x) (s x) refl refl footprint (first_seen xs others.1)
     where
       go : (a b : Bool) → m x ≡ a → s x ≡ b → AllByRecursion (λ y. s y ≡ true) (take 1 (cond a (x ∷ filter m xs) (filter m xs)))
           → (AllByRecursion (λ y. s y ≡ true) (take 1 (filter m xs)) → list_any other (filter s xs) ≡ list_any other xs)
           → list_any other (cond b (x ∷ filter s xs) (filter s xs)) ≡ (m x && not (p x)) || list_any other xs
-      go true true is there seen more = rw (is, others.0) refl
-      go true false is there seen more = let here : s x ≡ true = seen.0 in absurd (cc)
-      go false true is there seen more = rw is (more seen)
-      go false false is there seen more = rw is (more seen)
+      go true true is there footprint more = rw (is, others.0) refl
+      go true false is there footprint more = let here : s x ≡ true = footprint.0 in absurd (cc)
+      go false true is there footprint more = rw is (more footprint)
+      go false false is there footprint more = rw is (more footprint)
 
   -- of the first two that are seen, one is another where there is any
   pub two_seen : (before : A → A → Bool) → ((x y : A) → p x ≡ true → before x y ≡ true → p y ≡ false) → (xs : List A) → Ascends before xs → AllByRecursion (λ x. s x ≡ true) (take 2 (filter m xs)) → list_any other (filter s xs) ≡ list_any other xs
-  two_seen before once [] order seen = refl
-  two_seen before once (x ∷ xs) order seen = go (m x) (s x) (p x) refl refl refl seen (two_seen before once xs order.1)
+  two_seen before once [] order footprint = refl
+  two_seen before once (x ∷ xs) order footprint = go (m x) (s x) (p x) refl refl refl footprint (two_seen before once xs order.1)
     where
       go : (a b c : Bool) → m x ≡ a → s x ≡ b → p x ≡ c → AllByRecursion (λ y. s y ≡ true) (take 2 (cond a (x ∷ filter m xs) (filter m xs)))
           → (AllByRecursion (λ y. s y ≡ true) (take 2 (filter m xs)) → list_any other (filter s xs) ≡ list_any other xs)
           → list_any other (cond b (x ∷ filter s xs) (filter s xs)) ≡ (m x && not (p x)) || list_any other xs
-      go true true true is there named seen more = rw (is, named) (first_seen xs (all_weaker (λ y. before x y ≡ true) (λ y. p y ≡ false) (λ y after. once x y named after) xs order.0) seen.1)
-      go true true false is there named seen more = rw (is, named) refl
-      go true false c is there named seen more = let here : s x ≡ true = seen.0 in absurd (cc)
-      go false true c is there named seen more = rw is (more seen)
-      go false false c is there named seen more = rw is (more seen)
+      go true true true is there keys footprint more = rw (is, keys) (first_seen xs (all_weaker (λ y. before x y ≡ true) (λ y. p y ≡ false) (λ y after. once x y keys after) xs order.0) footprint.1)
+      go true true false is there keys footprint more = rw (is, keys) refl
+      go true false c is there keys footprint more = let here : s x ≡ true = footprint.0 in absurd (cc)
+      go false true c is there keys footprint more = rw is (more footprint)
+      go false false c is there keys footprint more = rw is (more footprint)

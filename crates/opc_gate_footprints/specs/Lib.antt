@@ -1,3 +1,3 @@
 pub mod Joined
-pub mod Named
-pub mod Sighted
+pub mod BoardKeys
+pub mod Loading

@@ -13,12 +13,12 @@ use Rattle.opc_policy_members.specs.Taken.{after_row, has_user, has_group, has_h
 use Rattle.opc_board.specs.declared.board.BoardRows.{BoardRows}
 use Rattle.opc_board.specs.declared.rows.ConsoleRow.{ConsoleRow}
 use Rattle.opc_board.specs.Consoles.{defined}
-use Rattle.opc_board.specs.Facts.{IsBoard, console_at, console_before, device_before, has_master, reply_before, unit_before}
+use Rattle.opc_board.specs.Invariants.{IsBoard, console_at, console_before, device_before, has_master, reply_before, unit_before}
 use Rattle.opc_board.specs.History.{History, after, history_of, without_history}
-use Rattle.opc_board.specs.Sight.{IsInOrder, Seen, only, sees_device, sees_reply, sees_unit}
+use Rattle.opc_board.specs.Footprint.{IsInOrder, Footprint, only, has_device_of, has_reply_of, has_unit_of}
 use Rattle.opc_rows.specs.Ordered.{Ascends}
 use Rattle.std.specs.List.{cons_option}
-use Rattle.opc_state.specs.Sights.{AreSights}
+use Rattle.opc_state.specs.Footprints.{AreFootprints}
 use Rattle.opc_state.specs.declared.change.Edit.{Edit}
 use Rattle.opc_state.specs.State.{State}
 use Rattle.opc_state.specs.Changes.{edited, all_edited, with_board}
@@ -150,7 +150,7 @@ edits_more all i row start now new o low is was edit added =
 
 -- ---- what is made of a state
 
-abbrev all_consoles : Seen
+abbrev all_consoles : Footprint
 all_consoles = record { units = λ _. false; devices = λ _. false; consoles = λ _. true; replies = λ _. false }
 
 -- rows ask about consoles, and change them, alone
@@ -208,13 +208,13 @@ alone_is b =
 
 -- what is seen of a state's board, and of the board that rows make of it
 seen_so : (s : State) (all : List Row) (old new : BoardRows) → IsInOrder s.board → old ≡ consoles_alone s.board → new ≡ consoles_after all (consoles_alone s.board) → IsBoard new
-    → AreSights old new s (without_history (consoles_after all s.board))
+    → AreFootprints old new s (without_history (consoles_after all s.board))
 seen_so s all old new order old_is new_is sound =
     let whole = consoles_after all s.board in
     let rest : others whole ≡ others s.board = others_after all s.board in
     let alone : new ≡ consoles_alone whole = new_is ∙ alone_after all s.board in
     record {
-      seen = all_consoles;
+      footprint = all_consoles;
       old_is = old_is ∙ alone_is s.board;
       new_is = alone ∙ alone_is whole;
       was = order;
@@ -225,10 +225,10 @@ seen_so s all old new order old_is new_is sound =
         replies = subst (Ascends reply_before) (sym (ap (λ b. b.replies) rest)) order.replies;
       };
       left = record {
-        units = ap (λ b. filter (λ u. not (sees_unit all_consoles u)) b.units) rest;
-        devices = ap (λ b. filter (λ d. not (sees_device all_consoles d)) b.devices) rest;
+        units = ap (λ b. filter (λ u. not (has_unit_of all_consoles u)) b.units) rest;
+        devices = ap (λ b. filter (λ d. not (has_device_of all_consoles d)) b.devices) rest;
         consoles = none_kept whole.consoles ∙ sym (none_kept s.board.consoles);
-        replies = ap (λ b. filter (λ r. not (sees_reply all_consoles r)) b.replies) rest;
+        replies = ap (λ b. filter (λ r. not (has_reply_of all_consoles r)) b.replies) rest;
       };
     }
 
@@ -271,6 +271,6 @@ module _ (s : State) (all : List Row) (policy : Policy) (live : BoardRows) (poli
 -- rows with nothing new make no edits
 pub nothing_new : (s : State) (all : List Row) (live old new : BoardRows) (edits : List Edit) → live ≡ consoles_alone s.board → IsInOrder s.board → old ≡ without_history live → new ≡ consoles_after all live → AreEditsOf old new all edits → HaveNothingNew all s → edits ≡ []
 nothing_new s all live old new edits live_is order copy defines are none =
-    let sights = seen_so s all old new order (copy ∙ ap without_history live_is) (defines ∙ ap (consoles_after all) live_is) are.sound in
-    let same : all_edited are.first s ≡ s = are.becomes s _ sights ∙ board_so s all ∙ ap (λ b. record s { board = b }) none.board in
-    are.all ∙ ap₂ (λ one other. one ++ other) (are.idle s _ sights same) none.policy
+    let footprints = seen_so s all old new order (copy ∙ ap without_history live_is) (defines ∙ ap (consoles_after all) live_is) are.sound in
+    let same : all_edited are.first s ≡ s = are.becomes s _ footprints ∙ board_so s all ∙ ap (λ b. record s { board = b }) none.board in
+    are.all ∙ ap₂ (λ one other. one ++ other) (are.idle s _ footprints same) none.policy

@@ -5,10 +5,10 @@ use Rattle.opc_terms.specs.declared.fault.Fault.TheVariants as why
 use Rattle.opc_policy_members.specs.declared.row.Row.{Row}
 use Rattle.opc_policy_members.specs.declared.row.Row.TheVariants as rows
 use Rattle.opc_board.specs.declared.board.BoardRows.{BoardRows}
-use Rattle.opc_board.specs.Facts.{IsBoard}
+use Rattle.opc_board.specs.Invariants.{IsBoard}
 use Rattle.opc_state.specs.declared.change.Edit.{Edit}
 use Rattle.opc_state.specs.declared.change.Edit.TheVariants as edit
-use Rattle.opc_state.specs.Sights.{AreSights}
+use Rattle.opc_state.specs.Footprints.{AreFootprints}
 use Rattle.opc_state.specs.State.{State, Fits}
 use Rattle.opc_state.specs.Changes.{all_edited, with_board}
 use Rattle.opc_machine.specs.Bootstrap.{bootstrapped, consoles_after}
@@ -41,12 +41,12 @@ pub record AreEditsOf (old new : BoardRows) (more : List Row) (edits : List Edit
   pub first : List Edit
   pub all : edits ≡ first ++ edits_of more
   pub sound : IsBoard new
-  pub becomes : (s : State) (whole : BoardRows) → AreSights old new s whole → all_edited first s ≡ with_board whole s
-  pub idle : (s : State) (whole : BoardRows) → AreSights old new s whole → all_edited first s ≡ s → first ≡ []
+  pub becomes : (s : State) (whole : BoardRows) → AreFootprints old new s whole → all_edited first s ≡ with_board whole s
+  pub idle : (s : State) (whole : BoardRows) → AreFootprints old new s whole → all_edited first s ≡ s → first ≡ []
 
 -- A refusal that is not for memory or the store is the one that the rows meet.
-abbrev pub IsToldWhy : {V : Type 0} → Type 0 → (State → Type 0) → Result V Fault → (State → Result State Fault) → Type 0
-IsToldWhy sure represents result made = sure → (s : State) → represents s → IfErr result (λ f. f ≢ why.NoMemory → f ≢ why.Store → made s ≡ Err f)
+abbrev pub IsRefusedFor : {V : Type 0} → Type 0 → (State → Type 0) → Result V Fault → (State → Result State Fault) → Type 0
+IsRefusedFor sure represents result made = sure → (s : State) → represents s → IfErr result (λ f. f ≢ why.NoMemory → f ≢ why.Store → made s ≡ Err f)
 
 -- The bootstrap is done: its state is represented, and once a change is acknowledged a crash leaves it alone.
 pub record IsBootstrap {T : Type 0} (represents may_leave : T → State → Type 0) (new : T) (s : State) (more : List Row) : Type 0 where

@@ -3,11 +3,11 @@ ghost use Rattle.std.specs.Prelude.{◌≡◌, ◌≢◌, ◌⊎◌, ◌++◌, L
 ghost use Rattle.std.specs.List.{cons_option};
 ghost use Rattle.opc_terms.specs.declared.fault.Fault.TheVariants as why;
 ghost use Rattle.opc_policy_members.specs.declared.row.Row.{Row as TheRow};
-ghost use Rattle.opc_board.specs.Sight.{IsInOrder};
+ghost use Rattle.opc_board.specs.Footprint.{IsInOrder};
 ghost use Rattle.opc_state.specs.Asked.{Answers};
 ghost use Rattle.opc_state.specs.State.{State, has_users};
 ghost use Rattle.opc_state.specs.Changes.{IsKept, all_edited};
-ghost use Rattle.opc_gate_imports.specs.RowEdits.{AreEditsOf, consoles_alone, HaveNothingNew, IsBootstrap, IsToldWhy, edit_of, edits_of};
+ghost use Rattle.opc_gate_imports.specs.RowEdits.{AreEditsOf, consoles_alone, HaveNothingNew, IsBootstrap, IsRefusedFor, edit_of, edits_of};
 ghost use Rattle.opc_machine.specs.Bootstrap.{bootstrapped, console_after, consoles_after, with_rows, loses_master, policy_after};
 
 use opc_board::board::{Board, BoardRows};
@@ -213,7 +213,7 @@ pub fn row_edits_on<T: Tables>(
     ensures kept { IsKept T.is_sure T.represents T.may_leave tables.old tables.new }
     ensures made { Answers (T.is_sure tables.new) (T.represents tables.old) result (λ s edits. with_rows rows.now s ≡ Ok (all_edited edits.items s)) }
     ensures idle { Answers (T.is_sure tables.new) (T.represents tables.old) result (λ s edits. HaveNothingNew rows.now s → edits.items ≡ []) }
-    ensures refused { IsToldWhy (T.is_sure tables.new) (T.represents tables.old) result (with_rows rows.now) }
+    ensures refused { IsRefusedFor (T.is_sure tables.new) (T.represents tables.old) result (with_rows rows.now) }
 {
     let Stored {
         mut policy,
@@ -227,7 +227,7 @@ fn edits_on<T: Tables>(tables: &mut T, alloc: Global, rows: &[Row]) -> Result<Ve
     ensures kept { IsKept T.is_sure T.represents T.may_leave tables.old tables.new }
     ensures made { Answers (T.is_sure tables.new) (T.represents tables.old) result (λ s edits. bootstrapped rows.now s ≡ Ok (all_edited edits.items s)) }
     ensures idle { Answers (T.is_sure tables.new) (T.represents tables.old) result (λ s edits. HaveNothingNew rows.now s → edits.items ≡ []) }
-    ensures refused { IsToldWhy (T.is_sure tables.new) (T.represents tables.old) result (bootstrapped rows.now) }
+    ensures refused { IsRefusedFor (T.is_sure tables.new) (T.represents tables.old) result (bootstrapped rows.now) }
 {
     if tables.has_users()? {
         return Err(Fault::NotEmpty);
@@ -260,7 +260,7 @@ fn write_first<T: Tables>(tables: &mut T, alloc: Global, edits: Vec<Edit>) -> Re
 pub fn bootstrap<T: Tables>(tables: &mut T, alloc: Global, rows: &[Row]) -> Result<(), Fault>
     ensures sure { T.is_sure tables.new → T.is_sure tables.old }
     ensures done { T.is_sure tables.new → (s : State) → T.represents tables.old s → OnOk result (IsBootstrap T.represents T.may_leave tables.new s rows.now) }
-    ensures refused { IsToldWhy (T.is_sure tables.new) (T.represents tables.old) result (bootstrapped rows.now) }
+    ensures refused { IsRefusedFor (T.is_sure tables.new) (T.represents tables.old) result (bootstrapped rows.now) }
     ensures unchanged { T.is_sure tables.new → (s : State) → T.represents tables.old s → OnErr result (T.represents tables.new s) }
     ensures crash { T.is_sure tables.new → (s : State) → T.represents tables.old s → (left : State) → T.may_leave tables.new left → T.may_leave tables.old left ⊎ (bootstrapped rows.now s ≡ Ok left) }
     ensures idle { T.is_sure tables.new → (s : State) → T.represents tables.old s → HaveNothingNew rows.now s → (left : State) → T.may_leave tables.new left → T.may_leave tables.old left }

@@ -1,7 +1,7 @@
 //! What an import comes to: loads, and no change.
 ghost use Rattle.std.specs.Prelude.{◌≡◌, ◌∷◌, ◌++◌, [], IfOk, OnOk, None, codes, string_bytes};
 ghost use Rattle.std.specs.Fmt.{decimal};
-ghost use Rattle.opc_board.specs.Facts.{Name, console_at};
+ghost use Rattle.opc_board.specs.Invariants.{Name, console_at};
 ghost use Rattle.opc_board.specs.Texts.{columns};
 ghost use Rattle.opc_state.specs.declared.change.Edit.TheVariants.{PutBatch};
 ghost use Rattle.opc_state.specs.Asked.{Answers};
@@ -20,7 +20,7 @@ use opc_machine::outcome::{Decided, Deed, denied};
 use opc_policy_members::row::Row;
 use opc_policy_members::user::User;
 use opc_rows::Rows;
-use opc_gate_rulings::asking::asking_on;
+use opc_gate_rulings::requester::requester_on;
 use opc_state::change::{Batch, Edit};
 use opc_state::tables::Tables;
 use opc_terms::fault::Fault;
@@ -140,7 +140,7 @@ pub fn import_on<T: Tables>(
     ensures kept { IsKept T.is_sure T.represents T.may_leave tables.old tables.new }
     ensures outcome { Answers (T.is_sure tables.new) (T.represents tables.old) result (λ s o. (name : Name) → console ≡ console_at s.board name → IsOutcome s (import_outcome s name batch rows.now) o) }
 {
-    let asking = match asking_on(tables, alloc, console)? {
+    let asking = match requester_on(tables, alloc, console)? {
         Ok(asking) => asking,
         Err(denial) => return Ok(Err(denial)),
     };

@@ -1,7 +1,7 @@
 //! Listings of the account.
 ghost use Rattle.std.specs.Prelude.{◌≡◌, ◌∷◌, [], IfOk, map, string_bytes};
 ghost use Rattle.std.specs.Fmt.{decimal};
-ghost use Rattle.opc_board.specs.Facts.{Name, console_at};
+ghost use Rattle.opc_board.specs.Invariants.{Name, console_at};
 ghost use Rattle.opc_board.specs.Texts.{columns};
 ghost use Rattle.opc_state.specs.Asked.{Answers};
 ghost use Rattle.opc_state.specs.Changes.{IsKept};
@@ -9,13 +9,13 @@ ghost use Rattle.opc_state.specs.Loads.{asked_for};
 ghost use Rattle.opc_machine.specs.Deeds.{IsOutcome};
 ghost use Rattle.opc_machine.specs.Listings.{account_line, account_outcome};
 
-use crate::told::told;
+use crate::listing::listing;
 use opc_board::line::{Item, Line};
 use opc_board::rows::ConsoleRow;
 use opc_board::text::KeptText;
 use opc_machine::outcome::{Decided, denied};
 use opc_rows::Rows;
-use opc_gate_rulings::asking::{asking_on, sees_all};
+use opc_gate_rulings::requester::{requester_on, sees_all};
 use opc_state::account::AccountRow;
 use opc_state::tables::Tables;
 use opc_terms::fault::Fault;
@@ -78,7 +78,7 @@ pub fn account_on<T: Tables>(
     ensures kept { IsKept T.is_sure T.represents T.may_leave tables.old tables.new }
     ensures outcome { Answers (T.is_sure tables.new) (T.represents tables.old) result (λ s o. (name : Name) → console ≡ console_at s.board name → IsOutcome s (account_outcome s name from count) o) }
 {
-    let asking = match asking_on(tables, alloc, console)? {
+    let asking = match requester_on(tables, alloc, console)? {
         Ok(asking) => asking,
         Err(denial) => return Ok(Err(denial)),
     };
@@ -86,5 +86,5 @@ pub fn account_on<T: Tables>(
         return denied(Fault::NotSpecial, None);
     }
     let lines = lines_on(tables, alloc, from, count)?;
-    told(alloc, lines)
+    listing(alloc, lines)
 }

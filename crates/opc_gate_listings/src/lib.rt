@@ -3,4 +3,4 @@
 
 pub mod account;
 pub mod profiles;
-mod told;
+mod listing;

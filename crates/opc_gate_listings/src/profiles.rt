@@ -1,6 +1,6 @@
 //! Listings of profiles.
 ghost use Rattle.std.specs.Prelude.{◌≡◌, ◌∷◌, ◌||◌, [], IfOk, Some, codes, filter, map, string_bytes};
-ghost use Rattle.opc_board.specs.Facts.{Name, console_at};
+ghost use Rattle.opc_board.specs.Invariants.{Name, console_at};
 ghost use Rattle.opc_board.specs.Texts.{columns};
 ghost use Rattle.opc_policy_members.specs.Profiles.{of_class};
 ghost use Rattle.opc_policy_members.specs.Members.{groups_of};
@@ -12,7 +12,7 @@ ghost use Rattle.opc_machine.specs.Rights.{is_owner, profile_shown};
 ghost use Rattle.opc_machine.specs.Rulings.{acting};
 ghost use Rattle.opc_gate_listings.specs.Seen.{holds_read, is_seen};
 
-use crate::told::told;
+use crate::listing::listing;
 use opc_board::line::{Item, Line};
 use opc_board::rows::ConsoleRow;
 use opc_board::text::KeptText;
@@ -23,7 +23,7 @@ use opc_names::name::{GroupName, UserId};
 use opc_policy_members::profile::Profile;
 use opc_policy_members::user::User;
 use opc_rows::Rows;
-use opc_gate_rulings::asking::{Asking, asking_on, sees_all};
+use opc_gate_rulings::requester::{Requester, requester_on, sees_all};
 use opc_state::tables::Tables;
 use opc_terms::store_fault::StoreFault;
 use std::alloc::{AllocError, Global};
@@ -151,7 +151,7 @@ fn seen_on<T: Tables>(
 fn lines_on<T: Tables>(
     tables: &mut T,
     alloc: Global,
-    asking: &Asking,
+    asking: &Requester,
     class: Class,
 ) -> Result<Rows<Line>, StoreFault>
     ensures kept { IsKept T.is_sure T.represents T.may_leave tables.old tables.new }
@@ -177,10 +177,10 @@ pub fn profiles_on<T: Tables>(
     ensures kept { IsKept T.is_sure T.represents T.may_leave tables.old tables.new }
     ensures outcome { Answers (T.is_sure tables.new) (T.represents tables.old) result (λ s o. (name : Name) → console ≡ console_at s.board name → IsOutcome s (profiles_outcome s name class) o) }
 {
-    let asking = match asking_on(tables, alloc, console)? {
+    let asking = match requester_on(tables, alloc, console)? {
         Ok(asking) => asking,
         Err(denial) => return Ok(Err(denial)),
     };
     let lines = lines_on(tables, alloc, &asking, class)?;
-    told(alloc, lines)
+    listing(alloc, lines)
 }

@@ -11,7 +11,7 @@ use Rattle.opc_policy_members.specs.Members.{groups_of}
 use Rattle.opc_policy_members.specs.Profiles.{profile_of}
 use Rattle.opc_policy.specs.Rulings.{by_verdict, ruling_at, verdict, verdict_rule}
 use Rattle.opc_policy.proofs.Decided.{ruling_by_verdict}
-use Rattle.opc_state.specs.Facts.{IsKeyed}
+use Rattle.opc_state.specs.Invariants.{IsKeyed}
 use Rattle.opc_state.specs.Loads.{bare}
 use Rattle.opc_state.specs.State.{State, deciding_in}
 use Rattle.opc_gate_rulings.proofs.Found.{deciding_found}

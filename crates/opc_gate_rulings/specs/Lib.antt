@@ -1,4 +1,4 @@
-pub mod Asking
+pub mod Requester
 pub mod Held
-pub mod Standing
+pub mod RulingBasis
 pub use Rattle.opc_machine.specs.Rulings

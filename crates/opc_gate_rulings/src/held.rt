@@ -11,7 +11,7 @@ ghost use Rattle.opc_gate_rulings.specs.Held.{held_in, with_list};
 
 use opc_names::level::Level;
 use opc_names::name::{ConsoleName, GroupName, UserId};
-use opc_policy_members::entries::{Entries, Sources, higher};
+use opc_policy_members::entries::{Entries, EntryLevels, higher};
 use opc_policy_members::entry::Entry;
 use opc_policy_members::profile::Profile;
 use opc_policy_members::user::User;
@@ -185,7 +185,7 @@ fn first_level_on<T: Tables>(
     let own = level_of(tables, profile, when, &EntryId::from(user.id))?;
     let highest = highest_level_on(tables, profile, when, groups)?;
     let everyone = level_of(tables, profile, when, &EntryId::everyone())?;
-    let sources = Sources {
+    let sources = EntryLevels {
         own,
         groups: highest,
         everyone,

@@ -9,7 +9,7 @@ ghost use Rattle.opc_state.specs.Asked.{Answers};
 ghost use Rattle.opc_state.specs.State.{deciding_in};
 ghost use Rattle.opc_state.specs.Changes.{IsKept};
 ghost use Rattle.opc_gate_rulings.specs.Held.{class_ruling};
-ghost use Rattle.opc_gate_rulings.specs.Standing.{IsStanding};
+ghost use Rattle.opc_gate_rulings.specs.RulingBasis.{IsRulingBasis};
 ghost use Rattle.opc_machine.specs.Rulings.{acting, acting_user, is_auto, is_required, is_allowed, logon_ruling, own_user, need_to_show, ruling, shown, to_show};
 
 use crate::held::level_on;
@@ -153,7 +153,7 @@ pub(crate) fn acting_on<T: Tables>(
 
 /// How needs are ruled on at a console, whatever is needed.
 #[derive(Clone, Copy)]
-pub enum Standing {
+pub enum RulingBasis {
     /// The logon rule denies everything.
     Denied(Rule),
     /// Profiles decide for this user.
@@ -163,45 +163,45 @@ pub enum Standing {
 }
 
 /// How needs are ruled on at a console: who acts is loaded once, for the command and for all lines that it shows.
-pub fn standing_at<T: Tables>(
+pub fn ruling_basis_at<T: Tables>(
     tables: &mut T,
     alloc: Global,
     console: &ConsoleRow,
-) -> Result<Standing, StoreFault>
+) -> Result<RulingBasis, StoreFault>
     ensures kept { IsKept T.is_sure T.represents T.may_leave tables.old tables.new }
-    ensures standing { Answers (T.is_sure tables.new) (T.represents tables.old) result (λ s standing. IsStanding s console.now standing) }
+    ensures basis { Answers (T.is_sure tables.new) (T.represents tables.old) result (λ s basis. IsRulingBasis s console.now basis) }
 {
     if is_required(console.mode) && console.user.is_none() {
-        return Ok(Standing::Denied(Rule::LogonRequired));
+        return Ok(RulingBasis::Denied(Rule::LogonRequired));
     }
     let Some(user) = acting_on(tables, alloc, console)? else {
-        return Ok(Standing::Console);
+        return Ok(RulingBasis::Console);
     };
     if user.revoked {
-        return Ok(Standing::Denied(Rule::Revoked));
+        return Ok(RulingBasis::Denied(Rule::Revoked));
     }
     // If the class is inactive, nothing is searched.
     if !tables.is_active(Class::Opercmds)? {
-        return Ok(Standing::Console);
+        return Ok(RulingBasis::Console);
     }
-    Ok(Standing::User(user))
+    Ok(RulingBasis::User(user))
 }
 
 /// The ruling on a need at a console, where it is known how needs are ruled on.
 pub fn ruling_on<T: Tables>(
     tables: &mut T,
     alloc: Global,
-    standing: &Standing,
+    basis: &RulingBasis,
     console: &ConsoleRow,
     need: &Need,
 ) -> Result<Ruling, StoreFault>
     ensures kept { IsKept T.is_sure T.represents T.may_leave tables.old tables.new }
-    ensures ruling { Answers (T.is_sure tables.new) (T.represents tables.old) result (λ s r. IsStanding s console.now standing.now → r ≡ ruling s console.now need.now) }
+    ensures ruling { Answers (T.is_sure tables.new) (T.represents tables.old) result (λ s r. IsRulingBasis s console.now basis.now → r ≡ ruling s console.now need.now) }
 {
-    match standing {
-        Standing::Denied(rule) => Ok(Ruling::Denied(*rule)),
-        Standing::User(user) => by_profile(tables, alloc, user, console, need),
-        Standing::Console => Ok(console_ruling(console.auth, need)),
+    match basis {
+        RulingBasis::Denied(rule) => Ok(Ruling::Denied(*rule)),
+        RulingBasis::User(user) => by_profile(tables, alloc, user, console, need),
+        RulingBasis::Console => Ok(console_ruling(console.auth, need)),
     }
 }
 
@@ -278,17 +278,17 @@ fn need_to_show(item: Item) -> Option<Need>
 fn is_shown<T: Tables>(
     tables: &mut T,
     alloc: Global,
-    standing: &Standing,
+    basis: &RulingBasis,
     console: &ConsoleRow,
     line: &Line,
 ) -> Result<bool, StoreFault>
     ensures kept { IsKept T.is_sure T.represents T.may_leave tables.old tables.new }
-    ensures shown { Answers (T.is_sure tables.new) (T.represents tables.old) result (λ s b. IsStanding s console.now standing.now → b ≡ shown s console.now line.now) }
+    ensures shown { Answers (T.is_sure tables.new) (T.represents tables.old) result (λ s b. IsRulingBasis s console.now basis.now → b ≡ shown s console.now line.now) }
 {
     match need_to_show(line.item) {
         None => Ok(true),
         Some(need) => {
-            let ruling = ruling_on(tables, alloc, standing, console, &need)?;
+            let ruling = ruling_on(tables, alloc, basis, console, &need)?;
             Ok(is_allowed(ruling))
         }
     }
@@ -298,16 +298,16 @@ fn is_shown<T: Tables>(
 pub fn shown_lines<T: Tables>(
     tables: &mut T,
     alloc: Global,
-    standing: &Standing,
+    basis: &RulingBasis,
     console: &ConsoleRow,
     lines: Vec<Line>,
 ) -> Result<Rows<Line>, StoreFault>
     ensures kept { IsKept T.is_sure T.represents T.may_leave tables.old tables.new }
-    ensures lines { Answers (T.is_sure tables.new) (T.represents tables.old) result (λ s kept. IsStanding s console.now standing.now → kept ≡ filter (shown s console.now) lines.items) }
+    ensures lines { Answers (T.is_sure tables.new) (T.represents tables.old) result (λ s kept. IsRulingBasis s console.now basis.now → kept ≡ filter (shown s console.now) lines.items) }
 {
     let mut kept = Rows::new(alloc);
     for line in lines {
-        if is_shown(tables, alloc, standing, console, &line)? {
+        if is_shown(tables, alloc, basis, console, &line)? {
             kept.push(line)?;
         }
     }

@@ -7,7 +7,7 @@ use Rattle.opc_http_requests.specs.Faults as faults
 use Rattle.opc_http_requests.specs.declared.fault.ReadingFault.{ReadingFault}
 use Rattle.opc_http_requests.specs.declared.fault.ReadingFault.TheVariants as reading
 use Rattle.opc_state.specs.State.{State}
-use Rattle.opc_http.specs.Exchange.{IsCutOff, IsFaulty, IsServed, IsTold, Replies, Reply, is_read}
+use Rattle.opc_http.specs.Exchange.{IsCutOff, IsFaulty, IsServed, IsReported, Replies, Reply, is_read}
 use Rattle.opc_http.specs.declared.exchange.LinkFault.{LinkFault}
 use Rattle.opc_http.specs.declared.exchange.LinkFault.TheVariants as fault
 use Rattle.opc_http.specs.declared.exchange.Served.{Served}
@@ -15,10 +15,10 @@ use Rattle.opc_http.specs.declared.exchange.Served.{Served}
 module _ {T K : Type 0} (is_sure : T → Type 0) (represents may_leave : T → State → Type 0) (held : K → Option (List ℕ)) (left : Option (List ℕ)) (before after : K) (old new : T) (moment : ℕ) where
   -- a reply that is told is served
   pub served : (reply : Reply) → Replies is_sure represents may_leave left old new moment reply
-      → (res : Result Served LinkFault) → IfOk res (IsTold held reply before after)
+      → (res : Result Served LinkFault) → IfOk res (IsReported held reply before after)
       → IfOk res (IsServed is_sure represents may_leave held left before after old new moment)
-  served reply replies (Ok done) told = record { reply = reply; replies = replies; told = told }
-  served reply replies (Err why) told = tt
+  served reply replies (Ok done) reported = record { reply = reply; replies = replies; reported = reported }
+  served reply replies (Err why) reported = tt
 
   -- one that is cut off leaves what its fault leaves
   pub cut_off : (reply : Reply) → Replies is_sure represents may_leave left old new moment reply

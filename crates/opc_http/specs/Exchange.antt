@@ -48,7 +48,7 @@ IsAsked left asked = IfSome left (λ all. AsksOnly all asked)
 
 module _ {K : Type 0} (held : K → Option (List ℕ)) where
   -- The response was written, whole, and this is told of it.
-  pub record IsTold (reply : Reply) (before after : K) (served : Served) : Type 0 where
+  pub record IsReported (reply : Reply) (before after : K) (served : Served) : Type 0 where
     pub written : Appends (held before) (held after) (reply_bytes reply)
     pub status : served.status ≡ reply_status reply
     pub handled : served.handled ≡ is_ok reply
@@ -77,7 +77,7 @@ module _ {T : Type 0} (is_sure : T → Type 0) (represents may_leave : T → Sta
     pub record IsServed (left : Option (List ℕ)) (before after : K) (old new : T) (moment : ℕ) (served : Served) : Type 0 where
       pub reply : Reply
       pub replies : Replies left old new moment reply
-      pub told : IsTold held reply before after served
+      pub reported : IsReported held reply before after served
 
     -- The reply to what is asked was not written, or not whole.
     pub record IsUnserved (left : Option (List ℕ)) (before after : K) (old new : T) (moment : ℕ) (fault : LinkFault) : Type 0 where

@@ -4,7 +4,7 @@ ghost use Rattle.std.specs.Io.KnownBytes.{Appends};
 ghost use Rattle.opc_io.specs.Reads.{ReadsOnly, TakesAtMost};
 ghost use Rattle.opc_io.specs.Writes.{AppendsPrefix};
 ghost use Rattle.opc_http_requests.specs.Asked.{MayRead, StopsAtEnd};
-ghost use Rattle.opc_http.specs.Exchange.{IsCutOff, IsFaulty, IsServed, IsTold, is_read, is_write};
+ghost use Rattle.opc_http.specs.Exchange.{IsCutOff, IsFaulty, IsServed, IsReported, is_read, is_write};
 
 use opc_gate::gate::Gate;
 use opc_http_head::refusal::Refusal;
@@ -57,8 +57,8 @@ fn respond<K: Sink>(sink: &mut K, response: &Response, handled: bool) -> Result<
 }
 
 // Writes the response to an answer.
-fn tell_answer<K: Sink>(alloc: Global, sink: &mut K, answer: &Answer) -> Result<Served, LinkFault>
-    ensures told { IfOk result (IsTold K.held (Ok answer.now) sink.old sink.new) }
+fn send_answer<K: Sink>(alloc: Global, sink: &mut K, answer: &Answer) -> Result<Served, LinkFault>
+    ensures reported { IfOk result (IsReported K.held (Ok answer.now) sink.old sink.new) }
     ensures cut_off { IfErr result (IsCutOff K.held (Ok answer.now) sink.old sink.new) }
     ensures write { K.has_failed sink.new ≡ (if is_write result then true else K.has_failed sink.old) }
 {
@@ -69,12 +69,12 @@ fn tell_answer<K: Sink>(alloc: Global, sink: &mut K, answer: &Answer) -> Result<
 }
 
 // Writes the response to what is no request.
-fn tell_refusal<K: Sink>(
+fn send_refusal<K: Sink>(
     alloc: Global,
     sink: &mut K,
     refusal: &Refusal,
 ) -> Result<Served, LinkFault>
-    ensures told { IfOk result (IsTold K.held (Err refusal.now) sink.old sink.new) }
+    ensures reported { IfOk result (IsReported K.held (Err refusal.now) sink.old sink.new) }
     ensures cut_off { IfErr result (IsCutOff K.held (Err refusal.now) sink.old sink.new) }
     ensures write { K.has_failed sink.new ≡ (if is_write result then true else K.has_failed sink.old) }
 {
@@ -105,8 +105,8 @@ pub fn exchange<T: Tables, S: Source, K: Sink>(
     ensures write { K.has_failed sink.new ≡ (if is_write result then true else K.has_failed sink.old) }
 {
     match read_request(alloc, routes, source) {
-        Ok(request) => tell_answer(alloc, sink, &gate.handle(alloc, moment, &request)),
-        Err(ReadingFault::Refused(refusal)) => tell_refusal(alloc, sink, &refusal),
+        Ok(request) => send_answer(alloc, sink, &gate.handle(alloc, moment, &request)),
+        Err(ReadingFault::Refused(refusal)) => send_refusal(alloc, sink, &refusal),
         Err(ReadingFault::Read) => Err(LinkFault::Read),
         Err(ReadingFault::NoMemory) => Err(LinkFault::NoMemory { handled: false }),
     }

@@ -9,7 +9,7 @@ use Rattle.httparse.specs.Spans.{IsRequestOf, RequestOverflows, header_bytes, na
 use Rattle.httparse.specs.declared.spans.HeaderSpan.{HeaderSpan}
 use Rattle.httparse.specs.declared.spans.RequestSpans.{RequestSpans}
 use Rattle.opc_io.specs.Reads.{Reads, ReadsMore, ReadsOnce}
-use Rattle.opc_io.specs.declared.source.ReadFault.{ReadFault}
+use Rattle.opc_io.specs.declared.source.SourceFault.{SourceFault}
 use Rattle.opc_io.proofs.Reading.{consumes-more, one-read-more}
 use Rattle.opc_http_head.specs.Head.{FoundHead, IsUnfinished, MayLook, NoHead}
 
@@ -94,7 +94,7 @@ pub more-there : (mid after : Option (List ℕ)) (buf new : List ℕ) (turn n : 
 more-there mid after buf new turn n low more some = omega (arith, low, more.count, some, ap length more.buffer, length-append buf more.moved)
 
 -- one read more
-pub looked : {S : Type 0} (left : S → Option (List ℕ)) (gives : S → List ℕ → S → Type 0) (first mid last : S) (buf new bytes : List ℕ) (most : ℕ) (result : Result ℕ ReadFault)
+pub looked : {S : Type 0} (left : S → Option (List ℕ)) (gives : S → List ℕ → S → Type 0) (first mid last : S) (buf new bytes : List ℕ) (most : ℕ) (result : Result ℕ SourceFault)
     → Reads left gives MayLook first [] mid buf → IsUnfinished buf → length buf + most ≤ 8192 → most ≤ 1024
     → (once : ReadsOnce left gives most mid last buf new result) → bytes ≡ buf ++ once.given → Reads left gives MayLook first [] last bytes
 looked left gives first mid last buf new bytes most result reads unfinished room block once is =

@@ -7,7 +7,7 @@ ghost use Rattle.opc_http_head.specs.Head.{FoundHead, MayLook, NoHead, Starts, S
 
 use httparse::Status;
 use httparse::spans::{HeaderSpan, RequestSpans, parse_request};
-use opc_io::source::{ReadFault, Source, read_more};
+use opc_io::source::{SourceFault, Source, read_more};
 
 /// The most bytes that a head may take.
 pub const HEAD_LIMIT: usize = 8192;
@@ -40,7 +40,7 @@ pub fn read_head<S: Source>(
     source: &mut S,
     buf: &mut Vec<u8>,
     headers: &mut [HeaderSpan],
-) -> Result<Option<RequestSpans>, ReadFault>
+) -> Result<Option<RequestSpans>, SourceFault>
     requires empty { buf.old.items ≡ [] }
     requires room { length headers.old ≡ 32 }
     ensures taken { OnOk result (Consumes (S.left source.old) (S.left source.new) buf.new.items) }

@@ -5,7 +5,7 @@ use Rattle.std.specs.Io.KnownBytes.{Consumes}
 use Rattle.std.proofs.lemmas.Bool.Decides.{nat_tests}
 use Rattle.std.proofs.lemmas.List.{append-nil, drop-append-le, length-drop, take-append-le}
 use Rattle.opc_io.specs.Reads.{Reads, ReadsMore, ReadsOnce, TakesAtMost}
-use Rattle.opc_io.specs.declared.source.ReadFault.{ReadFault}
+use Rattle.opc_io.specs.declared.source.SourceFault.{SourceFault}
 use Rattle.opc_io.proofs.Reading.{consumes-more, consumes-none, one-read-more, takes-after}
 use Rattle.opc_http_head.specs.declared.refusal.Refusal.TheVariants.{BadRequest}
 use Rattle.opc_http_requests.specs.Bodies.{MayFill, ReadsTo}
@@ -59,7 +59,7 @@ takes-failed end first filled before mid after old buf was is so more =
     takes-after (end - first) (length so.moved) before mid after so.moved so.consumes few refl (rw left at more)
 
 -- one read more
-pub filled : {S : Type 0} (left : S → Option (List ℕ)) (gives : S → List ℕ → S → Type 0) (end : ℕ) (first mid last : S) (start buf new bytes : List ℕ) (most : ℕ) (result : Result ℕ ReadFault)
+pub filled : {S : Type 0} (left : S → Option (List ℕ)) (gives : S → List ℕ → S → Type 0) (end : ℕ) (first mid last : S) (start buf new bytes : List ℕ) (most : ℕ) (result : Result ℕ SourceFault)
     → Reads left gives (MayFill end) first start mid buf → length buf < end → length buf + most ≤ end → most ≤ 1024
     → (once : ReadsOnce left gives most mid last buf new result) → bytes ≡ buf ++ once.given → Reads left gives (MayFill end) first start last bytes
 filled left gives end first mid last start buf new bytes most result reads short room block once is =

@@ -1,4 +1,4 @@
-pub mod Asking
+pub mod Requester
 pub mod BodyReads
 pub mod Lengths
 pub mod MadeReads

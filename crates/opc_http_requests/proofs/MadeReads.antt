@@ -18,7 +18,7 @@ use Rattle.opc_http_requests.specs.Asked.{MayRead, StopsAtEnd, looked_through, r
 use Rattle.opc_http_requests.specs.Bodies.{MayFill}
 use Rattle.opc_http_requests.specs.declared.plan.Plan.{Plan}
 use Rattle.opc_http_requests.specs.Plans.{plan_in}
-use Rattle.opc_http_requests.proofs.Asking.{head-plan, one-head}
+use Rattle.opc_http_requests.proofs.Requester.{head-plan, one-head}
 
 -- a head that is there is there, whatever follows
 has-more : (bytes more : List ℕ) (head : RequestHead) → HasHead bytes head → HasHead (bytes ++ more) head

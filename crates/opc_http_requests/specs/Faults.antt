@@ -3,8 +3,8 @@ use Rattle.std.specs.Prelude.{⊤, Bool, true, false, Result, Ok, Err}
 use Rattle.opc_http_head.specs.declared.refusal.AskFault.{AskFault}
 use Rattle.opc_http_head.specs.declared.refusal.AskFault.TheVariants as asking
 use Rattle.opc_http_head.specs.declared.refusal.Refusal.{Refusal}
-use Rattle.opc_io.specs.declared.source.ReadFault.{ReadFault}
-use Rattle.opc_io.specs.declared.source.ReadFault.TheVariants as reading
+use Rattle.opc_io.specs.declared.source.SourceFault.{SourceFault}
+use Rattle.opc_io.specs.declared.source.SourceFault.TheVariants as reading
 use Rattle.opc_http_requests.specs.declared.fault.ReadingFault.{ReadingFault}
 use Rattle.opc_http_requests.specs.declared.fault.ReadingFault.TheVariants.{NoMemory, Read, Refused}
 
@@ -12,7 +12,7 @@ abbrev pub by_asking : AskFault → ReadingFault
 by_asking (asking.Refused refusal) = Refused refusal
 by_asking asking.NoMemory = NoMemory
 
-abbrev pub by_reading : ReadFault → ReadingFault
+abbrev pub by_reading : SourceFault → ReadingFault
 by_reading reading.Read = Read
 by_reading reading.NoMemory = NoMemory
 

@@ -3,14 +3,14 @@ ghost use Rattle.std.specs.Prelude.{◌≡◌, ◌<◌, ◌-◌, IfOk, if◌then
 ghost use Rattle.opc_io.specs.Reads.{ReadsInto, TakesAtMost, is_read};
 ghost use Rattle.opc_http_requests.specs.Bodies.{MayFill, ReadsTo};
 
-use opc_io::source::{ReadFault, Source, read_more};
+use opc_io::source::{SourceFault, Source, read_more};
 
 /// Reads until `buf` has so many bytes, and no further; whether it has them, before the source ends.
 pub(crate) fn read_to<S: Source>(
     source: &mut S,
     buf: &mut Vec<u8>,
     length: usize,
-) -> Result<bool, ReadFault>
+) -> Result<bool, SourceFault>
     ensures reads { IfOk result (λ whole. ReadsTo length whole (S.left source.old) (S.left source.new) buf.old.items buf.new.items) }
     ensures most { TakesAtMost (length - vec_len buf.old) (S.left source.old) (S.left source.new) }
     ensures blocks { ReadsInto S.left S.gives (MayFill length) source.old buf.old.items source.new buf.new.items result }

@@ -1,6 +1,6 @@
 //! Why no request was read.
 use opc_http_head::refusal::{AskFault, Refusal};
-use opc_io::source::ReadFault;
+use opc_io::source::SourceFault;
 
 /// Why no request was read: what was read is refused, a read failed, or out of memory.
 #[derive(Clone, Copy, Debug, PartialEq, Eq)]
@@ -35,16 +35,16 @@ impl From<AskFault> for ReadingFault {
     }
 }
 
-impl From<ReadFault> for ReadingFault {
+impl From<SourceFault> for ReadingFault {
     ghost use Rattle.std.specs.Prelude.{◌≡◌};
     ghost use Rattle.opc_http_requests.specs.Faults.{by_reading};
 
     ghost from_gives = { λ given fault. fault ≡ by_reading given };
 
-    fn from(fault: ReadFault) -> ReadingFault {
+    fn from(fault: SourceFault) -> ReadingFault {
         match fault {
-            ReadFault::Read => ReadingFault::Read,
-            ReadFault::NoMemory => ReadingFault::NoMemory,
+            SourceFault::Read => ReadingFault::Read,
+            SourceFault::NoMemory => ReadingFault::NoMemory,
         }
     }
 }

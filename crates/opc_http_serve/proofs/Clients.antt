@@ -50,33 +50,33 @@ within reading moment e = IfOk-at_ok (λ m. m ≤ LAST_MOMENT) e (low reading)
 -- one more client was served
 module _ {C G D : Type 0} (limits : C → Duration → Bool → Type 0) (remaining contents : C → Option (List ℕ))
     (made : G → Option (List ℕ) → ℕ → Option (List ℕ) → Option (List ℕ) → Result Served LinkFault → G → Type 0) (timeout : Option Duration)
-    (accepts : D → Result (C × C) Error → D → Type 0) (tells : D → Result Duration Error → D → Type 0) (first : D) (old : G) where
-  pub one_served : (n : ℕ) (met last : D) (was new : G) (came gone : Arrival C) → AreServed limits remaining contents made timeout accepts tells first old n met was
-      → IsArrival accepts tells met came last → IsServed limits remaining contents made timeout came gone was new
-      → AreServed limits remaining contents made timeout accepts tells first old (n + 1) last new
+    (accepts : D → Result (C × C) Error → D → Type 0) (clock_says : D → Result Duration Error → D → Type 0) (first : D) (old : G) where
+  pub one_served : (n : ℕ) (met last : D) (was new : G) (came gone : Arrival C) → AreServed limits remaining contents made timeout accepts clock_says first old n met was
+      → IsArrival accepts clock_says met came last → IsServed limits remaining contents made timeout came gone was new
+      → AreServed limits remaining contents made timeout accepts clock_says first old (n + 1) last new
   one_served n met last was new came gone are arrival served =
-      subst (λ m. AreServed limits remaining contents made timeout accepts tells first old m last new) (sym (next n)) (met, was, came, gone, are, arrival, served)
+      subst (λ m. AreServed limits remaining contents made timeout accepts clock_says first old m last new) (sym (next n)) (met, was, came, gone, are, arrival, served)
 
   -- wherever they came from
-  anyhow : (n : ℕ) (last : D) (new : G) → AreServed limits remaining contents made timeout accepts tells first old n last new
+  anyhow : (n : ℕ) (last : D) (new : G) → AreServed limits remaining contents made timeout accepts clock_says first old n last new
       → ServesAll limits remaining contents made timeout old n new
   anyhow zero last new are = (refl, are.1)
   anyhow (suc n) last new (met, was, came, gone, are, arrival, served) =
-      (tt, was, came, gone, anyhow n met was are, record { reading = arrival.reading; dated = record { mid = tt; accepted = tt; told = tt }; moment = arrival.moment }, served)
+      (tt, was, came, gone, anyhow n met was are, record { reading = arrival.reading; dated = record { mid = tt; accepted = tt; said = tt }; moment = arrival.moment }, served)
 
-  none_came : (f : ServeFault) (met last : D) → Arrives accepts tells met (Err f) last → Arrives {D = ⊤} {C = C} (λ _ _ _. ⊤) (λ _ _ _. ⊤) tt (Err f) tt
+  none_came : (f : ServeFault) (met last : D) → Arrives accepts clock_says met (Err f) last → Arrives {D = ⊤} {C = C} (λ _ _ _. ⊤) (λ _ _ _. ⊤) tt (Err f) tt
   none_came (why.Accept error) met last h = tt
   none_came (why.Clock error) met last h = record {
     reader = h.reader;
     writer = h.writer;
     reading = h.reading;
-    dated = record { mid = tt; accepted = tt; told = tt };
+    dated = record { mid = tt; accepted = tt; said = tt };
     failed = h.failed;
   }
 
   pub from_anywhere : {A : Type 0} (count : ℕ) (last : D) (new : G) (end : Result A ServeFault)
-      → OnOk end (AreServed limits remaining contents made timeout accepts tells first old count last new)
-      → IfErr end (λ f. IsCutShort limits remaining contents made timeout accepts tells first old count f last new)
+      → OnOk end (AreServed limits remaining contents made timeout accepts clock_says first old count last new)
+      → IfErr end (λ f. IsCutShort limits remaining contents made timeout accepts clock_says first old count f last new)
       → ServesClients limits remaining contents made timeout old count end new
   from_anywhere count last new (Ok a) are cut = anyhow count last new are
   from_anywhere count last new (Err f) are cut = record {
@@ -141,7 +141,7 @@ module _ {T : Type 0} (is_sure : T → Type 0) (represents may_leave : T → Sta
     module _ (before after : Option (List ℕ)) where
       replied : (served : Served) → IsReplyServed is_sure represents may_leave (λ held. held) left before after mid new moment served
           → (more : Handled) × RepliesOnce handled left moment before after (Ok served) more × IsRunOf is_sure represents may_leave old new more
-      replied served one = let r = by_reply one.reply one.replies in (r.0, record { reply = one.reply; replied = r.1; written = one.told }, r.2)
+      replied served one = let r = by_reply one.reply one.replies in (r.0, record { reply = one.reply; replied = r.1; written = one.said }, r.2)
 
       cut_off : (f : LinkFault) → IsUnserved is_sure represents may_leave (λ held. held) left before after mid new moment f
           → (more : Handled) × RepliesOnce handled left moment before after (Err f) more × IsRunOf is_sure represents may_leave old new more
@@ -150,7 +150,7 @@ module _ {T : Type 0} (is_sure : T → Type 0) (represents may_leave : T → Sta
       broken : (f : LinkFault) → IsFaulty is_sure represents may_leave (λ held. held) left before after mid new moment f
           → (more : Handled) × IsConversation handled left moment before after (Err f) more × IsRunOf is_sure represents may_leave old new more
       broken fault.Read h = (handled, (h.0, refl), none_more old mid new handled h.1 run)
-      broken (fault.Write told) h = cut_off (fault.Write told) h
+      broken (fault.Write said) h = cut_off (fault.Write said) h
       broken (fault.NoMemory false) h = (handled, (h.0, refl), none_more old mid new handled h.1 run)
       broken (fault.NoMemory true) h = cut_off (fault.NoMemory true) h
 
@@ -171,9 +171,9 @@ module _ {T : Type 0} (is_sure : T → Type 0) (represents may_leave : T → Sta
     served_one came gone old mid new handled low (inr none) run =
         (handled, inr (record { failed = none.failed; same = none.same; idle = refl }), none_more old mid new handled none.idle run, λ sure. subst is_sure none.idle sure)
 
-    module _ {D : Type 0} (accepts : D → Result (C × C) Error → D → Type 0) (tells : D → Result Duration Error → D → Type 0) (first : D) (old : T) where
-      handled_for : (n : ℕ) (last : D) (new : T) → AreServed limits remaining contents (IsExchange is_sure represents may_leave) timeout accepts tells first old n last new
-          → (handled : Handled) × AreServed limits remaining contents IsConversation timeout accepts tells first none_handled n last handled
+    module _ {D : Type 0} (accepts : D → Result (C × C) Error → D → Type 0) (clock_says : D → Result Duration Error → D → Type 0) (first : D) (old : T) where
+      handled_for : (n : ℕ) (last : D) (new : T) → AreServed limits remaining contents (IsExchange is_sure represents may_leave) timeout accepts clock_says first old n last new
+          → (handled : Handled) × AreServed limits remaining contents IsConversation timeout accepts clock_says first none_handled n last handled
           × IsRunOf is_sure represents may_leave old new handled × (is_sure new → is_sure old)
       handled_for zero last new are = (none_handled, (are.0, refl), none_more old old new none_handled are.1 (begins old), λ sure. subst is_sure are.1 sure)
       handled_for (suc n) last new (met, was, came, gone, are, arrival, served) =
@@ -183,13 +183,13 @@ module _ {T : Type 0} (is_sure : T → Type 0) (represents may_leave : T → Sta
 
       module _ {A : Type 0} (count : ℕ) (last : D) (new : T) where
         pub all_handled : (end : Result A ServeFault)
-            → OnOk end (AreServed limits remaining contents (IsExchange is_sure represents may_leave) timeout accepts tells first old count last new)
-            → IfErr end (λ f. IsCutShort limits remaining contents (IsExchange is_sure represents may_leave) timeout accepts tells first old count f last new)
+            → OnOk end (AreServed limits remaining contents (IsExchange is_sure represents may_leave) timeout accepts clock_says first old count last new)
+            → IfErr end (λ f. IsCutShort limits remaining contents (IsExchange is_sure represents may_leave) timeout accepts clock_says first old count f last new)
             → AreHandled is_sure represents may_leave limits remaining contents timeout old new count end
         all_handled (Ok a) are cut =
             let h = handled_for count last new are in record {
               handled = h.0;
-              served = anyhow limits remaining contents IsConversation timeout accepts tells first none_handled count last h.0 h.1;
+              served = anyhow limits remaining contents IsConversation timeout accepts clock_says first none_handled count last h.0 h.1;
               run = h.2;
             }
         all_handled (Err f) are cut =
@@ -199,15 +199,15 @@ module _ {T : Type 0} (is_sure : T → Type 0) (represents may_leave : T → Sta
                 done = cut.done;
                 fewer = cut.fewer;
                 met = tt;
-                served = anyhow limits remaining contents IsConversation timeout accepts tells first none_handled cut.done cut.met h.0 h.1;
-                failed = none_came limits remaining contents IsConversation timeout accepts tells first none_handled f cut.met last cut.failed;
+                served = anyhow limits remaining contents IsConversation timeout accepts clock_says first none_handled cut.done cut.met h.0 h.1;
+                failed = none_came limits remaining contents IsConversation timeout accepts clock_says first none_handled f cut.met last cut.failed;
               };
               run = h.2;
             }
 
         pub sure : (end : Result A ServeFault)
-            → OnOk end (AreServed limits remaining contents (IsExchange is_sure represents may_leave) timeout accepts tells first old count last new)
-            → IfErr end (λ f. IsCutShort limits remaining contents (IsExchange is_sure represents may_leave) timeout accepts tells first old count f last new)
+            → OnOk end (AreServed limits remaining contents (IsExchange is_sure represents may_leave) timeout accepts clock_says first old count last new)
+            → IfErr end (λ f. IsCutShort limits remaining contents (IsExchange is_sure represents may_leave) timeout accepts clock_says first old count f last new)
             → is_sure new → is_sure old
         sure (Ok a) are cut = (handled_for count last new are).3
         sure (Err f) are cut = (handled_for cut.done cut.met new cut.served).3

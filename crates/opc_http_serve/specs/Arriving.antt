@@ -7,12 +7,12 @@ use Rattle.opc_http_serve.specs.declared.arrival.ServeFault.{ServeFault}
 use Rattle.opc_http_serve.specs.declared.arrival.ServeFault.TheVariants as fault
 use Rattle.opc_http_serve.specs.Moments.{moment_of}
 
-module _ {D C : Type 0} (accepts : D → Result (C × C) Error → D → Type 0) (tells : D → Result Duration Error → D → Type 0) where
+module _ {D C : Type 0} (accepts : D → Result (C × C) Error → D → Type 0) (clock_says : D → Result Duration Error → D → Type 0) where
   -- A client was accepted, by a handle to read and one to write, and then the clock was read.
   pub record IsDated (before : D) (reader writer : C) (reading : Result Duration Error) (after : D) : Type 0 where
     pub mid : D
     pub accepted : accepts before (Ok (reader, writer)) mid
-    pub told : tells mid reading after
+    pub said : clock_says mid reading after
 
   -- The client that was accepted, at the moment that the clock said then.
   pub record IsArrival (before : D) (came : Arrival C) (after : D) : Type 0 where

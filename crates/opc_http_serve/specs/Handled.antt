@@ -6,7 +6,7 @@ use Rattle.opc_state.specs.State.{State}
 use Rattle.opc_machine.specs.declared.request.Request.{Request}
 use Rattle.opc_machine.specs.declared.request.Answer.{Answer}
 use Rattle.opc_gate.specs.Handling.{IsRun}
-use Rattle.opc_http.specs.Exchange.{IsAsked, IsCutOff, IsFaulty, IsServed, IsTold, Reply}
+use Rattle.opc_http.specs.Exchange.{IsAsked, IsCutOff, IsFaulty, IsServed, IsReported, Reply}
 use Rattle.opc_http.specs.declared.exchange.LinkFault.{LinkFault}
 use Rattle.opc_http.specs.declared.exchange.LinkFault.TheVariants as fault
 use Rattle.opc_http.specs.declared.exchange.Served.{Served}
@@ -34,7 +34,7 @@ IsReplied left old new moment (Err refusal) = IsAsked left (Err refusal) × (new
 
 -- What is written more is the response of a reply, or a part of it.
 abbrev pub IsWritten : Reply → (before after : Option (List ℕ)) → Result Served LinkFault → Type 0
-IsWritten reply before after (Ok served) = IsTold (λ held. held) reply before after served
+IsWritten reply before after (Ok served) = IsReported (λ held. held) reply before after served
 IsWritten reply before after (Err fault) = IsCutOff (λ held. held) reply before after fault
 
 -- A reply was come to, and its response written, or a part of it.

@@ -27,13 +27,13 @@ module _ {C G : Type 0} (limits : C → Duration → Bool → Type 0) (remaining
   abbrev pub IsServed : (came gone : Arrival C) → (old new : G) → Type 0
   IsServed came gone old new = IsExchanged came gone old new ⊎ IsUnlimited came gone old new
 
-  module _ {D : Type 0} (accepts : D → Result (C × C) Error → D → Type 0) (tells : D → Result Duration Error → D → Type 0) (first : D) (old : G) where
+  module _ {D : Type 0} (accepts : D → Result (C × C) Error → D → Type 0) (clock_says : D → Result Duration Error → D → Type 0) (first : D) (old : G) where
     -- So many clients came and were served, in the order in which they came.
     abbrev pub AreServed : ℕ → D → G → Type 0
     AreServed zero last new = (last ≡ first) × (new ≡ old)
     AreServed (suc n) last new =
         (met : D) × (was : G) × (came : Arrival C) × (gone : Arrival C)
-        × AreServed n met was × IsArrival accepts tells met came last × IsServed came gone was new
+        × AreServed n met was × IsArrival accepts clock_says met came last × IsServed came gone was new
 
     -- Some were, and then no client came.
     pub record IsCutShort (count : ℕ) (fault : ServeFault) (last : D) (new : G) : Type 0 where
@@ -41,7 +41,7 @@ module _ {C G : Type 0} (limits : C → Duration → Bool → Type 0) (remaining
       pub fewer : done < count
       pub met : D
       pub served : AreServed done met new
-      pub failed : Arrives accepts tells met (Err fault) last
+      pub failed : Arrives accepts clock_says met (Err fault) last
 
   -- So many clients were served, wherever they came from.
   abbrev pub ServesAll : G → ℕ → G → Type 0

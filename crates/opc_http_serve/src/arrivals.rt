@@ -21,18 +21,18 @@ pub trait Arrivals {
     ghost accepts: { Self → Result (Self.Connection × Self.Connection) Error → Self → Type 0 };
 
     /// That the clock was read, and what it said.
-    ghost tells: { Self → Result Duration Error → Self → Type 0 };
+    ghost clock_says: { Self → Result Duration Error → Self → Type 0 };
 
     fn accept(&mut self) -> io::Result<(Self::Connection, Self::Connection)>
         ensures { accepts self.old result self.new };
 
     fn since_1970(&mut self) -> io::Result<Duration>
-        ensures { tells self.old result self.new };
+        ensures { clock_says self.old result self.new };
 }
 
 /// Takes the next client, at the moment when it came.
 pub fn next<A: Arrivals>(arrivals: &mut A) -> Result<Arrival<A::Connection>, ServeFault>
-    ensures { Arrives A.accepts A.tells arrivals.old result arrivals.new }
+    ensures { Arrives A.accepts A.clock_says arrivals.old result arrivals.new }
 {
     let (reader, writer) = match arrivals.accept() {
         Ok(handles) => handles,

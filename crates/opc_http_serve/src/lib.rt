@@ -3,9 +3,9 @@
 
 pub mod arrival;
 pub mod arrivals;
-mod away;
+mod drain;
 pub mod clock;
 pub mod connection;
-pub mod door;
+pub mod acceptor;
 pub mod exchanges;
 pub mod serving;

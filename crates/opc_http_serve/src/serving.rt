@@ -5,9 +5,9 @@ ghost use Rattle.opc_http_serve.specs.Serving.{AreServed, IsCutShort, IsServed, 
 
 use crate::arrival::{Arrival, ServeFault};
 use crate::arrivals::{Arrivals, next};
-use crate::away::read_away;
+use crate::drain::drain;
 use crate::connection::Connection;
-use crate::door::Door;
+use crate::acceptor::Acceptor;
 use crate::exchanges::Exchanges;
 use opc_gate::gate::Gate;
 use opc_http_head::routes::Routes;
@@ -51,7 +51,7 @@ fn serve_client<C: Connection, X: Exchanges>(
         moment,
     );
     if served.is_ok() {
-        read_away(&mut client.reader);
+        drain(&mut client.reader);
     }
 }
 
@@ -65,8 +65,8 @@ pub fn serve<A: Arrivals, X: Exchanges>(
     routes: &Routes,
     gate: &mut X,
 ) -> Result<(), ServeFault>
-    ensures done { OnOk result (AreServed A.Connection.limits A.Connection.remaining A.Connection.contents X.exchanged timeout A.accepts A.tells arrivals.old gate.old count arrivals.new gate.new) }
-    ensures ended { IfErr result (λ fault. IsCutShort A.Connection.limits A.Connection.remaining A.Connection.contents X.exchanged timeout A.accepts A.tells arrivals.old gate.old count fault arrivals.new gate.new) }
+    ensures done { OnOk result (AreServed A.Connection.limits A.Connection.remaining A.Connection.contents X.exchanged timeout A.accepts A.clock_says arrivals.old gate.old count arrivals.new gate.new) }
+    ensures ended { IfErr result (λ fault. IsCutShort A.Connection.limits A.Connection.remaining A.Connection.contents X.exchanged timeout A.accepts A.clock_says arrivals.old gate.old count fault arrivals.new gate.new) }
 {
     for _client in 0..count {
         let mut client = next(arrivals)?;
@@ -90,6 +90,6 @@ where
     ensures handled { AreHandled T.is_sure T.represents T.may_leave L.Stream.limits L.Stream.remaining L.Stream.contents timeout gate.old gate.new count result }
     ensures served { ServesClients L.Stream.limits L.Stream.remaining L.Stream.contents (IsExchange T.is_sure T.represents T.may_leave) timeout gate.old count result gate.new }
 {
-    let mut door = Door::new(rt, listener);
+    let mut door = Acceptor::new(rt, listener);
     serve(rt.alloc(), &mut door, count, timeout, routes, gate)
 }

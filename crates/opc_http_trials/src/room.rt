@@ -19,7 +19,7 @@ use std::alloc::Global;
 const HEADER: &str = "kind,class,name,id,value,owner,flags,digest,when,restricted\n";
 
 /// What ends the program where a request is given up.
-pub(crate) const GIVEN_UP: &str = "the tables failed, or out of memory";
+pub(crate) const ABORTED: &str = "the tables failed, or out of memory";
 
 /// The most rows of the account that are counted.
 const MOST_ROWS: u32 = 1000;
@@ -57,7 +57,7 @@ impl Outcome {
 fn gate_over<T: Tables + Drop>(alloc: Global, tables: T) -> Result<Gate<Cached<T>>> {
     match Gate::new(alloc, tables) {
         Ok(gate) => Ok(gate),
-        Err((fault, _tables)) => given_up(fault),
+        Err((fault, _tables)) => aborted(fault),
     }
 }
 
@@ -81,7 +81,7 @@ impl<T: Tables + Drop> Room<T> {
             Err(_) => bail!("no policy"),
         };
         if let Err(fault) = gate.bootstrap(alloc, rows.as_slice()) {
-            return given_up(fault);
+            return aborted(fault);
         }
         let printed = ran(alloc, &mut gate, self.beginning.as_str())?;
         self.gate = Some(gate);
@@ -124,7 +124,7 @@ impl<T: Tables + Drop> Room<T> {
         self.gate = Some(gate_over(alloc, tables)?);
         match rows {
             Ok(rows) => Ok(rows.len()),
-            Err(fault) => given_up(Fault::from(fault)),
+            Err(fault) => aborted(Fault::from(fault)),
         }
     }
 
@@ -163,7 +163,7 @@ impl<T: Tables + Drop> Room<T> {
 /// What an exchange returns, in words.
 fn words_of(alloc: Global, outcome: Result<Served, LinkFault>) -> Result<String> {
     let (what, handled) = match outcome {
-        Ok(Served { status: 500, .. }) => bail!(GIVEN_UP),
+        Ok(Served { status: 500, .. }) => bail!(ABORTED),
         Ok(served) => (served.status.to_string(alloc)?, served.handled),
         Err(LinkFault::Read) => (String::from_str(alloc, "Read")?, false),
         Err(LinkFault::Write { handled }) => (String::from_str(alloc, "Write")?, handled),
@@ -177,7 +177,7 @@ fn words_of(alloc: Global, outcome: Result<Served, LinkFault>) -> Result<String>
 fn ran<T: Tables + Drop>(alloc: Global, gate: &mut Gate<Cached<T>>, lines: &str) -> Result<String> {
     let mut printed = Watched::new(Vec::new(alloc));
     match run_script(gate, alloc, lines, &mut printed) {
-        Ok(Status::Failed) => bail!(GIVEN_UP),
+        Ok(Status::Failed) => bail!(ABORTED),
         Ok(_) => Ok(String::from_utf8(printed.inner)?),
         Err(fault) => bail!("no script: {fault}"),
     }
@@ -212,7 +212,7 @@ fn add_line(text: &mut String, line: &str) -> Result<()> {
 }
 
 /// Out of memory, or a fault of the tables: the end of the program.
-fn given_up<T: Drop>(fault: Fault) -> Result<T> {
+fn aborted<T: Drop>(fault: Fault) -> Result<T> {
     match fault {
         Fault::NoMemory => bail!("out of memory"),
         fault => bail!("{fault}"),

@@ -6,11 +6,11 @@ use std::alloc::Global;
 #[derive(Drop)]
 pub(crate) struct Spans {
     printed: String,
-    now: Option<Span>,
+    now: Option<ByteSpan>,
 }
 
 #[derive(Drop)]
-struct Span {
+struct ByteSpan {
     first: usize,
     last: usize,
     outcome: String,
@@ -29,7 +29,7 @@ impl Spans {
             }
         }
         self.end_span(alloc)?;
-        self.now = Some(Span {
+        self.now = Some(ByteSpan {
             first: at,
             last: at,
             outcome,

@@ -1,6 +1,6 @@
 //! Exchanges that succeed, that are cut off, and whose reader or writer fails.
 use crate::message::bytes_of;
-use crate::room::{GIVEN_UP, Outcome, Room};
+use crate::room::{ABORTED, Outcome, Room};
 use crate::spans::Spans;
 use anyhow::{Result, bail};
 use opc_io_failing::reader::FailingReader;
@@ -170,7 +170,7 @@ fn failing_writes<T: Tables + Drop>(
     let full = FailingWriter::new(alloc, 0, usize::MAX);
     let outcome = written_to(alloc, room, moment, bytes, full, after)?;
     if room.account_length(alloc)? != after {
-        bail!(GIVEN_UP);
+        bail!(ABORTED);
     }
     let printed = spans.ended(alloc)?;
     Ok(format!(in alloc;

@@ -1,11 +1,11 @@
 -- What one read does, and what several do.
 use Rattle.std.specs.Prelude.{◌≡◌, ◌≤◌, ◌<◌, ◌++◌, ℕ, zero, suc, Bool, true, false, List, [], length, take, OnOk, Option, Result, Ok, Err}
 use Rattle.std.specs.Io.KnownBytes.{Consumes, IsAtEnd}
-use Rattle.opc_io.specs.declared.source.ReadFault.{ReadFault}
-use Rattle.opc_io.specs.declared.source.ReadFault.TheVariants as fault
+use Rattle.opc_io.specs.declared.source.SourceFault.{SourceFault}
+use Rattle.opc_io.specs.declared.source.SourceFault.TheVariants as fault
 
 -- the fault is that a read failed
-abbrev pub is_read : {A : Type 0} → Result A ReadFault → Bool
+abbrev pub is_read : {A : Type 0} → Result A SourceFault → Bool
 is_read (Ok a) = false
 is_read (Err fault.Read) = true
 is_read (Err fault.NoMemory) = false
@@ -37,7 +37,7 @@ module _ {S : Type 0} (left : S → Option (List ℕ)) (gives : S → List ℕ �
     pub consumes : Consumes (left before) (left after) given
 
   -- one read, of so many bytes at most; they are in the buffer, unless there was no memory for them
-  pub record ReadsOnce (most : ℕ) (before after : S) (old new : List ℕ) (result : Result ℕ ReadFault) : Type 0 where
+  pub record ReadsOnce (most : ℕ) (before after : S) (old new : List ℕ) (result : Result ℕ SourceFault) : Type 0 where
     pub given : List ℕ
     pub is : Gives before given after
     pub few : length given ≤ most

@@ -30,7 +30,7 @@ pub trait Source {
 
 /// Why a part of a message was not read.
 #[derive(Clone, Copy, PartialEq, Eq)]
-pub enum ReadFault {
+pub enum SourceFault {
     Read,
     NoMemory,
 }
@@ -40,7 +40,7 @@ pub fn read_more<S: Source>(
     source: &mut S,
     buf: &mut Vec<u8>,
     most: usize,
-) -> Result<usize, ReadFault>
+) -> Result<usize, SourceFault>
     requires { vec_len buf.old ≤ most }
     ensures more { IfOk result (λ n. ReadsMore (S.left source.old) (S.left source.new) buf.old.items buf.new.items most n) }
     ensures once { ReadsOnce S.left S.gives (min 1024 (most - vec_len buf.old)) source.old source.new buf.old.items buf.new.items result }
@@ -50,10 +50,10 @@ pub fn read_more<S: Source>(
     let mut chunk = [0u8; BLOCK];
     let room = (most - buf.len()).min(BLOCK);
     let Ok(n) = source.read(&mut chunk[..room]) else {
-        return Err(ReadFault::Read);
+        return Err(SourceFault::Read);
     };
     if buf.extend_from_slice(&chunk[..n]).is_err() {
-        return Err(ReadFault::NoMemory);
+        return Err(SourceFault::NoMemory);
     }
     Ok(n)
 }

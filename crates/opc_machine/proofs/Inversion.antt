@@ -8,14 +8,14 @@ use Rattle.opc_reader_commands.specs.declared.command.Command.{Command}
 use Rattle.opc_reader.specs.declared.line.ReadFault.{ReadFault}
 use Rattle.opc_board.specs.declared.line.Line.{Line}
 use Rattle.opc_board.specs.declared.rows.ConsoleRow.{ConsoleRow}
-use Rattle.opc_board.specs.Facts.{console_at}
+use Rattle.opc_board.specs.Invariants.{console_at}
 use Rattle.opc_board.specs.Outcome.{Done as BoardDone, Outcome as BoardOutcome}
 use Rattle.opc_terms.specs.declared.fault.Fault.TheVariants as fault
 use Rattle.opc_state.specs.State.{State}
 use Rattle.opc_machine.specs.declared.request.Answer.TheVariants.{Done, Refused}
 use Rattle.opc_machine.specs.Outcome.{Deed, Denial, Outcome, ◌>>=◌, found, refuse_if}
 use Rattle.opc_machine.specs.Commands.{console_for, command_or, allowed, acted}
-use Rattle.opc_machine.specs.Machine.{answer_of, IsGivenUp}
+use Rattle.opc_machine.specs.Machine.{answer_of, IsAborted}
 
 pub bind_ok : {A B : Type 0} (x : Result A Denial) (f : A → Result B Denial) (d : B) → (x >>= f) ≡ Ok d → (y : A) × (x ≡ Ok y) × (f y ≡ Ok d)
 bind_ok (Ok y) f d h = (y, refl, h)
@@ -55,9 +55,9 @@ pub is_on : (b : Bool) → not b ≡ false → b ≡ true
 is_on true h = refl
 is_on false h = absurd (search (rules, h))
 
-pub not_given_up : (lines : List Line) (why : Option Rule) → IsGivenUp (Done lines why) → ⊥
-not_given_up lines why (inl h) = search (rules, h)
-not_given_up lines why (inr h) = search (rules, h)
+pub not_aborted : (lines : List Line) (why : Option Rule) → IsAborted (Done lines why) → ⊥
+not_aborted lines why (inl h) = search (rules, h)
+not_aborted lines why (inr h) = search (rules, h)
 
 -- the console that is named is there, and online
 pub console_is : (s : State) (name : List ℕ) (c : ConsoleRow) → console_for s name ≡ Ok c → (console_at s.board name ≡ Some c) × (c.online ≡ true)

@@ -8,7 +8,7 @@ use Rattle.opc_policy_members.specs.declared.row.Row.TheVariants as rows
 use Rattle.opc_policy_members.specs.Taken.{after_row}
 use Rattle.opc_board.specs.declared.board.BoardRows.{BoardRows}
 use Rattle.opc_board.specs.Consoles.{console_defined}
-use Rattle.opc_board.specs.Facts.{has_master}
+use Rattle.opc_board.specs.Invariants.{has_master}
 use Rattle.opc_state.specs.State.{State, has_users}
 
 abbrev pub then_policy : Result Policy Fault → (Policy → Result Policy Fault) → Result Policy Fault

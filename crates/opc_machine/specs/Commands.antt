@@ -24,7 +24,7 @@ use Rattle.opc_board.specs.declared.event.Event.{Event}
 use Rattle.opc_board.specs.declared.rows.ConsoleRow.{ConsoleRow}
 use Rattle.opc_board.specs.Consoles.{logged_on, logged_off}
 use Rattle.opc_board.specs.Effect.{effect, event_effect}
-use Rattle.opc_board.specs.Facts.{console_at, kind_at}
+use Rattle.opc_board.specs.Invariants.{console_at, kind_at}
 use Rattle.opc_board.specs.Outcome.{Done, Outcome as BoardOutcome}
 use Rattle.opc_state.specs.State.{State}
 use Rattle.opc_machine.specs.Faults.{line_fault, board_fault}
@@ -111,15 +111,15 @@ logon_fault rule.NoProfile = fault.DeniedConsole
 logon_fault (rule.ConsoleGroup group auth) = fault.DeniedConsole
 logon_fault rule.LogonRequired = fault.DeniedConsole
 
-abbrev pub let_on : Ruling → Result Rule Denial
-let_on (Allowed rule) = Ok rule
-let_on (Denied rule) = refused (logon_fault rule) (Some rule)
+abbrev pub admit : Ruling → Result Rule Denial
+admit (Allowed rule) = Ok rule
+admit (Denied rule) = refused (logon_fault rule) (Some rule)
 
 abbrev pub logon : State → ConsoleRow → List ℕ → List ℕ → Outcome
 logon s c id password = do
   _ ← nobody_on c.user
   user ← found fault.BadLogon (known_by s id password)
-  rule ← let_on (logon_ruling s c user)
+  rule ← admit (logon_ruling s c user)
   does (record s { board = logged_on c.name id s.board }) [] (Some rule)
 
 abbrev pub logoff : State → ConsoleRow → Outcome

@@ -6,7 +6,7 @@ use Rattle.opc_terms.specs.declared.rule.Rule.{Rule}
 use Rattle.opc_terms.specs.declared.rule.Rule.TheVariants as rule
 use Rattle.opc_terms.specs.Faults.{fault_code}
 use Rattle.opc_terms.specs.Rules.{rule_text_or_none}
-use Rattle.opc_board.specs.Facts.{console_at}
+use Rattle.opc_board.specs.Invariants.{console_at}
 use Rattle.opc_board.specs.Texts.{text_or}
 use Rattle.opc_state.specs.declared.account.AccountRow.{AccountRow}
 use Rattle.opc_state.specs.State.{State, Fits}
@@ -73,12 +73,12 @@ answer_of (Ok deed) = Done deed.lines deed.rule
 answer_of (Err denial) = Refused denial.fault denial.rule
 
 -- an answer that may take the place of any other: there was no memory, or the store failed
-abbrev pub IsGivenUp : Answer → Type 0
-IsGivenUp answer = (answer ≡ Refused fault.NoMemory None) ⊎ (answer ≡ Refused fault.Store None)
+abbrev pub IsAborted : Answer → Type 0
+IsAborted answer = (answer ≡ Refused fault.NoMemory None) ⊎ (answer ≡ Refused fault.Store None)
 
 -- The request is given up, and nothing changes.
 pub record IsLeft (s : State) (answer : Answer) (new : State) : Type 0 where
-  pub gives_up : IsGivenUp answer
+  pub aborts : IsAborted answer
   pub same : new ≡ s
 
 -- The store has no number for a row that the request adds, and nothing changes.

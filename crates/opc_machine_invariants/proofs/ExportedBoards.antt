@@ -13,7 +13,7 @@ use Rattle.opc_board.proofs.Names.{is_itself, is_mirrored}
 use Rattle.opc_board.specs.declared.board.BoardRows.{BoardRows}
 use Rattle.opc_board.specs.declared.rows.ConsoleRow.{ConsoleRow}
 use Rattle.opc_board.specs.Consoles.{defined}
-use Rattle.opc_board.specs.Facts.{console_at, console_before, earlier, is}
+use Rattle.opc_board.specs.Invariants.{console_at, console_before, earlier, is}
 use Rattle.opc_state.specs.PolicyFile.{permits_of, row_of_connect, row_of_console, row_of_entry, row_of_group, row_of_profile, row_of_user, rows_of, rows_of_classes}
 use Rattle.opc_state.specs.State.{empty}
 use Rattle.opc_machine.specs.Bootstrap.{console_after, consoles_after}

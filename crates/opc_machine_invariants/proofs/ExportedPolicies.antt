@@ -24,12 +24,12 @@ use Rattle.opc_policy_members.proofs.Classes.{same_class_is}
 use Rattle.opc_policy_members.specs.Taken.{after_row, has_group, has_holder, has_user, needing, unless}
 use Rattle.opc_rows.specs.Ordered.{Ascends}
 use Rattle.opc_board.specs.declared.rows.ConsoleRow.{ConsoleRow}
-use Rattle.opc_state.specs.Facts.{IsConnectOfStored, IsEntryOfStored, IsPolicy, IsProfileOfStored}
+use Rattle.opc_state.specs.Invariants.{IsConnectOfStored, IsEntryOfStored, IsPolicy, IsProfileOfStored}
 use Rattle.opc_state.specs.Loads.{bare}
 use Rattle.opc_state.specs.PolicyFile.{permits_of, row_of_connect, row_of_console, row_of_entry, row_of_group, row_of_profile, row_of_user, rows_of, rows_of_classes}
 use Rattle.opc_state.specs.State.{empty}
 use Rattle.opc_machine.specs.Bootstrap.{policy_after}
-use Rattle.opc_machine_invariants.specs.KeptFacts.{IsOrdered}
+use Rattle.opc_machine_invariants.specs.KeptInvariants.{IsOrdered}
 use Rattle.opc_machine_invariants.proofs.Appending.{all_before, all_of, find_past, insert_last, replace_last, replace_middle}
 use Rattle.opc_machine_invariants.proofs.Taken.{all_taken, then_rows}
 
@@ -119,7 +119,7 @@ no_group p id there (g ∷ groups) apart = go (bytes_eq id g) refl (no_group p i
     go true same more = sym there ∙ ap (has_user p) ((bytes_eq-Decides id g).0 same) ∙ apart.0
     go false same more = more
 
-module _ (p : Policy) (facts : IsPolicy p) (order : IsOrdered p) where
+module _ (p : Policy) (invariants : IsPolicy p) (order : IsOrdered p) where
   -- the policy, as far as it is made
   abbrev of_groups : List (List ℕ) → Policy
   of_groups groups = record { users = []; groups = groups; connects = []; profiles = []; active = p.active }
@@ -149,7 +149,7 @@ module _ (p : Policy) (facts : IsPolicy p) (order : IsOrdered p) where
       ap (λ b. unless b u.id (Ok (of_users (with_user u done)))) free
       ∙ ap (λ us. Ok (of_users us)) (replace_last user_cmp user_total done u all))
       p.users order.users
-      (all_of (λ (u : User). has_user p u.id ≡ true) (λ (u : User). has_group p u.id ≡ false) (λ u there. no_group p u.id there p.groups facts.apart) p.users (all_found [] p.users))
+      (all_of (λ (u : User). has_user p u.id ≡ true) (λ (u : User). has_group p u.id ≡ false) (λ u there. no_group p u.id there p.groups invariants.apart) p.users (all_found [] p.users))
 
   connects : policy_after (map row_of_connect p.connects) (of_connects []) ≡ Ok (of_connects p.connects)
   connects =
@@ -157,7 +157,7 @@ module _ (p : Policy) (facts : IsPolicy p) (order : IsOrdered p) where
       (λ done c all stored.
       ap₂ (λ a b. needing a c.user (needing b c.group (Ok (of_connects (with_connect c done))))) stored.0 stored.1
       ∙ ap (λ cs. Ok (of_connects cs)) (insert_last connect_cmp connect_total done c all))
-      p.connects order.connects facts.connects
+      p.connects order.connects invariants.connects
 
   profile_taken : (done : List Profile) (q : Profile) → AllByRecursion (λ (r : Profile). is_lt (profile_cmp r q) ≡ true) done → IsProfileOfStored p q
       → after_row (row_of_profile q) (of_profiles (map bare done)) ≡ Ok (of_profiles (map bare (done ++ q ∷ [])))
@@ -175,7 +175,7 @@ module _ (p : Policy) (facts : IsPolicy p) (order : IsOrdered p) where
   profiles : policy_after (map row_of_profile p.profiles) (of_profiles []) ≡ Ok (of_profiles (map bare p.profiles))
   profiles =
       all_taken row_of_profile (λ qs. of_profiles (map bare qs)) (λ (q r : Profile). is_lt (profile_cmp q r)) (IsProfileOfStored p)
-      profile_taken p.profiles order.profiles facts.profiles
+      profile_taken p.profiles order.profiles invariants.profiles
 
   -- the access list of a profile between those that have theirs and those that have none yet
   module _ (prefix : List Profile) (q : Profile) (back : List Profile) (after : AllByRecursion (λ (r : Profile). is_lt (profile_cmp r q) ≡ true) prefix) where
@@ -232,4 +232,4 @@ module _ (p : Policy) (facts : IsPolicy p) (order : IsOrdered p) where
       connects)
       (past_consoles consoles (of_connects p.connects)))
       profiles)
-      (lists_from [] p.profiles order.profiles order.entries facts.profiles)
+      (lists_from [] p.profiles order.profiles order.entries invariants.profiles)

@@ -34,7 +34,7 @@ use Rattle.opc_machine.specs.Administration.{definition, has_name, is_in_use, is
 use Rattle.opc_machine.specs.Bootstrap.{policy_after, then_policy}
 use Rattle.opc_machine.specs.declared.operation.Operation.{Operation}
 use Rattle.opc_machine.specs.declared.operation.Operation.TheVariants as operation
-use Rattle.opc_machine_invariants.specs.KeptFacts.{IsOrdered}
+use Rattle.opc_machine_invariants.specs.KeptInvariants.{IsOrdered}
 use Rattle.opc_machine_invariants.proofs.Policies.{IfMade, all_replaced, in_use_made, needing_made, unless_made}
 
 -- lists with one more

@@ -6,7 +6,7 @@ use Rattle.opc_board.specs.Consoles.{new_console}
 use Rattle.opc_state.specs.PolicyFile.{rows_of}
 use Rattle.opc_state.specs.State.{State, empty}
 use Rattle.opc_machine.specs.Bootstrap.{bootstrapped}
-use Rattle.opc_machine_invariants.specs.KeptFacts.{HasFacts}
+use Rattle.opc_machine_invariants.specs.KeptInvariants.{HasInvariants}
 
 -- a console as a policy defines it
 abbrev pub as_defined : ConsoleRow → ConsoleRow
@@ -18,4 +18,4 @@ written p consoles = record empty { policy = p; board = record empty.board { con
 
 -- What is exported of a state with its facts comes back.
 abbrev pub ExportsComeBack : Type 0
-ExportsComeBack = (s : State) → HasFacts s → bootstrapped (rows_of s.policy s.board.consoles) empty ≡ Ok (written s.policy s.board.consoles)
+ExportsComeBack = (s : State) → HasInvariants s → bootstrapped (rows_of s.policy s.board.consoles) empty ≡ Ok (written s.policy s.board.consoles)

@@ -1,2 +1,2 @@
-pub mod KeptFacts
+pub mod KeptInvariants
 pub mod ComeBack

@@ -1,29 +1,29 @@
 //! What holds of every state stays so, each as what a call without a body ensures.
-ghost use Rattle.opc_machine_invariants.specs.KeptFacts.{BootstrapsKeepFacts, EmptyHasFacts, FactsGiveKeys, RunsKeepFacts, StepsKeepFacts};
+ghost use Rattle.opc_machine_invariants.specs.KeptInvariants.{BootstrapsKeepInvariants, EmptyHasInvariants, InvariantsGiveKeys, RunsKeepInvariants, StepsKeepInvariants};
 
 /// The empty state has the facts of a state.
-pub fn empty_state_has_facts()
-    ensures { EmptyHasFacts }
+pub fn empty_state_has_invariants()
+    ensures { EmptyHasInvariants }
 {}
 
 /// By its facts, what a state keeps by keys is in their order.
-pub fn facts_give_keys()
-    ensures { FactsGiveKeys }
+pub fn invariants_give_keys()
+    ensures { InvariantsGiveKeys }
 {}
 
 /// A step keeps the facts of a state: those of the board, that no user and group have one name, that whoever is on at a
 /// console and whatever a connect, an owner or an access list names is stored, and that users, groups, connects, profiles
 /// and access lists are in the order of their keys, of which none comes twice.
-pub fn steps_keep_facts()
-    ensures { StepsKeepFacts }
+pub fn steps_keep_invariants()
+    ensures { StepsKeepInvariants }
 {}
 
 /// A run keeps the facts of a state.
-pub fn runs_keep_facts()
-    ensures { RunsKeepFacts }
+pub fn runs_keep_invariants()
+    ensures { RunsKeepInvariants }
 {}
 
 /// A first policy keeps the facts of a state.
-pub fn bootstraps_keep_facts()
-    ensures { BootstrapsKeepFacts }
+pub fn bootstraps_keep_invariants()
+    ensures { BootstrapsKeepInvariants }
 {}

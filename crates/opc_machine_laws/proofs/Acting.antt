@@ -6,7 +6,7 @@ use Rattle.opc_terms.specs.declared.fault.Fault.TheVariants as fault
 use Rattle.opc_reader.proofs.Exact.{reads_so}
 use Rattle.opc_board.specs.declared.rows.ConsoleRow.{ConsoleRow}
 use Rattle.opc_board.specs.Effect.{effect}
-use Rattle.opc_board.specs.Facts.{console_at}
+use Rattle.opc_board.specs.Invariants.{console_at}
 use Rattle.opc_state.specs.State.{State}
 use Rattle.opc_machine.specs.Inputs as input
 use Rattle.opc_machine.specs.Outcome.{Deed, ◌>>=◌, does, found, refuse_if}
@@ -14,7 +14,7 @@ use Rattle.opc_machine.specs.Rulings.{ruling, shown}
 use Rattle.opc_machine.specs.Commands.{console_for, command_in, command_or, allowed, acted, need_of, typed, board_command, command_outcome}
 use Rattle.opc_machine.specs.Machine.{answer_of, after, accounted, account_row, is_warned}
 use Rattle.opc_machine_laws.specs.Laws.{ActsOnlyWhereAllowed, ActsWhereverAllowed, ListsExactlyWhatMayBeShown}
-use Rattle.opc_machine.proofs.Inversion.{bind_ok, allowed_ok, acted_ok, done_is, not_given_up, console_is}
+use Rattle.opc_machine.proofs.Inversion.{bind_ok, allowed_ok, acted_ok, done_is, not_aborted, console_is}
 
 -- in each field of the state it is the same whether the request is accounted or not
 pub either : {B : Type 0} (b : Bool) (f : State → B) (x y : State) → f x ≡ f y → f (if b then x else y) ≡ f y
@@ -22,8 +22,8 @@ either true f x y h = h
 either false f x y h = refl
 
 pub only_where : ActsOnlyWhereAllowed
-only_where s moment name text command need lines why new it_reads needs (inl left) = absurd (not_given_up lines why left.gives_up)
-only_where s moment name text command need lines why new it_reads needs (inr (inl full)) = absurd (not_given_up lines why (inr full.answers))
+only_where s moment name text command need lines why new it_reads needs (inl left) = absurd (not_aborted lines why left.aborts)
+only_where s moment name text command need lines why new it_reads needs (inr (inl full)) = absurd (not_aborted lines why (inr full.answers))
 only_where s moment name text command need lines why new it_reads needs (inr (inr done)) =
     let d = done_is (command_outcome s name text) lines why done.answers in
     let a = bind_ok (console_for s name) (λ c. command_in text >>= λ k. typed s c k (need_of s.board k)) d.0 d.1 in
@@ -67,7 +67,7 @@ pub console_back : (o : Option ConsoleRow) (c : ConsoleRow) → o ≡ Some c →
 console_back o c there online = ap (λ x. found fault.NoConsole x >>= λ d. refuse_if fault.ConsoleOffline None (not d.online) >>= λ _. Ok d) there ∙ ap (λ b. refuse_if fault.ConsoleOffline None (not b) >>= λ _. Ok c) online
 
 pub wherever : ActsWhereverAllowed
-wherever s moment name text console command why act answer new allows makes (inl left) = inl left.gives_up
+wherever s moment name text console command why act answer new allows makes (inl left) = inl left.aborts
 wherever s moment name text console command why act answer new allows makes (inr (inl full)) = inl (inr full.answers)
 wherever s moment name text console command why act answer new allows makes (inr (inr done)) =
     let heard = allows.heard in

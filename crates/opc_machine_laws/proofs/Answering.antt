@@ -10,12 +10,12 @@ use Rattle.opc_reader.proofs.Exact.{reads_so}
 use Rattle.opc_board.specs.declared.rows.ConsoleRow.{ConsoleRow}
 use Rattle.opc_board.specs.Consoles.{logged_on}
 use Rattle.opc_board.specs.Effect.{effect}
-use Rattle.opc_board.specs.Facts.{console_at}
+use Rattle.opc_board.specs.Invariants.{console_at}
 use Rattle.opc_state.specs.Loads.{asked_for}
 use Rattle.opc_state.specs.State.{State}
 use Rattle.opc_machine.specs.declared.request.Answer.TheVariants.{Refused}
 use Rattle.opc_machine.specs.Administration.{changed}
-use Rattle.opc_machine.specs.Commands.{acted, allowed, command_in, command_or, command_outcome, denial_fault, known_by, let_on, logon_fault, need_of, nobody_on, typed}
+use Rattle.opc_machine.specs.Commands.{acted, allowed, command_in, command_or, command_outcome, denial_fault, known_by, admit, logon_fault, need_of, nobody_on, typed}
 use Rattle.opc_machine.specs.Faults.{board_fault}
 use Rattle.opc_machine.specs.Imports.{batch_of, batch_outcome}
 use Rattle.opc_machine.specs.Inputs.{Input}
@@ -57,9 +57,9 @@ module _ (s : State) (name text : List ℕ) (why : Rule) where
     fault = logon_fault why;
     named = subst (IsProper logon_fault) off.denied (logon_proper s off.console off.user);
     comes = heard_so s name text off.console (command.Logon off.id off.password) off.heard
-        ∙ ap (λ x. nobody_on x >>= λ _. found fault.BadLogon (known_by s off.id.value off.password.value) >>= λ user. let_on (logon_ruling s off.console user) >>= λ w. does (record s { board = logged_on off.console.name off.id.value s.board }) [] (Some w)) off.nobody
-        ∙ ap (λ x. found fault.BadLogon x >>= λ user. let_on (logon_ruling s off.console user) >>= λ w. does (record s { board = logged_on off.console.name off.id.value s.board }) [] (Some w)) (known_back s off.id.value off.password.value off.user off.known)
-        ∙ ap (λ x. let_on x >>= λ w. does (record s { board = logged_on off.console.name off.id.value s.board }) [] (Some w)) off.denied;
+        ∙ ap (λ x. nobody_on x >>= λ _. found fault.BadLogon (known_by s off.id.value off.password.value) >>= λ user. admit (logon_ruling s off.console user) >>= λ w. does (record s { board = logged_on off.console.name off.id.value s.board }) [] (Some w)) off.nobody
+        ∙ ap (λ x. found fault.BadLogon x >>= λ user. admit (logon_ruling s off.console user) >>= λ w. does (record s { board = logged_on off.console.name off.id.value s.board }) [] (Some w)) (known_back s off.id.value off.password.value off.user off.known)
+        ∙ ap (λ x. admit x >>= λ w. does (record s { board = logged_on off.console.name off.id.value s.board }) [] (Some w)) off.denied;
   }
 
 module _ (s : State) (name : List ℕ) (why : Rule) (out : IsShutOut s name why) where
@@ -98,14 +98,14 @@ comes_to s (input.Import name number all) why out = record {
 comes_to s (input.Event e) why out = absurd out
 
 pub denials_answered : DenialsAreAnswered
-denials_answered s moment r why answer new denied (inl left) = inl left.gives_up
+denials_answered s moment r why answer new denied (inl left) = inl left.aborts
 denials_answered s moment r why answer new denied (inr (inl full)) = inl (inr full.answers)
 denials_answered s moment r why answer new denied (inr (inr done)) =
     let to = comes_to s r why denied in
     inr (to.fault, to.named, done.answers ∙ ap answer_of to.comes)
 
 pub faults_answered : BoardFaultsAreAnswered
-faults_answered s moment name text f why answer new way (inl left) = inl left.gives_up
+faults_answered s moment name text f why answer new way (inl left) = inl left.aborts
 faults_answered s moment name text f why answer new way (inr (inl full)) = inl (inr full.answers)
 faults_answered s moment name text f why answer new way (inr (inr done)) =
     let may = way.allowed in
@@ -113,4 +113,4 @@ faults_answered s moment name text f why answer new way (inr (inr done)) =
     heard_so s name text way.console way.command may.heard ∙ ap (typed s way.console way.command) may.needs
     ∙ ap (λ x. allowed x >>= λ w. acted (Some w) (effect s.board way.command way.console.name) >>= λ act. does (record s { board = act.board }) (filter (shown s way.console) act.lines) (Some w)) may.allowed
     ∙ ap (λ x. acted (Some why) x >>= λ act. does (record s { board = act.board }) (filter (shown s way.console) act.lines) (Some why)) way.refuses in
-    inr (done.answers ∙ ap answer_of comes ∙ ap (λ x. Refused x (Some why)) (sym way.told))
+    inr (done.answers ∙ ap answer_of comes ∙ ap (λ x. Refused x (Some why)) (sym way.returned))

@@ -13,7 +13,7 @@ use Rattle.opc_board.specs.declared.rows.UnitKind.TheVariants.{Job, Stc, Tsu}
 use Rattle.opc_board.specs.declared.rows.UnitRow.{UnitRow}
 use Rattle.opc_board.specs.Consoles.{at_console, put_offline, with_console}
 use Rattle.opc_board.specs.Devices.{emptied, loaded, with_device}
-use Rattle.opc_board.specs.Facts.{Name, console_at, device_at, is, unit_at, unit_before}
+use Rattle.opc_board.specs.Invariants.{Name, console_at, device_at, is, unit_at, unit_before}
 use Rattle.opc_board.specs.Units.{at_unit, freed, is_holder, is_tsu, without_unit}
 use Rattle.opc_board.proofs.Agreeing.{found_named}
 use Rattle.opc_board.proofs.Names.{is_itself, is_same_name}

@@ -18,7 +18,7 @@ use Rattle.opc_board.specs.Consoles.{put_offline, replaced, varied, vary_faults,
 use Rattle.opc_board.specs.Consoles as consoles
 use Rattle.opc_board.specs.Devices.{allocate_faults, attach_faults, emptied, free_faults, loaded, mount_faults, new_device, offline_faults, online_faults, swap_faults, unload_faults, with_device}
 use Rattle.opc_board.specs.Effect.{effect, event_effect}
-use Rattle.opc_board.specs.Facts.{Name, console_at, device_at, device_before, has_master, reply_at, reply_before, unit_at, unit_before}
+use Rattle.opc_board.specs.Invariants.{Name, console_at, device_at, device_before, has_master, reply_at, reply_before, unit_at, unit_before}
 use Rattle.opc_board.specs.Outcome.{Done, Outcome, ◌>>=◌, done, done_with, faults_or, found}
 use Rattle.opc_board.specs.Replies.{answered, ask_faults, halt_faults, is_session, send_faults, without_reply}
 use Rattle.opc_board.specs.Texts.{reply_line}

@@ -12,7 +12,7 @@ use Rattle.opc_terms.specs.declared.rule.Rule.{Rule}
 use Rattle.opc_policy_members.specs.Profiles.{of_class}
 use Rattle.opc_board.specs.declared.line.Line.{Line}
 use Rattle.opc_board.specs.declared.rows.ConsoleRow.{ConsoleRow}
-use Rattle.opc_board.specs.Facts.{console_at}
+use Rattle.opc_board.specs.Invariants.{console_at}
 use Rattle.opc_state.specs.declared.change.Batch.{Batch}
 use Rattle.opc_state.specs.Members.{with_batch}
 use Rattle.opc_state.specs.State.{State}
@@ -32,7 +32,7 @@ use Rattle.opc_machine.specs.Rights.{account_shown, console_asking, is_special, 
 use Rattle.opc_machine.specs.Rulings.{acting, logon_denial}
 use Rattle.opc_machine_laws.proofs.Acting.{console_back}
 use Rattle.opc_machine.proofs.SameBatches.{same_are_equal}
-use Rattle.opc_machine.proofs.Inversion.{bind_ok, console_is, done_is, is_on, not_given_up, ok_is, refuse_if_ok}
+use Rattle.opc_machine.proofs.Inversion.{bind_ok, console_is, done_is, is_on, not_aborted, ok_is, refuse_if_ok}
 
 unless_denied_ok : (o : Option Rule) (u : Unit {0}) → unless_denied o ≡ Ok u → o ≡ None
 unless_denied_ok None u h = refl
@@ -70,8 +70,8 @@ pub makes : {X Y : Type 0} (f : X → Y) (xs : List X) (x : X) → Contains xs x
 makes f xs x h = (h.0, simp length-map h.1, get_or-map f xs h.0 x (f x) h.1 ∙ ap f h.2)
 
 pub administers_only : AdministersOnlyWhereAllowed
-administers_only s moment name o lines why new (inl left) = absurd (not_given_up lines why left.gives_up)
-administers_only s moment name o lines why new (inr (inl full)) = absurd (not_given_up lines why (inr full.answers))
+administers_only s moment name o lines why new (inl left) = absurd (not_aborted lines why left.aborts)
+administers_only s moment name o lines why new (inr (inl full)) = absurd (not_aborted lines why (inr full.answers))
 administers_only s moment name o lines why new (inr (inr done)) =
     let d = done_is (admin_outcome s name o) lines why done.answers in
     let a = bind_ok (console_asking s name) (λ c. refuse_if (right_fault o) None (not (may_change s c o)) >>= λ _. or_refused (changed s o) >>= λ next. does next [] None) d.0 d.1 in
@@ -80,11 +80,11 @@ administers_only s moment name o lines why new (inr (inr done)) =
     let deed : Deed = record { state = m.0; lines = []; rule = None } in
     let comes : admin_outcome s name o ≡ Ok deed = d.1 ∙ sym m.2 in
     let ends : new ≡ m.0 = done.becomes ∙ ap (after s moment (input.Admin name o)) comes in
-    let told = lines_of_done lines [] why None (done.answers ∙ ap answer_of comes) in
-    (a.0, asking_is s name a.0 a.1, is_on (may_change s a.0 o) (refuse_if_ok _ _ _ _ u.1), or_refused_ok (changed s o) m.0 m.1 ∙ ap Ok (sym ends), told.0, told.1)
+    let returned = lines_of_done lines [] why None (done.answers ∙ ap answer_of comes) in
+    (a.0, asking_is s name a.0 a.1, is_on (may_change s a.0 o) (refuse_if_ok _ _ _ _ u.1), or_refused_ok (changed s o) m.0 m.1 ∙ ap Ok (sym ends), returned.0, returned.1)
 
 pub administers_wherever : AdministersWhereverAllowed
-administers_wherever s moment name o c next answer new asks may makes_it (inl left) = inl left.gives_up
+administers_wherever s moment name o c next answer new asks may makes_it (inl left) = inl left.aborts
 administers_wherever s moment name o c next answer new asks may makes_it (inr (inl full)) = inl (inr full.answers)
 administers_wherever s moment name o c next answer new asks may makes_it (inr (inr done)) =
     let deed : Deed = record { state = next; lines = []; rule = None } in
@@ -112,8 +112,8 @@ listed s c class new same = record {
 }
 
 pub profiles_exactly : ListsExactlyProfilesShown
-profiles_exactly s moment name class lines why new (inl left) = absurd (not_given_up lines why left.gives_up)
-profiles_exactly s moment name class lines why new (inr (inl full)) = absurd (not_given_up lines why (inr full.answers))
+profiles_exactly s moment name class lines why new (inl left) = absurd (not_aborted lines why left.aborts)
+profiles_exactly s moment name class lines why new (inr (inl full)) = absurd (not_aborted lines why (inr full.answers))
 profiles_exactly s moment name class lines why new (inr (inr done)) =
     let d = done_is (profiles_outcome s name class) lines why done.answers in
     let a = bind_ok (console_asking s name) (λ c. does s (map profile_line (filter (profile_shown s c) (of_class class s.policy.profiles))) None) d.0 d.1 in
@@ -121,11 +121,11 @@ profiles_exactly s moment name class lines why new (inr (inr done)) =
     let deed : Deed = record { state = s; lines = shown; rule = None } in
     let comes : profiles_outcome s name class ≡ Ok deed = d.1 ∙ sym a.2 in
     let ends : new ≡ s = done.becomes ∙ ap (after s moment (input.ListProfiles name class)) comes in
-    let told = lines_of_done lines shown why None (done.answers ∙ ap answer_of comes) in
-    (a.0, asking_is s name a.0 a.1, subst (λ l. ListsProfiles s a.0 class l new) (sym told.0) (listed s a.0 class new ends))
+    let returned = lines_of_done lines shown why None (done.answers ∙ ap answer_of comes) in
+    (a.0, asking_is s name a.0 a.1, subst (λ l. ListsProfiles s a.0 class l new) (sym returned.0) (listed s a.0 class new ends))
 
 pub profiles_wherever : ListsProfilesWhereverAsked
-profiles_wherever s moment name class c answer new asks (inl left) = inl left.gives_up
+profiles_wherever s moment name class c answer new asks (inl left) = inl left.aborts
 profiles_wherever s moment name class c answer new asks (inr (inl full)) = inl (inr full.answers)
 profiles_wherever s moment name class c answer new asks (inr (inr done)) =
     let shown : List Line = map profile_line (filter (profile_shown s c) (of_class class s.policy.profiles)) in
@@ -135,8 +135,8 @@ profiles_wherever s moment name class c answer new asks (inr (inr done)) =
     inr (shown, done.answers ∙ ap answer_of comes, listed s c class new (done.becomes ∙ ap (after s moment (input.ListProfiles name class)) comes))
 
 pub account_only : ListsAccountOnlyWhereShown
-account_only s moment name from count lines why new (inl left) = absurd (not_given_up lines why left.gives_up)
-account_only s moment name from count lines why new (inr (inl full)) = absurd (not_given_up lines why (inr full.answers))
+account_only s moment name from count lines why new (inl left) = absurd (not_aborted lines why left.aborts)
+account_only s moment name from count lines why new (inr (inl full)) = absurd (not_aborted lines why (inr full.answers))
 account_only s moment name from count lines why new (inr (inr done)) =
     let d = done_is (account_outcome s name from count) lines why done.answers in
     let a = bind_ok (console_asking s name) (λ c. refuse_if NotSpecial None (not (account_shown s c)) >>= λ _. does s (map account_line (asked_for from count s.account)) None) d.0 d.1 in
@@ -145,11 +145,11 @@ account_only s moment name from count lines why new (inr (inr done)) =
     let deed : Deed = record { state = s; lines = shown; rule = None } in
     let comes : account_outcome s name from count ≡ Ok deed = d.1 ∙ sym u.2 in
     let ends : new ≡ s = done.becomes ∙ ap (after s moment (input.ListAccount name from count)) comes in
-    let told = lines_of_done lines shown why None (done.answers ∙ ap answer_of comes) in
-    (a.0, asking_is s name a.0 a.1, is_on (account_shown s a.0) (refuse_if_ok _ _ _ _ u.1), told.0, ends)
+    let returned = lines_of_done lines shown why None (done.answers ∙ ap answer_of comes) in
+    (a.0, asking_is s name a.0 a.1, is_on (account_shown s a.0) (refuse_if_ok _ _ _ _ u.1), returned.0, ends)
 
 pub account_wherever : ListsAccountWhereverShown
-account_wherever s moment name from count c answer new asks may (inl left) = inl left.gives_up
+account_wherever s moment name from count c answer new asks may (inl left) = inl left.aborts
 account_wherever s moment name from count c answer new asks may (inr (inl full)) = inl (inr full.answers)
 account_wherever s moment name from count c answer new asks may (inr (inr done)) =
     let shown : List Line = map account_line (asked_for from count s.account) in
@@ -173,17 +173,17 @@ module _ (s : State) (number : ℕ) (all : List Row) (lines : List Line) (new : 
   -- the deed, with the lines that were told and the state that was reached
   batch_is : (kept : Option Batch) → batch_of s.batches number ≡ kept → (deed : Deed) → batch_outcome s number all kept ≡ Ok deed → lines ≡ deed.lines → (deed.rule ≡ None → new ≡ deed.state)
       → IsKeptAgain s number all lines new ⊎ IsTakenWhole s number all lines new
-  batch_is (Some kept) at deed h told ends =
+  batch_is (Some kept) at deed h returned ends =
       let is = again_is s number all kept deed h in
-      inl (record { kept = kept; found = at; matches = is.0; told = told ∙ ap (λ (d : Deed). d.lines) is.1; same = ends (ap (λ (d : Deed). d.rule) is.1) ∙ ap (λ (d : Deed). d.state) is.1 })
-  batch_is None at deed h told ends =
+      inl (record { kept = kept; found = at; matches = is.0; returned = returned ∙ ap (λ (d : Deed). d.lines) is.1; same = ends (ap (λ (d : Deed). d.rule) is.1) ∙ ap (λ (d : Deed). d.state) is.1 })
+  batch_is None at deed h returned ends =
       let m = bind_ok (or_refused (with_rows all s)) (λ next. does (record next { batches = with_batch (record { number = number; rows = all }) next.batches }) (batch_line number (codes "KEPT") ∷ []) None) deed h in
       let is = ok_is _ deed m.2 in
       inr (record {
         unknown = at;
         next = m.0;
         taken = or_refused_ok (with_rows all s) m.0 m.1;
-        told = told ∙ ap (λ (d : Deed). d.lines) (sym is);
+        returned = returned ∙ ap (λ (d : Deed). d.lines) (sym is);
         becomes = ends (ap (λ (d : Deed). d.rule) (sym is)) ∙ ap (λ (d : Deed). d.state) (sym is);
       })
 
@@ -192,8 +192,8 @@ unwarned : (s : State) (moment : ℕ) (r : Input) (deed : Deed) → deed.rule �
 unwarned s moment r deed none = ap (λ (w : Option Rule). if is_warned w then accounted (account_row s moment r (codes "WARN") w) deed.state else deed.state) none
 
 pub imports_only : ImportsOnlyWhereAllowed
-imports_only s moment name number all lines why new (inl left) = absurd (not_given_up lines why left.gives_up)
-imports_only s moment name number all lines why new (inr (inl full)) = absurd (not_given_up lines why (inr full.answers))
+imports_only s moment name number all lines why new (inl left) = absurd (not_aborted lines why left.aborts)
+imports_only s moment name number all lines why new (inr (inl full)) = absurd (not_aborted lines why (inr full.answers))
 imports_only s moment name number all lines why new (inr (inr done)) =
     let d = done_is (import_outcome s name number all) lines why done.answers in
     let a = bind_ok (console_asking s name) (λ c. refuse_if NotSpecial None (not (is_special (acting s c))) >>= λ _. batch_outcome s number all (batch_of s.batches number)) d.0 d.1 in
@@ -208,7 +208,7 @@ import_right s name number all c asks may =
     ∙ ap (λ b. refuse_if NotSpecial None (not b) >>= λ _. batch_outcome s number all (batch_of s.batches number)) may
 
 pub imports_wherever : ImportsWhereverAllowed
-imports_wherever s moment name number all c next answer new asks may unknown takes (inl left) = inl left.gives_up
+imports_wherever s moment name number all c next answer new asks may unknown takes (inl left) = inl left.aborts
 imports_wherever s moment name number all c next answer new asks may unknown takes (inr (inl full)) = inl (inr full.answers)
 imports_wherever s moment name number all c next answer new asks may unknown takes (inr (inr done)) =
     let deed : Deed = record { state = record next { batches = with_batch (record { number = number; rows = all }) next.batches }; lines = batch_line number (codes "KEPT") ∷ []; rule = None } in
@@ -219,7 +219,7 @@ imports_wherever s moment name number all c next answer new asks may unknown tak
     inr (done.answers ∙ ap answer_of comes, done.becomes ∙ ap (after s moment (input.Import name number all)) comes)
 
 pub repeats_wherever : RepeatsWhereverAllowed
-repeats_wherever s moment name number all c kept answer new asks may is_kept equal (inl left) = inl left.gives_up
+repeats_wherever s moment name number all c kept answer new asks may is_kept equal (inl left) = inl left.aborts
 repeats_wherever s moment name number all c kept answer new asks may is_kept equal (inr (inl full)) = inl (inr full.answers)
 repeats_wherever s moment name number all c kept answer new asks may is_kept equal (inr (inr done)) =
     let deed : Deed = record { state = s; lines = batch_line number (codes "AGAIN") ∷ []; rule = None } in

@@ -11,7 +11,7 @@ use Rattle.opc_policy_members.specs.declared.user.User.{User}
 use Rattle.opc_policy_members.specs.Members.{user_of}
 use Rattle.opc_policy_members.specs.Taken.{has_user}
 use Rattle.opc_board.specs.declared.rows.ConsoleRow.{ConsoleRow}
-use Rattle.opc_board.specs.Facts.{console_at}
+use Rattle.opc_board.specs.Invariants.{console_at}
 use Rattle.opc_board.specs.Texts.{text_or}
 use Rattle.opc_state.specs.State.{State}
 use Rattle.opc_machine.specs.declared.operation.Operation.{Operation}
@@ -59,8 +59,8 @@ accounted_to s c user is = λ moment r name code why names at. ap (text_or (code
     (ap (λ o. option_and_then (acting_user s) (option_and_then (console_at s.board) o)) names ∙ ap (option_and_then (acting_user s)) at ∙ is)
 
 acts_for : (s : State) (c : ConsoleRow) (user : Option (List ℕ)) → acting_user s c ≡ user → ActsFor s c user
-acts_for s c None is = record { acts = ap (option_and_then (user_of s.policy.users)) is; told = accounted_to s c None is }
-acts_for s c (Some id) is = record { acts = ap (option_and_then (user_of s.policy.users)) is; told = accounted_to s c (Some id) is }
+acts_for s c None is = record { acts = ap (option_and_then (user_of s.policy.users)) is; returned = accounted_to s c None is }
+acts_for s c (Some id) is = record { acts = ap (option_and_then (user_of s.policy.users)) is; returned = accounted_to s c (Some id) is }
 
 pub nobody_owns : (s : State) (o : Operation) → owns_changed s.policy None o ≡ false
 nobody_owns s (operation.RAlter class pattern owner uacc warning) = refl

@@ -16,7 +16,7 @@ use Rattle.opc_board.specs.declared.board.BoardRows.{BoardRows}
 use Rattle.opc_board.specs.declared.event.Event.{Event}
 use Rattle.opc_board.specs.declared.rows.ConsoleRow.{ConsoleRow}
 use Rattle.opc_board.specs.Effect.{event_effect}
-use Rattle.opc_board.specs.Facts.{console_at}
+use Rattle.opc_board.specs.Invariants.{console_at}
 use Rattle.opc_board.specs.Outcome.{Outcome as BoardOutcome}
 use Rattle.opc_state.specs.declared.change.Batch.{Batch}
 use Rattle.opc_state.specs.Members.{with_batch, without_user, without_connect, without_profile, without_permission}
@@ -28,18 +28,18 @@ use Rattle.opc_machine.specs.Commands.{acted, console_for, denial_fault, event_o
 use Rattle.opc_machine.specs.Imports.{batch_line, batch_of, batch_outcome, import_outcome, same_rows}
 use Rattle.opc_machine.specs.Inputs.{Input}
 use Rattle.opc_machine.specs.Inputs as input
-use Rattle.opc_machine_laws.specs.Laws.{GivenUpChangesNothing, IsDeniedBy, IsNamedBy, IsOfAuthority, IsRefusedByBoard, IsShutOut, RefusalsNameNoOtherRule, RefusalsOfAuthorityNameTheirRule}
+use Rattle.opc_machine_laws.specs.Laws.{AbortsChangeNothing, IsDeniedBy, IsNamedBy, IsOfAuthority, IsRefusedByBoard, IsShutOut, RefusalsNameNoOtherRule, RefusalsOfAuthorityNameTheirRule}
 use Rattle.opc_machine.specs.Listings.{account_line, account_outcome, profile_line, profiles_outcome}
 use Rattle.opc_machine.specs.declared.request.Answer.TheVariants.{Refused}
-use Rattle.opc_machine.specs.Machine.{IsGivenUp, answer_of, outcome}
+use Rattle.opc_machine.specs.Machine.{IsAborted, answer_of, outcome}
 use Rattle.opc_machine.specs.declared.operation.Operation.{Operation}
 use Rattle.opc_machine.specs.declared.operation.Operation.TheVariants as operation
 use Rattle.opc_machine.specs.Outcome.{Denial, Outcome, ◌>>=◌, does, or_refused, refuse_if, refused}
 use Rattle.opc_machine.specs.Rights.{account_shown, console_asking, is_special, may_change, profile_shown, right_fault, unless_denied}
 use Rattle.opc_machine.specs.Rulings.{acting, is_required, is_revoked, logon_denial}
 use Rattle.opc_machine.proofs.Inversion.{console_is, refused_is}
-use Rattle.opc_machine_laws.proofs.Plain.{IsPlain, IsPlainIfFault, event_plain, none_of_authority, not_given_up}
-use Rattle.opc_machine_laws.proofs.Naming.{IfRefused, IsTold, IsToldBy, then_told, console_told, command_told, board_has_none, given_up_has_none}
+use Rattle.opc_machine_laws.proofs.Plain.{IsPlain, IsPlainIfFault, event_plain, none_of_authority, not_aborted}
+use Rattle.opc_machine_laws.proofs.Naming.{IfRefused, IsTold, IsToldBy, then_told, console_told, command_told, board_has_none, aborted_has_none}
 
 -- what is in the way of a change is neither of authority nor given up
 abbrev pub IfInTheWay : {A : Type 0} → Result A Fault → Type 0
@@ -161,7 +161,7 @@ module _ (s : State) (r : Input) where
 admin_told : (s : State) (name : List ℕ) (o : Operation) → IfRefused (IsTold s (input.Admin name o)) (admin_outcome s name o)
 admin_told s name o =
     then_told P (console_asking s name) (λ c. refuse_if (right_fault o) None (not (may_change s c o)) >>= λ _. or_refused (changed s o) >>= λ new. does new [] None)
-    (asking_told s r name (λ why told. told))
+    (asking_told s r name (λ why returned. returned))
     (λ c _. then_told P (refuse_if (right_fault o) None (not (may_change s c o))) (λ _. or_refused (changed s o) >>= λ new. does new [] None)
     (refuse_told s r (right_fault o) (not (may_change s c o)) (right_plain o))
     (λ _ _. then_told P (or_refused (changed s o)) (λ new. does new [] None) (or_told s r (changed s o) (with_rows_none s (board_changed o s.board) (policy_changed s.board o s.policy) (policy_none s.board o s.policy))) (λ _ _. tt)))
@@ -175,12 +175,12 @@ admin_told s name o =
 profiles_told : (s : State) (name : List ℕ) (class : Class) → IfRefused (IsTold s (input.ListProfiles name class)) (profiles_outcome s name class)
 profiles_told s name class =
     then_told (IsTold s (input.ListProfiles name class)) (console_asking s name) (λ c. does s (map profile_line (filter (profile_shown s c) (of_class class s.policy.profiles))) None)
-    (asking_told s (input.ListProfiles name class) name (λ why told. told)) (λ _ _. tt)
+    (asking_told s (input.ListProfiles name class) name (λ why returned. returned)) (λ _ _. tt)
 
 account_told : (s : State) (name : List ℕ) (from count : ℕ) → IfRefused (IsTold s (input.ListAccount name from count)) (account_outcome s name from count)
 account_told s name from count =
     then_told (IsTold s r) (console_asking s name) (λ c. refuse_if fault.NotSpecial None (not (account_shown s c)) >>= λ _. does s (map account_line (asked_for from count s.account)) None)
-    (asking_told s r name (λ why told. told))
+    (asking_told s r name (λ why returned. returned))
     (λ c _. then_told (IsTold s r) (refuse_if fault.NotSpecial None (not (account_shown s c))) (λ _. does s (map account_line (asked_for from count s.account)) None)
     (refuse_told s r fault.NotSpecial (not (account_shown s c)) tt) (λ _ _. tt))
   where
@@ -190,7 +190,7 @@ account_told s name from count =
 import_told : (s : State) (name : List ℕ) (number : ℕ) (all : List Row) → IfRefused (IsTold s (input.Import name number all)) (import_outcome s name number all)
 import_told s name number all =
     then_told (IsTold s r) (console_asking s name) (λ c. refuse_if fault.NotSpecial None (not (is_special (acting s c))) >>= λ _. batch_outcome s number all (batch_of s.batches number))
-    (asking_told s r name (λ why told. told))
+    (asking_told s r name (λ why returned. returned))
     (λ c _. then_told (IsTold s r) (refuse_if fault.NotSpecial None (not (is_special (acting s c)))) (λ _. batch_outcome s number all (batch_of s.batches number))
     (refuse_told s r fault.NotSpecial (not (is_special (acting s c))) tt) (λ _ _. batch_told (batch_of s.batches number)))
   where
@@ -223,7 +223,7 @@ told_of s r f why answers = let P : Outcome → Type 0 = IfRefused (IsTold s r) 
 
 -- what the board refuses is no refusal of authority
 by_board : (s : State) (r : Input) (f : Fault) (why : Rule) → IsRefusedByBoard s r f why → IsOfAuthority f → ⊥
-by_board s (input.Command name text) f why way authority = board_has_none way.refused (subst IsOfAuthority way.told authority)
+by_board s (input.Command name text) f why way authority = board_has_none way.refused (subst IsOfAuthority way.returned authority)
 by_board s (input.Admin name operation) f why way authority = way
 by_board s (input.ListProfiles name class) f why way authority = way
 by_board s (input.ListAccount name from count) f why way authority = way
@@ -231,30 +231,30 @@ by_board s (input.Import name batch all) f why way authority = way
 by_board s (input.Event e) f why way authority = way
 
 pub rules_named : RefusalsOfAuthorityNameTheirRule
-rules_named s moment r f why new authority (inl left) = absurd (given_up_has_none f why left.gives_up authority)
-rules_named s moment r f why new authority (inr (inl full)) = absurd (given_up_has_none f why (inr full.answers) authority)
+rules_named s moment r f why new authority (inl left) = absurd (aborted_has_none f why left.aborts authority)
+rules_named s moment r f why new authority (inr (inl full)) = absurd (aborted_has_none f why (inr full.answers) authority)
 rules_named s moment r f why new authority (inr (inr done)) = go why (told_of s r f why done.answers)
   where
     go : (o : Option Rule) → IsToldBy s r f o → (because : Rule) × (o ≡ Some because) × IsNamedBy f because × IsDeniedBy s r because
     go None plain = absurd (none_of_authority f plain authority)
-    go (Some because) (inl told) = (because, refl, told.0, told.1)
+    go (Some because) (inl returned) = (because, refl, returned.0, returned.1)
     go (Some because) (inr way) = absurd (by_board s r f because way authority)
 
 -- what is given up names no rule
-named_none : (f : Fault) (why : Rule) → IsGivenUp (Refused f (Some why)) → ⊥
+named_none : (f : Fault) (why : Rule) → IsAborted (Refused f (Some why)) → ⊥
 named_none f why (inl h) = search (rules, h)
 named_none f why (inr h) = search (rules, h)
 
 pub no_other_named : RefusalsNameNoOtherRule
-no_other_named s moment r f why new (inl left) = absurd (named_none f why left.gives_up)
+no_other_named s moment r f why new (inl left) = absurd (named_none f why left.aborts)
 no_other_named s moment r f why new (inr (inl full)) = absurd (named_none f why (inr full.answers))
 no_other_named s moment r f why new (inr (inr done)) = told_of s r f (Some why) done.answers
 
-pub given_up_left : GivenUpChangesNothing
-given_up_left s moment r f why new given (inl left) = left.same
-given_up_left s moment r f why new given (inr (inl full)) = full.same
-given_up_left s moment r f why new given (inr (inr done)) = absurd (go why (told_of s r f why done.answers) given)
+pub aborted_left : AbortsChangeNothing
+aborted_left s moment r f why new given (inl left) = left.same
+aborted_left s moment r f why new given (inr (inl full)) = full.same
+aborted_left s moment r f why new given (inr (inr done)) = absurd (go why (told_of s r f why done.answers) given)
   where
-    go : (o : Option Rule) → IsToldBy s r f o → IsGivenUp (Refused f o) → ⊥
-    go None plain gives_up = not_given_up f plain gives_up
-    go (Some because) told gives_up = named_none f because gives_up
+    go : (o : Option Rule) → IsToldBy s r f o → IsAborted (Refused f o) → ⊥
+    go None plain aborts = not_aborted f plain aborts
+    go (Some because) returned aborts = named_none f because aborts

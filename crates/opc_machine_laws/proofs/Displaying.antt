@@ -14,7 +14,7 @@ use Rattle.opc_board.specs.declared.line.Item.TheVariants as item
 use Rattle.opc_board.specs.declared.line.Line.{Line}
 use Rattle.opc_board.specs.declared.rows.ConsoleRow.{ConsoleRow}
 use Rattle.opc_board.specs.declared.rows.UnitRow.{UnitRow}
-use Rattle.opc_board.specs.Facts.{unit_at}
+use Rattle.opc_board.specs.Invariants.{unit_at}
 use Rattle.opc_board.specs.Texts.{console_line, lines_of, unit_line}
 use Rattle.opc_state.specs.State.{State}
 use Rattle.opc_machine.specs.Rulings.{is_allowed, need_to_show, passes, ruling, shown}
@@ -113,18 +113,18 @@ the_unit s c name why lines rule new acts line =
 
 pub each_unit_once : ListsEachUnitOnce
 each_unit_once s c why lines rule new acts =
-    let told : lines ≡ filter (shown s c) acts.act.lines = search (rules, acts.answered) in
+    let returned : lines ≡ filter (shown s c) acts.act.lines = search (rules, acts.answered) in
     let made : acts.act.lines ≡ map unit_line s.board.units = search (rules, acts.makes) in
-    told ∙ ap (filter (shown s c)) made
+    returned ∙ ap (filter (shown s c)) made
 
 pub each_console_once : ListsEachConsoleOnce
 each_console_once s c why lines rule new acts =
-    let told : lines ≡ filter (shown s c) acts.act.lines = search (rules, acts.answered) in
+    let returned : lines ≡ filter (shown s c) acts.act.lines = search (rules, acts.answered) in
     let made : acts.act.lines ≡ map console_line s.board.consoles = search (rules, acts.makes) in
-    told ∙ ap (filter (shown s c)) made
+    returned ∙ ap (filter (shown s c)) made
 
 pub the_unit_once : ListsTheUnitOnce
 the_unit_once s c name why lines rule new acts =
-    let told : lines ≡ filter (shown s c) acts.act.lines = search (rules, acts.answered) in
+    let returned : lines ≡ filter (shown s c) acts.act.lines = search (rules, acts.answered) in
     let made : acts.act.lines ≡ lines_of (unit_at s.board name.value) = search (rules, acts.makes) in
-    told ∙ ap (filter (shown s c)) made
+    returned ∙ ap (filter (shown s c)) made

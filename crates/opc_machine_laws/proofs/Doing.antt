@@ -20,7 +20,7 @@ use Rattle.opc_board.specs.declared.rows.UnitRow.{UnitRow}
 use Rattle.opc_board.specs.Consoles.{at_console, put_offline, replaced, varied, vary_faults, with_console}
 use Rattle.opc_board.specs.Devices.{allocate_faults, attach_faults, emptied, free_faults, loaded, mount_faults, new_device, offline_faults, online_faults, swap_faults, unload_faults, with_device}
 use Rattle.opc_board.specs.Effect.{effect, event_effect}
-use Rattle.opc_board.specs.Facts.{Name, console_at, device_at, device_before, has_master, is, is_master, reply_at, reply_before, unit_at, unit_before}
+use Rattle.opc_board.specs.Invariants.{Name, console_at, device_at, device_before, has_master, is, is_master, reply_at, reply_before, unit_at, unit_before}
 use Rattle.opc_board.specs.Outcome.{◌>>=◌, done, done_with, faults_or, found}
 use Rattle.opc_board.specs.Replies.{answered, ask_faults, halt_faults, has_session, is_on, is_session, send_faults, without_reply}
 use Rattle.opc_board.specs.Texts.{reply_line}
@@ -29,7 +29,7 @@ use Rattle.opc_board.proofs.Agreeing.{same_number}
 use Rattle.opc_board.proofs.Names.{is_same_name}
 use Rattle.opc_machine.specs.Commands.{need_of}
 use Rattle.opc_machine.proofs.Inversion.{is_on as on_unless_off}
-use Rattle.opc_machine_laws.specs.EffectLaws.{Comes, HasDone, HasHappened, Leaves, MayBeTold}
+use Rattle.opc_machine_laws.specs.EffectLaws.{Comes, HasDone, HasHappened, Leaves, MayBeNotified}
 use Rattle.opc_machine_laws.proofs.Boards.{IfActs, faults_act, found_acts}
 use Rattle.opc_machine_laws.proofs.AtNames.{apart_numbers, at_becomes, comes, console_becomes, device_becomes, goes_offline, named, no_more, none_is, not_tsu, number_itself, offline_name, swapped, tsu_is, unit_becomes, unit_comes, unit_leaves}
 use Rattle.opc_machine_laws.proofs.Finding.{any_same, any_unseen, find_left_out, find_put, find_put_others}
@@ -69,14 +69,14 @@ held_by : (user : Name) (o : Option Name) → is_holder user o ≡ true → o �
 held_by user None h = absurd (cc)
 held_by user (Some holder) h = ap Some (is_same_name holder user h)
 
-told : (user : Name) (b : BoardRows) → (is_on user b || has_session user b) ≡ true → MayBeTold user b
-told user b h = go (is_on user b) refl h
+returned : (user : Name) (b : BoardRows) → (is_on user b || has_session user b) ≡ true → MayBeNotified user b
+returned user b h = go (is_on user b) refl h
   where
-    session : (o : Option UnitRow) → unit_at b user ≡ o → is_session o ≡ true → MayBeTold user b
+    session : (o : Option UnitRow) → unit_at b user ≡ o → is_session o ≡ true → MayBeNotified user b
     session None at k = absurd (cc)
     session (Some unit) at k = inr (unit, at, tsu_is unit.kind k)
 
-    go : (on : Bool) → is_on user b ≡ on → (on || has_session user b) ≡ true → MayBeTold user b
+    go : (on : Bool) → is_on user b ≡ on → (on || has_session user b) ≡ true → MayBeNotified user b
     go true is k = let one = any_there (λ c. is_holder user c.user) b.consoles is in inl (one.0, one.1, held_by user one.0.user one.2)
     go false is k = session (unit_at b user) refl k
 
@@ -162,7 +162,7 @@ module _ (console : Name) (b : BoardRows) (row : ConsoleRow) (here : console_at 
       (λ c there. (console_becomes name.value (record c { user = None }) _ b c there refl refl, replaced_masters name.value b c (record c { user = None }) there refl refl))
   acts (command.Send text user) need needs =
       faults_act (Does (command.Send text user)) (send_faults user.value b) (done (record b { messages = b.messages ++ record { user = user.value; text = text_value text.typed.text } ∷ [] }))
-      (λ absent. ((told user.value b (on_unless_off (is_on user.value b || has_session user.value b) absent.0), refl), λ was. was))
+      (λ absent. ((returned user.value b (on_unless_off (is_on user.value b || has_session user.value b) absent.0), refl), λ was. was))
   acts (command.Log text) need needs = (refl, λ was. was)
   acts command.Monitor need needs = (at_becomes console (λ (c : ConsoleRow). record c { monitor = true }) _ b row here refl refl, unseen_masters console (λ (c : ConsoleRow). record c { monitor = true }) b (λ c. refl))
   acts command.StopMonitor need needs = (at_becomes console (λ (c : ConsoleRow). record c { monitor = false }) _ b row here refl refl, unseen_masters console (λ (c : ConsoleRow). record c { monitor = false }) b (λ c. refl))

@@ -9,8 +9,8 @@ use Rattle.opc_board.specs.declared.board.BoardRows.{BoardRows}
 use Rattle.opc_machine.specs.declared.request.Answer.{Answer}
 use Rattle.opc_machine.specs.Commands.{command_in, command_outcome, console_for, need_of, typed}
 use Rattle.opc_machine.specs.Outcome.{◌>>=◌}
-use Rattle.opc_machine.proofs.Inversion.{bind_ok, command_is, console_is, done_is, not_given_up}
-use Rattle.opc_machine_laws.specs.Laws.{GivenUpWithoutMemoryOrStore, IsSession, NothingAskedChangesNothing, OnlyWhatIsHeardIsDone, RequestsAreJudgedInTurn}
+use Rattle.opc_machine.proofs.Inversion.{bind_ok, command_is, console_is, done_is, not_aborted}
+use Rattle.opc_machine_laws.specs.Laws.{AbortsWithoutMemoryOrStore, IsSession, NothingAskedChangesNothing, OnlyWhatIsHeardIsDone, RequestsAreJudgedInTurn}
 use Rattle.opc_machine_laws.specs.NeedLaws.{NeedsAreOfTheTable}
 
 -- each command but LOGON and LOGOFF needs something
@@ -46,8 +46,8 @@ needs_something b (command.Logon user password) = inl (inl (user, password, refl
 needs_something b command.Logoff = inl (inr refl)
 
 pub only_heard : OnlyWhatIsHeardIsDone
-only_heard s moment name text lines why new (inl left) = absurd (not_given_up lines why left.gives_up)
-only_heard s moment name text lines why new (inr (inl full)) = absurd (not_given_up lines why (inr full.answers))
+only_heard s moment name text lines why new (inl left) = absurd (not_aborted lines why left.aborts)
+only_heard s moment name text lines why new (inr (inl full)) = absurd (not_aborted lines why (inr full.answers))
 only_heard s moment name text lines why new (inr (inr done)) =
     let d = done_is (command_outcome s name text) lines why done.answers in
     let a = bind_ok (console_for s name) (λ c. command_in text >>= λ k. typed s c k (need_of s.board k)) d.0 d.1 in
@@ -108,5 +108,5 @@ pub nothing_asked : NothingAskedChangesNothing
 nothing_asked s [] new runs = (refl, runs)
 nothing_asked s (answer ∷ answers) new runs = absurd runs
 
-pub gives_up_for : GivenUpWithoutMemoryOrStore
-gives_up_for answer gives_up = gives_up
+pub gives_up_for : AbortsWithoutMemoryOrStore
+gives_up_for answer aborts = aborts

@@ -5,7 +5,7 @@ use Rattle.opc_terms.specs.declared.fault.Fault.TheVariants.{Exists, InUse, Miss
 use Rattle.opc_policy_members.specs.declared.policy.Policy.{Policy}
 use Rattle.opc_policy_members.specs.Profiles.{profile_of}
 use Rattle.opc_policy_members.specs.Taken.{has_group, has_holder, has_user, needing, unless}
-use Rattle.opc_board.specs.Facts.{has_master}
+use Rattle.opc_board.specs.Invariants.{has_master}
 use Rattle.opc_state.specs.Loads.{is_connected}
 use Rattle.opc_state.specs.State.{State}
 use Rattle.opc_machine.specs.declared.operation.Operation.{Operation}

@@ -28,7 +28,7 @@ use Rattle.opc_machine.specs.declared.operation.Operation.{Operation}
 use Rattle.opc_machine.specs.declared.request.Request.TheVariants as request
 use Rattle.opc_machine.specs.Administration.{admin_outcome, board_changed, changed, policy_changed}
 use Rattle.opc_machine.specs.Bootstrap.{consoles_after, loses_master, mastered, policy_after, with_rows, with_rows_of}
-use Rattle.opc_machine.specs.Commands.{acted, allowed, board_command, command_in, command_outcome, console_for, event_outcome, known_by, let_on, logoff, logon, need_of, nobody_on, typed, without_need}
+use Rattle.opc_machine.specs.Commands.{acted, allowed, board_command, command_in, command_outcome, console_for, event_outcome, known_by, admit, logoff, logon, need_of, nobody_on, typed, without_need}
 use Rattle.opc_machine.specs.Faults.{board_fault}
 use Rattle.opc_machine.specs.Imports.{batch_line, batch_of, batch_outcome, import_outcome, same_rows}
 use Rattle.opc_machine.specs.Inputs.{Input}
@@ -38,8 +38,8 @@ use Rattle.opc_machine.specs.Machine.{account_row, accounted, after, answer_of, 
 use Rattle.opc_machine.specs.Outcome.{Denial, Outcome, ◌>>=◌, does, found, or_refused, refuse_if, refused}
 use Rattle.opc_machine.specs.Rights.{account_shown, console_asking, is_special, may_change, profile_shown, right_fault}
 use Rattle.opc_machine.specs.Rulings.{acting, logon_ruling, ruling, shown}
-use Rattle.opc_machine.proofs.Inversion.{bind_ok, acted_ok, done_is, not_given_up}
-use Rattle.opc_machine_laws.specs.LeavingLaws.{AccountRowsTell, AreBatchesLeft, EventFaultsAreAnswered, EventsHappenWhereverPossible, EventsOnlyDoTheirEffect, IsBatchKept, IsWarned, LeavesRest, RequestsAreAsked, RequestsNameTheirConsole, WhatIsDoneLeavesRest}
+use Rattle.opc_machine.proofs.Inversion.{bind_ok, acted_ok, done_is, not_aborted}
+use Rattle.opc_machine_laws.specs.LeavingLaws.{AccountRowsSay, AreBatchesLeft, EventFaultsAreAnswered, EventsHappenWhereverPossible, EventsOnlyDoTheirEffect, IsBatchKept, IsWarned, LeavesRest, RequestsAreAsked, RequestsNameTheirConsole, WhatIsDoneLeavesRest}
 
 -- where something is done, its state is of this kind
 abbrev pub IfDoes : (State → Type 0) → Outcome → Type 0
@@ -67,9 +67,9 @@ board_left s c k need =
 
 logon_left : (s : State) (c : ConsoleRow) (id password : List ℕ) → IfDoes (IsRestLeft s) (logon s c id password)
 logon_left s c id password =
-    then_left (IsRestLeft s) (nobody_on c.user) (λ _. found fault.BadLogon (known_by s id password) >>= λ user. let_on (logon_ruling s c user) >>= λ why. does (record s { board = logged_on c.name id s.board }) [] (Some why))
-    (λ _ _. then_left (IsRestLeft s) (found fault.BadLogon (known_by s id password)) (λ user. let_on (logon_ruling s c user) >>= λ why. does (record s { board = logged_on c.name id s.board }) [] (Some why))
-    (λ user _. then_left (IsRestLeft s) (let_on (logon_ruling s c user)) (λ why. does (record s { board = logged_on c.name id s.board }) [] (Some why)) (λ why _. (refl, refl))))
+    then_left (IsRestLeft s) (nobody_on c.user) (λ _. found fault.BadLogon (known_by s id password) >>= λ user. admit (logon_ruling s c user) >>= λ why. does (record s { board = logged_on c.name id s.board }) [] (Some why))
+    (λ _ _. then_left (IsRestLeft s) (found fault.BadLogon (known_by s id password)) (λ user. admit (logon_ruling s c user) >>= λ why. does (record s { board = logged_on c.name id s.board }) [] (Some why))
+    (λ user _. then_left (IsRestLeft s) (admit (logon_ruling s c user)) (λ why. does (record s { board = logged_on c.name id s.board }) [] (Some why)) (λ why _. (refl, refl))))
 
 logoff_left : (s : State) (c : ConsoleRow) → IfDoes (IsRestLeft s) (logoff s c)
 logoff_left s c = then_left (IsRestLeft s) (refuse_if fault.NotOn None (is_none c.user)) (λ _. does (record s { board = logged_off c.name s.board }) [] None) (λ _ _. (refl, refl))
@@ -192,8 +192,8 @@ module _ (s : State) (moment : ℕ) (r : Input) (t : State) (why : Option Rule) 
   row_added false silent = record { account = inr (not_warned why silent, left.0); batches = left.1 }
 
 pub leaves_rest : WhatIsDoneLeavesRest
-leaves_rest s moment r lines why new (inl left) = absurd (not_given_up lines why left.gives_up)
-leaves_rest s moment r lines why new (inr (inl full)) = absurd (not_given_up lines why (inr full.answers))
+leaves_rest s moment r lines why new (inl left) = absurd (not_aborted lines why left.aborts)
+leaves_rest s moment r lines why new (inr (inl full)) = absurd (not_aborted lines why (inr full.answers))
 leaves_rest s moment r lines why new (inr (inr done)) =
     let d = done_is (outcome s r) lines why done.answers in
     let left : IsLeftBy s r d.0.state = subst (IfDoes (IsLeftBy s r)) d.1 (outcome_left s r) in
@@ -216,14 +216,14 @@ console_named (input.ListAccount name from count) = refl
 console_named (input.Import name number rows) = refl
 console_named (input.Event e) = refl
 
-pub rows_tell : AccountRowsTell
+pub rows_tell : AccountRowsSay
 rows_tell s moment r code why = record { moment = refl; console = refl; code = refl; rule = refl }
 
 -- events
 
 pub events_only : EventsOnlyDoTheirEffect
-events_only s moment e lines why new (inl left) = absurd (not_given_up lines why left.gives_up)
-events_only s moment e lines why new (inr (inl full)) = absurd (not_given_up lines why (inr full.answers))
+events_only s moment e lines why new (inl left) = absurd (not_aborted lines why left.aborts)
+events_only s moment e lines why new (inr (inl full)) = absurd (not_aborted lines why (inr full.answers))
 events_only s moment e lines why new (inr (inr done)) =
     let d = done_is (event_outcome s e) lines why done.answers in
     let m = bind_ok (acted None (event_effect s.board e)) (λ act. does (record s { board = act.board }) [] None) d.0 d.1 in
@@ -231,14 +231,14 @@ events_only s moment e lines why new (inr (inr done)) =
     (m.0, record { makes = acted_ok None (event_effect s.board e) m.0 m.1; answered = done.answers ∙ ap answer_of comes; becomes = done.becomes ∙ ap (after s moment (input.Event e)) comes })
 
 pub events_wherever : EventsHappenWhereverPossible
-events_wherever s moment e act answer new makes (inl left) = inl left.gives_up
+events_wherever s moment e act answer new makes (inl left) = inl left.aborts
 events_wherever s moment e act answer new makes (inr (inl full)) = inl (inr full.answers)
 events_wherever s moment e act answer new makes (inr (inr done)) =
     let comes : event_outcome s e ≡ does (record s { board = act.board }) [] None = ap (λ x. acted None x >>= λ a. does (record s { board = a.board }) [] None) makes in
     inr (record { makes = makes; answered = done.answers ∙ ap answer_of comes; becomes = done.becomes ∙ ap (after s moment (input.Event e)) comes })
 
 pub event_faults : EventFaultsAreAnswered
-event_faults s moment e f answer new refuses (inl left) = inl left.gives_up
+event_faults s moment e f answer new refuses (inl left) = inl left.aborts
 event_faults s moment e f answer new refuses (inr (inl full)) = inl (inr full.answers)
 event_faults s moment e f answer new refuses (inr (inr done)) =
     let comes : event_outcome s e ≡ refused (board_fault f) None = ap (λ x. acted None x >>= λ a. does (record s { board = a.board }) [] None) refuses in

@@ -10,7 +10,7 @@ use Rattle.opc_board.specs.declared.rows.ReplyRow.{ReplyRow}
 use Rattle.opc_board.specs.Consoles.{put_offline, vary_faults}
 use Rattle.opc_board.specs.Devices.{mount_faults, offline_faults, online_faults, swap_faults, unload_faults}
 use Rattle.opc_board.specs.Effect.{effect}
-use Rattle.opc_board.specs.Facts.{Name, console_at, device_at, reply_at, unit_at}
+use Rattle.opc_board.specs.Invariants.{Name, console_at, device_at, reply_at, unit_at}
 use Rattle.opc_board.specs.Outcome.{Done as BoardDone, Outcome, ◌>>=◌, done, done_with, faults_or, found}
 use Rattle.opc_board.specs.Replies.{halt_faults, send_faults}
 use Rattle.opc_board.specs.Units.{cancel_faults, cancel_user_faults, come_faults, force_faults, kind_faults}
@@ -39,43 +39,43 @@ of_found fault (Some x) next h = h x
 abbrev AreLines : BoardRows → Command → Outcome → Type 0
 AreLines b k o = (act : BoardDone) → o ≡ Ok act → act.lines ≡ lines_on b k
 
-told : (o : Outcome) (lines : List Line) → lines_in o ≡ lines → (act : BoardDone) → o ≡ Ok act → act.lines ≡ lines
-told o lines h act is = ap lines_in (sym is) ∙ h
+returned : (o : Outcome) (lines : List Line) → lines_in o ≡ lines → (act : BoardDone) → o ≡ Ok act → act.lines ≡ lines
+returned o lines h act is = ap lines_in (sym is) ∙ h
 
 replied : (b : BoardRows) (o : Option ReplyRow) (new : BoardRows) (lines : List Line) (act : BoardDone) → (found NoReply o >>= λ (r : ReplyRow). done_with new lines) ≡ Ok act → act.lines ≡ lines
 replied b None new lines act is = absurd (search (rules, is))
 replied b (Some r) new lines act is = ap lines_in (sym is)
 
 lines_told : (b : BoardRows) (at : Name) (k : Command) → AreLines b k (effect b k at)
-lines_told b at command.DisplayUnits = told _ _ refl
-lines_told b at (command.DisplayUnit name) = told _ _ refl
-lines_told b at command.DisplayDevices = told _ _ refl
-lines_told b at command.DisplayConsoles = told _ _ refl
-lines_told b at command.DisplayReplies = told _ _ refl
-lines_told b at (command.Cancel name) = told _ _ (of_found NoUnit (unit_at b name.value) _ (λ u. no_lines (cancel_faults u) _))
-lines_told b at (command.CancelUser user) = told _ _ (of_found NoUnit (unit_at b user.value) _ (λ u. no_lines (cancel_user_faults u) _))
-lines_told b at (command.Force name) = told _ _ (of_found NoUnit (unit_at b name.value) _ (λ u. no_lines (force_faults u) _))
-lines_told b at (command.Start member) = told _ _ (no_lines (come_faults member.value b) _)
-lines_told b at (command.StartAs member id) = told _ _ (no_lines (come_faults id.value b) _)
-lines_told b at (command.Stop name) = told _ _ (of_found NoUnit (unit_at b name.value) _ (λ u. no_lines (kind_faults u) _))
-lines_told b at (command.Modify name text) = told _ _ (of_found NoUnit (unit_at b name.value) _ (λ u. no_lines (kind_faults u) _))
+lines_told b at command.DisplayUnits = returned _ _ refl
+lines_told b at (command.DisplayUnit name) = returned _ _ refl
+lines_told b at command.DisplayDevices = returned _ _ refl
+lines_told b at command.DisplayConsoles = returned _ _ refl
+lines_told b at command.DisplayReplies = returned _ _ refl
+lines_told b at (command.Cancel name) = returned _ _ (of_found NoUnit (unit_at b name.value) _ (λ u. no_lines (cancel_faults u) _))
+lines_told b at (command.CancelUser user) = returned _ _ (of_found NoUnit (unit_at b user.value) _ (λ u. no_lines (cancel_user_faults u) _))
+lines_told b at (command.Force name) = returned _ _ (of_found NoUnit (unit_at b name.value) _ (λ u. no_lines (force_faults u) _))
+lines_told b at (command.Start member) = returned _ _ (no_lines (come_faults member.value b) _)
+lines_told b at (command.StartAs member id) = returned _ _ (no_lines (come_faults id.value b) _)
+lines_told b at (command.Stop name) = returned _ _ (of_found NoUnit (unit_at b name.value) _ (λ u. no_lines (kind_faults u) _))
+lines_told b at (command.Modify name text) = returned _ _ (of_found NoUnit (unit_at b name.value) _ (λ u. no_lines (kind_faults u) _))
 lines_told b at (command.Reply id text) = replied b (reply_at b id.value) _ _
-lines_told b at (command.VaryDeviceOnline device) = told _ _ (of_found NoDevice (device_at b device.value) _ (λ d. no_lines (online_faults d) _))
-lines_told b at (command.VaryDeviceOffline device) = told _ _ (of_found NoDevice (device_at b device.value) _ (λ d. no_lines (offline_faults d) _))
-lines_told b at (command.VaryConsoleOnline name) = told _ _ (of_found NoTarget (console_at b name.value) _ (λ c. no_lines (vary_faults (record c { online = true }) b) _))
-lines_told b at (command.VaryConsoleOffline name) = told _ _ (of_found NoTarget (console_at b name.value) _ (λ c. no_lines (vary_faults (put_offline c) b) _))
-lines_told b at (command.VaryConsoleAuth name auth) = told _ _ (of_found NoTarget (console_at b name.value) _ (λ c. no_lines (vary_faults (record c { auth = auth.value }) b) _))
-lines_told b at (command.Mount device volume) = told _ _ (of_found NoDevice (device_at b device.value) _ (λ d. no_lines (mount_faults d) _))
-lines_told b at (command.Unload device) = told _ _ (of_found NoDevice (device_at b device.value) _ (λ d. no_lines (unload_faults d) _))
-lines_told b at (command.Swap from to) = told _ _ (of_found NoDevice (device_at b from.value) _ (λ c. of_found NoDevice (device_at b to.value) _ (λ d. no_lines (swap_faults c d) _)))
-lines_told b at (command.ResetConsole name) = told _ _ (of_found NoTarget (console_at b name.value) _ (λ c. refl))
-lines_told b at (command.Send text user) = told _ _ (no_lines (send_faults user.value b) _)
-lines_told b at (command.Log text) = told _ _ refl
-lines_told b at command.Monitor = told _ _ refl
-lines_told b at command.StopMonitor = told _ _ refl
-lines_told b at command.Halt = told _ _ (no_lines (halt_faults b) _)
-lines_told b at (command.Logon id password) = told _ _ refl
-lines_told b at command.Logoff = told _ _ refl
+lines_told b at (command.VaryDeviceOnline device) = returned _ _ (of_found NoDevice (device_at b device.value) _ (λ d. no_lines (online_faults d) _))
+lines_told b at (command.VaryDeviceOffline device) = returned _ _ (of_found NoDevice (device_at b device.value) _ (λ d. no_lines (offline_faults d) _))
+lines_told b at (command.VaryConsoleOnline name) = returned _ _ (of_found NoTarget (console_at b name.value) _ (λ c. no_lines (vary_faults (record c { online = true }) b) _))
+lines_told b at (command.VaryConsoleOffline name) = returned _ _ (of_found NoTarget (console_at b name.value) _ (λ c. no_lines (vary_faults (put_offline c) b) _))
+lines_told b at (command.VaryConsoleAuth name auth) = returned _ _ (of_found NoTarget (console_at b name.value) _ (λ c. no_lines (vary_faults (record c { auth = auth.value }) b) _))
+lines_told b at (command.Mount device volume) = returned _ _ (of_found NoDevice (device_at b device.value) _ (λ d. no_lines (mount_faults d) _))
+lines_told b at (command.Unload device) = returned _ _ (of_found NoDevice (device_at b device.value) _ (λ d. no_lines (unload_faults d) _))
+lines_told b at (command.Swap from to) = returned _ _ (of_found NoDevice (device_at b from.value) _ (λ c. of_found NoDevice (device_at b to.value) _ (λ d. no_lines (swap_faults c d) _)))
+lines_told b at (command.ResetConsole name) = returned _ _ (of_found NoTarget (console_at b name.value) _ (λ c. refl))
+lines_told b at (command.Send text user) = returned _ _ (no_lines (send_faults user.value b) _)
+lines_told b at (command.Log text) = returned _ _ refl
+lines_told b at command.Monitor = returned _ _ refl
+lines_told b at command.StopMonitor = returned _ _ refl
+lines_told b at command.Halt = returned _ _ (no_lines (halt_faults b) _)
+lines_told b at (command.Logon id password) = returned _ _ refl
+lines_told b at command.Logoff = returned _ _ refl
 
 pub tell_their_lines : CommandsTellTheirLines
 tell_their_lines s c k why lines rule new acts =

@@ -15,7 +15,7 @@ use Rattle.opc_board.specs.declared.line.Line.{Line}
 use Rattle.opc_board.specs.declared.rows.ConsoleRow.{ConsoleRow}
 use Rattle.opc_board.specs.Consoles.{at_console}
 use Rattle.opc_board.specs.Effect.{effect, event_effect}
-use Rattle.opc_board.specs.Facts.{console_at, has_master}
+use Rattle.opc_board.specs.Invariants.{console_at, has_master}
 use Rattle.opc_board.specs.Outcome.{Done as BoardDone, Outcome}
 use Rattle.opc_state.specs.State.{State}
 use Rattle.opc_machine.specs.declared.request.Answer.TheVariants.{Done, Refused}

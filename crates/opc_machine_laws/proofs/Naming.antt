@@ -32,15 +32,15 @@ use Rattle.opc_board.specs.declared.fault.BoardFault.TheVariants as board
 use Rattle.opc_board.specs.declared.rows.ConsoleRow.{ConsoleRow}
 use Rattle.opc_board.specs.Consoles.{logged_on, logged_off}
 use Rattle.opc_board.specs.Effect.{effect}
-use Rattle.opc_board.specs.Facts.{console_at}
+use Rattle.opc_board.specs.Invariants.{console_at}
 use Rattle.opc_board.specs.Outcome.{Outcome as BoardOutcome}
 use Rattle.opc_state.specs.State.{State, deciding_in}
 use Rattle.opc_machine.specs.declared.request.Answer.TheVariants.{Refused}
 use Rattle.opc_machine.specs.Faults.{line_fault, board_fault}
 use Rattle.opc_machine.specs.Outcome.{Denial, ◌>>=◌, does, found, refuse_if}
 use Rattle.opc_machine.specs.Rulings.{acting, groups_acting, is_required, is_revoked, access_ruling, denied_or, ruling, console_access, logon_ruling, shown}
-use Rattle.opc_machine.specs.Commands.{console_for, command_or, command_in, need_of, denial_fault, allowed, acted, board_command, nobody_on, known_by, logon_fault, let_on, logon, logoff, without_need, typed, command_outcome}
-use Rattle.opc_machine.specs.Machine.{IsGivenUp}
+use Rattle.opc_machine.specs.Commands.{console_for, command_or, command_in, need_of, denial_fault, allowed, acted, board_command, nobody_on, known_by, logon_fault, admit, logon, logoff, without_need, typed, command_outcome}
+use Rattle.opc_machine.specs.Machine.{IsAborted}
 use Rattle.opc_machine.specs.Inputs.{Input}
 use Rattle.opc_machine.specs.Inputs as input
 use Rattle.opc_machine_laws.specs.Laws.{IsAllowed, IsHeard, IsOfAuthority, IsNamedBy, IsDeniedBy, IsRefusedByBoard}
@@ -164,7 +164,7 @@ module _ (s : State) (name text : List ℕ) where
 
   acted_told : (c : ConsoleRow) (command : Command) (why : Rule) → IsAllowed s name text c command why → (r : BoardOutcome) → effect s.board command c.name ≡ r → IfRefused (IsTold s (input.Command name text)) (acted (Some why) r)
   acted_told c command why allows (Ok d) is = tt
-  acted_told c command why allows (Err f) is = inr (record { console = c; command = command; allowed = allows; refused = f; refuses = is; told = refl })
+  acted_told c command why allows (Err f) is = inr (record { console = c; command = command; allowed = allows; refused = f; refuses = is; returned = refl })
 
   ruling_told : (c : ConsoleRow) (command : Command) → IsHeard s name text c command → (need : Need) → need_of s.board command ≡ Some need
       → (r : Ruling) → ruling s c need ≡ r → IsProper denial_fault r → IfRefused (IsTold s (input.Command name text)) (allowed r)
@@ -180,18 +180,18 @@ module _ (s : State) (name text : List ℕ) where
       (acted_told c command why (record { heard = heard; need = need; needs = needs; allowed = allowed_ok (ruling s c need) why is }) (effect s.board command c.name) refl) (λ act _. tt))
 
   kept_off : (c : ConsoleRow) (id password : Operand (List ℕ)) → IsHeard s name text c (command.Logon id password) → c.user ≡ None → (user : User) → known_by s id.value password.value ≡ Some user
-      → (r : Ruling) → logon_ruling s c user ≡ r → IsProper logon_fault r → IfRefused (IsTold s (input.Command name text)) (let_on r)
+      → (r : Ruling) → logon_ruling s c user ≡ r → IsProper logon_fault r → IfRefused (IsTold s (input.Command name text)) (admit r)
   kept_off c id password heard nobody user known (Allowed why) is proper = tt
   kept_off c id password heard nobody user known (Denied why) is proper =
       inl (proper, inr (record { console = c; id = id; password = password; heard = heard; nobody = nobody; user = user; known = known_is s id.value password.value user known; denied = is }))
 
   logon_told : (c : ConsoleRow) (id password : Operand (List ℕ)) → IsHeard s name text c (command.Logon id password) → IfRefused (IsTold s (input.Command name text)) (logon s c id.value password.value)
   logon_told c id password heard =
-      then_told (IsTold s (input.Command name text)) (nobody_on c.user) (λ _. found fault.BadLogon (known_by s id.value password.value) >>= λ user. let_on (logon_ruling s c user) >>= λ why. does (record s { board = logged_on c.name id.value s.board }) [] (Some why))
+      then_told (IsTold s (input.Command name text)) (nobody_on c.user) (λ _. found fault.BadLogon (known_by s id.value password.value) >>= λ user. admit (logon_ruling s c user) >>= λ why. does (record s { board = logged_on c.name id.value s.board }) [] (Some why))
       (nobody c.user)
-      (λ on is_on. then_told (IsTold s (input.Command name text)) (found fault.BadLogon (known_by s id.value password.value)) (λ user. let_on (logon_ruling s c user) >>= λ why. does (record s { board = logged_on c.name id.value s.board }) [] (Some why))
+      (λ on is_on. then_told (IsTold s (input.Command name text)) (found fault.BadLogon (known_by s id.value password.value)) (λ user. admit (logon_ruling s c user) >>= λ why. does (record s { board = logged_on c.name id.value s.board }) [] (Some why))
       (stored (known_by s id.value password.value))
-      (λ user is. then_told (IsTold s (input.Command name text)) (let_on (logon_ruling s c user)) (λ why. does (record s { board = logged_on c.name id.value s.board }) [] (Some why))
+      (λ user is. then_told (IsTold s (input.Command name text)) (admit (logon_ruling s c user)) (λ why. does (record s { board = logged_on c.name id.value s.board }) [] (Some why))
       (kept_off c id password heard (nobody_ok c.user on is_on) user (found_ok fault.BadLogon (known_by s id.value password.value) user is) (logon_ruling s c user) refl (logon_proper s c user)) (λ why _. tt)))
     where
       nobody : (o : Option (List ℕ)) → IfRefused (IsTold s (input.Command name text)) (nobody_on o)
@@ -228,6 +228,6 @@ module _ (s : State) (name text : List ℕ) where
           let at = console_is s name c there in
           record { there = at.0; online = at.1; reads = so_reads text k (command_is (reading text) k reads) }
 
-pub given_up_has_none : (f : Fault) (why : Option Rule) → IsGivenUp (Refused f why) → IsOfAuthority f → ⊥
-given_up_has_none f why (inl h) authority = let at : f ≡ fault.NoMemory = search (rules, h) in subst IsOfAuthority at authority
-given_up_has_none f why (inr h) authority = let at : f ≡ fault.Store = search (rules, h) in subst IsOfAuthority at authority
+pub aborted_has_none : (f : Fault) (why : Option Rule) → IsAborted (Refused f why) → IsOfAuthority f → ⊥
+aborted_has_none f why (inl h) authority = let at : f ≡ fault.NoMemory = search (rules, h) in subst IsOfAuthority at authority
+aborted_has_none f why (inr h) authority = let at : f ≡ fault.Store = search (rules, h) in subst IsOfAuthority at authority

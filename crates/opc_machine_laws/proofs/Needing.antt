@@ -7,7 +7,7 @@ use Rattle.opc_table.specs.Table.{forced, of_unit as of_kind_at}
 use Rattle.opc_board.specs.declared.rows.UnitKind.{UnitKind}
 use Rattle.opc_board.specs.declared.rows.UnitKind.TheVariants.{Job, Stc, Tsu}
 use Rattle.opc_board.specs.declared.rows.UnitRow.{UnitRow}
-use Rattle.opc_board.specs.Facts.{Name, kind_found, unit_at, unit_kind}
+use Rattle.opc_board.specs.Invariants.{Name, kind_found, unit_at, unit_kind}
 use Rattle.opc_machine_laws.specs.NeedLaws.{CommandsNeedSo, by, of_kind, of_unit}
 
 cancels_kind : (kind : UnitKind) (name : Name) → of_kind_at (codes "MVS.CANCEL.JOB") (codes "MVS.CANCEL.STC") (kind_found kind) name ≡ codes "MVS.CANCEL." ++ of_kind (codes "JOB") kind name

@@ -10,7 +10,7 @@ use Rattle.opc_board.specs.declared.fault.BoardFault.{BoardFault}
 use Rattle.opc_board.specs.declared.fault.BoardFault.TheVariants as board
 use Rattle.opc_machine.specs.Faults.{board_fault, line_fault}
 use Rattle.opc_machine_laws.specs.NeedLaws.{AuthoritiesEnterTheirGroups}
-use Rattle.opc_machine_laws.specs.NumberLaws.{BoardFaultsAreToldApart, FaultsHaveTheirNumbers, LineFaultsAreToldApart}
+use Rattle.opc_machine_laws.specs.NumberLaws.{BoardFaultsAreDistinct, FaultsHaveTheirNumbers, LineFaultsAreDistinct}
 
 -- a fault of the board, read back
 abbrev board_of : Fault → Option BoardFault
@@ -51,7 +51,7 @@ board_back board.NoMemory = refl
 board_alone : (f g : BoardFault) → board_fault g ≡ board_fault f → g ≡ f
 board_alone f g h = let same : ◌≡◌ {A = Option BoardFault} (Some g) (Some f) = sym (board_back g) ∙ ap board_of h ∙ board_back f in search (rules, same)
 
-pub board_told : BoardFaultsAreToldApart
+pub board_told : BoardFaultsAreDistinct
 board_told board.NoUnit = record { number = refl; alone = board_alone board.NoUnit }
 board_told board.NonCancelable = record { number = refl; alone = board_alone board.NonCancelable }
 board_told board.Cancelable = record { number = refl; alone = board_alone board.Cancelable }
@@ -89,7 +89,7 @@ line_back (line.OpenQuote at) = refl
 line_alone : (f g : ReadFault) → line_fault g ≡ line_fault f → g ≡ f
 line_alone f g h = let same : ◌≡◌ {A = Option ReadFault} (Some g) (Some f) = sym (line_back g) ∙ ap line_of h ∙ line_back f in search (rules, same)
 
-pub line_told : LineFaultsAreToldApart
+pub line_told : LineFaultsAreDistinct
 line_told line.Empty = record { number = refl; text = refl; alone = line_alone line.Empty }
 line_told line.TooLong = record { number = refl; text = refl; alone = line_alone line.TooLong }
 line_told (line.BadCharacter at) = record { number = refl; text = refl; alone = line_alone (line.BadCharacter at) }

@@ -10,14 +10,14 @@ use Rattle.opc_board.specs.declared.fault.BoardFault.{BoardFault}
 use Rattle.opc_board.specs.declared.fault.BoardFault.TheVariants.{NoUnit, NoDevice}
 use Rattle.opc_board.specs.Devices.{allocate_faults, attach_faults, free_faults, new_device, with_device}
 use Rattle.opc_board.specs.Effect.{event_effect}
-use Rattle.opc_board.specs.Facts.{device_at, device_before, unit_at, unit_before, reply_before}
+use Rattle.opc_board.specs.Invariants.{device_at, device_before, unit_at, unit_before, reply_before}
 use Rattle.opc_board.specs.Outcome.{Outcome, ◌>>=◌, done, faults_or, found}
 use Rattle.opc_board.specs.Replies.{ask_faults}
 use Rattle.opc_board.specs.Units.{come_faults, new_unit, without_unit}
 use Rattle.opc_rows.specs.Ordered.{put}
 use Rattle.opc_machine.specs.declared.request.Answer.TheVariants.{Refused}
 use Rattle.opc_machine.specs.Faults.{board_fault}
-use Rattle.opc_machine.specs.Machine.{IsGivenUp}
+use Rattle.opc_machine.specs.Machine.{IsAborted}
 use Rattle.opc_machine_laws.specs.Laws.{IsOfAuthority}
 
 abbrev pub IsPlain : Fault → Type 0
@@ -38,9 +38,9 @@ none_of_authority fault.DeniedProfile plain authority = plain
 none_of_authority fault.DeniedGroup plain authority = plain
 none_of_authority other plain authority = authority
 
-pub not_given_up : (f : Fault) → IsPlain f → IsGivenUp (Refused f None) → ⊥
-not_given_up f plain (inl h) = let at : f ≡ fault.NoMemory = search (rules, h) in subst IsPlain at plain
-not_given_up f plain (inr h) = let at : f ≡ fault.Store = search (rules, h) in subst IsPlain at plain
+pub not_aborted : (f : Fault) → IsPlain f → IsAborted (Refused f None) → ⊥
+not_aborted f plain (inl h) = let at : f ≡ fault.NoMemory = search (rules, h) in subst IsPlain at plain
+not_aborted f plain (inr h) = let at : f ≡ fault.Store = search (rules, h) in subst IsPlain at plain
 
 -- the faults of events
 

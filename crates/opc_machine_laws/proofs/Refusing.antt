@@ -7,14 +7,14 @@ use Rattle.opc_policy_members.specs.Profiles.{of_class}
 use Rattle.opc_reader_commands.specs.declared.command.Command.TheVariants as command
 use Rattle.opc_reader.proofs.Exact.{fault_so}
 use Rattle.opc_board.specs.Consoles.{logged_off, logged_on}
-use Rattle.opc_board.specs.Facts.{console_at}
+use Rattle.opc_board.specs.Invariants.{console_at}
 use Rattle.opc_state.specs.Loads.{asked_for}
 use Rattle.opc_state.specs.Members.{with_batch}
 use Rattle.opc_state.specs.State.{State}
 use Rattle.opc_machine.specs.declared.operation.Operation.{Operation}
 use Rattle.opc_machine.specs.declared.operation.Operation.TheVariants as operation
 use Rattle.opc_machine.specs.Administration.{admin_outcome, changed}
-use Rattle.opc_machine.specs.Commands.{command_in, command_or, console_for, known_by, let_on, need_of, nobody_on, typed}
+use Rattle.opc_machine.specs.Commands.{command_in, command_or, console_for, known_by, admit, need_of, nobody_on, typed}
 use Rattle.opc_machine.specs.Faults.{line_fault}
 use Rattle.opc_machine.specs.Imports.{batch_line, batch_of, batch_outcome, import_outcome, same_rows}
 use Rattle.opc_machine.specs.Inputs.{Input, console_of}
@@ -37,7 +37,7 @@ abbrev refusal : Fault → Outcome
 refusal f = refused f None
 
 answered : (s : State) (r : Input) (f : Fault) → outcome s r ≡ refusal f → IsRefusedBy s r f
-answered s r f comes moment answer new (inl left) = inl left.gives_up
+answered s r f comes moment answer new (inl left) = inl left.aborts
 answered s r f comes moment answer new (inr (inl full)) = inl (inr full.answers)
 answered s r f comes moment answer new (inr (inr done)) = inr (done.answers ∙ ap answer_of comes)
 
@@ -88,12 +88,12 @@ pub logon_faults : LogonFaultsAreAnswered
 logon_faults s name text c (fault.AlreadyOn user) (id, password, heard, on) =
     answered s (input.Command name text) (fault.AlreadyOn user)
     (heard_so s name text c (command.Logon id password) heard
-    ∙ ap (λ x. nobody_on x >>= λ _. found fault.BadLogon (known_by s id.value password.value) >>= λ u. let_on (logon_ruling s c u) >>= λ w. does (record s { board = logged_on c.name id.value s.board }) [] (Some w)) on)
+    ∙ ap (λ x. nobody_on x >>= λ _. found fault.BadLogon (known_by s id.value password.value) >>= λ u. admit (logon_ruling s c u) >>= λ w. does (record s { board = logged_on c.name id.value s.board }) [] (Some w)) on)
 logon_faults s name text c fault.BadLogon (id, password, heard, nobody, none) =
     answered s (input.Command name text) fault.BadLogon
     (heard_so s name text c (command.Logon id password) heard
-    ∙ ap (λ x. nobody_on x >>= λ _. found fault.BadLogon (known_by s id.value password.value) >>= λ u. let_on (logon_ruling s c u) >>= λ w. does (record s { board = logged_on c.name id.value s.board }) [] (Some w)) nobody
-    ∙ ap (λ x. found fault.BadLogon x >>= λ u. let_on (logon_ruling s c u) >>= λ w. does (record s { board = logged_on c.name id.value s.board }) [] (Some w)) (unknown s id.value password.value none))
+    ∙ ap (λ x. nobody_on x >>= λ _. found fault.BadLogon (known_by s id.value password.value) >>= λ u. admit (logon_ruling s c u) >>= λ w. does (record s { board = logged_on c.name id.value s.board }) [] (Some w)) nobody
+    ∙ ap (λ x. found fault.BadLogon x >>= λ u. admit (logon_ruling s c u) >>= λ w. does (record s { board = logged_on c.name id.value s.board }) [] (Some w)) (unknown s id.value password.value none))
 logon_faults s name text c fault.NotOn (heard, nobody) =
     answered s (input.Command name text) fault.NotOn
     (heard_so s name text c command.Logoff heard
@@ -110,22 +110,22 @@ right_told (operation.PermitDelete class pattern id when) = refl
 right_told o = refl
 
 pub missing_rights : MissingRightsAreAnswered
-missing_rights s (input.Admin name o) c told (asks, lacks, is) =
+missing_rights s (input.Admin name o) c returned (asks, lacks, is) =
     let comes : admin_outcome s name o ≡ refusal (right_fault o) =
     ap (λ x. x >>= λ d. refuse_if (right_fault o) None (not (may_change s d o)) >>= λ _. or_refused (changed s o) >>= λ t. does t [] None) (asking_back s name c asks)
     ∙ ap (λ b. refuse_if (right_fault o) None (not b) >>= λ _. or_refused (changed s o) >>= λ t. does t [] None) lacks in
-    answered s (input.Admin name o) told (comes ∙ ap refusal (right_told o ∙ sym is))
-missing_rights s (input.ListAccount name from count) c told (asks, lacks, is) =
+    answered s (input.Admin name o) returned (comes ∙ ap refusal (right_told o ∙ sym is))
+missing_rights s (input.ListAccount name from count) c returned (asks, lacks, is) =
     let comes : account_outcome s name from count ≡ refusal fault.NotSpecial =
     ap (λ x. x >>= λ d. refuse_if fault.NotSpecial None (not (account_shown s d)) >>= λ _. does s (map account_line (asked_for from count s.account)) None) (asking_back s name c asks)
     ∙ ap (λ b. refuse_if fault.NotSpecial None (not b) >>= λ _. does s (map account_line (asked_for from count s.account)) None) lacks in
-    answered s (input.ListAccount name from count) told (comes ∙ ap refusal (sym is))
-missing_rights s (input.Import name number all) c told (asks, lacks, is) =
+    answered s (input.ListAccount name from count) returned (comes ∙ ap refusal (sym is))
+missing_rights s (input.Import name number all) c returned (asks, lacks, is) =
     let comes : import_outcome s name number all ≡ refusal fault.NotSpecial =
     ap (λ x. x >>= λ d. refuse_if fault.NotSpecial None (not (is_special (acting s d))) >>= λ _. batch_outcome s number all (batch_of s.batches number)) (asking_back s name c asks)
     ∙ ap (λ b. refuse_if fault.NotSpecial None (not b) >>= λ _. batch_outcome s number all (batch_of s.batches number)) lacks in
-    answered s (input.Import name number all) told (comes ∙ ap refusal (sym is))
-missing_rights s other c told none = absurd none
+    answered s (input.Import name number all) returned (comes ∙ ap refusal (sym is))
+missing_rights s other c returned none = absurd none
 
 -- what is in the way
 

@@ -22,7 +22,7 @@ use Rattle.opc_rows.proofs.Orders.{all_found}
 use Rattle.opc_board.specs.declared.board.BoardRows.{BoardRows}
 use Rattle.opc_board.specs.declared.rows.ConsoleRow.{ConsoleRow}
 use Rattle.opc_board.specs.Consoles.{console_defined, defined, new_console}
-use Rattle.opc_board.specs.Facts.{Name, console_at, console_before, has_master}
+use Rattle.opc_board.specs.Invariants.{Name, console_at, console_before, has_master}
 use Rattle.opc_state.specs.Loads.{is_connected}
 use Rattle.opc_machine.specs.Bootstrap.{consoles_after, mastered, policy_after, then_policy, with_rows_of}
 use Rattle.opc_machine_laws.specs.EffectLaws.{OnlyConsoles}

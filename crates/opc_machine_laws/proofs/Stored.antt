@@ -12,7 +12,7 @@ use Rattle.opc_policy_members.specs.declared.user.User.{User}
 use Rattle.opc_policy_members.specs.Members.{user_of}
 use Rattle.opc_policy_members.specs.Taken.{has_group, has_holder, has_user}
 use Rattle.opc_board.specs.declared.rows.ConsoleRow.{ConsoleRow}
-use Rattle.opc_board.specs.Facts.{Name}
+use Rattle.opc_board.specs.Invariants.{Name}
 use Rattle.opc_board.specs.Units.{is_holder}
 use Rattle.opc_board.proofs.Names.{is_itself, is_same_name}
 use Rattle.opc_state.specs.Loads.{has_entry, is_named}

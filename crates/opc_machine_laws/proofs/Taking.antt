@@ -10,7 +10,7 @@ use Rattle.opc_policy_members.specs.declared.user.User.{User}
 use Rattle.opc_policy_members.specs.Profiles.{profile_of}
 use Rattle.opc_policy_members.specs.Taken.{after_row, has_group, has_holder, has_user, needing, unless}
 use Rattle.opc_board.specs.declared.board.BoardRows.{BoardRows}
-use Rattle.opc_board.specs.Facts.{has_master}
+use Rattle.opc_board.specs.Invariants.{has_master}
 use Rattle.opc_state.specs.declared.change.Batch.{Batch}
 use Rattle.opc_state.specs.Loads.{is_connected}
 use Rattle.opc_state.specs.State.{State, is_some_user}

@@ -23,7 +23,7 @@ use Rattle.opc_board.specs.declared.line.Item.TheVariants.{Plain}
 use Rattle.opc_board.specs.declared.line.Line.{Line}
 use Rattle.opc_board.specs.declared.rows.ConsoleRow.{ConsoleRow}
 use Rattle.opc_state.specs.declared.account.AccountRow.{AccountRow}
-use Rattle.opc_state.specs.Facts.{IsState}
+use Rattle.opc_state.specs.Invariants.{IsState}
 use Rattle.opc_state.specs.State.{State, empty}
 use Rattle.opc_machine.specs.Inputs as input
 use Rattle.opc_machine.specs.Machine.{first_refusal, outcome}
@@ -364,8 +364,8 @@ import_moves_master : refused_import 8 (row.Console (codes "C2") auth.All Option
 import_moves_master = refl
 
 -- the state has the facts of states
-has_facts : IsState base
-has_facts = record {
+has_invariants : IsState base
+has_invariants = record {
   board = record {
     units_rise = tt;
     devices_rise = tt;

@@ -9,7 +9,7 @@ use Rattle.opc_policy.specs.Rulings.{console_ruling}
 use Rattle.opc_policy_members.specs.Taken.{has_user}
 use Rattle.opc_board.specs.declared.line.Line.{Line}
 use Rattle.opc_board.specs.declared.rows.ConsoleRow.{ConsoleRow}
-use Rattle.opc_board.specs.Facts.{console_at}
+use Rattle.opc_board.specs.Invariants.{console_at}
 use Rattle.opc_board.specs.Texts.{text_or}
 use Rattle.opc_state.specs.State.{State}
 use Rattle.opc_machine.specs.Inputs.{Input, console_of}
@@ -41,7 +41,7 @@ IsAccountedTo s console user =
 -- A console acts for this user, or for nobody, and so it is accounted.
 pub record ActsFor (s : State) (console : ConsoleRow) (user : Option (List ℕ)) : Type 0 where
   pub acts : IsActing s console user
-  pub told : IsAccountedTo s console user
+  pub returned : IsAccountedTo s console user
 
 -- An AUTO console where nobody is on acts for the user of its own name, as if that user were on, where such a user is stored,
 abbrev pub AutoConsolesActForTheirOwn : Type 0

@@ -8,10 +8,10 @@ use Rattle.opc_terms.specs.declared.rule.Rule.{Rule}
 use Rattle.opc_policy_members.specs.Profiles.{AreMostSpecificFirst, of_class}
 use Rattle.opc_board.specs.declared.line.Line.{Line}
 use Rattle.opc_board.specs.declared.rows.ConsoleRow.{ConsoleRow}
-use Rattle.opc_board.specs.Facts.{console_at}
+use Rattle.opc_board.specs.Invariants.{console_at}
 use Rattle.opc_state.specs.declared.account.AccountRow.{AccountRow}
 use Rattle.opc_state.specs.declared.change.Batch.{Batch}
-use Rattle.opc_state.specs.Facts.{IsKeyed}
+use Rattle.opc_state.specs.Invariants.{IsKeyed}
 use Rattle.opc_state.specs.Members.{with_batch}
 use Rattle.opc_state.specs.State.{State}
 use Rattle.opc_state.specs.Loads.{asked_for}
@@ -22,7 +22,7 @@ use Rattle.opc_machine.specs.Bootstrap.{with_rows}
 use Rattle.opc_machine.specs.Imports.{batch_line, batch_of, same_rows}
 use Rattle.opc_machine.specs.Inputs as input
 use Rattle.opc_machine.specs.Listings.{account_line, profile_line}
-use Rattle.opc_machine.specs.Machine.{IsGivenUp, Step}
+use Rattle.opc_machine.specs.Machine.{IsAborted, Step}
 use Rattle.opc_machine.specs.declared.operation.Operation.{Operation}
 use Rattle.opc_machine.specs.Rights.{account_shown, is_special, may_change, profile_shown}
 use Rattle.opc_machine.specs.Rulings.{acting, logon_denial}
@@ -44,7 +44,7 @@ abbrev pub AdministersWhereverAllowed : Type 0
 AdministersWhereverAllowed =
     (s : State) (moment : ℕ) (name : List ℕ) (o : Operation) (console : ConsoleRow) (next : State) (answer : Answer) (new : State)
     → MayAsk s name console → may_change s console o ≡ true → changed s o ≡ Ok next → Step s moment (input.Admin name o) answer new
-    → IsGivenUp answer ⊎ ((answer ≡ Done [] None) × (new ≡ next))
+    → IsAborted answer ⊎ ((answer ≡ Done [] None) × (new ≡ next))
 
 -- Of the profiles of a class, exactly those are listed that may be shown, each once, in the order of the state, and
 -- nothing changes.
@@ -61,7 +61,7 @@ ListsExactlyProfilesShown =
 abbrev pub ListsProfilesWhereverAsked : Type 0
 ListsProfilesWhereverAsked =
     (s : State) (moment : ℕ) (name : List ℕ) (class : Class) (console : ConsoleRow) (answer : Answer) (new : State) → MayAsk s name console → Step s moment (input.ListProfiles name class) answer new
-    → IsGivenUp answer ⊎ ((lines : List Line) × (answer ≡ Done lines None) × ListsProfiles s console class lines new)
+    → IsAborted answer ⊎ ((lines : List Line) × (answer ≡ Done lines None) × ListsProfiles s console class lines new)
 
 -- In that order the more specific comes first, and none comes twice.
 abbrev pub MoreSpecificProfilesComeFirst : Type 0
@@ -78,7 +78,7 @@ abbrev pub ListsAccountWhereverShown : Type 0
 ListsAccountWhereverShown =
     (s : State) (moment : ℕ) (name : List ℕ) (from count : ℕ) (console : ConsoleRow) (answer : Answer) (new : State)
     → MayAsk s name console → account_shown s console ≡ true → Step s moment (input.ListAccount name from count) answer new
-    → IsGivenUp answer ⊎ ((answer ≡ Done (map account_line (asked_for from count s.account)) None) × (new ≡ s))
+    → IsAborted answer ⊎ ((answer ≡ Done (map account_line (asked_for from count s.account)) None) × (new ≡ s))
 
 -- The first line is the row that was asked for, by its number, and each next line the next row; 0 asks for the first row,
 -- as 1 does. There is a line for each row up to the count, and no other.
@@ -97,7 +97,7 @@ pub record IsKeptAgain (s : State) (batch : ℕ) (rows : List Row) (lines : List
   pub kept : Batch
   pub found : batch_of s.batches batch ≡ Some kept
   pub matches : same_rows kept.rows rows ≡ true
-  pub told : lines ≡ batch_line batch (codes "AGAIN") ∷ []
+  pub returned : lines ≡ batch_line batch (codes "AGAIN") ∷ []
   pub same : new ≡ s
 
 -- The number is new: all rows are taken, and the batch is kept.
@@ -105,7 +105,7 @@ pub record IsTakenWhole (s : State) (batch : ℕ) (rows : List Row) (lines : Lis
   pub unknown : batch_of s.batches batch ≡ None
   pub next : State
   pub taken : with_rows rows s ≡ Ok next
-  pub told : lines ≡ batch_line batch (codes "KEPT") ∷ []
+  pub returned : lines ≡ batch_line batch (codes "KEPT") ∷ []
   pub becomes : new ≡ record next { batches = with_batch (record { number = batch; rows = rows }) next.batches }
 
 -- An import is done only for SPECIAL, and then all of it, or nothing where it was done before.
@@ -119,14 +119,14 @@ abbrev pub ImportsWhereverAllowed : Type 0
 ImportsWhereverAllowed =
     (s : State) (moment : ℕ) (name : List ℕ) (batch : ℕ) (rows : List Row) (console : ConsoleRow) (next : State) (answer : Answer) (new : State)
     → MayAsk s name console → is_special (acting s console) ≡ true → batch_of s.batches batch ≡ None → with_rows rows s ≡ Ok next → Step s moment (input.Import name batch rows) answer new
-    → IsGivenUp answer ⊎ ((answer ≡ Done (batch_line batch (codes "KEPT") ∷ []) None) × (new ≡ record next { batches = with_batch (record { number = batch; rows = rows }) next.batches }))
+    → IsAborted answer ⊎ ((answer ≡ Done (batch_line batch (codes "KEPT") ∷ []) None) × (new ≡ record next { batches = with_batch (record { number = batch; rows = rows }) next.batches }))
 
 -- and with a number that is kept, nothing.
 abbrev pub RepeatsWhereverAllowed : Type 0
 RepeatsWhereverAllowed =
     (s : State) (moment : ℕ) (name : List ℕ) (batch : ℕ) (rows : List Row) (console : ConsoleRow) (kept : Batch) (answer : Answer) (new : State)
     → MayAsk s name console → is_special (acting s console) ≡ true → batch_of s.batches batch ≡ Some kept → kept.rows ≡ rows → Step s moment (input.Import name batch rows) answer new
-    → IsGivenUp answer ⊎ ((answer ≡ Done (batch_line batch (codes "AGAIN") ∷ []) None) × (new ≡ s))
+    → IsAborted answer ⊎ ((answer ≡ Done (batch_line batch (codes "AGAIN") ∷ []) None) × (new ≡ s))
 
 -- Two batches are the same where their rows are equal.
 abbrev pub SameRowsAreEqual : Type 0

@@ -19,8 +19,8 @@ use Rattle.opc_board.specs.declared.rows.ConsoleRow.{ConsoleRow}
 use Rattle.opc_board.specs.declared.rows.DeviceRow.{DeviceRow}
 use Rattle.opc_board.specs.declared.rows.ReplyRow.{ReplyRow}
 use Rattle.opc_board.specs.declared.rows.UnitRow.{UnitRow}
-use Rattle.opc_board.specs.Facts.{unit_at}
-use Rattle.opc_board.specs.Sight.{IsInOrder}
+use Rattle.opc_board.specs.Invariants.{unit_at}
+use Rattle.opc_board.specs.Footprint.{IsInOrder}
 use Rattle.opc_board.specs.Texts.{console_line, device_line, lines_of, reply_line, unit_line}
 use Rattle.opc_state.specs.State.{State}
 use Rattle.opc_machine.specs.declared.request.Answer.TheVariants.{Done}

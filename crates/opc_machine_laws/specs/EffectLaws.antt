@@ -14,7 +14,7 @@ use Rattle.opc_board.specs.declared.rows.ConsoleRow.{ConsoleRow}
 use Rattle.opc_board.specs.declared.rows.DeviceRow.{DeviceRow}
 use Rattle.opc_board.specs.declared.rows.UnitKind.TheVariants.{Stc, Tsu}
 use Rattle.opc_board.specs.declared.rows.UnitRow.{UnitRow}
-use Rattle.opc_board.specs.Facts.{Name, console_at, device_at, reply_at, unit_at}
+use Rattle.opc_board.specs.Invariants.{Name, console_at, device_at, reply_at, unit_at}
 use Rattle.opc_state.specs.State.{State}
 use Rattle.opc_machine.specs.declared.request.Answer.TheVariants.{Done}
 use Rattle.opc_machine.specs.Inputs as input
@@ -93,8 +93,8 @@ abbrev pub GoesOffline : ConsoleRow → ConsoleRow → Type 0
 GoesOffline was now = (was.online ≡ true → now ≡ record was { online = false; user = None }) × (was.online ≡ false → now ≡ was)
 
 -- The user is on at some console, or has a session.
-abbrev pub MayBeTold : Name → BoardRows → Type 0
-MayBeTold user b = ((c : ConsoleRow) × Contains b.consoles c × (c.user ≡ Some user)) ⊎ ((unit : UnitRow) × (unit_at b user ≡ Some unit) × (unit.kind ≡ Tsu))
+abbrev pub MayBeNotified : Name → BoardRows → Type 0
+MayBeNotified user b = ((c : ConsoleRow) × Contains b.consoles c × (c.user ≡ Some user)) ⊎ ((unit : UnitRow) × (unit_at b user ≡ Some unit) × (unit.kind ≡ Tsu))
 
 -- A command typed at a console does this, and nothing else. It ends, marks or moves what it names; text is kept after all
 -- that was kept before.
@@ -123,7 +123,7 @@ HasDone at (command.Mount device volume) old new = DeviceBecomes device.value (�
 HasDone at (command.Unload device) old new = DeviceBecomes device.value (λ was now. (is_some was.volume ≡ true) × (was.unit ≡ None) × (now ≡ record was { volume = None })) old new
 HasDone at (command.Swap from to) old new = DevicesSwap from.value to.value old new
 HasDone at (command.ResetConsole name) old new = ConsoleBecomes name.value (λ was now. now ≡ record was { user = None }) old new
-HasDone at (command.Send text user) old new = MayBeTold user.value old × (new ≡ record old { messages = old.messages ++ record { user = user.value; text = text_value text.typed.text } ∷ [] })
+HasDone at (command.Send text user) old new = MayBeNotified user.value old × (new ≡ record old { messages = old.messages ++ record { user = user.value; text = text_value text.typed.text } ∷ [] })
 HasDone at (command.Log text) old new = new ≡ record old { log = old.log ++ text_value text.typed.text ∷ [] }
 HasDone at command.Monitor old new = ConsoleBecomes at (λ was now. now ≡ record was { monitor = true }) old new
 HasDone at command.StopMonitor old new = ConsoleBecomes at (λ was now. now ≡ record was { monitor = false }) old new

@@ -10,7 +10,7 @@ use Rattle.opc_reader_commands.specs.declared.command.Operand.{Operand}
 use Rattle.opc_reader.specs.declared.line.ReadFault.{ReadFault}
 use Rattle.opc_reader.specs.Lines.{IsReadFault}
 use Rattle.opc_board.specs.declared.rows.ConsoleRow.{ConsoleRow}
-use Rattle.opc_board.specs.Facts.{console_at}
+use Rattle.opc_board.specs.Invariants.{console_at}
 use Rattle.opc_state.specs.declared.change.Batch.{Batch}
 use Rattle.opc_state.specs.State.{State}
 use Rattle.opc_machine.specs.declared.request.Answer.{Answer}
@@ -22,7 +22,7 @@ use Rattle.opc_machine.specs.Faults.{line_fault}
 use Rattle.opc_machine.specs.Imports.{batch_of}
 use Rattle.opc_machine.specs.Inputs.{Input, console_of}
 use Rattle.opc_machine.specs.Inputs as input
-use Rattle.opc_machine.specs.Machine.{IsGivenUp, Step}
+use Rattle.opc_machine.specs.Machine.{IsAborted, Step}
 use Rattle.opc_machine.specs.Rights.{account_shown, is_special, may_change}
 use Rattle.opc_machine.specs.Rulings.{acting}
 use Rattle.opc_machine_laws.specs.ChangingLaws.{MayAsk}
@@ -31,7 +31,7 @@ use Rattle.opc_machine_laws.specs.RightLaws.{changed_profile}
 
 -- The request is refused by this fault, which names no rule, unless it is given up.
 abbrev pub IsRefusedBy : State → Input → Fault → Type 0
-IsRefusedBy s r fault = (moment : ℕ) (answer : Answer) (new : State) → Step s moment r answer new → IsGivenUp answer ⊎ (answer ≡ Refused fault None)
+IsRefusedBy s r fault = (moment : ℕ) (answer : Answer) (new : State) → Step s moment r answer new → IsAborted answer ⊎ (answer ≡ Refused fault None)
 
 -- The console that is named is not there, or is offline.
 abbrev pub MissingConsolesAreAnswered : Type 0
@@ -68,10 +68,10 @@ missing_right (Some profile) = fault.NotOwner
 
 -- The console may ask, and not for this: the right is missing, whatever else is in the way.
 abbrev pub LacksRight : State → Input → ConsoleRow → Fault → Type 0
-LacksRight s (input.Admin name o) console told = MayAsk s name console × (may_change s console o ≡ false) × (told ≡ missing_right (changed_profile o))
-LacksRight s (input.ListAccount name from count) console told = MayAsk s name console × (account_shown s console ≡ false) × (told ≡ fault.NotSpecial)
-LacksRight s (input.Import name number rows) console told = MayAsk s name console × (is_special (acting s console) ≡ false) × (told ≡ fault.NotSpecial)
-LacksRight s other console told = ⊥
+LacksRight s (input.Admin name o) console returned = MayAsk s name console × (may_change s console o ≡ false) × (returned ≡ missing_right (changed_profile o))
+LacksRight s (input.ListAccount name from count) console returned = MayAsk s name console × (account_shown s console ≡ false) × (returned ≡ fault.NotSpecial)
+LacksRight s (input.Import name number rows) console returned = MayAsk s name console × (is_special (acting s console) ≡ false) × (returned ≡ fault.NotSpecial)
+LacksRight s other console returned = ⊥
 
 abbrev pub MissingRightsAreAnswered : Type 0
 MissingRightsAreAnswered = (s : State) (r : Input) (console : ConsoleRow) (fault : Fault) → LacksRight s r console fault → IsRefusedBy s r fault

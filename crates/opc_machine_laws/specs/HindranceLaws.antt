@@ -11,7 +11,7 @@ use Rattle.opc_board.specs.declared.fault.BoardFault.TheVariants.{Cancelable, De
 use Rattle.opc_board.specs.declared.rows.DeviceRow.{DeviceRow}
 use Rattle.opc_board.specs.declared.rows.UnitRow.{UnitRow}
 use Rattle.opc_board.specs.Effect.{effect, event_effect}
-use Rattle.opc_board.specs.Facts.{Name, console_at, device_at, has_master, reply_at, unit_at}
+use Rattle.opc_board.specs.Invariants.{Name, console_at, device_at, has_master, reply_at, unit_at}
 use Rattle.opc_board.specs.Outcome.{Done, Outcome}
 use Rattle.opc_board.specs.Replies.{has_session, is_on, is_session}
 use Rattle.opc_machine_laws.specs.EffectLaws.{HasDone}

@@ -22,7 +22,7 @@ use Rattle.opc_board.specs.declared.line.Line.{Line}
 use Rattle.opc_board.specs.declared.rows.ConsoleRow.{ConsoleRow}
 use Rattle.opc_board.specs.Consoles.{logged_on, logged_off}
 use Rattle.opc_board.specs.Effect.{effect}
-use Rattle.opc_board.specs.Facts.{console_at}
+use Rattle.opc_board.specs.Invariants.{console_at}
 use Rattle.opc_board.specs.Outcome.{Done as BoardDone}
 use Rattle.opc_state.specs.State.{State}
 use Rattle.opc_machine.specs.declared.request.Answer.{Answer}
@@ -32,7 +32,7 @@ use Rattle.opc_machine.specs.Inputs.{Input}
 use Rattle.opc_machine.specs.Inputs as input
 use Rattle.opc_machine.specs.Rulings.{ruling, logon_denial, logon_ruling, shown}
 use Rattle.opc_machine.specs.Commands.{need_of}
-use Rattle.opc_machine.specs.Machine.{Runs, Step, IsGivenUp, account_row}
+use Rattle.opc_machine.specs.Machine.{Runs, Step, IsAborted, account_row}
 
 -- A line typed at a console is a command that is heard: the console is there and online, and the line reads.
 pub record IsHeard (s : State) (name text : List ℕ) (console : ConsoleRow) (command : Command) : Type 0 where
@@ -68,7 +68,7 @@ abbrev pub ActsWhereverAllowed : Type 0
 ActsWhereverAllowed =
     (s : State) (moment : ℕ) (name text : List ℕ) (console : ConsoleRow) (command : Command) (why : Rule) (act : BoardDone) (answer : Answer) (new : State)
     → IsAllowed s name text console command why → effect s.board command console.name ≡ Ok act → Step s moment (input.Command name text) answer new
-    → IsGivenUp answer ⊎ Acts s console command why answer new
+    → IsAborted answer ⊎ Acts s console command why answer new
 
 -- LOGON and LOGOFF
 abbrev pub IsSession : Command → Type 0
@@ -93,7 +93,7 @@ pub record IsKnown (s : State) (id password : List ℕ) (user : User) : Type 0 w
 
 -- A LOGON may let the user on: the line is heard, nobody is on, the password is the user's, and the policy of this
 -- moment allows it.
-pub record IsLetOn (s : State) (name text : List ℕ) (console : ConsoleRow) (id password : Operand (List ℕ)) (user : User) (why : Rule) : Type 0 where
+pub record IsAdmitted (s : State) (name text : List ℕ) (console : ConsoleRow) (id password : Operand (List ℕ)) (user : User) (why : Rule) : Type 0 where
   pub heard : IsHeard s name text console (command.Logon id password)
   pub nobody : console.user ≡ None
   pub known : IsKnown s id.value password.value user
@@ -110,14 +110,14 @@ abbrev pub LogsOnOnlyWhereAllowed : Type 0
 LogsOnOnlyWhereAllowed =
     (s : State) (moment : ℕ) (name text : List ℕ) (id password : Operand (List ℕ)) (lines : List Line) (why : Option Rule) (new : State)
     → Reads text (command.Logon id password) → Step s moment (input.Command name text) (Done lines why) new
-    → (console : ConsoleRow) × (user : User) × (rule : Rule) × IsLetOn s name text console id password user rule × LogsOn s console id.value rule (Done lines why) new
+    → (console : ConsoleRow) × (user : User) × (rule : Rule) × IsAdmitted s name text console id password user rule × LogsOn s console id.value rule (Done lines why) new
 
 -- and wherever it does, unless the request is given up.
 abbrev pub LogsOnWhereverAllowed : Type 0
 LogsOnWhereverAllowed =
     (s : State) (moment : ℕ) (name text : List ℕ) (console : ConsoleRow) (id password : Operand (List ℕ)) (user : User) (why : Rule) (answer : Answer) (new : State)
-    → IsLetOn s name text console id password user why → Step s moment (input.Command name text) answer new
-    → IsGivenUp answer ⊎ LogsOn s console id.value why answer new
+    → IsAdmitted s name text console id password user why → Step s moment (input.Command name text) answer new
+    → IsAborted answer ⊎ LogsOn s console id.value why answer new
 
 -- Nobody is on any more, which no rule decides, and the policy stays.
 pub record LogsOff (s : State) (console : ConsoleRow) (answer : Answer) (new : State) : Type 0 where
@@ -137,7 +137,7 @@ abbrev pub LogsOffWhereverSomebodyIsOn : Type 0
 LogsOffWhereverSomebodyIsOn =
     (s : State) (moment : ℕ) (name text : List ℕ) (console : ConsoleRow) (answer : Answer) (new : State)
     → IsHeard s name text console command.Logoff → is_some console.user ≡ true → Step s moment (input.Command name text) answer new
-    → IsGivenUp answer ⊎ LogsOff s console answer new
+    → IsAborted answer ⊎ LogsOff s console answer new
 
 -- A refusal leaves board, policy and batches, and adds its row to the account.
 pub record IsRefusal (s : State) (moment : ℕ) (r : Input) (fault : Fault) (why : Option Rule) (new : State) : Type 0 where
@@ -150,15 +150,15 @@ pub record IsRefusal (s : State) (moment : ℕ) (r : Input) (fault : Fault) (why
 abbrev pub RefusalsChangeNothing : Type 0
 RefusalsChangeNothing =
     (s : State) (moment : ℕ) (r : Input) (fault : Fault) (why : Option Rule) (new : State) → Step s moment r (Refused fault why) new
-    → (IsGivenUp (Refused fault why) × (new ≡ s)) ⊎ IsRefusal s moment r fault why new
+    → (IsAborted (Refused fault why) × (new ≡ s)) ⊎ IsRefusal s moment r fault why new
 
 -- A request that is answered as given up has changed nothing, not even the account.
-abbrev pub GivenUpChangesNothing : Type 0
-GivenUpChangesNothing = (s : State) (moment : ℕ) (r : Input) (fault : Fault) (why : Option Rule) (new : State) → IsGivenUp (Refused fault why) → Step s moment r (Refused fault why) new → new ≡ s
+abbrev pub AbortsChangeNothing : Type 0
+AbortsChangeNothing = (s : State) (moment : ℕ) (r : Input) (fault : Fault) (why : Option Rule) (new : State) → IsAborted (Refused fault why) → Step s moment r (Refused fault why) new → new ≡ s
 
 -- Only two answers give a request up: there was no memory, or the store failed.
-abbrev pub GivenUpWithoutMemoryOrStore : Type 0
-GivenUpWithoutMemoryOrStore = (answer : Answer) → IsGivenUp answer → (answer ≡ Refused fault.NoMemory None) ⊎ (answer ≡ Refused fault.Store None)
+abbrev pub AbortsWithoutMemoryOrStore : Type 0
+AbortsWithoutMemoryOrStore = (answer : Answer) → IsAborted answer → (answer ≡ Refused fault.NoMemory None) ⊎ (answer ≡ Refused fault.Store None)
 
 -- the refusals of authority
 abbrev pub IsOfAuthority : Fault → Type 0
@@ -243,7 +243,7 @@ pub record IsInTheWay (s : State) (name text : List ℕ) (fault : Fault) (why : 
   pub allowed : IsAllowed s name text console command why
   pub refused : BoardFault
   pub refuses : effect s.board command console.name ≡ Err refused
-  pub told : fault ≡ board_fault refused
+  pub returned : fault ≡ board_fault refused
 
 abbrev pub IsRefusedByBoard : State → Input → Fault → Rule → Type 0
 IsRefusedByBoard s (input.Command name text) fault why = IsInTheWay s name text fault why
@@ -260,13 +260,13 @@ RefusalsNameNoOtherRule =
 abbrev pub DenialsAreAnswered : Type 0
 DenialsAreAnswered =
     (s : State) (moment : ℕ) (r : Input) (why : Rule) (answer : Answer) (new : State) → IsDeniedBy s r why → Step s moment r answer new
-    → IsGivenUp answer ⊎ ((fault : Fault) × IsNamedBy fault why × (answer ≡ Refused fault (Some why)))
+    → IsAborted answer ⊎ ((fault : Fault) × IsNamedBy fault why × (answer ≡ Refused fault (Some why)))
 
 -- Where the board is in the way of what is allowed, its fault is answered with the rule that allowed it.
 abbrev pub BoardFaultsAreAnswered : Type 0
 BoardFaultsAreAnswered =
     (s : State) (moment : ℕ) (name text : List ℕ) (fault : Fault) (why : Rule) (answer : Answer) (new : State) → IsInTheWay s name text fault why → Step s moment (input.Command name text) answer new
-    → IsGivenUp answer ⊎ (answer ≡ Refused fault (Some why))
+    → IsAborted answer ⊎ (answer ≡ Refused fault (Some why))
 
 -- A request of a list is a step from the state that those before it leave, and those after it go on from there.
 pub record IsJudgedInTurn (s : State) (before : List (ℕ × Input)) (r : ℕ × Input) (later : List (ℕ × Input)) (answers : List Answer) (new : State) : Type 0 where

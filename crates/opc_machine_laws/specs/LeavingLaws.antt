@@ -21,7 +21,7 @@ use Rattle.opc_machine.specs.Faults.{board_fault}
 use Rattle.opc_machine.specs.Imports.{batch_of}
 use Rattle.opc_machine.specs.Inputs.{Input, console_of, input_of}
 use Rattle.opc_machine.specs.Inputs as input
-use Rattle.opc_machine.specs.Machine.{IsGivenUp, Step, account_row}
+use Rattle.opc_machine.specs.Machine.{IsAborted, Step, account_row}
 use Rattle.opc_machine_laws.specs.TakingLaws.{KeepsMaster}
 
 -- a warning alone let it pass
@@ -76,14 +76,14 @@ abbrev pub RequestsNameTheirConsole : Type 0
 RequestsNameTheirConsole = (r : Input) → IsNamedIn r (console_of r)
 
 -- A row of the account tells the moment, the console or `*`, what came of it and by which rule.
-pub record Tells (at : ℕ) (r : Input) (what : List ℕ) (why : Option Rule) (row : AccountRow) : Type 0 where
+pub record SaysWhat (at : ℕ) (r : Input) (what : List ℕ) (why : Option Rule) (row : AccountRow) : Type 0 where
   pub moment : row.moment ≡ at
   pub console : row.console ≡ text_or (codes "*") (console_of r)
   pub code : row.code ≡ what
   pub rule : row.rule ≡ rule_text_or_none why
 
-abbrev pub AccountRowsTell : Type 0
-AccountRowsTell = (s : State) (moment : ℕ) (r : Input) (code : List ℕ) (why : Option Rule) → Tells moment r code why (account_row s moment r code why)
+abbrev pub AccountRowsSay : Type 0
+AccountRowsSay = (s : State) (moment : ℕ) (r : Input) (code : List ℕ) (why : Option Rule) → SaysWhat moment r code why (account_row s moment r code why)
 
 -- An event changes the board by its effect, and nothing else; no rule decides it.
 pub record Happens (s : State) (e : Event) (act : BoardDone) (answer : Answer) (new : State) : Type 0 where
@@ -100,13 +100,13 @@ EventsOnlyDoTheirEffect =
 abbrev pub EventsHappenWhereverPossible : Type 0
 EventsHappenWhereverPossible =
     (s : State) (moment : ℕ) (e : Event) (act : BoardDone) (answer : Answer) (new : State) → event_effect s.board e ≡ Ok act → Step s moment (input.Event e) answer new
-    → IsGivenUp answer ⊎ Happens s e act answer new
+    → IsAborted answer ⊎ Happens s e act answer new
 
 -- and is else refused by the board's fault.
 abbrev pub EventFaultsAreAnswered : Type 0
 EventFaultsAreAnswered =
     (s : State) (moment : ℕ) (e : Event) (fault : BoardFault) (answer : Answer) (new : State) → event_effect s.board e ≡ Err fault → Step s moment (input.Event e) answer new
-    → IsGivenUp answer ⊎ (answer ≡ Refused (board_fault fault) None)
+    → IsAborted answer ⊎ (answer ≡ Refused (board_fault fault) None)
 
 -- Whatever is asked and whatever happens: where an online console has AUTH MASTER, one has it afterwards.
 abbrev pub StepsKeepAMaster : Type 0

@@ -16,7 +16,7 @@ use Rattle.opc_board.specs.declared.board.BoardRows.{BoardRows}
 use Rattle.opc_board.specs.declared.rows.UnitKind.{UnitKind}
 use Rattle.opc_board.specs.declared.rows.UnitKind.TheVariants.{Job, Stc, Tsu}
 use Rattle.opc_board.specs.declared.rows.UnitRow.{UnitRow}
-use Rattle.opc_board.specs.Facts.{Name, kind_at, unit_at}
+use Rattle.opc_board.specs.Invariants.{Name, kind_at, unit_at}
 use Rattle.opc_machine.specs.Commands.{need_of}
 
 -- A command needs what the table says: of C, FORCE, P and F by the kind of the unit that is there, of others whatever

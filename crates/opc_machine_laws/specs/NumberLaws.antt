@@ -47,21 +47,21 @@ line_text (line.BadOperand span) = codes "BadOperand " ++ decimal span.from ++ c
 line_text (line.OpenQuote at) = codes "OpenQuote " ++ decimal at
 
 -- Each fault of the board is told by its number, and no two are told alike;
-pub record IsToldByNumber (fault : BoardFault) : Type 0 where
+pub record HasItsNumber (fault : BoardFault) : Type 0 where
   pub number : fault_code (board_fault fault) ≡ board_number fault
   pub alone : (other : BoardFault) → board_fault other ≡ board_fault fault → other ≡ fault
 
-abbrev pub BoardFaultsAreToldApart : Type 0
-BoardFaultsAreToldApart = (fault : BoardFault) → IsToldByNumber fault
+abbrev pub BoardFaultsAreDistinct : Type 0
+BoardFaultsAreDistinct = (fault : BoardFault) → HasItsNumber fault
 
 -- so is each fault of a line, with its place.
-pub record IsToldByPlace (fault : ReadFault) : Type 0 where
+pub record HasItsPlace (fault : ReadFault) : Type 0 where
   pub number : fault_code (line_fault fault) ≡ line_number fault
   pub text : fault_text (line_fault fault) ≡ line_text fault
   pub alone : (other : ReadFault) → line_fault other ≡ line_fault fault → other ≡ fault
 
-abbrev pub LineFaultsAreToldApart : Type 0
-LineFaultsAreToldApart = (fault : ReadFault) → IsToldByPlace fault
+abbrev pub LineFaultsAreDistinct : Type 0
+LineFaultsAreDistinct = (fault : ReadFault) → HasItsPlace fault
 
 -- the number of every fault of a request: 1 to 6 of its line, 10 to 17 of its console and logon, 20 and 21 of the policy, 30 to
 -- 45 of the board, 50 to 60 of administration, and from 90 on where it is given up or the tables are not ours

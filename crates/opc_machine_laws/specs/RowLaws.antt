@@ -21,7 +21,7 @@ use Rattle.opc_policy_members.specs.Taken.{after_row, has_group, has_holder, has
 use Rattle.opc_board.specs.declared.board.BoardRows.{BoardRows}
 use Rattle.opc_board.specs.declared.rows.ConsoleRow.{ConsoleRow}
 use Rattle.opc_board.specs.Consoles.{console_defined}
-use Rattle.opc_board.specs.Facts.{Name, console_at}
+use Rattle.opc_board.specs.Invariants.{Name, console_at}
 use Rattle.opc_state.specs.declared.change.Batch.{Batch}
 use Rattle.opc_state.specs.Loads.{is_connected}
 use Rattle.opc_state.specs.Members.{with_batch}

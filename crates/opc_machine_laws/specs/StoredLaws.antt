@@ -9,7 +9,7 @@ use Rattle.opc_policy_members.specs.Members.{groups_of, user_of}
 use Rattle.opc_policy_members.specs.Taken.{has_group, has_holder, has_user}
 use Rattle.opc_board.specs.declared.board.BoardRows.{BoardRows}
 use Rattle.opc_board.specs.declared.rows.ConsoleRow.{ConsoleRow}
-use Rattle.opc_board.specs.Facts.{Name}
+use Rattle.opc_board.specs.Invariants.{Name}
 use Rattle.opc_board.specs.Replies.{is_on}
 use Rattle.opc_state.specs.Loads.{is_connected, is_named}
 

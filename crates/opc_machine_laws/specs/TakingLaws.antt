@@ -11,7 +11,7 @@ use Rattle.opc_policy_members.specs.Profiles.{with_definition, with_permission}
 use Rattle.opc_policy_members.specs.Taken.{after_row, with_active}
 use Rattle.opc_board.specs.declared.board.BoardRows.{BoardRows}
 use Rattle.opc_board.specs.Consoles.{console_defined}
-use Rattle.opc_board.specs.Facts.{has_master}
+use Rattle.opc_board.specs.Invariants.{has_master}
 use Rattle.opc_state.specs.declared.change.Batch.{Batch}
 use Rattle.opc_state.specs.Members.{without_connect, without_permission, without_profile, without_user}
 use Rattle.opc_state.specs.State.{State}

@@ -4,10 +4,10 @@ ghost use Rattle.opc_machine_laws.specs.ChangingLaws.{AccountIsPaged, Administer
 ghost use Rattle.opc_machine_laws.specs.DisplayLaws.{LinesAreAboutWhatTheyList, ListsEachConsoleOnce, ListsEachUnitOnce, ListsEveryConsole, ListsEveryUnit, ListsTheUnit, ListsTheUnitOnce};
 ghost use Rattle.opc_machine_laws.specs.FaultLaws.{AdministrationFaultsAreAnswered, BadLinesAreAnswered, ChangedBatchesAreAnswered, ImportFaultsAreAnswered, LogonFaultsAreAnswered, MissingConsolesAreAnswered, MissingRightsAreAnswered, OfflineConsolesAreAnswered};
 ghost use Rattle.opc_machine_laws.specs.HoldingLaws.{ConsoleEntriesRaise, ConsolesNeverLower, EntriesCountAtTheirConsole, FirstSourceDecides, LevelsAreGiven, RestrictedUsersAreNamed};
-ghost use Rattle.opc_machine_laws.specs.Laws.{ActsOnlyWhereAllowed, ActsWhereverAllowed, BoardFaultsAreAnswered, DenialsAreAnswered, GivenUpChangesNothing, GivenUpWithoutMemoryOrStore, ListsExactlyWhatMayBeShown, LogsOffOnlyWhereSomebodyIsOn, LogsOffWhereverSomebodyIsOn, LogsOnOnlyWhereAllowed, LogsOnWhereverAllowed, NothingAskedChangesNothing, OnlyWhatIsHeardIsDone, RefusalsChangeNothing, RefusalsNameNoOtherRule, RefusalsOfAuthorityNameTheirRule, RequestsAreJudgedInTurn};
-ghost use Rattle.opc_machine_laws.specs.LeavingLaws.{AccountRowsTell, EventFaultsAreAnswered, EventsHappenWhereverPossible, EventsOnlyDoTheirEffect, RequestsNameTheirConsole, WhatIsDoneLeavesRest};
+ghost use Rattle.opc_machine_laws.specs.Laws.{ActsOnlyWhereAllowed, ActsWhereverAllowed, BoardFaultsAreAnswered, DenialsAreAnswered, AbortsChangeNothing, AbortsWithoutMemoryOrStore, ListsExactlyWhatMayBeShown, LogsOffOnlyWhereSomebodyIsOn, LogsOffWhereverSomebodyIsOn, LogsOnOnlyWhereAllowed, LogsOnWhereverAllowed, NothingAskedChangesNothing, OnlyWhatIsHeardIsDone, RefusalsChangeNothing, RefusalsNameNoOtherRule, RefusalsOfAuthorityNameTheirRule, RequestsAreJudgedInTurn};
+ghost use Rattle.opc_machine_laws.specs.LeavingLaws.{AccountRowsSay, EventFaultsAreAnswered, EventsHappenWhereverPossible, EventsOnlyDoTheirEffect, RequestsNameTheirConsole, WhatIsDoneLeavesRest};
 ghost use Rattle.opc_machine_laws.specs.NeedLaws.{AuthoritiesEnterTheirGroups, NeedsAreOfTheTable};
-ghost use Rattle.opc_machine_laws.specs.NumberLaws.{BoardFaultsAreToldApart, LineFaultsAreToldApart};
+ghost use Rattle.opc_machine_laws.specs.NumberLaws.{BoardFaultsAreDistinct, LineFaultsAreDistinct};
 ghost use Rattle.opc_machine_laws.specs.ObstacleLaws.{ObstaclesAreFaults, OperationsAreDoneWithoutObstacle};
 ghost use Rattle.opc_machine_laws.specs.RightLaws.{AccountIsSeenByAuditors, ImportsAreOfSpecial, ProfilesAreSeenByReaders, RightsAreOfSpecialAndOwners};
 ghost use Rattle.opc_machine_laws.specs.RulingLaws.{LogonRuleSaysWhy, LogonRulingsSayWhy, RulingsSayWhy};
@@ -218,13 +218,13 @@ pub fn refusals_change_nothing()
 {}
 
 /// A request that is given up changes nothing, not even the account.
-pub fn given_up_changes_nothing()
-    ensures { GivenUpChangesNothing }
+pub fn aborts_change_nothing()
+    ensures { AbortsChangeNothing }
 {}
 
 /// A request is given up where memory is refused (E90) or because the store failed (E91), and is answered so.
-pub fn given_up_without_memory_or_store()
-    ensures { GivenUpWithoutMemoryOrStore }
+pub fn aborts_without_memory_or_store()
+    ensures { AbortsWithoutMemoryOrStore }
 {}
 
 /// A refusal of authority names its rule, a profile, a console's group or the logon rule, and that rule denies by the
@@ -260,9 +260,9 @@ pub fn bad_lines_are_answered()
 {}
 
 /// What is in the way on the board, and what is wrong with a line, is told by its number, and no two are told alike.
-pub fn faults_are_told_apart()
-    ensures board { BoardFaultsAreToldApart }
-    ensures line { LineFaultsAreToldApart }
+pub fn faults_are_distinct()
+    ensures board { BoardFaultsAreDistinct }
+    ensures line { LineFaultsAreDistinct }
 {}
 
 /// A LOGON is refused where somebody is on (E15), then where the password is not the user's (E14); LOGOFF where nobody is on
@@ -292,8 +292,8 @@ pub fn what_is_done_leaves_the_rest()
 {}
 
 /// A row of the account tells the moment, the console, what came of it and by which rule.
-pub fn account_rows_tell()
-    ensures { AccountRowsTell }
+pub fn account_rows_say()
+    ensures { AccountRowsSay }
 {}
 
 /// A request names the console at which it is asked, and an event none.

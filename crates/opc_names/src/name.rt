@@ -169,9 +169,9 @@ impl NameKind<8> for UserKind {
 }
 
 /// The kind of a unit's name: a job, a started task or a logged-on user.
-pub struct UnitKind;
+pub struct UnitNameKind;
 
-impl NameKind<8> for UnitKind {
+impl NameKind<8> for UnitNameKind {
     ghost rule = { unit_rule };
 
     ghost short = { lit≤ tt };
@@ -305,7 +305,7 @@ impl NameKind<39> for PatternKind {
 pub type UserId = Name<UserKind, 8>;
 
 /// A unit of work: 1 to 8 name characters.
-pub type UnitName = Name<UnitKind, 8>;
+pub type UnitName = Name<UnitNameKind, 8>;
 
 /// A group of users: 1 to 8 name characters, the first no digit.
 pub type GroupName = Name<GroupKind, 8>;

@@ -88,7 +88,7 @@ impl Entries {
     ) -> Option<Level>
         ensures { result ≡ first_level self.now (option_copied when.entry) user.now groups.now }
     {
-        let sources = Sources {
+        let sources = EntryLevels {
             own: self.level_of(when, user.id.text()),
             groups: self.highest_level(when, groups),
             everyone: self.level_of(when, "*"),
@@ -100,13 +100,13 @@ impl Entries {
 /// What an access list has for a user among the entries with one condition: the level of the user's own entry, the
 /// highest one of the entries for the user's groups, and the level of the entry for everyone.
 #[derive(Clone, Copy)]
-pub struct Sources {
+pub struct EntryLevels {
     pub own: Option<Level>,
     pub groups: Option<Level>,
     pub everyone: Option<Level>,
 }
 
-impl Sources {
+impl EntryLevels {
     /// The level of the first that there is. A RESTRICTED user has nothing of the entry for everyone.
     pub fn first_level(self, user: &User) -> Option<Level>
         ensures { result ≡ option_or self.own (option_or self.groups (if user.now.restricted then None else self.everyone)) }

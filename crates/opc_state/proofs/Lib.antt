@@ -2,4 +2,4 @@ pub mod Listed
 pub mod Parts
 pub mod Replacing
 pub mod SameRows
-pub mod Seen
+pub mod Footprint

@@ -10,7 +10,7 @@ use Rattle.opc_board.specs.declared.rows.ConsoleRow.{ConsoleRow}
 use Rattle.opc_board.specs.declared.rows.DeviceRow.{DeviceRow}
 use Rattle.opc_board.specs.declared.rows.ReplyRow.{ReplyRow}
 use Rattle.opc_board.specs.declared.rows.UnitRow.{UnitRow}
-use Rattle.opc_board.specs.Sight.{IsInOrder}
+use Rattle.opc_board.specs.Footprint.{IsInOrder}
 use Rattle.opc_board.specs.History.{without_history}
 use Rattle.opc_state.specs.declared.change.Edit.{Edit}
 use Rattle.opc_state.specs.declared.change.Edit.TheVariants as edit
@@ -18,8 +18,8 @@ use Rattle.opc_state.specs.State.{State}
 use Rattle.opc_state.specs.Members.{unit_cmp, device_cmp, console_cmp, reply_cmp}
 use Rattle.opc_state.specs.Changes.{edited, all_edited, with_board, with_units, with_devices, with_consoles, with_replies, with_halted, with_answered, with_log, with_messages}
 use Rattle.opc_state.specs.Difference.{gone, fresh, part_difference, board_difference, halted_difference, unit_at, device_at, console_at, reply_at, same_unit, same_device, same_console, same_reply, unit_removal, device_removal, console_removal, reply_removal}
-use Rattle.opc_state.specs.Sights.{AreSights}
-use Rattle.opc_state.proofs.Seen.{differences}
+use Rattle.opc_state.specs.Footprints.{AreFootprints}
+use Rattle.opc_state.proofs.Footprint.{differences}
 use Rattle.opc_state.proofs.Replacing.{without_all, with_all, becomes, none_gone, none_fresh}
 use Rattle.opc_state.proofs.SameRows.{unit_total, device_total, console_total, reply_total, unit_ties, device_ties, console_ties, reply_ties, units_same, devices_same, consoles_same, replies_same, unit_itself, device_itself, console_itself, reply_itself}
 
@@ -185,15 +185,15 @@ live_order : (b : BoardRows) → IsInOrder b → IsInOrder (without_history b)
 live_order b order = record { units = order.units; devices = order.devices; consoles = order.consoles; replies = order.replies }
 
 -- the edits between what is seen of two boards are those between the boards
-seen_alike : (old new : BoardRows) (s : State) (whole : BoardRows) (h : AreSights old new s whole) → board_difference old new ≡ board_difference (without_history s.board) whole
+seen_alike : (old new : BoardRows) (s : State) (whole : BoardRows) (h : AreFootprints old new s whole) → board_difference old new ≡ board_difference (without_history s.board) whole
 seen_alike old new s whole h =
     ap₂ board_difference h.old_is h.new_is
-    ∙ differences h.seen (without_history s.board) whole (live_order s.board h.was) h.now (record { units = h.left.units; devices = h.left.devices; consoles = h.left.consoles; replies = h.left.replies })
+    ∙ differences h.footprint (without_history s.board) whole (live_order s.board h.was) h.now (record { units = h.left.units; devices = h.left.devices; consoles = h.left.consoles; replies = h.left.replies })
 
-pub sights_become : (old new : BoardRows) (s : State) (whole : BoardRows) → AreSights old new s whole → all_edited (board_difference old new) s ≡ with_board whole s
-sights_become old new s whole h = ap (λ edits. all_edited edits s) (seen_alike old new s whole h) ∙ board_becomes s whole h.was h.now
+pub footprints_become : (old new : BoardRows) (s : State) (whole : BoardRows) → AreFootprints old new s whole → all_edited (board_difference old new) s ≡ with_board whole s
+footprints_become old new s whole h = ap (λ edits. all_edited edits s) (seen_alike old new s whole h) ∙ board_becomes s whole h.was h.now
 
-pub sights_stay : (old new : BoardRows) (s : State) (whole : BoardRows) → AreSights old new s whole → all_edited (board_difference old new) s ≡ s → board_difference old new ≡ []
-sights_stay old new s whole h stays =
-    let live : whole ≡ without_history s.board = stays_live s whole (sym (sights_become old new s whole h) ∙ stays) in
+pub footprints_stay : (old new : BoardRows) (s : State) (whole : BoardRows) → AreFootprints old new s whole → all_edited (board_difference old new) s ≡ s → board_difference old new ≡ []
+footprints_stay old new s whole h stays =
+    let live : whole ≡ without_history s.board = stays_live s whole (sym (footprints_become old new s whole h) ∙ stays) in
     seen_alike old new s whole h ∙ no_difference (without_history s.board) whole (live_order s.board h.was) live

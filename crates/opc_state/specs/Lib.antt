@@ -2,8 +2,8 @@ pub mod State
 pub mod Members
 pub mod Changes
 pub mod Difference
-pub mod Facts
+pub mod Invariants
 pub mod Asked
-pub mod Sights
+pub mod Footprints
 pub mod Loads
 pub mod PolicyFile

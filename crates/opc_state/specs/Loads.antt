@@ -15,7 +15,7 @@ use Rattle.opc_policy_members.specs.Profiles.{profile_of}
 use Rattle.opc_board.specs.declared.board.BoardRows.{BoardRows}
 use Rattle.opc_board.specs.declared.rows.ConsoleRow.{ConsoleRow}
 use Rattle.opc_board.specs.declared.rows.DeviceRow.{DeviceRow}
-use Rattle.opc_board.specs.Facts.{Name, is_master}
+use Rattle.opc_board.specs.Invariants.{Name, is_master}
 use Rattle.opc_board.specs.Units.{is_holder}
 use Rattle.opc_state.specs.declared.account.AccountRow.{AccountRow}
 use Rattle.opc_state.specs.declared.change.Batch.{Batch}

@@ -2,11 +2,11 @@
 ghost use Rattle.std.specs.Prelude.{◌≡◌, ◌++◌, [], IfOk, OnOk, find, map};
 ghost use Rattle.std.specs.Option.{is_none};
 ghost use Rattle.opc_rows.specs.Ordered.{IsInKeyOrder};
-ghost use Rattle.opc_board.specs.Facts.{IsBoard};
+ghost use Rattle.opc_board.specs.Invariants.{IsBoard};
 ghost use Rattle.opc_board.specs.History.{without_history};
 ghost use Rattle.opc_board.specs.declared.board.BoardRows.{BoardRows};
 ghost use Rattle.opc_state.specs.State.{State};
-ghost use Rattle.opc_state.specs.Sights.{AreSights};
+ghost use Rattle.opc_state.specs.Footprints.{AreFootprints};
 ghost use Rattle.opc_state.specs.Changes.{all_edited, with_board};
 ghost use Rattle.opc_state.specs.Difference.{as_it_was, board_difference, fresh, gone, halted_difference, part_difference};
 
@@ -153,8 +153,8 @@ fn parts(alloc: Global, old: &BoardRows, new: &BoardRows) -> Result<Vec<Edit>, A
 /// added to theirs. Members that stay as they are are not among the edits; so there are none where a state stays as it
 /// is.
 pub fn difference(alloc: Global, old: &Board, new: &Board) -> Result<Vec<Edit>, AllocError>
-    ensures becomes { IfOk result (λ edits. (s : State) → (whole : BoardRows) → AreSights old.now new.now s whole → all_edited edits.items s ≡ with_board whole s) }
-    ensures idle { IfOk result (λ edits. (s : State) → (whole : BoardRows) → AreSights old.now new.now s whole → all_edited edits.items s ≡ s → edits.items ≡ []) }
+    ensures becomes { IfOk result (λ edits. (s : State) → (whole : BoardRows) → AreFootprints old.now new.now s whole → all_edited edits.items s ≡ with_board whole s) }
+    ensures idle { IfOk result (λ edits. (s : State) → (whole : BoardRows) → AreFootprints old.now new.now s whole → all_edited edits.items s ≡ s → edits.items ≡ []) }
 {
     let edits = parts(alloc, old.rows(), new.rows())?;
     Ok(edits)

@@ -1,12 +1,12 @@
 //! What the machine asks of the tables that keep its state.
 ghost use Rattle.std.specs.Prelude.{◌≡◌, ◌⊎◌, map, take, OnOk, OnErr};
 ghost use Rattle.std.specs.Option.{option_copied, option_map};
-ghost use Rattle.opc_board.specs.Facts.{console_at, device_at, reply_at, unit_at};
+ghost use Rattle.opc_board.specs.Invariants.{console_at, device_at, reply_at, unit_at};
 ghost use Rattle.opc_policy_members.specs.Profiles.{of_class, profile_of};
 ghost use Rattle.opc_policy_members.specs.Members.{user_of, groups_of};
 ghost use Rattle.opc_policy_members.specs.Taken.{has_group, has_user, is_active};
 ghost use Rattle.opc_state.specs.Asked.{Answers};
-ghost use Rattle.opc_state.specs.Facts.{IsKeyed};
+ghost use Rattle.opc_state.specs.Invariants.{IsKeyed};
 ghost use Rattle.opc_state.specs.Loads.{access_list, asked_for, bare, batch_rows, consoles_of, devices_of, is_connected, is_named, level_for, masters};
 ghost use Rattle.opc_state.specs.PolicyFile.{rows_of};
 ghost use Rattle.opc_state.specs.State.{State, Fits, deciding_in, has_users};

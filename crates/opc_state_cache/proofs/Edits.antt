@@ -22,7 +22,7 @@ use Rattle.opc_state.specs.declared.account.AccountRow.{AccountRow}
 use Rattle.opc_state.specs.declared.change.Edit.{Edit}
 use Rattle.opc_state.specs.declared.change.Edit.TheVariants as edit
 use Rattle.opc_state.specs.Changes.{all_edited, edited, with_account, with_profiles}
-use Rattle.opc_state.specs.Facts.{IsKeyed}
+use Rattle.opc_state.specs.Invariants.{IsKeyed}
 use Rattle.opc_state.specs.Members.{unit_cmp, device_cmp, console_cmp, reply_cmp, without_entry}
 use Rattle.opc_state.specs.State.{State}
 use Rattle.opc_state.proofs.SameRows.{console_total, device_total, first, names, reply_total, rest, unit_total}
@@ -30,8 +30,8 @@ use Rattle.opc_board.specs.declared.rows.ConsoleRow.{ConsoleRow}
 use Rattle.opc_board.specs.declared.rows.DeviceRow.{DeviceRow}
 use Rattle.opc_board.specs.declared.rows.ReplyRow.{ReplyRow}
 use Rattle.opc_board.specs.declared.rows.UnitRow.{UnitRow}
-use Rattle.opc_board.specs.Facts.{console_before, device_before, reply_before, unit_before}
-use Rattle.opc_state_cache.specs.Cache.{may_redecide, redefines, redefines_alone}
+use Rattle.opc_board.specs.Invariants.{console_before, device_before, reply_before, unit_before}
+use Rattle.opc_state_cache.specs.Cache.{invalidates, redefines, adds_or_removes_profile}
 use Rattle.opc_state_cache.proofs.Keyed.{profile_total, put_all, put_ascends, user_total}
 use Rattle.opc_state_cache.proofs.Named.{name_of, put_named}
 
@@ -119,7 +119,7 @@ module _ (s : State) (k : IsKeyed s) where
   }
 
 -- one edit that does not change which profiles there are
-pub edit_stays : (e : Edit) (s : State) → IsKeyed s → redefines_alone s.policy e ≡ false → Stays s (edited e s)
+pub edit_stays : (e : Edit) (s : State) → IsKeyed s → adds_or_removes_profile s.policy e ≡ false → Stays s (edited e s)
 edit_stays (edit.PutProfile d) s k h = definition_stays s k d h
 edit_stays (edit.RemoveProfile class pattern) s k h = absurd (search (rules, h))
 edit_stays (edit.PutBatch batch) s k h = absurd (search (rules, h))
@@ -146,7 +146,7 @@ edit_stays other s k h = record {
 }
 
 -- edits of which none is of profiles
-alone_too : (p : Policy) (e : Edit) → redefines e ≡ false → redefines_alone p e ≡ false
+alone_too : (p : Policy) (e : Edit) → redefines e ≡ false → adds_or_removes_profile p e ≡ false
 alone_too p (edit.PutProfile d) h = absurd (search (rules, h))
 alone_too p other h = h
 
@@ -165,7 +165,7 @@ none_stay (e ∷ edits) s k h =
     let more : Stays (edited e s) (all_edited edits (edited e s)) = none_stay edits (edited e s) one.keyed (right_false (redefines e) (list_any redefines edits) h) in
     record { keyed = more.keyed; named = more.named ∙ one.named }
 
-pub edits_stay : (edits : List Edit) (s : State) → IsKeyed s → may_redecide s.policy edits ≡ false → Stays s (all_edited edits s)
+pub edits_stay : (edits : List Edit) (s : State) → IsKeyed s → invalidates s.policy edits ≡ false → Stays s (all_edited edits s)
 edits_stay [] s k h = record { keyed = k; named = refl }
 edits_stay (e ∷ []) s k h = edit_stays e s k h
 edits_stay (e ∷ (f ∷ more)) s k h = none_stay (e ∷ f ∷ more) s k h

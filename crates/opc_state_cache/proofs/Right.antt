@@ -20,11 +20,11 @@ use Rattle.opc_terms.specs.declared.store_fault.StoreFault.{StoreFault}
 use Rattle.opc_state.specs.declared.change.Change.{Change}
 use Rattle.opc_state.specs.declared.change.Edit.{Edit}
 use Rattle.opc_state.specs.Changes.{IsKept, all_edited, changed_by}
-use Rattle.opc_state.specs.Facts.{IsKeyed}
+use Rattle.opc_state.specs.Invariants.{IsKeyed}
 use Rattle.opc_state.specs.Loads.{bare}
 use Rattle.opc_state.specs.State.{State, deciding_in}
 use Rattle.opc_state.proofs.SameRows.{first, names, rest}
-use Rattle.opc_state_cache.specs.Cache.{Entries, IsCached, IsKeptWith, IsRight, Name, deciding_pattern, may_redecide, pattern_of, redefines, remembered, same_name}
+use Rattle.opc_state_cache.specs.Cache.{Entries, IsCached, IsKeptWith, IsRight, Name, deciding_pattern, invalidates, pattern_of, redefines, remembered, same_name}
 use Rattle.opc_state_cache.specs.declared.cached.Cached.{Cached}
 use Rattle.opc_state_cache.proofs.Keyed.{IsFoundIn, deciding_found}
 use Rattle.opc_state_cache.proofs.Named.{same_pattern}
@@ -101,7 +101,7 @@ searched_holds (Err fault) old new s name h is ordered keeps failed = subst (λ 
 
 -- ---- a change
 
-edits_hold : (c : Change) (s : State) (entries : Entries) → Holds entries s → (b : Bool) → may_redecide s.policy c.edits.items ≡ b → Holds (cond b [] entries) (changed_by c s)
+edits_hold : (c : Change) (s : State) (entries : Entries) → Holds entries s → (b : Bool) → invalidates s.policy c.edits.items ≡ b → Holds (cond b [] entries) (changed_by c s)
 edits_hold c s entries h true is = nothing_holds (changed_by c s)
 edits_hold c s entries h false is =
     let stays : IsKeyed s → Stays s (changed_by c s) = λ k. account_stays c.account s (all_edited c.edits.items s) (edits_stay c.edits.items s k is) in
@@ -111,10 +111,10 @@ edits_hold c s entries h false is =
     }
 
 pub remembered_holds : (c : Change) (s : State) (entries : Entries) → Holds entries s → Holds (remembered s.policy c.edits.items entries) (changed_by c s)
-remembered_holds c s entries h = edits_hold c s entries h (may_redecide s.policy c.edits.items) refl
+remembered_holds c s entries h = edits_hold c s entries h (invalidates s.policy c.edits.items) refl
 
 pub fewer_hold : (c : Change) (s : State) (entries : Entries) → Holds entries s → Holds (remembered s.policy c.edits.items entries) s
-fewer_hold c s entries h = go (may_redecide s.policy c.edits.items)
+fewer_hold c s entries h = go (invalidates s.policy c.edits.items)
   where
     go : (b : Bool) → Holds (cond b [] entries) s
     go true = nothing_holds s
@@ -157,11 +157,11 @@ on_err (Err e) f p = f p
 
 -- ---- lists of edits
 
-pub no_edit : (p : Policy) (edits : List Edit) → length edits < 1 → may_redecide p edits ≡ list_any redefines edits
+pub no_edit : (p : Policy) (edits : List Edit) → length edits < 1 → invalidates p edits ≡ list_any redefines edits
 no_edit p [] few = refl
 no_edit p (e ∷ edits) few = absurd (omega arith)
 
-pub some_edits : (p : Policy) (edits : List Edit) → 2 ≤ length edits → may_redecide p edits ≡ list_any redefines edits
+pub some_edits : (p : Policy) (edits : List Edit) → 2 ≤ length edits → invalidates p edits ≡ list_any redefines edits
 some_edits p [] many = absurd (omega arith)
 some_edits p (e ∷ []) many = absurd (omega arith)
 some_edits p (e ∷ (f ∷ more)) many = refl

@@ -11,7 +11,7 @@ use Rattle.opc_policy_members.specs.declared.profile.Profile.{Profile}
 use Rattle.opc_policy_members.specs.Profiles.{profile_of}
 use Rattle.opc_state.specs.declared.change.Edit.{Edit}
 use Rattle.opc_state.specs.declared.change.Edit.TheVariants as edit
-use Rattle.opc_state.specs.Facts.{IsKeyed}
+use Rattle.opc_state.specs.Invariants.{IsKeyed}
 use Rattle.opc_state.specs.State.{State, deciding_in}
 
 -- a class and a resource
@@ -55,16 +55,16 @@ redefines (edit.PutBatch batch) = true
 redefines other = false
 
 -- one edit alone: a profile that is there may be put again
-abbrev pub redefines_alone : Policy → Edit → Bool
-redefines_alone p (edit.PutProfile profile) = is_none (profile_of p.profiles profile.class profile.pattern)
-redefines_alone p other = redefines other
+abbrev pub adds_or_removes_profile : Policy → Edit → Bool
+adds_or_removes_profile p (edit.PutProfile profile) = is_none (profile_of p.profiles profile.class profile.pattern)
+adds_or_removes_profile p other = redefines other
 
 -- whether edits may change which profile decides
-abbrev pub may_redecide : Policy → List Edit → Bool
-may_redecide p [] = false
-may_redecide p (e ∷ []) = redefines_alone p e
-may_redecide p (e ∷ (f ∷ more)) = list_any redefines (e ∷ f ∷ more)
+abbrev pub invalidates : Policy → List Edit → Bool
+invalidates p [] = false
+invalidates p (e ∷ []) = adds_or_removes_profile p e
+invalidates p (e ∷ (f ∷ more)) = list_any redefines (e ∷ f ∷ more)
 
 -- what is cached as these edits are made: all of it, or nothing
 abbrev pub remembered : Policy → List Edit → Entries → Entries
-remembered p edits entries = if may_redecide p edits then [] else entries
+remembered p edits entries = if invalidates p edits then [] else entries

@@ -6,12 +6,12 @@ ghost use Rattle.opc_terms.specs.declared.fault.Fault.TheVariants as why;
 ghost use Rattle.opc_policy_members.specs.Profiles.{profile_of};
 ghost use Rattle.opc_state.specs.Asked.{Answers};
 ghost use Rattle.opc_state.specs.Changes.{IsKept};
-ghost use Rattle.opc_state.specs.Facts.{IsKeyed};
+ghost use Rattle.opc_state.specs.Invariants.{IsKeyed};
 ghost use Rattle.opc_state.specs.Loads.{bare};
 ghost use Rattle.opc_state.specs.State.{deciding_in};
-ghost use Rattle.opc_state_cache.specs.Cache.{IsKeptWith, may_redecide, pattern_of, redefines, redefines_alone, remembered};
+ghost use Rattle.opc_state_cache.specs.Cache.{IsKeptWith, invalidates, pattern_of, redefines, adds_or_removes_profile, remembered};
 
-use crate::recent::Recent;
+use crate::deciding_cache::DecidingCache;
 use opc_policy::search::Found;
 use opc_names::class::Class;
 use opc_names::name::{Pattern, Resource};
@@ -27,7 +27,7 @@ use std::alloc::Global;
 #[derive(Drop)]
 pub struct Cached<T: Tables> {
     pub(crate) tables: T,
-    pub(crate) recent: Recent,
+    pub(crate) recent: DecidingCache,
 }
 
 impl<T: Tables> Cached<T> {
@@ -36,7 +36,7 @@ impl<T: Tables> Cached<T> {
         ensures made { IfOk result (λ cached. (cached.tables ≡ tables) × (cached.recent ≡ [])) }
         ensures refused { IfErr result (λ back. (back.0 ≡ why.NoMemory) × (back.1 ≡ tables)) }
     {
-        match Recent::new(alloc) {
+        match DecidingCache::new(alloc) {
             Ok(recent) => Ok(Cached { tables, recent }),
             Err(_) => Err((Fault::NoMemory, tables)),
         }
@@ -77,12 +77,12 @@ impl<T: Tables> Cached<T> {
 
     /// Forgets all names before a change that may change which profile decides. Before the commit, since afterwards the
     /// cache would be stale when a commit succeeded but could not report success.
-    pub(crate) fn forget_before(&mut self, alloc: Global, change: &Change) -> Result<(), StoreFault>
+    pub(crate) fn invalidate_for(&mut self, alloc: Global, change: &Change) -> Result<(), StoreFault>
         ensures kept { IsKept T.is_sure T.represents T.may_leave self.old.tables self.new.tables }
         ensures forgets { Answers (T.is_sure self.new.tables) (T.represents self.old.tables) result (λ s _. self.new.recent ≡ remembered s.policy change.now.edits.items self.old.recent) }
         ensures failed { OnErr result (self.new.recent ≡ self.old.recent) }
     {
-        if may_redecide(&mut self.tables, alloc, change.edits.as_slice())? {
+        if invalidates(&mut self.tables, alloc, change.edits.as_slice())? {
             self.recent.clear();
         }
         Ok(())
@@ -100,7 +100,7 @@ fn pattern_of(profile: &Option<Profile>) -> Option<Pattern>
 
 /// The profile of a pattern that is known to decide, or none where none does. A hit loads the profile by its key. That
 /// it is found there rests on the order of the keys, which the search gives with its answer and the cache keeps.
-pub(crate) fn known<T: Tables>(
+pub(crate) fn cached_pattern<T: Tables>(
     tables: &mut T,
     alloc: Global,
     class: Class,
@@ -136,13 +136,13 @@ fn any_redefines(edits: &[Edit]) -> bool
 }
 
 // A profile that is defined anew decides what it decided.
-fn redefines_alone<T: Tables>(
+fn adds_or_removes_profile<T: Tables>(
     tables: &mut T,
     alloc: Global,
     edit: &Edit,
 ) -> Result<bool, StoreFault>
     ensures kept { IsKept T.is_sure T.represents T.may_leave tables.old tables.new }
-    ensures redefines { Answers (T.is_sure tables.new) (T.represents tables.old) result (λ s redefines. redefines ≡ redefines_alone s.policy edit.now) }
+    ensures redefines { Answers (T.is_sure tables.new) (T.represents tables.old) result (λ s redefines. redefines ≡ adds_or_removes_profile s.policy edit.now) }
 {
     let Edit::PutProfile(profile) = edit else {
         return Ok(redefines(edit));
@@ -155,17 +155,17 @@ fn redefines_alone<T: Tables>(
 
 // Whether edits may change which profile decides. Only where there is one are the tables asked: whether a profile that
 // it puts is there is one look-up by its key. A change without a profile asks nothing.
-fn may_redecide<T: Tables>(
+fn invalidates<T: Tables>(
     tables: &mut T,
     alloc: Global,
     edits: &[Edit],
 ) -> Result<bool, StoreFault>
     ensures kept { IsKept T.is_sure T.represents T.may_leave tables.old tables.new }
-    ensures redecides { Answers (T.is_sure tables.new) (T.represents tables.old) result (λ s redecides. redecides ≡ may_redecide s.policy edits.now) }
+    ensures redecides { Answers (T.is_sure tables.new) (T.represents tables.old) result (λ s redecides. redecides ≡ invalidates s.policy edits.now) }
 {
     match edits {
         [] => Ok(false),
-        [edit] => redefines_alone(tables, alloc, edit),
+        [edit] => adds_or_removes_profile(tables, alloc, edit),
         [_, _, ..] => Ok(any_redefines(edits)),
     }
 }

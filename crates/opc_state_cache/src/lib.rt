@@ -2,5 +2,5 @@
 #![tactic(auto)]
 
 pub mod cached;
-mod recent;
+mod deciding_cache;
 mod tables;

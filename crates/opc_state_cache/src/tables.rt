@@ -1,6 +1,6 @@
 //! The tables that the machine asks, with the cache before them.
 
-use crate::cached::{Cached, known};
+use crate::cached::{Cached, cached_pattern};
 use opc_board::rows::{ConsoleRow, DeviceRow, ReplyRow, UnitRow};
 use opc_policy::search::Found;
 use opc_names::class::Class;
@@ -109,7 +109,7 @@ impl<T: Tables> Tables for Cached<T> {
         resource: &Resource,
     ) -> Result<Found, StoreFault> {
         match self.recent.get(class, resource) {
-            Some(pattern) => known(&mut self.tables, alloc, class, pattern),
+            Some(pattern) => cached_pattern(&mut self.tables, alloc, class, pattern),
             None => self.search(alloc, class, resource),
         }
     }
@@ -193,7 +193,7 @@ impl<T: Tables> Tables for Cached<T> {
     }
 
     fn commit(&mut self, alloc: Global, change: &Change) -> Result<(), StoreFault> {
-        self.forget_before(alloc, change)?;
+        self.invalidate_for(alloc, change)?;
         self.tables.commit(alloc, change)
     }
 }

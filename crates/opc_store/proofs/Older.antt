@@ -88,7 +88,7 @@ module _ {S : Type 0} (g : Ghosts S) (version : ℕ) (old asked : Held S) (live 
           → IfErr r (λ e. HasCleanDisk (state g (conn e)) → IsTrue (has_our_name (state g old).now.schema) → IsRefused g (fault e) (state g old) (state g (conn e)))
       refused =
           both_err r (λ e. Leaves (conn e)) (λ e. IsNoVersion (fault e)) (λ e. HasCleanDisk (state g (conn e)) → IsTrue (has_our_name (state g old).now.schema) → IsRefused g (fault e) (state g old) (state g (conn e)))
-          (λ e left told clean named. elim told [ inl memory ↦ inr (inr (inl memory)) | inr store ↦ inr (inr (inr (store, was_older (early (conn e) left clean)))) ])
+          (λ e left returned clean named. elim returned [ inl memory ↦ inr (inr (inl memory)) | inr store ↦ inr (inr (inr (store, was_older (early (conn e) left clean)))) ])
 
       crashes : IsTrue (has_our_name (state g old).now.schema) → (new : Held S) → Leaves new → Survives (state g old) (state g new) (MayLeave g old)
       crashes named new left =
@@ -103,4 +103,4 @@ module _ {S : Type 0} (g : Ghosts S) (version : ℕ) (old asked : Held S) (live 
           → IfErr r (λ e. Survives (state g old) (state g (conn e)) (λ db. IsNoVersion (fault e) × MayLeave g old db))
       crash_at_fault named =
           both_err r (λ e. Leaves (conn e)) (λ e. IsNoVersion (fault e)) (λ e. Survives (state g old) (state g (conn e)) (λ db. IsNoVersion (fault e) × MayLeave g old db))
-          (λ e left told. survives_weaker (state g old) (state g (conn e)) (MayLeave g old) (λ db. IsNoVersion (fault e) × MayLeave g old db) (λ _ db h. (told, h)) (crashes named (conn e) left))
+          (λ e left returned. survives_weaker (state g old) (state g (conn e)) (MayLeave g old) (λ db. IsNoVersion (fault e) × MayLeave g old db) (λ _ db h. (returned, h)) (crashes named (conn e) left))

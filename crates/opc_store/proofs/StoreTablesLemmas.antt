@@ -9,7 +9,7 @@ use Rattle.sqlite.specs.State.{HasCleanDisk, Survives}
 use Rattle.opc_store_sql.specs.Steps.{Looks}
 use Rattle.opc_state.specs.declared.change.Change.{Change}
 use Rattle.opc_state.specs.Changes.{IsKept, changed_by}
-use Rattle.opc_state.specs.Facts.{IsKeyed}
+use Rattle.opc_state.specs.Invariants.{IsKeyed}
 use Rattle.opc_state.specs.State.{State, Fits}
 use Rattle.opc_store_schema.specs.Changes.{Becomes}
 use Rattle.opc_store_schema.specs.Represented.{Represents, AreTablesOf}
@@ -92,7 +92,7 @@ module _ {S : Type 0} (g : Ghosts S) where
 
         pub commit_acknowledged : OnOk r ((db : Trees) → (state g c).may_leave db → (s : State) → Represents (state g b).now s → AreTablesOf db (changed_by change s))
             → OnOk r ((left : State) → MayLeave g c left → left ≡ changed_by change s)
-        commit_acknowledged = on_ok_weaker r (λ told left it. sym (it.3 (changed_by change s) (told it.1 it.2 s mid)))
+        commit_acknowledged = on_ok_weaker r (λ returned left it. sym (it.3 (changed_by change s) (returned it.1 it.2 s mid)))
 
         pub commit_crash : (left : State) → MayLeave g c left → MayLeave g a left ⊎ (left ≡ changed_by change s)
         commit_crash left it = go (survives.crash clean it.1 it.2)

@@ -67,13 +67,13 @@ IsKnown g old new = NamesVersion 3 old new ⊎ WasOlder g old
 -- Why a database with names of ours is not opened: its version is none that is known, or it cannot be asked for it, or it is out
 -- of memory, or its tables are older and the copy fails.
 abbrev pub IsRefused : {S : Type 0} → Ghosts S → OpenFault → State → State → Type 0
-IsRefused g told old new =
-    ((version : ℕ) × NamesVersion version old new × (¬ IsOlder version) × (version ≢ 3) × (told ≡ fault.NotOurs version))
-    ⊎ (((error : Error) × FailsToQuery version_query [] old new error × (told ≡ unasked error)) ⊎ ((told ≡ fault.NoMemory) ⊎ ((told ≡ fault.Store) × WasOlder g old)))
+IsRefused g returned old new =
+    ((version : ℕ) × NamesVersion version old new × (¬ IsOlder version) × (version ≢ 3) × (returned ≡ fault.NotOurs version))
+    ⊎ (((error : Error) × FailsToQuery version_query [] old new error × (returned ≡ unasked error)) ⊎ ((returned ≡ fault.NoMemory) ⊎ ((returned ≡ fault.Store) × WasOlder g old)))
 
 -- the fault says nothing of a version
 abbrev pub IsNoVersion : OpenFault → Type 0
-IsNoVersion told = (told ≡ fault.NoMemory) ⊎ (told ≡ fault.Store)
+IsNoVersion returned = (returned ≡ fault.NoMemory) ⊎ (returned ≡ fault.Store)
 
 -- What a crash may leave of an opening, besides what it might have left before: where no name is ours, the tables beside what was there, and
 -- those of the empty state where nothing was defined; where the tables were older, those of the same state in this version.
@@ -102,26 +102,26 @@ LeavesItself s = HasCleanDisk s → (db : Trees) → s.may_leave db → db ≡ s
 -- The files were not opened: the system refused them or is out of memory, and nothing is left; or `left` is what an opening that
 -- meets this error leaves of `files`.
 abbrev pub FailsToOpen : {D : Type 0} (g : disk.Ghosts D) → (Bool → D → Type 0) → OpenFault → Type 0
-FailsToOpen {D} g is_fresh told =
-    (error : Error) × (rest : Option (Leftover D g)) × (told ≡ open_fault error)
+FailsToOpen {D} g is_fresh returned =
+    (error : Error) × (rest : Option (Leftover D g)) × (returned ≡ open_fault error)
     × (rest ≡ None → (error ≡ SqliteFailure CannotOpen) ⊎ ((error ≡ SqliteFailure OutOfMemory) ⊎ (error ≡ SqliteFailure DatabaseBusy)))
     × IfSome rest (λ left. (files : Files D) × is_fresh true files.log × is_fresh false files.db × (IsCleanLeft left → FailsToOpenFiles files left error × LeavesFiles files left))
 
 -- What the files held was opened, and no store adopted it; `left` is the connection that was let go.
-pub record FailsToAdopt {S : Type 0} (g : Ghosts S) (image : Image) (told : OpenFault) (opened left : Held S) : Type 0 where
+pub record FailsToAdopt {S : Type 0} (g : Ghosts S) (image : Image) (returned : OpenFault) (opened left : Held S) : Type 0 where
   pub opens : HasCleanDisk (state g left) → Opens (state g opened) × IsLive (state g opened)
   pub found : HasCleanDisk (state g left) → FindsIn image (state g opened)
   -- without a name of ours it would get the tables
-  pub unmade : IsFalse (has_our_name (state g opened).now.schema) → IsNoVersion told
-  pub refused : HasCleanDisk (state g left) → IsTrue (has_our_name (state g opened).now.schema) → IsRefused g told (state g opened) (state g left)
+  pub unmade : IsFalse (has_our_name (state g opened).now.schema) → IsNoVersion returned
+  pub refused : HasCleanDisk (state g left) → IsTrue (has_our_name (state g opened).now.schema) → IsRefused g returned (state g opened) (state g left)
   pub unharmed : HasCleanDisk (state g left) → IsTrue (state g left).is_open → (state g left).now ≡ (state g opened).now
   -- where a version is told, a crash leaves what it would have left before the question
-  pub survives : Survives (state g opened) (state g left) (λ db. IsNoVersion told × MayLeave g opened db)
+  pub survives : Survives (state g opened) (state g left) (λ db. IsNoVersion returned × MayLeave g opened db)
 
 -- Why an opening at a path fails: the files are not opened, or what they held is not adopted.
 abbrev pub IsNotOpened : {D : Type 0} (g : disk.Ghosts D) → (Bool → D → Type 0) → Image → OpenFault → Type 0
-IsNotOpened {D} g is_fresh image told =
-    FailsToOpen g is_fresh told ⊎ ((opened : Held (FileStore D g)) × (left : Held (FileStore D g)) × FailsToAdopt over_files image told opened left)
+IsNotOpened {D} g is_fresh image returned =
+    FailsToOpen g is_fresh returned ⊎ ((opened : Held (FileStore D g)) × (left : Held (FileStore D g)) × FailsToAdopt over_files image returned opened left)
 
 abbrev pub FailsAtPath : {D : Type 0} {g : disk.Ghosts D} → (Bool → D → Type 0) → Image → Result (Held (FileStore D g)) OpenFault → Type 0
 FailsAtPath {g = g} is_fresh image result = IfErr result (IsNotOpened g is_fresh image)

@@ -20,7 +20,7 @@ ghost use Rattle.opc_store.specs.Opening.{new_files, open_fault, unasked, IsKnow
 ghost use Rattle.opc_store.specs.declared.opening.OpenFault.TheVariants as TheFault;
 
 use crate::store::Store;
-use opc_store_migration::copy::copy_on;
+use opc_store_migration::migrate::migrate_on;
 use opc_store_schema::faults::fault;
 use opc_store_schema::making::make_tables;
 use opc_store_schema::names::has_our_name;
@@ -51,7 +51,7 @@ impl From<StoreFault> for OpenFault {
     ghost use Rattle.std.specs.Prelude.{◌≡◌};
     ghost use Rattle.opc_store.specs.Opening.{of_store};
 
-    ghost from_gives = { λ fault told. told ≡ of_store fault };
+    ghost from_gives = { λ fault returned. returned ≡ of_store fault };
 
     fn from(fault: StoreFault) -> Self {
         match fault {
@@ -65,7 +65,7 @@ impl From<OpenFault> for Fault {
     ghost use Rattle.std.specs.Prelude.{◌≡◌};
     ghost use Rattle.opc_store.specs.Opening.{opening_fault};
 
-    ghost from_gives = { λ fault told. told ≡ opening_fault fault };
+    ghost from_gives = { λ fault returned. returned ≡ opening_fault fault };
 
     fn from(fault: OpenFault) -> Self {
         match fault {
@@ -99,13 +99,13 @@ impl<S: Alter> Store<S> {
         requires { conn.in_transaction ≡ false }
         ensures copied { IfOk result (λ store. HasCleanDisk (state S.Store store) → (version : _) → (s : _) → RepresentsOld version (state S.Store conn).now s → Represents (state S.Store store).now s) }
         ensures unharmed { IfErr result (λ e. HasCleanDisk (state S.Store e.1) → IsTrue (state S.Store e.1).is_open → (state S.Store e.1).now ≡ (state S.Store conn).now) }
-        ensures told { IfErr result (λ e. IsNoVersion e.0) }
+        ensures returned { IfErr result (λ e. IsNoVersion e.0) }
         ensures crash { IfOk result (λ store. Survives (state S.Store conn) (state S.Store store) (λ db. (version : _) → (s : _) → RepresentsOld version (state S.Store conn).now s → AreTablesOf db s)) }
         ensures crash_at_fault { IfErr result (λ e. Survives (state S.Store conn) (state S.Store e.1) (λ db. (version : _) → (s : _) → RepresentsOld version (state S.Store conn).now s → AreTablesOf db s)) }
         ensures outside { IfErr result (λ e. e.1.in_transaction ≡ false) }
         ensures settled { IfOk result (λ store. LeavesItself (state S.Store store)) }
     {
-        match copy_on(&mut conn) {
+        match migrate_on(&mut conn) {
             Ok(()) => Ok(Store { conn, alloc }),
             Err(fault) => Err((OpenFault::from(fault), conn)),
         }

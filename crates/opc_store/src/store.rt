@@ -3,7 +3,7 @@ ghost use Rattle.std.specs.Prelude.{◌≡◌, length, false, IfOk};
 ghost use Rattle.sqlite.specs.Held.{state};
 ghost use Rattle.sqlite.specs.Steps.{over_memory};
 ghost use Rattle.opc_store_sql.specs.Steps.{Looks};
-ghost use Rattle.opc_board.specs.Facts.{console_at};
+ghost use Rattle.opc_board.specs.Invariants.{console_at};
 ghost use Rattle.opc_policy_members.specs.Taken.{is_active};
 ghost use Rattle.opc_policy_members.specs.Profiles.{of_class, profile_of};
 ghost use Rattle.opc_state.specs.State.{empty, deciding_in};

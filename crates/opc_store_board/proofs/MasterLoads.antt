@@ -20,7 +20,7 @@ use Rattle.opc_store_sql.proofs.Numbered.{number_cmp}
 use Rattle.opc_store_sql.proofs.Values.{equal_numbers}
 use Rattle.opc_names.specs.declared.auth.Auth.{Auth}
 use Rattle.opc_names.specs.declared.auth.Auth.TheVariants as auth
-use Rattle.opc_board.specs.Facts.{is_master, is_master_auth}
+use Rattle.opc_board.specs.Invariants.{is_master, is_master_auth}
 use Rattle.opc_board.specs.declared.rows.ConsoleRow.{ConsoleRow}
 use Rattle.opc_state.specs.Loads.{masters as masters_of}
 use Rattle.opc_state.specs.Members.{console_cmp}

@@ -7,7 +7,7 @@ ghost use Rattle.opc_store_schema.specs.Represented.{auth_number, mode_letter, c
 ghost use Rattle.opc_state.specs.Changes.{with_consoles};
 ghost use Rattle.opc_state.specs.Loads.{consoles_of, masters};
 ghost use Rattle.opc_state.specs.Members.{with_console, without_console};
-ghost use Rattle.opc_board.specs.Facts.{console_at};
+ghost use Rattle.opc_board.specs.Invariants.{console_at};
 ghost use Rattle.sqlite.specs.Order.{column};
 ghost use Rattle.sqlite.specs.declared.types.Value.TheVariants.{Int, Text};
 ghost use Rattle.opc_names.specs.declared.auth.Auth.{Auth as TheAuth};
@@ -18,7 +18,7 @@ use opc_names::auth::Auth;
 use opc_names::name::{ConsoleName, UserId};
 use opc_rows::Rows;
 use opc_store_sql::{put, run};
-use opc_store_schema::columns::{Keeps, name_in, name_or_none_in, text_at, value_in};
+use opc_store_schema::columns::{TableRow, name_in, name_or_none_in, text_at, value_in};
 use opc_store_schema::faults::unreadable;
 use opc_store_schema::queries::{member_on, members_on};
 use opc_terms::mode::Mode;
@@ -29,10 +29,10 @@ use std::alloc::Global;
 /// The table of consoles.
 pub struct ConsoleTable;
 
-impl Keeps<ConsoleRow> for ConsoleTable {
+impl TableRow<ConsoleRow> for ConsoleTable {
     ghost row_of = { console_row };
 
-    fn kept_in(row: &Row) -> Result<ConsoleRow, StoreFault> {
+    fn decode(row: &Row) -> Result<ConsoleRow, StoreFault> {
         Ok(ConsoleRow {
             name: name_in(row, 0)?,
             auth: auth_in(row)?,

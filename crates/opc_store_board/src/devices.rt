@@ -2,7 +2,7 @@
 ghost use Rattle.std.specs.Prelude.{◌≡◌, false};
 ghost use Rattle.opc_store_sql.specs.Steps.{Stays, Looks};
 ghost use Rattle.std.specs.Option.{option_copied};
-ghost use Rattle.opc_board.specs.Facts.{device_at};
+ghost use Rattle.opc_board.specs.Invariants.{device_at};
 ghost use Rattle.opc_state.specs.Changes.{with_devices};
 ghost use Rattle.opc_state.specs.Loads.{devices_of};
 ghost use Rattle.opc_state.specs.Members.{with_device, without_device};
@@ -13,7 +13,7 @@ use opc_board::rows::DeviceRow;
 use opc_names::name::{Device, UnitName};
 use opc_rows::Rows;
 use opc_store_sql::{put, run};
-use opc_store_schema::columns::{Keeps, name_in, name_or_none_in, value_in};
+use opc_store_schema::columns::{TableRow, name_in, name_or_none_in, value_in};
 use opc_store_schema::queries::{member_on, members_on};
 use opc_terms::store_fault::StoreFault;
 use sqlite::{Alter, Connection, Error, Row, Transaction, params};
@@ -22,10 +22,10 @@ use std::alloc::Global;
 /// The table of devices.
 pub struct DeviceTable;
 
-impl Keeps<DeviceRow> for DeviceTable {
+impl TableRow<DeviceRow> for DeviceTable {
     ghost row_of = { device_row };
 
-    fn kept_in(row: &Row) -> Result<DeviceRow, StoreFault> {
+    fn decode(row: &Row) -> Result<DeviceRow, StoreFault> {
         Ok(DeviceRow {
             number: name_in(row, 0)?,
             online: value_in(row, 1)?,

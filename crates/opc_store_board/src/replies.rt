@@ -1,7 +1,7 @@
 //! The table of open replies.
 ghost use Rattle.std.specs.Prelude.{◌≡◌, false};
 ghost use Rattle.opc_store_sql.specs.Steps.{Stays, Looks};
-ghost use Rattle.opc_board.specs.Facts.{reply_at};
+ghost use Rattle.opc_board.specs.Invariants.{reply_at};
 ghost use Rattle.opc_state.specs.Changes.{with_replies};
 ghost use Rattle.opc_state.specs.Members.{with_reply, without_reply};
 ghost use Rattle.opc_store_schema.specs.Asked.{Finds, Makes};
@@ -11,7 +11,7 @@ use opc_board::rows::ReplyRow;
 use opc_names::reply_id::ReplyId;
 use opc_rows::Rows;
 use opc_store_sql::run;
-use opc_store_schema::columns::{Keeps, reply_in, reply_number};
+use opc_store_schema::columns::{TableRow, reply_in, reply_number};
 use opc_store_schema::queries::{member_on, members_on};
 use opc_terms::store_fault::StoreFault;
 use sqlite::{Alter, Connection, Error, Row, Transaction, params};
@@ -20,10 +20,10 @@ use std::alloc::Global;
 /// The table of open replies.
 pub struct ReplyTable;
 
-impl Keeps<ReplyRow> for ReplyTable {
+impl TableRow<ReplyRow> for ReplyTable {
     ghost row_of = { reply_shown };
 
-    fn kept_in(row: &Row) -> Result<ReplyRow, StoreFault> {
+    fn decode(row: &Row) -> Result<ReplyRow, StoreFault> {
         reply_in(row)
     }
 }

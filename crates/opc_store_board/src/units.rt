@@ -4,7 +4,7 @@ ghost use Rattle.opc_store_sql.specs.Steps.{Stays, Looks};
 ghost use Rattle.std.specs.Option.{option_copied};
 ghost use Rattle.opc_store_schema.specs.Asked.{Finds, Makes};
 ghost use Rattle.opc_store_schema.specs.Represented.{kind_letter, kind_member, text_or_null, unit_row};
-ghost use Rattle.opc_board.specs.Facts.{unit_at};
+ghost use Rattle.opc_board.specs.Invariants.{unit_at};
 ghost use Rattle.opc_state.specs.Changes.{with_units};
 ghost use Rattle.opc_state.specs.Members.{with_unit, without_unit};
 ghost use Rattle.sqlite.specs.Order.{column};
@@ -15,7 +15,7 @@ use opc_board::rows::{UnitKind, UnitRow};
 use opc_names::name::UnitName;
 use opc_rows::Rows;
 use opc_store_sql::{put, run};
-use opc_store_schema::columns::{Keeps, name_in, name_or_none_in, text_at, text_or_none_in, value_in};
+use opc_store_schema::columns::{TableRow, name_in, name_or_none_in, text_at, text_or_none_in, value_in};
 use opc_store_schema::faults::unreadable;
 use opc_store_schema::queries::{member_on, members_on};
 use opc_terms::store_fault::StoreFault;
@@ -25,10 +25,10 @@ use std::alloc::Global;
 /// The table of units.
 pub struct UnitTable;
 
-impl Keeps<UnitRow> for UnitTable {
+impl TableRow<UnitRow> for UnitTable {
     ghost row_of = { unit_row };
 
-    fn kept_in(row: &Row) -> Result<UnitRow, StoreFault> {
+    fn decode(row: &Row) -> Result<UnitRow, StoreFault> {
         Ok(UnitRow {
             name: name_in(row, 0)?,
             kind: kind_in(row)?,

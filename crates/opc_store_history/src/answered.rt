@@ -9,7 +9,7 @@ use opc_board::rows::ReplyRow;
 use opc_rows::Rows;
 use opc_store_sql::numbers::last_number;
 use opc_store_sql::run;
-use opc_store_schema::columns::{Keeps, all_in, reply_in, reply_number};
+use opc_store_schema::columns::{TableRow, decode_all, reply_in, reply_number};
 use opc_store_schema::queries::read;
 use opc_terms::store_fault::StoreFault;
 use sqlite::{Alter, Connection, Error, Row, Transaction, params};
@@ -18,10 +18,10 @@ use std::alloc::Global;
 /// The table of answered replies.
 pub struct AnsweredTable;
 
-impl Keeps<ReplyRow> for AnsweredTable {
+impl TableRow<ReplyRow> for AnsweredTable {
     ghost row_of = { reply_shown };
 
-    fn kept_in(row: &Row) -> Result<ReplyRow, StoreFault> {
+    fn decode(row: &Row) -> Result<ReplyRow, StoreFault> {
         reply_in(row)
     }
 }
@@ -52,5 +52,5 @@ pub fn answered_on<S: Alter>(
     ensures found { Finds S.Store conn.old conn.new result (λ s v. v ≡ s.board.answered) }
 {
     let rows = read(conn, "SELECT id, text FROM answered ORDER BY number", &[])?;
-    all_in::<_, AnsweredTable>(alloc, rows.as_slice())
+    decode_all::<_, AnsweredTable>(alloc, rows.as_slice())
 }

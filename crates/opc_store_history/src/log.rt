@@ -9,7 +9,7 @@ use opc_board::text::KeptText;
 use opc_rows::Rows;
 use opc_store_sql::numbers::last_number;
 use opc_store_sql::run;
-use opc_store_schema::columns::{Keeps, all_in, text_in};
+use opc_store_schema::columns::{TableRow, decode_all, text_in};
 use opc_store_schema::queries::read;
 use opc_terms::store_fault::StoreFault;
 use sqlite::{Alter, Connection, Error, Row, Transaction, params};
@@ -18,10 +18,10 @@ use std::alloc::Global;
 /// The table of the log.
 pub struct LogTable;
 
-impl Keeps<KeptText> for LogTable {
+impl TableRow<KeptText> for LogTable {
     ghost row_of = { log_shown };
 
-    fn kept_in(row: &Row) -> Result<KeptText, StoreFault> {
+    fn decode(row: &Row) -> Result<KeptText, StoreFault> {
         text_in(row, 0)
     }
 }
@@ -52,5 +52,5 @@ pub fn log_on<S: Alter>(
     ensures found { Finds S.Store conn.old conn.new result (λ s v. v ≡ s.board.log) }
 {
     let rows = read(conn, "SELECT text FROM log ORDER BY number", &[])?;
-    all_in::<_, LogTable>(alloc, rows.as_slice())
+    decode_all::<_, LogTable>(alloc, rows.as_slice())
 }

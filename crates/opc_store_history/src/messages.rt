@@ -9,7 +9,7 @@ use opc_board::rows::MessageRow;
 use opc_rows::Rows;
 use opc_store_sql::numbers::last_number;
 use opc_store_sql::run;
-use opc_store_schema::columns::{Keeps, all_in, name_in, text_in};
+use opc_store_schema::columns::{TableRow, decode_all, name_in, text_in};
 use opc_store_schema::queries::read;
 use opc_terms::store_fault::StoreFault;
 use sqlite::{Alter, Connection, Error, Row, Transaction, params};
@@ -18,10 +18,10 @@ use std::alloc::Global;
 /// The table of messages.
 pub struct MessageTable;
 
-impl Keeps<MessageRow> for MessageTable {
+impl TableRow<MessageRow> for MessageTable {
     ghost row_of = { message_shown };
 
-    fn kept_in(row: &Row) -> Result<MessageRow, StoreFault> {
+    fn decode(row: &Row) -> Result<MessageRow, StoreFault> {
         Ok(MessageRow {
             user: name_in(row, 0)?,
             text: text_in(row, 1)?,
@@ -55,5 +55,5 @@ pub fn messages_on<S: Alter>(
     ensures found { Finds S.Store conn.old conn.new result (λ s v. v ≡ s.board.messages) }
 {
     let rows = read(conn, "SELECT usr, text FROM messages ORDER BY number", &[])?;
-    all_in::<_, MessageTable>(alloc, rows.as_slice())
+    decode_all::<_, MessageTable>(alloc, rows.as_slice())
 }

@@ -20,9 +20,9 @@ use Rattle.opc_store_sql.proofs.Sets.{inserted_same, replaced_rises}
 use Rattle.opc_store_sql.proofs.Sorting.{apart_along, no_ties}
 use Rattle.opc_store_schema.proofs.AccessLists.{is_of_means, compares_equal}
 use Rattle.opc_store_schema.proofs.Keys.{user_total, connect_total, profile_total, batch_total, same_connect}
-use Rattle.opc_store_old_tables.specs.declared.puts.Puts.{Puts}
+use Rattle.opc_store_old_tables.specs.declared.edits.MigrationEdits.{MigrationEdits}
 use Rattle.opc_store_old_tables.specs.Old.{IsOldState}
-use Rattle.opc_store_old_tables.specs.Puts.{ArePutsOf}
+use Rattle.opc_store_old_tables.specs.MigrationEdits.{AreMigrationEditsOf}
 use Rattle.opc_store_old_tables.specs.Read.{by_text, user_puts, connect_puts, profile_puts, batch_puts}
 use Rattle.opc_store_old_tables.proofs.ProfileLoads.{same_profiles}
 use Rattle.opc_store_migration.specs.Between.{emptied, put_into}
@@ -72,7 +72,7 @@ profiles_put before (p ∷ ps) s is up alone apart =
 
 -- ---- all of them
 
-module _ (s : State) (puts : Puts) (are : ArePutsOf s puts) where
+module _ (s : State) (puts : MigrationEdits) (are : AreMigrationEditsOf s puts) where
   with_all_users : (t : State) → t.policy.users ≡ [] → Rises user_cmp s.policy.users → all_edited puts.users.items t ≡ with_users s.policy.users t
   with_all_users t none up =
       ap (λ (l : List Edit). all_edited l t) are.users

@@ -8,7 +8,7 @@ use Rattle.opc_store_schema.specs.Contents.{Contents, as_list}
 use Rattle.opc_store_schema.specs.Represented.{contents_of, version_row}
 use Rattle.opc_store_old_tables.specs.Tables.{Older, version_number}
 use Rattle.opc_store_old_tables.specs.Old.{old_batch_row}
-use Rattle.opc_store_old_tables.specs.declared.puts.Puts.{Puts}
+use Rattle.opc_store_old_tables.specs.declared.edits.MigrationEdits.{MigrationEdits}
 
 -- the rows of the lasting tables
 abbrev pub lasting_rows : Contents → List (List Row)
@@ -27,5 +27,5 @@ abbrev pub between : Older → (Batch → List ℕ) → State → Contents
 between version text_of s = record (contents_of (emptied s)) { meta = version_row (version_number version) ∷ []; batches = map (old_batch_row text_of) s.batches }
 
 -- the state with what is put, part by part
-abbrev pub put_into : Puts → State → State
+abbrev pub put_into : MigrationEdits → State → State
 put_into puts s = all_edited puts.batches.items (all_edited puts.profiles.items (all_edited puts.connects.items (all_edited puts.users.items s)))

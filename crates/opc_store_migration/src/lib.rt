@@ -1,7 +1,7 @@
 //! Databases of version 1 or 2, copied to version 3 in one transaction.
 #![tactic(auto)]
 
-pub mod copy;
+pub mod migrate;
 pub mod put;
-pub mod remake;
-pub mod renew;
+pub mod recreate_tables;
+pub mod set_version;

@@ -5,7 +5,7 @@ ghost use Rattle.opc_store_schema.specs.Asked.{Makes};
 ghost use Rattle.opc_store_migration.specs.Between.{put_into};
 
 use opc_store_commit::commit::apply_all;
-use opc_store_old_tables::puts::Puts;
+use opc_store_old_tables::edits::MigrationEdits;
 use sqlite::{Alter, Error, Transaction};
 use std::alloc::Global;
 
@@ -13,7 +13,7 @@ use std::alloc::Global;
 pub fn put_all<S: Alter>(
     alloc: Global,
     tx: &mut Transaction<'_, S>,
-    puts: &Puts,
+    puts: &MigrationEdits,
 ) -> Result<(), Error>
     ensures same_reference { tx.new.conn.ghost_name ≡ tx.old.conn.ghost_name }
     ensures stays { Stays S.Store tx.old.conn.now tx.new.conn.now result }

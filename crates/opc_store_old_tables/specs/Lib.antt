@@ -1,4 +1,4 @@
 pub mod Tables
 pub mod Old
 pub mod Read
-pub mod Puts
+pub mod MigrationEdits

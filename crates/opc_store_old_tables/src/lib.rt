@@ -6,5 +6,5 @@ pub mod batches;
 pub mod connects;
 pub mod entries;
 pub mod profiles;
-pub mod puts;
+pub mod edits;
 pub mod users;

@@ -16,7 +16,7 @@ use Rattle.sqlite.specs.Effect.{Database, IsDatabase}
 use Rattle.sqlite.specs.Schema.{Schema}
 use Rattle.sqlite.specs.Tree.{Trees}
 use Rattle.sqlite_sql.specs.Ops.{is_null}
-use Rattle.sqlite_schema.specs.Rules.{parent_key, has_parent, has_null, equal, Keeps}
+use Rattle.sqlite_schema.specs.Rules.{parent_key, has_parent, has_null, equal, TableRow}
 use Rattle.std.specs.Option.{option_map_or, option_eq, option_cmp}
 use Rattle.sqlite_schema.specs.Names.{same_name}
 use Rattle.sqlite_schema.specs.declared.schema.Reference.{Reference}
@@ -169,7 +169,7 @@ child_is db (v ∷ row) hit = (and_parts _ _ (sym (refers db (v ∷ row)) ∙ hi
 no_parent : (class : Class) (pattern : List ℕ) (e : Entry) (ps : List Profile) → profile_of ps class pattern ≡ None → (db : Database) → IsDatabase db → db.schema ≡ the_schema → (rest : List Row)
     → HasRows (entry_row class pattern e ∷ rest) (db.trees entries_at.tree) → HasRows (map profile_row ps) (db.trees profiles_at.tree) → ⊥
 no_parent class pattern e ps absent db sound is rest has profiles =
-    let keys : Keeps ForeignKey the_schema db.trees = subst (λ (sc : Schema). Keeps ForeignKey sc db.trees) is (sound.obeys.rules ForeignKey) in
+    let keys : TableRow ForeignKey the_schema db.trees = subst (λ (sc : Schema). TableRow ForeignKey sc db.trees) is (sound.obeys.rules ForeignKey) in
     let each = all_weaker _ (λ row. is_child db.trees (drop 1 row) ≡ true) (child_is db.trees) (db.trees entries_at.tree) (all-slice_get (λ (t : Table). AllByRecursion (λ row. list_all (has_parent the_schema.tables db.trees row) t.references ≡ true) (db.trees t.tree)) the_schema.tables 16 entries_at refl keys) in
     let values = all_along (λ v. is_child db.trees v ≡ true) _ _ (IsPermutation-sym _ _ has.each) (all_map (λ v. is_child db.trees v ≡ true) (λ (r : Row). drop 1 r) (db.trees entries_at.tree) each) in
     let there : is_child db.trees (entry_row class pattern e) ≡ true = values.0 in

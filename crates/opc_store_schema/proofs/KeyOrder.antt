@@ -8,7 +8,7 @@ use Rattle.opc_policy_members.specs.Access.{entry_cmp}
 use Rattle.opc_policy_members.specs.Members.{user_cmp}
 use Rattle.opc_policy_members.specs.Profiles.{profile_cmp}
 use Rattle.opc_rows.specs.Ordered.{Ascends}
-use Rattle.opc_state.specs.Facts.{IsKeyed}
+use Rattle.opc_state.specs.Invariants.{IsKeyed}
 use Rattle.opc_state.specs.Members.{unit_cmp, device_cmp, console_cmp, reply_cmp}
 use Rattle.opc_state.specs.State.{State}
 use Rattle.opc_store_sql.specs.Order.{Rises}

@@ -19,5 +19,5 @@ module _ {S : Type 0} (g : Ghosts S) where
   Makes old new result change = HasCleanDisk (state g new) → OnOk result (Becomes change (state g old).now (state g new).now)
 
   -- the query gives the rows of these members, in their order
-  abbrev pub Tells : {M : Type 0} → (M → Row) → List ℕ → Row → Held S → Held S → List M → Type 0
-  Tells row sql params old new members = (rows : List Row) → Shown sql params (state g old) (state g new) rows → rows ≡ map row members
+  abbrev pub Determines : {M : Type 0} → (M → Row) → List ℕ → Row → Held S → Held S → List M → Type 0
+  Determines row sql params old new members = (rows : List Row) → Shown sql params (state g old) (state g new) rows → rows ≡ map row members

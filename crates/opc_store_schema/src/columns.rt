@@ -30,21 +30,21 @@ pub fn value_in<V: FromSql>(row: &Row, at: usize) -> Result<V, StoreFault>
 }
 
 /// A table whose rows keep members.
-pub trait Keeps<M> {
+pub trait TableRow<M> {
     ghost row_of: { M → List TheValue };
 
     /// What is kept in a row.
-    fn kept_in(row: &Row) -> Result<M, StoreFault>
+    fn decode(row: &Row) -> Result<M, StoreFault>
         ensures { (x : M) → row.now ≡ row_of x → IfOk result (λ v. v ≡ x) };
 }
 
 /// The members that are kept in some rows, in their order.
-pub fn all_in<M: Drop, T: Keeps<M>>(alloc: Global, rows: &[Row]) -> Result<Rows<M>, StoreFault>
+pub fn decode_all<M: Drop, T: TableRow<M>>(alloc: Global, rows: &[Row]) -> Result<Rows<M>, StoreFault>
     ensures { (xs : List M) → rows.now ≡ map T.row_of xs → IfOk result (λ v. v ≡ xs) }
 {
     let mut members = Rows::new(alloc);
     for row in rows {
-        members.push(T::kept_in(row)?)?;
+        members.push(T::decode(row)?)?;
     }
     Ok(members)
 }

@@ -5,9 +5,9 @@ ghost use Rattle.sqlite.specs.Held.{state};
 ghost use Rattle.sqlite.specs.State.{HasCleanDisk};
 ghost use Rattle.opc_store_sql.specs.Steps.{Looks, Reads, NeverWrites};
 ghost use Rattle.sqlite.specs.Values.{bound};
-ghost use Rattle.opc_store_schema.specs.Asked.{Tells};
+ghost use Rattle.opc_store_schema.specs.Asked.{Determines};
 
-use crate::columns::{Keeps, all_in};
+use crate::columns::{TableRow, decode_all};
 use crate::faults::fault;
 use opc_rows::Rows;
 use opc_terms::store_fault::StoreFault;
@@ -34,7 +34,7 @@ pub fn read<S: Alter>(
 }
 
 /// The members whose rows a query gives, in its order.
-pub fn members_on<S: Alter, M: Drop, T: Keeps<M>>(
+pub fn members_on<S: Alter, M: Drop, T: TableRow<M>>(
     alloc: Global,
     conn: &mut Connection<S>,
     sql: &str,
@@ -44,15 +44,15 @@ pub fn members_on<S: Alter, M: Drop, T: Keeps<M>>(
     requires mode { conn.old.in_transaction ≡ false }
     ensures mode { conn.new.in_transaction ≡ false }
     ensures looks { Looks S.Store conn.old conn.new result }
-    ensures found { HasCleanDisk (state S.Store conn.new) → (xs : List M) → Tells S.Store T.row_of sql.now (bound params.now) conn.old conn.new xs → IfOk result (λ v. v ≡ xs) }
+    ensures found { HasCleanDisk (state S.Store conn.new) → (xs : List M) → Determines S.Store T.row_of sql.now (bound params.now) conn.old conn.new xs → IfOk result (λ v. v ≡ xs) }
 {
     let rows = read(conn, sql, params)?;
-    all_in::<_, T>(alloc, rows.as_slice())
+    decode_all::<_, T>(alloc, rows.as_slice())
 }
 
 /// The first member whose row a query gives, if it gives one: of all members the first that its test picks.
 /// The query should be in the order of the key, also for one row, so that what it gives is determined.
-pub fn member_on<S: Alter, M: Drop, T: Keeps<M>>(
+pub fn member_on<S: Alter, M: Drop, T: TableRow<M>>(
     conn: &mut Connection<S>,
     sql: &str,
     params: &[ValueRef<'_>],
@@ -61,11 +61,11 @@ pub fn member_on<S: Alter, M: Drop, T: Keeps<M>>(
     requires mode { conn.old.in_transaction ≡ false }
     ensures mode { conn.new.in_transaction ≡ false }
     ensures looks { Looks S.Store conn.old conn.new result }
-    ensures found { HasCleanDisk (state S.Store conn.new) → (picks : M → Bool) → (xs : List M) → Tells S.Store T.row_of sql.now (bound params.now) conn.old conn.new (filter picks xs) → IfOk result (λ v. v ≡ find picks xs) }
+    ensures found { HasCleanDisk (state S.Store conn.new) → (picks : M → Bool) → (xs : List M) → Determines S.Store T.row_of sql.now (bound params.now) conn.old conn.new (filter picks xs) → IfOk result (λ v. v ≡ find picks xs) }
 {
     let rows = read(conn, sql, params)?;
     match rows.as_slice().get(0) {
-        Some(row) => Ok(Some(T::kept_in(row)?)),
+        Some(row) => Ok(Some(T::decode(row)?)),
         None => Ok(None),
     }
 }

@@ -15,7 +15,7 @@ use opc_names::name::{GroupName, UserId};
 use opc_policy_members::connect::Connect;
 use opc_rows::Rows;
 use opc_store_sql::{put, run};
-use opc_store_schema::columns::{Keeps, name_in};
+use opc_store_schema::columns::{TableRow, name_in};
 use opc_store_schema::queries::{members_on, read};
 use opc_store_schema::there::is_there_on;
 use opc_terms::store_fault::StoreFault;
@@ -25,10 +25,10 @@ use std::alloc::Global;
 /// The table of connects.
 pub struct ConnectTable;
 
-impl Keeps<Connect> for ConnectTable {
+impl TableRow<Connect> for ConnectTable {
     ghost row_of = { connect_row };
 
-    fn kept_in(row: &Row) -> Result<Connect, StoreFault> {
+    fn decode(row: &Row) -> Result<Connect, StoreFault> {
         connect_in(row)
     }
 }

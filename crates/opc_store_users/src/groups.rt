@@ -11,7 +11,7 @@ ghost use Rattle.opc_store_schema.specs.Represented.{group_row};
 use opc_names::name::GroupName;
 use opc_rows::Rows;
 use opc_store_sql::{put, run};
-use opc_store_schema::columns::{Keeps, name_in};
+use opc_store_schema::columns::{TableRow, name_in};
 use opc_store_schema::queries::members_on;
 use opc_store_schema::there::is_there_on;
 use opc_terms::store_fault::StoreFault;
@@ -21,10 +21,10 @@ use std::alloc::Global;
 /// The table of groups.
 pub struct GroupTable;
 
-impl Keeps<GroupName> for GroupTable {
+impl TableRow<GroupName> for GroupTable {
     ghost row_of = { group_row };
 
-    fn kept_in(row: &Row) -> Result<GroupName, StoreFault> {
+    fn decode(row: &Row) -> Result<GroupName, StoreFault> {
         name_in(row, 0)
     }
 }

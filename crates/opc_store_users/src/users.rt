@@ -16,7 +16,7 @@ use opc_names::name::UserId;
 use opc_policy_members::user::User;
 use opc_rows::Rows;
 use opc_store_sql::{put, run};
-use opc_store_schema::columns::{Keeps, name_in, value_in};
+use opc_store_schema::columns::{TableRow, name_in, value_in};
 use opc_store_schema::faults::unreadable;
 use opc_store_schema::queries::{member_on, members_on};
 use opc_store_schema::there::is_there_on;
@@ -27,10 +27,10 @@ use std::alloc::Global;
 /// The table of users.
 pub struct UserTable;
 
-impl Keeps<User> for UserTable {
+impl TableRow<User> for UserTable {
     ghost row_of = { user_row };
 
-    fn kept_in(row: &Row) -> Result<User, StoreFault> {
+    fn decode(row: &Row) -> Result<User, StoreFault> {
         user_in(row)
     }
 }

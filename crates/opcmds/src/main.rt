@@ -27,7 +27,7 @@ fn status(rt: &HostRuntime) -> u8 {
             &mut errors,
         ),
         Err(error) if error.kind() == ErrorKind::OutOfMemory => Failure::from(Fault::NoMemory)
-            .tell(&NO_PATHS, &mut errors)
+            .report(&NO_PATHS, &mut errors)
             .number(),
         Err(_) => {
             let _ = writeln!(errors.inner, "error: a word is not UTF-8");

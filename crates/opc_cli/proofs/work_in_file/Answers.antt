@@ -4,13 +4,13 @@ use Rattle.opc_cli.proofs.Done.{openings_fail, same_fault}
 use Rattle.opc_cli.proofs.work_in_file.Goals as goal
 
 pub returns-in-Ok : goal.returns-in-Ok
-returns-in-Ok g c = inl (record { end = c.in-Ok.end; closed = c.in-Ok.closed; done = c.in-Ok.ensures.worked; status_is = c.ended.ensures.status; end_told = c.ended.ensures.told })
+returns-in-Ok g c = inl (record { end = c.in-Ok.end; closed = c.in-Ok.closed; done = c.in-Ok.ensures.worked; status_is = c.ended.ensures.status; end_told = c.ended.ensures.reported })
 
 pub returns-in-Err : goal.returns-in-Err
 returns-in-Err g c = inr (record {
   fault = c.in-Err.fault;
   not_opened = c.in-Err.ensures.failed;
   silent = c.in-Err.ensures.silent;
-  status_is = c.told.ensures.status ∙ ap status_of c.not_opened-failure.ensures ∙ openings_fail c.in-Err.fault;
-  fault_told = same_fault g.E.Write.contents c.args.errors.now c.told.new.errors _ _ c.not_opened-failure.ensures c.told.ensures.told;
+  status_is = c.reported.ensures.status ∙ ap status_of c.not_opened-failure.ensures ∙ openings_fail c.in-Err.fault;
+  fault_told = same_fault g.E.Write.contents c.args.errors.now c.reported.new.errors _ _ c.not_opened-failure.ensures c.reported.ensures.reported;
 })

@@ -8,4 +8,4 @@ returns-in-Ok g c =
 
 pub returns-in-Err : goal.returns-in-Err
 returns-in-Err g c =
-    kind_told g.E.Write.contents _ _ c.args.output.now _ (words_after c.args.words.now) c.in-Err.error c.in-Err.ensures.fails c.tell_words.result c.tell_words.ensures
+    kind_told g.E.Write.contents _ _ c.args.output.now _ (words_after c.args.words.now) c.in-Err.error c.in-Err.ensures.fails c.report_words.result c.report_words.ensures

@@ -1,6 +1,6 @@
 use Rattle.std.proofs.Common.{IfOk, subst, sym}
 use Rattle.opc_policy_members.specs.declared.profile.Profile.{Profile}
-use Rattle.opc_state.specs.Facts.{IsKeyed}
+use Rattle.opc_state.specs.Invariants.{IsKeyed}
 use Rattle.opc_machine.specs.Administration.{changed, policy_changed}
 use Rattle.opc_machine.specs.Deeds.{IsOutcome}
 use Rattle.opc_machine.specs.declared.operation.Operation.{Operation}

@@ -1,5 +1,5 @@
 use Rattle.std.proofs.Common.{◌≡◌, [], Some, None, sym, subst, IfOk, ◌∙◌}
-use Rattle.opc_board.specs.Facts.{console_at}
+use Rattle.opc_board.specs.Invariants.{console_at}
 use Rattle.opc_state.specs.declared.change.Edit.TheVariants as edit
 use Rattle.opc_gate_admin.specs.Operations.{IsDoneBy}
 use Rattle.opc_gate_admin.proofs.Done.{given, if_ok, one_change, state_alone, state_refused}

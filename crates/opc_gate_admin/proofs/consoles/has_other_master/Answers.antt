@@ -1,6 +1,6 @@
 use Rattle.std.proofs.Common.{not, ap, ◌∙◌}
 use Rattle.std.specs.List.{list_any}
-use Rattle.opc_board.specs.Facts.{is}
+use Rattle.opc_board.specs.Invariants.{is}
 use Rattle.opc_gate_admin.proofs.Masters.{others}
 use Rattle.opc_gate_admin.proofs.consoles.has_other_master.Goals as goal
 

@@ -1,5 +1,5 @@
 use Rattle.std.proofs.Common.{subst, sym, ◌∙◌}
-use Rattle.opc_gate_rulings.specs.Asking.{IsConsoleFor}
+use Rattle.opc_gate_rulings.specs.Requester.{IsConsoleFor}
 use Rattle.opc_gate_commands.proofs.Typed.{typed_at}
 use Rattle.opc_gate_commands.proofs.command.command_on.Goals as goal
 

@@ -4,7 +4,7 @@ use Rattle.std.proofs.lemmas.Result.{err_from_is_err_and}
 use Rattle.httparse.specs.Spans.{span_bytes}
 use Rattle.opc_http_requests.specs.Paths.{path_in}
 use Rattle.opc_http_requests.specs.Requests.{planned, request_at}
-use Rattle.opc_http_requests.proofs.Asking.{planned-request, refuses-planned}
+use Rattle.opc_http_requests.proofs.Requester.{planned-request, refuses-planned}
 use Rattle.opc_http_requests.proofs.BodyReads.{body-there, same-part}
 use Rattle.opc_http_requests.proofs.ask.read_planned.Goals as goal
 

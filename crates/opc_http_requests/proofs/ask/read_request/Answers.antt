@@ -6,7 +6,7 @@ use Rattle.opc_http_head.specs.Head.{FoundHead, NoHead}
 use Rattle.opc_http_requests.specs.Asked.{AsksOnly}
 use Rattle.opc_http_requests.specs.Plans.{plan_in}
 use Rattle.opc_http_requests.specs.Requests.{planned}
-use Rattle.opc_http_requests.proofs.Asking.{asks-headless, asks-planned, asks-refused, fault-weaker, none-found, some-found, takes-whole}
+use Rattle.opc_http_requests.proofs.Requester.{asks-headless, asks-planned, asks-refused, fault-weaker, none-found, some-found, takes-whole}
 use Rattle.opc_http_requests.proofs.MadeReads.{body-only, looked-only, stops}
 use Rattle.opc_http_requests.proofs.ask.read_request.Goals as goal
 

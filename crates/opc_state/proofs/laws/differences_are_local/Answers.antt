@@ -1,4 +1,4 @@
-use Rattle.opc_state.proofs.Seen.{differences}
+use Rattle.opc_state.proofs.Footprint.{differences}
 use Rattle.opc_state.proofs.laws.differences_are_local.Goals as goal
 
 pub returns : goal.returns

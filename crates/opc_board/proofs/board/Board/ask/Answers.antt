@@ -1,6 +1,6 @@
 use Rattle.std.proofs.Common.{◌≡◌, rules, false}
 use Rattle.std.specs.Option.{is_some}
-use Rattle.opc_board.specs.Facts.{reply_at}
+use Rattle.opc_board.specs.Invariants.{reply_at}
 use Rattle.opc_board.proofs.Kept.{new_reply_kept}
 use Rattle.opc_board.proofs.board.Board.ask.Goals as goal
 

@@ -1,6 +1,6 @@
 use Rattle.std.proofs.Common.{◌≡◌, rules, false}
 use Rattle.std.specs.Option.{is_some}
-use Rattle.opc_board.specs.Facts.{device_at}
+use Rattle.opc_board.specs.Invariants.{device_at}
 use Rattle.opc_board.specs.Devices.{new_device}
 use Rattle.opc_board.proofs.Kept.{new_device_kept}
 use Rattle.opc_board.proofs.board.Board.attach.Goals as goal

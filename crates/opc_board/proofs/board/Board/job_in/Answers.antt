@@ -1,6 +1,6 @@
 use Rattle.std.proofs.Common.{◌≡◌, rules, false}
 use Rattle.std.specs.Option.{is_some}
-use Rattle.opc_board.specs.Facts.{unit_at}
+use Rattle.opc_board.specs.Invariants.{unit_at}
 use Rattle.opc_board.specs.Units.{new_unit}
 use Rattle.opc_board.proofs.Kept.{new_unit_kept}
 use Rattle.opc_board.proofs.board.Board.job_in.Goals as goal

@@ -1,6 +1,6 @@
 use Rattle.std.proofs.Common.{◌≡◌, Some, rules, refl}
 use Rattle.opc_rows.specs.Ordered.{changed}
-use Rattle.opc_board.specs.Facts.{is}
+use Rattle.opc_board.specs.Invariants.{is}
 use Rattle.opc_board.specs.declared.rows.UnitRow.{UnitRow}
 use Rattle.opc_board.proofs.Kept.{at_unit_kept}
 use Rattle.opc_board.proofs.board.Board.modify.Goals as goal

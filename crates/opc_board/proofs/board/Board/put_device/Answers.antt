@@ -1,6 +1,6 @@
 use Rattle.std.proofs.Common.{◌≡◌, rules}
 use Rattle.opc_rows.specs.Ordered.{changed}
-use Rattle.opc_board.specs.Facts.{is, IsHeldRightly}
+use Rattle.opc_board.specs.Invariants.{is, IsHeldRightly}
 use Rattle.opc_board.proofs.Kept.{with_device_kept}
 use Rattle.opc_board.proofs.board.Board.put_device.Goals as goal
 

@@ -73,7 +73,7 @@ pub returns-in-Ok-eq1-clause-ours : goal.returns-in-Ok-eq1-clause-ours
 returns-in-Ok-eq1-clause-ours g c = known g.S.Store c.in-Ok-eq1.field-0 c.args.conn c.version_on.new.conn c.schema.ensures.live c.in-Ok-eq1.ensures.looks c.copied.result (λ e. e.0) (λ e. e.1) (older_between c.in-Ok-eq1.field-0 (search rules) (search rules)) c.in-Ok-eq1.ensures.names c.copied.ensures.crash
 
 pub returns-in-Ok-eq1-clause-refused : goal.returns-in-Ok-eq1-clause-refused
-returns-in-Ok-eq1-clause-refused g c = refused g.S.Store c.in-Ok-eq1.field-0 c.args.conn c.version_on.new.conn c.schema.ensures.live c.in-Ok-eq1.ensures.looks c.copied.result (λ e. e.0) (λ e. e.1) (older_between c.in-Ok-eq1.field-0 (search rules) (search rules)) c.in-Ok-eq1.ensures.names c.copied.ensures.crash_at_fault c.copied.ensures.told
+returns-in-Ok-eq1-clause-refused g c = refused g.S.Store c.in-Ok-eq1.field-0 c.args.conn c.version_on.new.conn c.schema.ensures.live c.in-Ok-eq1.ensures.looks c.copied.result (λ e. e.0) (λ e. e.1) (older_between c.in-Ok-eq1.field-0 (search rules) (search rules)) c.in-Ok-eq1.ensures.names c.copied.ensures.crash_at_fault c.copied.ensures.returned
 
 pub returns-in-Ok-eq1-clause-unharmed : goal.returns-in-Ok-eq1-clause-unharmed
 returns-in-Ok-eq1-clause-unharmed g c = unharmed g.S.Store c.in-Ok-eq1.field-0 c.args.conn c.version_on.new.conn c.schema.ensures.live c.in-Ok-eq1.ensures.looks c.copied.result (λ e. e.0) (λ e. e.1) c.copied.ensures.crash_at_fault c.copied.ensures.unharmed
@@ -85,7 +85,7 @@ pub returns-in-Ok-eq1-clause-crash : goal.returns-in-Ok-eq1-clause-crash
 returns-in-Ok-eq1-clause-crash g c = crash g.S.Store c.in-Ok-eq1.field-0 c.args.conn c.version_on.new.conn c.schema.ensures.live c.in-Ok-eq1.ensures.looks c.copied.result (λ e. e.0) (λ e. e.1) (older_between c.in-Ok-eq1.field-0 (search rules) (search rules)) c.in-Ok-eq1.ensures.names (search rules) c.copied.ensures.crash
 
 pub returns-in-Ok-eq1-clause-crash_at_fault : goal.returns-in-Ok-eq1-clause-crash_at_fault
-returns-in-Ok-eq1-clause-crash_at_fault g c = crash_at_fault g.S.Store c.in-Ok-eq1.field-0 c.args.conn c.version_on.new.conn c.schema.ensures.live c.in-Ok-eq1.ensures.looks c.copied.result (λ e. e.0) (λ e. e.1) (older_between c.in-Ok-eq1.field-0 (search rules) (search rules)) c.in-Ok-eq1.ensures.names (search rules) c.copied.ensures.crash_at_fault c.copied.ensures.told
+returns-in-Ok-eq1-clause-crash_at_fault g c = crash_at_fault g.S.Store c.in-Ok-eq1.field-0 c.args.conn c.version_on.new.conn c.schema.ensures.live c.in-Ok-eq1.ensures.looks c.copied.result (λ e. e.0) (λ e. e.1) (older_between c.in-Ok-eq1.field-0 (search rules) (search rules)) c.in-Ok-eq1.ensures.names (search rules) c.copied.ensures.crash_at_fault c.copied.ensures.returned
 
 -- ---- where it was only asked for its version, nothing is left that was not
 
@@ -104,7 +104,7 @@ pub returns-in-Ok-eq3-clause-unnamed : goal.returns-in-Ok-eq3-clause-unnamed
 returns-in-Ok-eq3-clause-unnamed g c clean none = absurd (both _ (let is : has_our_name c.args.conn.schema ≡ true = search rules in is) none)
 
 pub returns-in-Ok-eq1-clause-unmade : goal.returns-in-Ok-eq1-clause-unmade
-returns-in-Ok-eq1-clause-unmade g c = IfErr-weaker c.copied.result _ _ (λ e told none. told) c.copied.ensures.told
+returns-in-Ok-eq1-clause-unmade g c = IfErr-weaker c.copied.result _ _ (λ e returned none. returned) c.copied.ensures.returned
 
 pub returns-in-Ok-version_on-clause-unmade : goal.returns-in-Ok-version_on-clause-unmade
 returns-in-Ok-version_on-clause-unmade g c none = absurd (both _ (let is : has_our_name c.args.conn.schema ≡ true = search rules in is) none)

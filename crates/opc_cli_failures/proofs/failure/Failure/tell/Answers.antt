@@ -1,8 +1,0 @@
-use Rattle.opc_cli_failures.proofs.Printed.{had_not_failed, not_failed}
-use Rattle.opc_cli_failures.proofs.failure.Failure.tell.Goals as goal
-
-pub returns-clause-told : goal.returns-clause-told
-returns-clause-told g c = not_failed c.print_failure.result _ _ c.print_failure.ensures.failed c.print_failure.ensures.text
-
-pub returns-clause-kept : goal.returns-clause-kept
-returns-clause-kept g c = had_not_failed c.print_failure.result _ _ c.print_failure.ensures.failed

@@ -1,5 +1,0 @@
-use Rattle.opc_gate_footprints.proofs.Growing.{on_ok, with_reply}
-use Rattle.opc_gate_footprints.proofs.part.see_reply.Goals as goal
-
-pub returns-clause-seen : goal.returns-clause-seen
-returns-clause-seen g c = λ sure s represents. on_ok c.add.result (with_reply s c.args.part.now c.args.id c.in_ok-reply.reply c.add.new.rows (c.in_ok-reply.ensures.reply sure s represents)) c.add.ensures

@@ -1,0 +1,57 @@
+-- The part of a state's board that a command, an event, a logon or a logoff sees.
+use Rattle.std.specs.Prelude.{◌≡◌, ℕ, true}
+use Rattle.opc_reader_commands.specs.declared.command.Command.{Command}
+use Rattle.opc_board.specs.declared.board.BoardRows.{BoardRows}
+use Rattle.opc_board.specs.declared.event.Event.{Event}
+use Rattle.opc_board.specs.Enough.{no_rows}
+use Rattle.opc_board.specs.Invariants.{Name}
+use Rattle.opc_board.specs.History.{without_history}
+use Rattle.opc_board.specs.Footprint.{IsInOrder, Footprint, IsFootprintOf, IsFootprintOfEvent, only}
+use Rattle.opc_state.specs.Invariants.{IsKeyed}
+use Rattle.opc_state.specs.State.{State}
+
+-- the rows of a state's board at some names and numbers, with empty histories
+abbrev pub IsPart : State → Footprint → BoardRows → Type 0
+IsPart s footprint part = part ≡ only footprint (without_history s.board)
+
+-- The board is a part of the state's that has all that the command sees.
+pub record IsFootprint (s : State) (command : Command) (console : Name) (part : BoardRows) : Type 0 where
+  pub footprint : Footprint
+  pub order : IsInOrder s.board
+  pub sees : IsFootprintOf footprint (without_history s.board) command console
+  pub is : IsPart s footprint part
+
+pub record IsEventFootprint (s : State) (event : Event) (part : BoardRows) : Type 0 where
+  pub footprint : Footprint
+  pub order : IsInOrder s.board
+  pub sees : IsFootprintOfEvent footprint (without_history s.board) event
+  pub is : IsPart s footprint part
+
+-- A logon or a logoff sees its console.
+pub record IsConsoleFootprint (s : State) (console : Name) (part : BoardRows) : Type 0 where
+  pub footprint : Footprint
+  pub order : IsInOrder s.board
+  pub sees : footprint.consoles console ≡ true
+  pub is : IsPart s footprint part
+
+-- what is seen stays seen
+pub record IsWithin (footprint more : Footprint) : Type 0 where
+  pub units : (name : Name) → footprint.units name ≡ true → more.units name ≡ true
+  pub devices : (number : Name) → footprint.devices number ≡ true → more.devices number ≡ true
+  pub consoles : (name : Name) → footprint.consoles name ≡ true → more.consoles name ≡ true
+  pub replies : (id : ℕ) → footprint.replies id ≡ true → more.replies id ≡ true
+
+-- A part of a state's board, of which more is seen than before, and this.
+pub record HasLoaded (s : State) (footprint : Footprint) (part : BoardRows) (what : Footprint → Type 0) : Type 0 where
+  pub more : Footprint
+  pub within : IsWithin footprint more
+  pub is : IsPart s more part
+  pub sees : what more
+
+-- one more load: a part of a state's board becomes one where this is seen, too
+abbrev pub LoadsMore : State → BoardRows → BoardRows → (Footprint → Type 0) → Type 0
+LoadsMore s old new what = IsKeyed s → (footprint : Footprint) → IsPart s footprint old → HasLoaded s footprint new what
+
+-- the first load: where nothing was seen, this is
+abbrev pub LoadsFirst : State → BoardRows → BoardRows → (Footprint → Type 0) → Type 0
+LoadsFirst s old new what = IsKeyed s → IsPart s no_rows old → HasLoaded s no_rows new what

@@ -1,0 +1,128 @@
+//! The console that asks, and who acts there.
+ghost use Rattle.std.specs.Prelude.{◌≡◌, ◌&&◌, IfOk, Some};
+ghost use Rattle.std.specs.Option.{is_none};
+ghost use Rattle.opc_board.specs.Invariants.{Name, console_at};
+ghost use Rattle.opc_state.specs.Asked.{Answers};
+ghost use Rattle.opc_state.specs.Changes.{IsKept};
+ghost use Rattle.opc_state.specs.State.{State};
+ghost use Rattle.opc_machine.specs.Rights.{is_owner, is_special, sees_all};
+ghost use Rattle.opc_machine.specs.Rulings.{is_required, is_revoked};
+ghost use Rattle.opc_gate_rulings.specs.Requester.{IsRequester, IsConsoleFor};
+
+use crate::ruling::acting_on;
+use opc_board::rows::ConsoleRow;
+use opc_machine::outcome::Denial;
+use opc_policy_members::profile::Profile;
+use opc_policy_members::user::User;
+use opc_state::tables::Tables;
+use opc_terms::fault::Fault;
+use opc_terms::mode::Mode;
+use opc_terms::rule::Rule;
+use opc_terms::store_fault::StoreFault;
+use std::alloc::Global;
+
+/// A console that may ask, and who acts there, if anybody does.
+#[derive(Clone, Copy)]
+pub struct Requester {
+    pub console: ConsoleRow,
+    pub user: Option<User>,
+}
+
+/// The console of a name, whose row is loaded: it has to be there (E10), and online (E11).
+pub fn console_for(console: Option<ConsoleRow>) -> Result<ConsoleRow, Denial>
+    ensures console { (s : State) → (name : Name) → console ≡ console_at s.board name → IsConsoleFor s name result }
+    ensures row { IfOk result (λ row. console ≡ Some row) }
+{
+    let Some(row) = console else {
+        return Err(Denial {
+            fault: Fault::NoConsole,
+            rule: None,
+        });
+    };
+    if !row.online {
+        return Err(Denial {
+            fault: Fault::ConsoleOffline,
+            rule: None,
+        });
+    }
+    Ok(row)
+}
+
+// Whether nobody is on where somebody has to be.
+fn lacks_logon(console: &ConsoleRow) -> bool
+    ensures { result ≡ is_required console.now.mode && is_none console.now.user }
+{
+    match console.mode {
+        Mode::Required => console.user.is_none(),
+        Mode::Optional | Mode::Auto => false,
+    }
+}
+
+fn is_revoked(user: &Option<User>) -> bool
+    ensures { result ≡ is_revoked user.now }
+{
+    match user {
+        Some(user) => user.revoked,
+        None => false,
+    }
+}
+
+/// The console that asks, whose row is loaded, and who acts there. It has to be there and online; somebody has to be on
+/// where its mode is REQUIRED (E12), and whoever acts may not be revoked (E13).
+pub fn requester_on<T: Tables>(
+    tables: &mut T,
+    alloc: Global,
+    console: Option<ConsoleRow>,
+) -> Result<Result<Requester, Denial>, StoreFault>
+    ensures kept { IsKept T.is_sure T.represents T.may_leave tables.old tables.new }
+    ensures asking { Answers (T.is_sure tables.new) (T.represents tables.old) result (λ s asking. (name : Name) → console ≡ console_at s.board name → IsRequester s name asking) }
+{
+    let console = match console_for(console) {
+        Ok(console) => console,
+        Err(denial) => return Ok(Err(denial)),
+    };
+    if lacks_logon(&console) {
+        return Ok(Err(Denial {
+            fault: Fault::LogonRequired,
+            rule: Some(Rule::LogonRequired),
+        }));
+    }
+    let user = acting_on(tables, alloc, &console)?;
+    if is_revoked(&user) {
+        return Ok(Err(Denial {
+            fault: Fault::Revoked,
+            rule: Some(Rule::Revoked),
+        }));
+    }
+    Ok(Ok(Requester { console, user }))
+}
+
+/// Whether there is a user, with SPECIAL.
+pub fn is_special(user: &Option<User>) -> bool
+    ensures { result ≡ is_special user.now }
+{
+    match user {
+        Some(user) => user.special,
+        None => false,
+    }
+}
+
+/// Whether whoever acts is SPECIAL or AUDITOR.
+pub fn sees_all(user: &Option<User>) -> bool
+    ensures { result ≡ sees_all user.now }
+{
+    match user {
+        Some(user) => user.special || user.auditor,
+        None => false,
+    }
+}
+
+/// Whether whoever acts owns a profile.
+pub fn is_owner(user: &Option<User>, profile: &Profile) -> bool
+    ensures { result ≡ is_owner user.now (Some profile.now) }
+{
+    match user {
+        Some(user) => profile.owner.text() == user.id.text(),
+        None => false,
+    }
+}

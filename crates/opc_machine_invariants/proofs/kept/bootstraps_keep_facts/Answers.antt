@@ -1,5 +1,0 @@
-use Rattle.opc_machine_invariants.proofs.Keeping.{bootstraps_keep}
-use Rattle.opc_machine_invariants.proofs.kept.bootstraps_keep_facts.Goals as goal
-
-pub returns : goal.returns
-returns c = bootstraps_keep

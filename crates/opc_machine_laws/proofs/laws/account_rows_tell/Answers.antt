@@ -1,5 +1,0 @@
-use Rattle.opc_machine_laws.proofs.Leaving.{rows_tell}
-use Rattle.opc_machine_laws.proofs.laws.account_rows_tell.Goals as goal
-
-pub returns : goal.returns
-returns c = rows_tell

@@ -1,5 +1,0 @@
-use Rattle.opc_machine_laws.proofs.Numbering.{board_told, line_told}
-use Rattle.opc_machine_laws.proofs.laws.faults_are_told_apart.Goals as goal
-
-pub returns : goal.returns
-returns c = record { board = board_told; line = line_told }

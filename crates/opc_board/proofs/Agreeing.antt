@@ -1,4 +1,4 @@
--- What comes of the rows that are seen, and what comes of the whole board.
+-- What comes of a footprint, and what comes of the whole board.
 use Rattle.std.proofs.Common.{◌≡◌, ℕ, Bool, true, false, not, cond, ◌==◌, if◌then◌else◌, List, [], ◌∷◌, Option, Some, None, Err, refl, ap, sym, ◌∙◌, arith}
 use Rattle.std.specs.List.{find}
 use Rattle.std.proofs.lemmas.Bool.Decides.{nat_tests}
@@ -62,7 +62,7 @@ module _ (footprint : Footprint) where
   pub done_then : (b part whole : BoardRows) (lines : List Line) → part ≡ only footprint whole → IsInOrder whole → AreLeft footprint b whole → Agrees b (done_with part lines) (done_with whole lines)
   done_then b part whole lines same order left = (ap (λ c. done_with c lines) same, (order, left))
 
-  -- look-ups at names that are seen
+  -- look-ups at names of the footprint
 
   pub unit_seen : (b : BoardRows) (name : Name) → footprint.units name ≡ true → unit_at (only footprint b) name ≡ unit_at b name
   unit_seen b name sees = find_seen (λ u. is u.name name) (has_unit_of footprint) (λ u here. named footprint.units name u.name sees here) b.units

@@ -1,4 +1,4 @@
--- What becomes of devices is seen of them.
+-- What becomes of devices depends on them.
 use Rattle.std.proofs.Common.{◌≡◌, Bool, true, false, not, if◌then◌else◌, [], Some, None, Err, filter, refl, ap, sym, ◌∙◌}
 use Rattle.std.specs.Option.{is_some}
 use Rattle.opc_rows.specs.Ordered.{put}
@@ -43,7 +43,7 @@ module _ (footprint : Footprint) where
       (replaced_order other (with_device one b) (replaced_order one b order))
       (record { units = refl; devices = replaced_left other (with_device one b) second ∙ replaced_left one b first; consoles = refl; replies = refl })
 
-  -- a device that is found is seen
+  -- a device that is found is in the footprint
   found_device : (number : Name) (b : BoardRows) (device : DeviceRow) → footprint.devices number ≡ true → device_at b number ≡ Some device → footprint.devices device.number ≡ true
   found_device number b device sees at = named footprint.devices number device.number sees (found_named (λ (d : DeviceRow). d.number) number device b.devices at)
 

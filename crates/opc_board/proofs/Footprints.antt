@@ -1,4 +1,4 @@
--- A command or an event does on what it sees of a board what it does on the board.
+-- A command or an event does on its footprint what it does on the board.
 use Rattle.std.proofs.Common.{true, false, [], Some, None, map, refl, ap}
 use Rattle.opc_reader_commands.specs.declared.command.Command.TheVariants as command
 use Rattle.opc_reader_commands.specs.Quotes.{text_value}

@@ -1,4 +1,4 @@
--- The facts of a board are kept.
+-- The invariants of a board are kept.
 use Rattle.std.proofs.Common.{◌≡◌, ℕ, Some, None, Option, Bool, true, false, not, cond, List, refl, ap, sym, ◌∙◌, subst, filter, ◌==◌, arith}
 use Rattle.std.specs.Option.{is_some}
 use Rattle.std.specs.List.{list_any}

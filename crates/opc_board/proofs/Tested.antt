@@ -1,4 +1,4 @@
--- The facts of a board, tested.
+-- The invariants of a board, tested.
 use Rattle.std.proofs.Common.{◌≡◌, Ordering, ap, Some, None, Option, Bool, true, false, List, [], ◌∷◌, refl, ◌&&◌, IfSome, MatchBool}
 use Rattle.std.specs.Option.{is_some}
 use Rattle.std.specs.List.{find, list_all, AllByRecursion, IsAllAdjacentAnswer}

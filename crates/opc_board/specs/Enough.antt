@@ -1,4 +1,4 @@
--- How few rows a command or an event has to see: those that it names, and those that it asks about.
+-- The smallest footprint of a command or an event: the rows that it names, and those that it asks about.
 use Rattle.std.specs.Prelude.{ℕ, Bool, true, false, ◌||◌, ◌==◌, Option, Some, None}
 use Rattle.opc_reader_commands.specs.declared.command.Command.{Command}
 use Rattle.opc_reader_commands.specs.declared.command.Command.TheVariants.{DisplayUnits, DisplayUnit, DisplayDevices, DisplayConsoles, DisplayReplies, Cancel, CancelUser, Force, Start, StartAs, Stop, Modify, Reply, VaryDeviceOnline, VaryDeviceOffline, VaryConsoleOnline, VaryConsoleOffline, VaryConsoleAuth, Mount, Unload, Swap, ResetConsole, Send, Log, Monitor, StopMonitor, Halt, Logon, Logoff}
@@ -81,7 +81,7 @@ enough_for_event b (Allocate device unit) = record (unit_alone unit) { devices =
 enough_for_event b (Free device) = device_alone device
 enough_for_event b Resume = no_rows
 
--- These rows are all that has to be seen.
+-- These rows are a footprint.
 abbrev pub FewRowsSuffice : Type 0
 FewRowsSuffice =
     (b : BoardRows) → IsInOrder b

@@ -1,5 +1,5 @@
--- What a command, an event, a logon or a logoff sees of a board: the rows at some keys. It does on them what it does on
--- the whole board, and leaves all other rows as they are.
+-- The footprint of a command, an event, a logon or a logoff: the rows of the board, by their keys, that it reads or
+-- writes. It does on them what it does on the whole board, and leaves all other rows as they are.
 use Rattle.std.specs.Prelude.{◌≡◌, ℕ, Bool, true, not, ◌&&◌, List, Ok, Err, filter}
 use Rattle.std.specs.List.{AllByRecursion, list_any}
 use Rattle.opc_rows.specs.Ordered.{Ascends}
@@ -19,8 +19,8 @@ use Rattle.opc_board.specs.Outcome.{Outcome, done}
 use Rattle.opc_board.specs.Consoles.{logged_on, logged_off}
 use Rattle.opc_board.specs.Effect.{effect, event_effect}
 
--- The names and numbers that are seen. Rows are chosen by these alone: a command may change all else of a row, and what
--- is seen after it is to be what was seen before.
+-- The names and numbers of a footprint. Rows are chosen by these alone: a command may change all else of a row, and the
+-- footprint afterwards is to be the one before.
 pub record Footprint : Type 0 where
   pub units : Name → Bool
   pub devices : Name → Bool
@@ -39,7 +39,7 @@ has_console_of footprint c = footprint.consoles c.name
 abbrev pub has_reply_of : Footprint → ReplyRow → Bool
 has_reply_of footprint r = footprint.replies r.id
 
--- the board with the rows that are seen alone
+-- the board with the rows of a footprint alone
 abbrev pub only : Footprint → BoardRows → BoardRows
 only footprint b = record b {
   units = filter (has_unit_of footprint) b.units;
@@ -62,7 +62,7 @@ pub record IsInOrder (b : BoardRows) : Type 0 where
   pub consoles : Ascends console_before b.consoles
   pub replies : Ascends reply_before b.replies
 
--- what is seen of an outcome: the same fault, or the same lines and the rows that are seen
+-- an outcome within a footprint: the same fault, or the same lines and the rows of the footprint
 abbrev pub outcome_only : Footprint → Outcome → Outcome
 outcome_only footprint (Ok d) = Ok (record { board = only footprint d.board; lines = d.lines })
 outcome_only footprint (Err fault) = Err fault
@@ -72,7 +72,7 @@ abbrev pub LeavesRest : Footprint → BoardRows → Outcome → Type 0
 LeavesRest footprint b (Ok d) = IsInOrder d.board × AreLeft footprint b d.board
 LeavesRest footprint b (Err fault) = Unit {0}
 
--- What comes of the rows that are seen is what is seen of what comes of the whole board.
+-- What comes of the rows of a footprint is, within the footprint, what comes of the whole board.
 abbrev pub IsLocal : Footprint → BoardRows → (BoardRows → Outcome) → Type 0
 IsLocal footprint b run = (run (only footprint b) ≡ outcome_only footprint (run b)) × LeavesRest footprint b (run b)
 
@@ -80,16 +80,16 @@ IsLocal footprint b run = (run (only footprint b) ≡ outcome_only footprint (ru
 abbrev pub has_other_master : Name → List ConsoleRow → Bool
 has_other_master name consoles = list_any (λ c. is_master c && not (is c.name name)) consoles
 
--- The unit is seen, with the devices that it has: they are freed when it leaves.
+-- It has the unit, with the devices that the unit has: they are freed when it leaves.
 abbrev pub HasLeaving : Footprint → BoardRows → Name → Type 0
 HasLeaving footprint b name = (footprint.units name ≡ true) × AllByRecursion (λ d. is_holder name d.unit ≡ true → has_device_of footprint d ≡ true) b.devices
 
--- The console is seen, and another master where there is one: without it this one would be the last.
+-- It has the console, and another master if there is one: without it this one would be the last.
 abbrev pub HasVaried : Footprint → BoardRows → Name → Type 0
 HasVaried footprint b name = (footprint.consoles name ≡ true) × (has_other_master name (only footprint b).consoles ≡ has_other_master name b.consoles)
 
--- What has to be seen for a command: what it names, and what it asks about others. A display of all rows sees them all,
--- and SE whether the user is on at some console. Any choice that has these rows will do.
+-- What the footprint of a command has to have: what the command names, and what it asks about others. A display of all
+-- rows needs them all, and SE whether the user is on at some console. Any choice that has these rows will do.
 abbrev pub IsFootprintOf : Footprint → BoardRows → Command → Name → Type 0
 IsFootprintOf footprint b DisplayUnits console = (name : Name) → footprint.units name ≡ true
 IsFootprintOf footprint b (DisplayUnit name) console = footprint.units name.value ≡ true
@@ -130,7 +130,7 @@ IsFootprintOfEvent footprint b (Allocate device unit) = (footprint.devices devic
 IsFootprintOfEvent footprint b (Free device) = footprint.devices device ≡ true
 IsFootprintOfEvent footprint b Resume = Unit {0}
 
--- A command does on what it sees of a board what it does on the board; and so does an event.
+-- A command does on its footprint what it does on the board; and so does an event.
 abbrev pub CommandsAreLocal : Type 0
 CommandsAreLocal =
     (footprint : Footprint) (b : BoardRows) (command : Command) (console : Name) → IsInOrder b → IsFootprintOf footprint b command console
@@ -139,7 +139,7 @@ CommandsAreLocal =
 abbrev pub EventsAreLocal : Type 0
 EventsAreLocal = (footprint : Footprint) (b : BoardRows) (event : Event) → IsInOrder b → IsFootprintOfEvent footprint b event → IsLocal footprint b (λ c. event_effect c event)
 
--- So does a logon or a logoff, which sees its console.
+-- So does a logon or a logoff, whose footprint is its console.
 abbrev pub LogonsAreLocal : Type 0
 LogonsAreLocal =
     (footprint : Footprint) (b : BoardRows) (name user : Name) → IsInOrder b → footprint.consoles name ≡ true

@@ -110,7 +110,7 @@ impl ConsoleRow {
 }
 
 impl Board {
-    /// The board of these rows, which are handed back where they are out of order or break a fact.
+    /// The board of these rows, which are handed back where they are out of order or break an invariant.
     pub fn of(rows: BoardRows) -> Result<Self, BoardRows>
         ensures { MatchResult result
             (λ board. (board ≡ rows) × IsBoard rows)

@@ -11,8 +11,8 @@ pub fn histories_only_grow()
     ensures events_after { EventsDoTheSameAfter }
 {}
 
-/// Commands, events, logons and logoffs do on what they see of a board what they do on the board, and leave its other
-/// rows as they are. Commands and events need see no more than the rows that they name or ask about.
+/// Commands, events, logons and logoffs do on their footprint what they do on the whole board, and leave its other rows as
+/// they are. The rows that a command or an event names or asks about are enough for a footprint.
 pub fn footprints_suffice()
     ensures commands { CommandsAreLocal }
     ensures events { EventsAreLocal }

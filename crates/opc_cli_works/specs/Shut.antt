@@ -35,7 +35,7 @@ module _ {S : Type 0} (g : Ghosts S) where
       (old new : Held S) (moment : ℕ) (r : Input) (answer : Answer) → IsHandledOver old new moment r answer → IsSure g new → IsShut g old
       → IsShut g new × ((left : State) → MayLeave g new left → MayLeave g old left)
 
-  -- A request to them is given up.
+  -- A request to them is aborted.
   abbrev pub ShutTablesGiveUp : Type 0
   ShutTablesGiveUp =
       (old new : Held S) (moment : ℕ) (r : Input) (answer : Answer) → IsHandledOver old new moment r answer → IsSure g new → IsShut g old → MayBeRefused r → IsAborted answer

@@ -37,7 +37,7 @@ pub fn requests_are_left_whole<D: Disk>()
     ensures { RequestsAreLeftWhole D.Disk }
 {}
 
-/// Once a fault of the disk has closed the tables they stay closed, each request that some state refuses is given up, and no
+/// Once a fault of the disk has closed the tables they stay closed, each request that some state refuses is aborted, and no
 /// request adds anything to what a crash leaves.
 pub fn closed_tables_stay_as_they_are<S: Alter>()
     ensures stay { ShutTablesStay S.Store }

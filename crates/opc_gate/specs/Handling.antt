@@ -30,7 +30,7 @@ LeavesAlone may_leave new s = (left : State) → may_leave new left → left ≡
 abbrev pub IsAcknowledged : {T : Type 0} → (T → State → Type 0) → T → T → State → State → Type 0
 IsAcknowledged may_leave old new s next = LeavesAlone may_leave new next ⊎ ((next ≡ s) × LeavesAsBefore may_leave old new)
 
--- the answer is that of the machine, and no word that the request was given up
+-- the answer is that of the machine, and no word that the request was aborted
 abbrev pub IsAnswered : Answer → Type 0
 IsAnswered answer = IsAborted answer → ⊥
 

@@ -1,4 +1,4 @@
--- What comes of what a command, an event, a logon or a logoff sees of a state's board comes of the state.
+-- What comes of the footprint of a command, an event, a logon or a logoff comes of the state.
 use Rattle.std.proofs.Common.{◌≡◌, ℕ, List, [], Ok, Err, sym, ap, ◌∙◌}
 use Rattle.std.proofs.lemmas.List.{append-nil}
 use Rattle.opc_reader_commands.specs.declared.command.Command.{Command}
@@ -48,7 +48,7 @@ stopped : (footprint : Footprint) (o : Outcome) (f : BoardFault) → outcome_onl
 stopped footprint (Ok d) f h = absurd (cc)
 stopped footprint (Err g) f h = h
 
--- edits that lead from what is seen of a state's board to what came of it
+-- edits that lead from a footprint of a state's board to what came of it
 abbrev pub Leads : State → BoardRows → BoardRows → List Edit → Type 0
 Leads s old new edits = ((whole : BoardRows) → AreFootprints old new s whole → all_edited edits s ≡ with_board whole s) × ((whole : BoardRows) → AreFootprints old new s whole → all_edited edits s ≡ s → edits ≡ [])
 

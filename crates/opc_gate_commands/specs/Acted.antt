@@ -22,7 +22,7 @@ pub record IsActed (s : State) (o : BoardOutcome) (edits : List Edit) (lines : L
   pub becomes : all_edited edits s ≡ record s { board = board }
   pub idle : all_edited edits s ≡ s → edits ≡ []
 
--- There is nothing to write of a logon or a logoff at a console, by what it sees of the board, where the state stays as it is.
+-- There is nothing to write of a logon or a logoff at a console, by its footprint, where the state stays as it is.
 abbrev pub AreNoneWhereSame : List ℕ → BoardRows → List Edit → Type 0
 AreNoneWhereSame console board edits = (s : State) → IsConsoleFootprint s console board → all_edited edits s ≡ s → edits ≡ []
 

@@ -89,7 +89,7 @@ fn kind_named<T: Tables>(tables: &mut T, command: &Command<'_>) -> Result<UnitKi
     }
 }
 
-// Why the board refuses; out of memory the request is given up.
+// Why the board refuses; out of memory the request is aborted.
 fn refusal(fault: BoardFault) -> Result<Fault, StoreFault>
     ensures { IfOk result (λ why. (fault ≢ NoMemory) × (why ≡ board_fault fault)) }
 {
@@ -177,7 +177,7 @@ fn known_by<T: Tables>(
     }
 }
 
-// A logon that is let on.
+// A logon that is admitted.
 fn admit<T: Tables>(
     tables: &mut T,
     alloc: Global,
@@ -262,7 +262,7 @@ fn typed<T: Tables>(
 }
 
 /// What a command comes to that is typed at a console, whose row is loaded. It loads only what the tests need that are
-/// reached: a command that is denied sees no board.
+/// reached: no footprint is loaded for a command that is denied.
 pub fn command_on<T: Tables>(
     tables: &mut T,
     alloc: Global,

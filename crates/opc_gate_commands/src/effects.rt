@@ -1,4 +1,4 @@
-//! What commands, logons and events make of what they see of the board, as edits of the state.
+//! What commands, logons and events make of their footprints, as edits of the state.
 ghost use Rattle.std.specs.Prelude.{◌≡◌, ◌≢◌, IfErr, IfOk, IsSome, Some, None, Err, [], false};
 ghost use Rattle.opc_board.specs.declared.fault.BoardFault.TheVariants.{NoMemory};
 ghost use Rattle.opc_board.specs.Consoles.{logged_on, logged_off};
@@ -28,7 +28,7 @@ pub(crate) struct Acted {
     pub(crate) lines: Vec<Line>,
 }
 
-/// What a command makes of a state, by what it sees of the board.
+/// What a command makes of a state, by its footprint.
 pub(crate) fn act_on(
     alloc: Global,
     mut board: Board,
@@ -48,7 +48,7 @@ pub(crate) fn act_on(
     Ok(Acted { edits, lines })
 }
 
-/// What a logon at a console makes of a state, by what it sees of the board.
+/// What a logon at a console makes of a state, by its footprint.
 pub(crate) fn log_on(
     alloc: Global,
     mut board: Board,
@@ -67,7 +67,7 @@ pub(crate) fn log_on(
     Ok(edits)
 }
 
-/// What a logoff at a console makes of a state, by what it sees of the board.
+/// What a logoff at a console makes of a state, by its footprint.
 pub(crate) fn log_off(
     alloc: Global,
     mut board: Board,
@@ -85,7 +85,7 @@ pub(crate) fn log_off(
     Ok(edits)
 }
 
-/// What an event makes of a state, by what it sees of the board.
+/// What an event makes of a state, by its footprint.
 pub(crate) fn apply_event(
     alloc: Global,
     mut board: Board,

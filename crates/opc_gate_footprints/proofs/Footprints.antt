@@ -1,4 +1,4 @@
--- Parts of a state's board that a command, an event, a logon or a logoff sees.
+-- The parts of a state's board that are loaded for a command, an event, a logon or a logoff.
 use Rattle.std.proofs.Common.{◌≡◌, true, take, Result, Ok, Err, IfOk, ◌∙◌}
 use Rattle.opc_reader_commands.specs.declared.command.Command.{Command}
 use Rattle.opc_rows.proofs.Orders.{all_weaker}
@@ -25,7 +25,7 @@ if_ok (Err e) follows h = tt
 live_order : (b : BoardRows) → IsInOrder b → IsInOrder (without_history b)
 live_order b order = record { units = order.units; devices = order.devices; consoles = order.consoles; replies = order.replies }
 
--- whatever sees more sees what is named, too
+-- a larger footprint has what is named, too
 named_within : (x y : Footprint) → IsWithin x y → (b : BoardRows) (what : BoardKeys) → HasKeys x b what → HasKeys y b what
 named_within x y within b keys.Nothing sees = tt
 named_within x y within b (keys.Unit name) sees = within.units name sees

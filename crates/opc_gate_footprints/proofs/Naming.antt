@@ -1,4 +1,4 @@
--- What is named is what a command sees.
+-- What a command names is its footprint.
 use Rattle.std.proofs.Common.{◌≡◌, true}
 use Rattle.opc_board.specs.declared.board.BoardRows.{BoardRows}
 use Rattle.opc_board.specs.Invariants.{Name, console_before, is, is_master}

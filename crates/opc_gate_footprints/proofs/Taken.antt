@@ -62,7 +62,7 @@ module _ {A : Type 0} (m s p : A → Bool) where
   abbrev other : A → Bool
   other x = m x && not (p x)
 
-  -- where none is this one, the first that is seen is another
+  -- where none is this one, the first that is there is another
   first_seen : (xs : List A) → AllByRecursion (λ x. p x ≡ false) xs → AllByRecursion (λ x. s x ≡ true) (take 1 (filter m xs)) → list_any other (filter s xs) ≡ list_any other xs
   first_seen [] others footprint = refl
   first_seen (x ∷ xs) others footprint = go (m x) (s x) refl refl footprint (first_seen xs others.1)
@@ -75,7 +75,7 @@ module _ {A : Type 0} (m s p : A → Bool) where
       go false true is there footprint more = rw is (more footprint)
       go false false is there footprint more = rw is (more footprint)
 
-  -- of the first two that are seen, one is another where there is any
+  -- of the first two that are there, one is another if there is any
   pub two_seen : (before : A → A → Bool) → ((x y : A) → p x ≡ true → before x y ≡ true → p y ≡ false) → (xs : List A) → Ascends before xs → AllByRecursion (λ x. s x ≡ true) (take 2 (filter m xs)) → list_any other (filter s xs) ≡ list_any other xs
   two_seen before once [] order footprint = refl
   two_seen before once (x ∷ xs) order footprint = go (m x) (s x) (p x) refl refl refl footprint (two_seen before once xs order.1)

@@ -1,4 +1,4 @@
--- What is seen of a board where this is named. Whatever sees more sees this, too.
+-- The footprint of what is named. A larger footprint has this, too.
 use Rattle.std.specs.Prelude.{◌≡◌, true, take}
 use Rattle.std.specs.List.{AllByRecursion}
 use Rattle.opc_board.specs.declared.board.BoardRows.{BoardRows}

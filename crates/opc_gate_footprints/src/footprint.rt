@@ -1,4 +1,4 @@
-//! What a command, an event, a logon or a logoff sees of the board.
+//! The footprint of a command, an event, a logon or a logoff: the rows of the board that it reads or writes.
 ghost use Rattle.std.specs.Prelude.{◌≡◌, IfOk, IsSome, Some, [], false};
 ghost use Rattle.opc_board.specs.Enough.{no_rows};
 ghost use Rattle.opc_board.specs.Invariants.{console_at};
@@ -75,14 +75,15 @@ fn loaded_rows<T: Tables>(tables: &mut T, alloc: Global, keys: BoardKeys) -> Res
     Ok(part)
 }
 
-// The board of these rows. Rows that break a fact are refused.
+// The board of these rows. Rows that break an invariant are refused.
 fn board_of(part: BoardRows) -> Result<Board, StoreFault>
     ensures { IfOk result (λ board. board ≡ part) }
 {
     Board::of(part).map_err(|_| StoreFault::Store)
 }
 
-/// What a command sees that does more than show, typed at a console whose row is loaded. A board that breaks a fact there fails.
+/// The footprint of a command that does more than show, typed at a console whose row is loaded. A board that breaks an
+/// invariant there fails.
 pub fn footprint_on<T: Tables>(
     tables: &mut T,
     alloc: Global,
@@ -99,7 +100,7 @@ pub fn footprint_on<T: Tables>(
     board_of(part)
 }
 
-/// What an event sees.
+/// The footprint of an event.
 pub fn event_footprint_on<T: Tables>(
     tables: &mut T,
     alloc: Global,
@@ -112,7 +113,7 @@ pub fn event_footprint_on<T: Tables>(
     board_of(part)
 }
 
-/// What a logon or a logoff sees: its console, whose row is loaded.
+/// The footprint of a logon or a logoff: its console, whose row is loaded.
 pub fn console_footprint_on<T: Tables>(
     tables: &mut T,
     alloc: Global,

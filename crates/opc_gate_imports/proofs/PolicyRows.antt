@@ -206,7 +206,7 @@ alone_is b =
     ap₂ (λ us ds. record (consoles_alone b) { units = us; devices = ds }) (sym (none_kept b.units)) (sym (none_kept b.devices))
     ∙ ap₂ (λ cs rs. record (only all_consoles (without_history b)) { consoles = cs; replies = rs }) (sym (all_kept b.consoles)) (sym (none_kept b.replies))
 
--- what is seen of a state's board, and of the board that rows make of it
+-- the footprint of a state's board, and of the board that rows make of it
 seen_so : (s : State) (all : List Row) (old new : BoardRows) → IsInOrder s.board → old ≡ consoles_alone s.board → new ≡ consoles_after all (consoles_alone s.board) → IsBoard new
     → AreFootprints old new s (without_history (consoles_after all s.board))
 seen_so s all old new order old_is new_is sound =

@@ -112,7 +112,7 @@ fn all_groups<T: Tables>(
     ensures groups { Answers (T.is_sure tables.new) (T.represents tables.old) result (λ s groups. groups.items ≡ groups_of s.policy.connects user.now) }
 {
     let groups = tables.groups_of(alloc, user, u32::MAX)?;
-    // There are fewer groups than that, so these are all. With 4,294,967,295 the listing would be given up.
+    // There are fewer groups than that, so these are all. With 4,294,967,295 the listing would be aborted.
     if groups.len() >= u32::MAX as usize {
         return Err(StoreFault::Store);
     }

@@ -18,7 +18,7 @@ use std::alloc::Global;
 
 const HEADER: &str = "kind,class,name,id,value,owner,flags,digest,when,restricted\n";
 
-/// What ends the program where a request is given up.
+/// What ends the program where a request is aborted.
 pub(crate) const ABORTED: &str = "the tables failed, or out of memory";
 
 /// The most rows of the account that are counted.

@@ -121,7 +121,7 @@ fn failing_reads<T: Tables + Drop>(
     spans.ended(alloc)
 }
 
-/// An exchange whose writer may fail, after which the account has so many rows, unless the request is given up. Where
+/// An exchange whose writer may fail, after which the account has so many rows, unless the request is aborted. Where
 /// memory is refused for the response, nothing is written, and the request stays done.
 fn written_to<T: Tables + Drop>(
     alloc: Global,
@@ -165,7 +165,7 @@ fn failing_writes<T: Tables + Drop>(
         let words = format!(in alloc; "{}, {response}", outcome.words)?;
         spans.add(alloc, writes, words)?;
     }
-    // Each exchange brings the same number of rows, unless it is given up.
+    // Each exchange brings the same number of rows, unless it is aborted.
     let after = rows_after(before, rows, whole.written.len().saturating_add(3));
     let full = FailingWriter::new(alloc, 0, usize::MAX);
     let outcome = written_to(alloc, room, moment, bytes, full, after)?;

@@ -76,7 +76,7 @@ answer_of (Err denial) = Refused denial.fault denial.rule
 abbrev pub IsAborted : Answer → Type 0
 IsAborted answer = (answer ≡ Refused fault.NoMemory None) ⊎ (answer ≡ Refused fault.Store None)
 
--- The request is given up, and nothing changes.
+-- The request is aborted, and nothing changes.
 pub record IsLeft (s : State) (answer : Answer) (new : State) : Type 0 where
   pub aborts : IsAborted answer
   pub same : new ≡ s

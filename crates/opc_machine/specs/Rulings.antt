@@ -74,7 +74,7 @@ abbrev pub ruling : State → ConsoleRow → Need → Ruling
 ruling s c need = denied_or (logon_denial s c) (access_ruling s c (acting s c) need)
 
 -- The ruling on a user who logs on at a console: nobody who is revoked, and READ on the console's name in class
--- CONSOLE. Where that is undecided the user is let on.
+-- CONSOLE. Where that is undecided the user is admitted.
 abbrev pub console_access : State → ConsoleRow → User → Ruling
 console_access s c user =
     by_verdict (verdict (is_active s.policy.active Console) (deciding_in s.policy Console c.name) user (Some c.name) (groups_of s.policy.connects user.id) Read)

@@ -24,7 +24,7 @@ pub struct Denial {
     pub rule: Option<Rule>,
 }
 
-/// A deed or a denial; or a fault of memory or of the tables, by which the request is given up.
+/// A deed or a denial; or a fault of memory or of the tables, by which the request is aborted.
 pub type Decided = Result<Result<Deed, Denial>, StoreFault>;
 
 /// Nothing is done, for this reason, and by this rule where one decided.

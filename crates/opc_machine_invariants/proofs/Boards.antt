@@ -1,4 +1,4 @@
--- A board that comes of a command or an event has the facts, and its users are stored, where that held before.
+-- A board that comes of a command or an event meets the invariants, and its users are stored, where that held before.
 use Rattle.std.proofs.Common.{◌≡◌, ℕ, Bool, true, false, not, if◌then◌else◌, List, [], ◌∷◌, ◌++◌, ◌==◌, Option, Some, None, Ok, Err, refl, ap}
 use Rattle.std.specs.List.{AllByRecursion}
 use Rattle.std.specs.Option.{is_some}

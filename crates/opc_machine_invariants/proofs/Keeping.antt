@@ -1,4 +1,4 @@
--- Each step of the machine keeps the facts of a state.
+-- Each step of the machine keeps the invariants of a state.
 use Rattle.std.proofs.Common.{◌≡◌, inl, inr, ℕ, Bool, true, false, not, if◌then◌else◌, List, [], ◌∷◌, Option, Some, None, Result, Ok, Err, filter, map, refl, sym, subst, codes, rules}
 use Rattle.std.specs.Option.{is_none, is_some, option_and_then}
 use Rattle.opc_names.specs.declared.class.Class.{Class}
@@ -45,7 +45,7 @@ use Rattle.opc_machine.proofs.Inversion.{found_ok}
 use Rattle.opc_machine_invariants.proofs.Orders.{policy_ordered, rows_ordered}
 use Rattle.opc_machine_invariants.proofs.Policies.{Extends, IfMade, board_on, policy_kept, rows_kept}
 
--- where something is done the state has the facts
+-- where something is done the state meets the invariants
 abbrev pub IfDoes : Outcome → Type 0
 IfDoes (Ok deed) = HasInvariants deed.state
 IfDoes (Err denial) = Unit {0}

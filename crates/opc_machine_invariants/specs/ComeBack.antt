@@ -16,6 +16,6 @@ as_defined c = new_console c.name c.auth c.mode
 abbrev pub written : Policy → List ConsoleRow → State
 written p consoles = record empty { policy = p; board = record empty.board { consoles = map as_defined consoles } }
 
--- What is exported of a state with its facts comes back.
+-- What is exported of a state that meets its invariants comes back.
 abbrev pub ExportsComeBack : Type 0
 ExportsComeBack = (s : State) → HasInvariants s → bootstrapped (rows_of s.policy s.board.consoles) empty ≡ Ok (written s.policy s.board.consoles)

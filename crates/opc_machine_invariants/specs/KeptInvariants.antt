@@ -1,4 +1,4 @@
--- The facts of a state hold as long as the machine runs.
+-- The invariants of a state hold as long as the machine runs.
 use Rattle.std.specs.Prelude.{◌≡◌, ℕ, List, Ok}
 use Rattle.std.specs.List.{AllByRecursion}
 use Rattle.std.specs.Ordering.{is_lt}

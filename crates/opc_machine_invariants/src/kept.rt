@@ -1,29 +1,29 @@
 //! What holds of every state stays so, each as what a call without a body ensures.
 ghost use Rattle.opc_machine_invariants.specs.KeptInvariants.{BootstrapsKeepInvariants, EmptyHasInvariants, InvariantsGiveKeys, RunsKeepInvariants, StepsKeepInvariants};
 
-/// The empty state has the facts of a state.
+/// The empty state has the invariants of a state.
 pub fn empty_state_has_invariants()
     ensures { EmptyHasInvariants }
 {}
 
-/// By its facts, what a state keeps by keys is in their order.
+/// By the invariants, what a state keeps by keys is in their order.
 pub fn invariants_give_keys()
     ensures { InvariantsGiveKeys }
 {}
 
-/// A step keeps the facts of a state: those of the board, that no user and group have one name, that whoever is on at a
+/// A step keeps the invariants of a state: those of the board, that no user and group have one name, that whoever is on at a
 /// console and whatever a connect, an owner or an access list names is stored, and that users, groups, connects, profiles
 /// and access lists are in the order of their keys, of which none comes twice.
 pub fn steps_keep_invariants()
     ensures { StepsKeepInvariants }
 {}
 
-/// A run keeps the facts of a state.
+/// A run keeps the invariants of a state.
 pub fn runs_keep_invariants()
     ensures { RunsKeepInvariants }
 {}
 
-/// A first policy keeps the facts of a state.
+/// A first policy keeps the invariants of a state.
 pub fn bootstraps_keep_invariants()
     ensures { BootstrapsKeepInvariants }
 {}

@@ -1,4 +1,4 @@
-//! That whatever is asked of the access machine keeps the facts of a state.
+//! That whatever is asked of the access machine keeps the invariants of a state.
 #![tactic(auto)]
 
 pub mod kept;

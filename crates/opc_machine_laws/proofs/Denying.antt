@@ -41,7 +41,7 @@ use Rattle.opc_machine.proofs.Inversion.{console_is, refused_is}
 use Rattle.opc_machine_laws.proofs.Plain.{IsPlain, IsPlainIfFault, event_plain, none_of_authority, not_aborted}
 use Rattle.opc_machine_laws.proofs.Naming.{IfRefused, IsTold, IsToldBy, then_told, console_told, command_told, board_has_none, aborted_has_none}
 
--- what is in the way of a change is neither of authority nor given up
+-- what is in the way of a change is neither of authority nor aborted
 abbrev pub IfInTheWay : {A : Type 0} → Result A Fault → Type 0
 IfInTheWay (Ok x) = Unit {0}
 IfInTheWay (Err f) = IsPlain f
@@ -240,7 +240,7 @@ rules_named s moment r f why new authority (inr (inr done)) = go why (told_of s 
     go (Some because) (inl returned) = (because, refl, returned.0, returned.1)
     go (Some because) (inr way) = absurd (by_board s r f because way authority)
 
--- what is given up names no rule
+-- what is aborted names no rule
 named_none : (f : Fault) (why : Rule) → IsAborted (Refused f (Some why)) → ⊥
 named_none f why (inl h) = search (rules, h)
 named_none f why (inr h) = search (rules, h)

@@ -51,7 +51,7 @@ use Rattle.opc_machine_laws.proofs.Reasons.{decides_in_class}
 use Rattle.opc_machine.proofs.Inversion.{allowed_ok, console_is, command_is, found_ok}
 
 -- A rule that a refusal names denies, or allowed what the board refused; one that names none is neither of authority nor
--- given up.
+-- aborted.
 abbrev pub IsToldBy : State → Input → Fault → Option Rule → Type 0
 IsToldBy s r f None = IsPlain f
 IsToldBy s r f (Some why) = (IsNamedBy f why × IsDeniedBy s r why) ⊎ IsRefusedByBoard s r f why

@@ -363,7 +363,7 @@ import_loses_master = refl
 import_moves_master : refused_import 8 (row.Console (codes "C2") auth.All Optional ∷ row.Console (codes "C1") auth.Master Optional ∷ []) ≡ None
 import_moves_master = refl
 
--- the state has the facts of states
+-- the state has the invariants of states
 has_invariants : IsState base
 has_invariants = record {
   board = record {

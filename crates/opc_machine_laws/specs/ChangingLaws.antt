@@ -39,7 +39,7 @@ AdministersOnlyWhereAllowed =
     (s : State) (moment : ℕ) (name : List ℕ) (o : Operation) (lines : List Line) (why : Option Rule) (new : State) → Step s moment (input.Admin name o) (Done lines why) new
     → (console : ConsoleRow) × MayAsk s name console × (may_change s console o ≡ true) × (changed s o ≡ Ok new) × (lines ≡ []) × (why ≡ None)
 
--- and wherever it does, unless something is in the way or the request is given up.
+-- and wherever it does, unless something is in the way or the request is aborted.
 abbrev pub AdministersWhereverAllowed : Type 0
 AdministersWhereverAllowed =
     (s : State) (moment : ℕ) (name : List ℕ) (o : Operation) (console : ConsoleRow) (next : State) (answer : Answer) (new : State)
@@ -73,7 +73,7 @@ ListsAccountOnlyWhereShown =
     (s : State) (moment : ℕ) (name : List ℕ) (from count : ℕ) (lines : List Line) (why : Option Rule) (new : State) → Step s moment (input.ListAccount name from count) (Done lines why) new
     → (console : ConsoleRow) × MayAsk s name console × (account_shown s console ≡ true) × (lines ≡ map account_line (asked_for from count s.account)) × (new ≡ s)
 
--- and wherever it may, unless the request is given up.
+-- and wherever it may, unless the request is aborted.
 abbrev pub ListsAccountWhereverShown : Type 0
 ListsAccountWhereverShown =
     (s : State) (moment : ℕ) (name : List ℕ) (from count : ℕ) (console : ConsoleRow) (answer : Answer) (new : State)

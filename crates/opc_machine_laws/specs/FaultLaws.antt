@@ -29,7 +29,7 @@ use Rattle.opc_machine_laws.specs.ChangingLaws.{MayAsk}
 use Rattle.opc_machine_laws.specs.Laws.{IsHeard, IsKnown}
 use Rattle.opc_machine_laws.specs.RightLaws.{changed_profile}
 
--- The request is refused by this fault, which names no rule, unless it is given up.
+-- The request is refused by this fault, which names no rule, unless it is aborted.
 abbrev pub IsRefusedBy : State → Input → Fault → Type 0
 IsRefusedBy s r fault = (moment : ℕ) (answer : Answer) (new : State) → Step s moment r answer new → IsAborted answer ⊎ (answer ≡ Refused fault None)
 

@@ -63,7 +63,7 @@ ActsOnlyWhereAllowed =
     → Reads text command → need_of s.board command ≡ Some need → Step s moment (input.Command name text) (Done lines why) new
     → (console : ConsoleRow) × (rule : Rule) × IsAllowed s name text console command rule × Acts s console command rule (Done lines why) new
 
--- and wherever it does, unless the board is in the way or the request is given up.
+-- and wherever it does, unless the board is in the way or the request is aborted.
 abbrev pub ActsWhereverAllowed : Type 0
 ActsWhereverAllowed =
     (s : State) (moment : ℕ) (name text : List ℕ) (console : ConsoleRow) (command : Command) (why : Rule) (act : BoardDone) (answer : Answer) (new : State)
@@ -112,7 +112,7 @@ LogsOnOnlyWhereAllowed =
     → Reads text (command.Logon id password) → Step s moment (input.Command name text) (Done lines why) new
     → (console : ConsoleRow) × (user : User) × (rule : Rule) × IsAdmitted s name text console id password user rule × LogsOn s console id.value rule (Done lines why) new
 
--- and wherever it does, unless the request is given up.
+-- and wherever it does, unless the request is aborted.
 abbrev pub LogsOnWhereverAllowed : Type 0
 LogsOnWhereverAllowed =
     (s : State) (moment : ℕ) (name text : List ℕ) (console : ConsoleRow) (id password : Operand (List ℕ)) (user : User) (why : Rule) (answer : Answer) (new : State)
@@ -132,7 +132,7 @@ LogsOffOnlyWhereSomebodyIsOn =
     → Reads text command.Logoff → Step s moment (input.Command name text) (Done lines why) new
     → (console : ConsoleRow) × IsHeard s name text console command.Logoff × (is_some console.user ≡ true) × LogsOff s console (Done lines why) new
 
--- and wherever somebody is, unless the request is given up.
+-- and wherever somebody is, unless the request is aborted.
 abbrev pub LogsOffWhereverSomebodyIsOn : Type 0
 LogsOffWhereverSomebodyIsOn =
     (s : State) (moment : ℕ) (name text : List ℕ) (console : ConsoleRow) (answer : Answer) (new : State)
@@ -146,13 +146,13 @@ pub record IsRefusal (s : State) (moment : ℕ) (r : Input) (fault : Fault) (why
   pub batches : new.batches ≡ s.batches
   pub account : new.account ≡ s.account ++ account_row s moment r (fault_code fault) why ∷ []
 
--- One that is given up leaves all.
+-- One that is aborted leaves all.
 abbrev pub RefusalsChangeNothing : Type 0
 RefusalsChangeNothing =
     (s : State) (moment : ℕ) (r : Input) (fault : Fault) (why : Option Rule) (new : State) → Step s moment r (Refused fault why) new
     → (IsAborted (Refused fault why) × (new ≡ s)) ⊎ IsRefusal s moment r fault why new
 
--- A request that is answered as given up has changed nothing, not even the account.
+-- A request that is answered as aborted has changed nothing, not even the account.
 abbrev pub AbortsChangeNothing : Type 0
 AbortsChangeNothing = (s : State) (moment : ℕ) (r : Input) (fault : Fault) (why : Option Rule) (new : State) → IsAborted (Refused fault why) → Step s moment r (Refused fault why) new → new ≡ s
 
@@ -256,7 +256,7 @@ RefusalsNameNoOtherRule =
     → (IsNamedBy fault why × IsDeniedBy s r why) ⊎ IsRefusedByBoard s r fault why
 
 -- What the policy of this moment denies, whatever was asked, is answered by that denial and that rule, unless the request
--- is given up.
+-- is aborted.
 abbrev pub DenialsAreAnswered : Type 0
 DenialsAreAnswered =
     (s : State) (moment : ℕ) (r : Input) (why : Rule) (answer : Answer) (new : State) → IsDeniedBy s r why → Step s moment r answer new

@@ -96,7 +96,7 @@ EventsOnlyDoTheirEffect =
     (s : State) (moment : ℕ) (e : Event) (lines : List Line) (why : Option Rule) (new : State) → Step s moment (input.Event e) (Done lines why) new
     → (act : BoardDone) × Happens s e act (Done lines why) new
 
--- It happens wherever the board lets it, unless it is given up,
+-- It happens wherever the board lets it, unless it is aborted,
 abbrev pub EventsHappenWhereverPossible : Type 0
 EventsHappenWhereverPossible =
     (s : State) (moment : ℕ) (e : Event) (act : BoardDone) (answer : Answer) (new : State) → event_effect s.board e ≡ Ok act → Step s moment (input.Event e) answer new

@@ -11,7 +11,7 @@ use Rattle.opc_board.specs.declared.fault.BoardFault.{BoardFault}
 use Rattle.opc_board.specs.declared.fault.BoardFault.TheVariants as board
 use Rattle.opc_machine.specs.Faults.{board_fault, line_fault}
 
--- the number of what is in the way on the board; of refused memory that of a request that is given up
+-- the number of what is in the way on the board; of refused memory that of a request that is aborted
 abbrev pub board_number : BoardFault → List ℕ
 board_number board.NoUnit = codes "E30"
 board_number board.NonCancelable = codes "E31"
@@ -64,7 +64,7 @@ abbrev pub LineFaultsAreDistinct : Type 0
 LineFaultsAreDistinct = (fault : ReadFault) → HasItsPlace fault
 
 -- the number of every fault of a request: 1 to 6 of its line, 10 to 17 of its console and logon, 20 and 21 of the policy, 30 to
--- 45 of the board, 50 to 60 of administration, and from 90 on where it is given up or the tables are not ours
+-- 45 of the board, 50 to 60 of administration, and from 90 on where it is aborted or the tables are not ours
 abbrev pub number : Fault → ℕ
 number fault.Empty = 1
 number fault.TooLong = 2

@@ -90,7 +90,7 @@ pub record IsRuledByConsole (s : State) (console : ConsoleRow) (need : Need) (ru
 abbrev pub RulingsSayWhy : Type 0
 RulingsSayWhy = (s : State) (console : ConsoleRow) (need : Need) → IsRuledByLogon s console (ruling s console need) ⊎ (IsRuledByProfile s console need (ruling s console need) ⊎ IsRuledByConsole s console need (ruling s console need))
 
--- A user who logs on is refused where revoked, then ruled on by the profile of CONSOLE that decides, and else let on.
+-- A user who logs on is refused where revoked, then ruled on by the profile of CONSOLE that decides, and else admitted.
 pub record IsRuledAtLogon (s : State) (console : ConsoleRow) (user : User) (ruled : Ruling) : Type 0 where
   pub revoked : user.revoked ≡ true → ruled ≡ Denied rule.Revoked
   pub trusted : user.revoked ≡ false → IsByProfile s console user Console console.name Read ruled ⊎ (IsUndecided s Console console.name × (ruled ≡ Allowed rule.NoProfile))

@@ -19,7 +19,7 @@ pub fn acts_only_where_allowed()
 {}
 
 /// A command acts wherever the written policy of that moment allows it, unless the board is in the way or the request
-/// is given up.
+/// is aborted.
 pub fn acts_wherever_allowed()
     ensures { ActsWhereverAllowed }
 {}
@@ -87,7 +87,7 @@ pub fn logs_on_only_where_allowed()
     ensures { LogsOnOnlyWhereAllowed }
 {}
 
-/// A user is logged on wherever all that holds, unless the request is given up.
+/// A user is logged on wherever all that holds, unless the request is aborted.
 pub fn logs_on_wherever_allowed()
     ensures { LogsOnWhereverAllowed }
 {}
@@ -97,7 +97,7 @@ pub fn logs_off_only_where_somebody_is_on()
     ensures { LogsOffOnlyWhereSomebodyIsOn }
 {}
 
-/// LOGOFF is done wherever somebody is on, unless the request is given up.
+/// LOGOFF is done wherever somebody is on, unless the request is aborted.
 pub fn logs_off_wherever_somebody_is_on()
     ensures { LogsOffWhereverSomebodyIsOn }
 {}
@@ -108,7 +108,7 @@ pub fn administers_only_where_allowed()
 {}
 
 /// Administration is done wherever the written policy of that moment gives the right, unless something is in the way or
-/// the request is given up.
+/// the request is aborted.
 pub fn administers_wherever_allowed()
     ensures { AdministersWhereverAllowed }
 {}
@@ -136,7 +136,7 @@ pub fn lists_exactly_profiles_shown()
     ensures { ListsExactlyProfilesShown }
 {}
 
-/// Profiles are listed wherever somebody may ask, unless the request is given up.
+/// Profiles are listed wherever somebody may ask, unless the request is aborted.
 pub fn lists_profiles_wherever_asked()
     ensures { ListsProfilesWhereverAsked }
 {}
@@ -156,7 +156,7 @@ pub fn lists_account_only_where_shown()
     ensures { ListsAccountOnlyWhereShown }
 {}
 
-/// The account is listed wherever it may be shown, unless the request is given up.
+/// The account is listed wherever it may be shown, unless the request is aborted.
 pub fn lists_account_wherever_shown()
     ensures { ListsAccountWhereverShown }
 {}
@@ -182,7 +182,7 @@ pub fn imports_only_where_allowed()
     ensures { ImportsOnlyWhereAllowed }
 {}
 
-/// An import with a new number is done wherever SPECIAL asks, unless a row is refused or the request is given up,
+/// An import with a new number is done wherever SPECIAL asks, unless a row is refused or the request is aborted,
 pub fn imports_wherever_allowed()
     ensures { ImportsWhereverAllowed }
 {}
@@ -217,12 +217,12 @@ pub fn refusals_change_nothing()
     ensures { RefusalsChangeNothing }
 {}
 
-/// A request that is given up changes nothing, not even the account.
+/// A request that is aborted changes nothing, not even the account.
 pub fn aborts_change_nothing()
     ensures { AbortsChangeNothing }
 {}
 
-/// A request is given up where memory is refused (E90) or because the store failed (E91), and is answered so.
+/// A request is aborted where memory is refused (E90) or because the store failed (E91), and is answered so.
 pub fn aborts_without_memory_or_store()
     ensures { AbortsWithoutMemoryOrStore }
 {}
@@ -238,7 +238,7 @@ pub fn refusals_name_no_other_rule()
     ensures { RefusalsNameNoOtherRule }
 {}
 
-/// What the written policy of that moment denies is answered by that denial and its rule, unless the request is given up.
+/// What the written policy of that moment denies is answered by that denial and its rule, unless the request is aborted.
 pub fn denials_are_answered()
     ensures { DenialsAreAnswered }
 {}
@@ -306,7 +306,7 @@ pub fn events_only_do_their_effect()
     ensures { EventsOnlyDoTheirEffect }
 {}
 
-/// It happens wherever the board lets it, unless it is given up,
+/// It happens wherever the board lets it, unless it is aborted,
 pub fn events_happen_wherever_possible()
     ensures { EventsHappenWhereverPossible }
 {}
@@ -327,7 +327,7 @@ pub fn rulings_say_why()
     ensures { RulingsSayWhy }
 {}
 
-/// Whoever logs on is refused where revoked, then ruled on by the profile of CONSOLE that decides, and else let on.
+/// Whoever logs on is refused where revoked, then ruled on by the profile of CONSOLE that decides, and else admitted.
 pub fn logon_rulings_say_why()
     ensures { LogonRulingsSayWhy }
 {}

@@ -5,7 +5,7 @@ use Rattle.opc_rows.specs.Ordered.{Ascends, put, changed}
 use Rattle.opc_rows.proofs.Orders.{all_weaker}
 
 module _ {A : Type 0} where
-  -- a look-up for what is seen
+  -- a look-up for what passes
   pub find_seen : (p s : A → Bool) → ((x : A) → p x ≡ true → s x ≡ true) → (xs : List A) → find p (filter s xs) ≡ find p xs
   find_seen p s sees [] = refl
   find_seen p s sees (x ∷ xs) = go (p x) (s x) refl refl (find_seen p s sees xs)
@@ -16,7 +16,7 @@ module _ {A : Type 0} where
       go false true here there more = ap (λ c. cond c (Some x) (find p (filter s xs))) here ∙ more
       go false false here there more = more
 
-  -- all are seen
+  -- all pass
   pub all_seen : (s : A → Bool) → ((x : A) → s x ≡ true) → (xs : List A) → filter s xs ≡ xs
   all_seen s sees [] = refl
   all_seen s sees (x ∷ xs) = ap (λ c. cond c (x ∷ filter s xs) (filter s xs)) (sees x) ∙ ap (λ ws. x ∷ ws) (all_seen s sees xs)
@@ -43,7 +43,7 @@ module _ {A : Type 0} where
       go false true here there more = let left : t x ≡ false = other x here in absurd (cc)
       go false false here there more = more
 
-  -- what passes one test among those that are seen is what passes another among all
+  -- what passes one test among those that are kept is what passes another among all
   pub filter_within : (p q s : A → Bool) (xs : List A) → AllByRecursion (λ x. (s x ≡ true → p x ≡ q x) × (s x ≡ false → q x ≡ false)) xs → filter p (filter s xs) ≡ filter q xs
   filter_within p q s [] each = refl
   filter_within p q s (x ∷ xs) each = go (s x) refl (filter_within p q s xs each.1)
@@ -213,7 +213,7 @@ module _ {A : Type 0} where
       further [] after found = tt
       further (y ∷ ys) after found = (ap (λ c. cond c (Some x) (find (λ z. at z y) xs)) (apart x y after.0) ∙ found.0, further ys after.1 found.1)
 
-  -- whether any passes, where all that pass are seen
+  -- whether any passes, where all that pass are kept
   pub any_seen : (q s : A → Bool) (xs : List A) → AllByRecursion (λ x. q x ≡ true → s x ≡ true) xs → list_any q (filter s xs) ≡ list_any q xs
   any_seen q s [] seen = refl
   any_seen q s (x ∷ xs) seen = go (q x) (s x) refl refl (any_seen q s xs seen.1)

@@ -1,4 +1,4 @@
--- What differs of the rows that are seen is what differs of all, where the others are the same.
+-- What differs within a footprint is what differs at all, where the other rows are the same.
 use Rattle.std.proofs.Common.{◌≡◌, ◌++◌, ℕ, Bool, true, false, not, List, filter, map, Some, Ordering, refl, sym, ap, ap₂, ◌∙◌, eqb-true}
 use Rattle.std.specs.Cmp.{IsTotalOrder}
 use Rattle.std.specs.List.{find}
@@ -26,7 +26,7 @@ module _ {R : Type 0} (cmp : R → R → Ordering) (total : IsTotalOrder cmp) (i
   find_alike : (s : R → Bool) → ((q r : R) → is_at q r ≡ true → s q ≡ s r) → (r : R) → s r ≡ true → (rows : List R) → find (λ q. is_at q r) (filter s rows) ≡ find (λ q. is_at q r) rows
   find_alike s alike r chosen rows = find_seen (λ q. is_at q r) s (λ q here. alike q r here ∙ chosen) rows
 
-  -- what is not seen is in both
+  -- what is not in the footprint is in both
   elsewhere : (s : R → Bool) → ((q r : R) → is_at q r ≡ true → s q ≡ s r) → (rows others : List R) → filter (λ q. not (s q)) others ≡ filter (λ q. not (s q)) rows → (r : R) → s r ≡ false → find (λ q. is_at q r) rows ≡ Some r → find (λ q. is_at q r) others ≡ Some r
   elsewhere s alike rows others left r out found =
       sym (find_alike (λ q. not (s q)) (λ x y h. ap not (alike x y h)) r (ap not out) others)

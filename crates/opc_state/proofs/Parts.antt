@@ -184,7 +184,7 @@ stays_live s new h =
 live_order : (b : BoardRows) → IsInOrder b → IsInOrder (without_history b)
 live_order b order = record { units = order.units; devices = order.devices; consoles = order.consoles; replies = order.replies }
 
--- the edits between what is seen of two boards are those between the boards
+-- the edits between the footprints of two boards are those between the boards
 seen_alike : (old new : BoardRows) (s : State) (whole : BoardRows) (h : AreFootprints old new s whole) → board_difference old new ≡ board_difference (without_history s.board) whole
 seen_alike old new s whole h =
     ap₂ board_difference h.old_is h.new_is

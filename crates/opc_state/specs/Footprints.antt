@@ -1,4 +1,4 @@
--- Boards of which some rows are seen, as parts of a state's board and of another.
+-- The footprints of a state's board and of another board.
 use Rattle.std.specs.Prelude.{◌≡◌}
 use Rattle.opc_board.specs.declared.board.BoardRows.{BoardRows}
 use Rattle.opc_board.specs.History.{without_history}
@@ -6,7 +6,7 @@ use Rattle.opc_board.specs.Footprint.{AreLeft, IsInOrder, Footprint, only}
 use Rattle.opc_state.specs.Difference.{board_difference}
 use Rattle.opc_state.specs.State.{State}
 
--- The edits between what is seen of two boards are those between the boards, where the other rows are the same.
+-- The edits between the footprints of two boards are those between the boards, where the other rows are the same.
 abbrev pub DifferencesAreLocal : Type 0
 DifferencesAreLocal =
     (footprint : Footprint) (old new : BoardRows) → IsInOrder old → IsInOrder new → AreLeft footprint old new

@@ -149,7 +149,7 @@ fn parts(alloc: Global, old: &BoardRows, new: &BoardRows) -> Result<Vec<Edit>, A
     Ok(edits)
 }
 
-/// The edits by which a board becomes another one, from what is seen of them. The histories of the new one are what is
+/// The edits by which a board becomes another one, from their footprints. The histories of the new one are what is
 /// added to theirs. Members that stay as they are are not among the edits; so there are none where a state stays as it
 /// is.
 pub fn difference(alloc: Global, old: &Board, new: &Board) -> Result<Vec<Edit>, AllocError>

@@ -17,7 +17,7 @@ use opc_rows::Rows;
 use opc_state::tables::Tables;
 use opc_terms::fault::Fault;
 use opc_cli_words::import::Import;
-use std::alloc::{AllocError, Global};
+use std::alloc::Global;
 use std::io::Read;
 
 /// Puts the policy file on the input into these tables, at a moment, and hands them back.
@@ -94,17 +94,7 @@ fn listed(alloc: Global, rows: &[Row]) -> Result<Rows<Row>, Failure>
     ensures rows { IfOk result (λ copy. copy ≡ rows.now) }
     ensures fault { IfErr result (λ failure. failure.fault ≡ Fault.NoMemory) }
 {
-    copied(alloc, rows).map_err(|_| Failure::from(Fault::NoMemory))
-}
-
-fn copied(alloc: Global, rows: &[Row]) -> Result<Rows<Row>, AllocError>
-    ensures { IfOk result (λ copy. copy ≡ rows.now) }
-{
-    let mut copy = Rows::new(alloc);
-    for row in rows {
-        copy.push(*row)?;
-    }
-    Ok(copy)
+    Rows::from_slice(alloc, rows).map_err(|_| Failure::from(Fault::NoMemory))
 }
 
 /// Writes the policy of these tables as a policy file, and hands them back.

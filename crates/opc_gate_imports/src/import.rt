@@ -10,7 +10,6 @@ ghost use Rattle.opc_state.specs.Loads.{batch_rows};
 ghost use Rattle.opc_state.specs.State.{State};
 ghost use Rattle.opc_machine.specs.Deeds.{IsOutcome};
 ghost use Rattle.opc_machine.specs.Imports.{batch_line, batch_of, batch_outcome, import_outcome, new_batch, same_batch, same_rows};
-ghost use Rattle.opc_machine.specs.Rights.{is_special};
 
 use opc_board::line::{Item, Line};
 use opc_board::rows::ConsoleRow;
@@ -18,9 +17,8 @@ use opc_board::text::KeptText;
 use crate::bootstrap::row_edits_on;
 use opc_machine::outcome::{Decided, Deed, denied};
 use opc_policy_members::row::Row;
-use opc_policy_members::user::User;
 use opc_rows::Rows;
-use opc_gate_rulings::requester::requester_on;
+use opc_gate_rulings::requester::{is_special, requester_on};
 use opc_state::change::{Batch, Edit};
 use opc_state::tables::Tables;
 use opc_terms::fault::Fault;
@@ -47,21 +45,11 @@ fn batch_lines(alloc: Global, number: u32, what: &str) -> Result<Rows<Line>, All
     Ok(lines)
 }
 
-fn copied_rows(alloc: Global, rows: &[Row]) -> Result<Rows<Row>, AllocError>
-    ensures { IfOk result (λ copy. copy ≡ rows.now) }
-{
-    let mut copies = Rows::new(alloc);
-    for row in rows {
-        copies.push(*row)?;
-    }
-    Ok(copies)
-}
-
 // The edits of the rows, and the batch after them.
 fn keep(alloc: Global, edits: &mut Vec<Edit>, number: u32, rows: &[Row]) -> Result<(), AllocError>
     ensures { OnOk result (edits.new.items ≡ edits.old.items ++ PutBatch (record { number = number; rows = rows.now }) ∷ []) }
 {
-    let rows = copied_rows(alloc, rows)?;
+    let rows = Rows::from_slice(alloc, rows)?;
     edits.push(Edit::PutBatch(Batch { number, rows }))?;
     Ok(())
 }
@@ -116,15 +104,6 @@ fn batch_on<T: Tables>(tables: &mut T, alloc: Global, number: u32, rows: &[Row])
     match tables.batch(alloc, number)? {
         None => new_batch(tables, alloc, number, rows),
         Some(kept) => same_batch(alloc, number, kept.as_slice(), rows),
-    }
-}
-
-fn is_special(user: &Option<User>) -> bool
-    ensures { result ≡ is_special user.now }
-{
-    match user {
-        Some(user) => user.special,
-        None => false,
     }
 }
 

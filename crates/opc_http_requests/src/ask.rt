@@ -20,22 +20,11 @@ use opc_http_head::routes::{Route, Routes};
 use opc_io::source::Source;
 use opc_machine::request::Request;
 use opc_names::name::ConsoleName;
-use opc_policy_members::row::Row;
 use opc_rows::Rows;
-use std::alloc::{AllocError, Global};
+use std::alloc::Global;
 
 /// The most fields of a head.
 const MOST_FIELDS: usize = 32;
-
-fn listed(alloc: Global, rows: &[Row]) -> Result<Rows<Row>, AllocError>
-    ensures { IfOk result (λ copy. copy ≡ rows.now) }
-{
-    let mut copy = Rows::new(alloc);
-    for row in rows {
-        copy.push(*row)?;
-    }
-    Ok(copy)
-}
 
 // What a route asks for at a console.
 fn request_by(
@@ -59,7 +48,7 @@ fn request_by(
         Route::Import => {
             let batch = batch_in(path)?;
             let rows = rows_in(alloc, body)?;
-            let rows = listed(alloc, rows.as_slice())?;
+            let rows = Rows::from_slice(alloc, rows.as_slice())?;
             Ok(Request::Import {
                 console,
                 batch,

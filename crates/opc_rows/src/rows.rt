@@ -1,5 +1,5 @@
 //! A list of rows under keys.
-ghost use Rattle.std.specs.Prelude.{◌≡◌, ◌≤◌, ◌++◌, ◌∷◌, [], Some, None, filter, find, length, map, not, position, false, true, OnErr, OnOk, MatchResult};
+ghost use Rattle.std.specs.Prelude.{◌≡◌, ◌≤◌, ◌++◌, ◌∷◌, [], Some, None, filter, find, length, map, not, position, false, true, IfOk, OnErr, OnOk, MatchResult};
 ghost use Rattle.std.specs.List.{IsAllAdjacentAnswer};
 ghost use Rattle.std.specs.List.Sorted.{IsPartitionPoint};
 ghost use Rattle.std.specs.Fn.{FnReturns};
@@ -7,7 +7,7 @@ ghost use Rattle.std.specs.Option.{option_copied};
 ghost use Rattle.std.specs.Ordering.{is_lt};
 ghost use Rattle.opc_rows.specs.Ordered.{IsChangedAtEach, IsChangedAtOne, IsInKeyOrder, comes_before, put, changed};
 
-use std::alloc::{AllocFailed, Global};
+use std::alloc::{AllocError, AllocFailed, Global};
 use std::marker::Model;
 
 /// A row that has a key.
@@ -59,6 +59,19 @@ impl<R> Rows<R> {
         ensures { result.now ≡ self.now }
     {
         &self.items
+    }
+}
+
+impl<R: Copy + Drop> Rows<R> {
+    /// A copy of rows, in their order.
+    pub fn from_slice(alloc: Global, rows: &[R]) -> Result<Self, AllocError>
+        ensures { IfOk result (λ copy. copy ≡ rows.now) }
+    {
+        let mut copy = Rows::new(alloc);
+        for row in rows {
+            copy.push(*row)?;
+        }
+        Ok(copy)
     }
 }
 

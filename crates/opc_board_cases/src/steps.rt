@@ -9,8 +9,8 @@ use opc_board::fault::BoardFault;
 use opc_board::line::Line;
 use opc_names::auth::Auth;
 use opc_names::name::ConsoleName;
-use opc_reader_commands::command::Command;
 use opc_reader::line::read_command;
+use opc_reader_commands::command::Command;
 use opc_terms::mode::Mode;
 use std::alloc::{AllocError, Global};
 

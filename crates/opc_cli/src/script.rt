@@ -4,10 +4,10 @@ ghost use Rattle.opc_cli_failures.specs.Statuses.{number_of};
 ghost use Rattle.opc_cli.specs.Calls.{IsScript, status_of_script};
 
 use opc_cli_failures::status::Status;
-use opc_gate::gate::Gate;
-use opc_io::sink::Sink;
 use opc_cli_script::run;
 use opc_cli_script::script::ScriptFault;
+use opc_gate::gate::Gate;
+use opc_io::sink::Sink;
 use opc_state::tables::Tables;
 use std::alloc::Global;
 

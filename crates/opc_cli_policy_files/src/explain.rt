@@ -7,15 +7,15 @@ ghost use Rattle.opc_cli_failures.specs.Statuses.{IsFailure};
 ghost use Rattle.opc_cli_policy_files.specs.Questions.{IsAnswered, IsReportedAnswer, answer_of, policy_made, status_of_verdict};
 
 use crate::policy_file::read_rows;
-use opc_policy::explained::{Explained, explain};
-use opc_policy::verdict::Verdict;
 use opc_cli_failures::failure::{Failure, NO_PATHS, Place, reported};
 use opc_cli_failures::status::Status;
+use opc_cli_words::question::Question;
 use opc_io::sink::Sink;
+use opc_policy::explained::{Explained, explain};
+use opc_policy::verdict::Verdict;
 use opc_policy_members::policy::Policy;
 use opc_policy_members::row::Row;
 use opc_terms::fault::Fault;
-use opc_cli_words::question::Question;
 use std::alloc::Global;
 use std::io::{Read, Write};
 

@@ -4,19 +4,19 @@ ghost use Rattle.opc_state.specs.Changes.{IsKept};
 ghost use Rattle.opc_machine.specs.Inputs.{input_of};
 ghost use Rattle.opc_cli_program.specs.Imports.{IsExport, IsFirstPolicy, IsImport, IsOneStep};
 
-use crate::printing::{print_text, print_answer};
+use crate::printing::{print_answer, print_text};
 use opc_cli_failures::failure::{Failure, Place};
 use opc_cli_failures::status::Status;
+use opc_cli_policy_files::policy_file::read_rows;
+use opc_cli_words::import::Import;
 use opc_gate::gate::Gate;
 use opc_gate::request::Request;
-use opc_io::sink::Sink;
 use opc_import::write::write_policy;
+use opc_io::sink::Sink;
 use opc_policy_members::row::Row;
-use opc_cli_policy_files::policy_file::read_rows;
 use opc_rows::Rows;
 use opc_state::tables::Tables;
 use opc_terms::fault::Fault;
-use opc_cli_words::import::Import;
 use std::alloc::Global;
 use std::io::Read;
 

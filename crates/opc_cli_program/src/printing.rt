@@ -8,9 +8,9 @@ ghost use Rattle.opc_cli_program.specs.Imports.{FailsAsWritten, IsEnded, IsRepor
 use opc_board::line::Line;
 use opc_cli_failures::failure::{Failure, Place};
 use opc_cli_failures::status::Status;
+use opc_cli_script::printer::write_text;
 use opc_gate::request::Answer;
 use opc_io::sink::Sink;
-use opc_cli_script::printer::write_text;
 use std::io;
 
 /// Writes a text and a line feed.

@@ -7,13 +7,13 @@ ghost use Rattle.opc_cli_program.specs.Runs.{IsAnsweredInput, IsEndOf, IsNamedPo
 use crate::import::take_first;
 use opc_cli_failures::failure::{Failure, Place};
 use opc_cli_failures::status::Status;
-use opc_gate::gate::Gate;
-use opc_io::sink::Sink;
 use opc_cli_policy_files::openings::Openings;
 use opc_cli_policy_files::policy_file::read_rows_at;
 use opc_cli_policy_files::streams::read_up_to;
-use opc_cli_script::run::{run_script, print_bad_line};
+use opc_cli_script::run::{print_bad_line, run_script};
 use opc_cli_script::script::{SCRIPT_LIMIT, ScriptFault};
+use opc_gate::gate::Gate;
+use opc_io::sink::Sink;
 use opc_state::tables::Tables;
 use opc_terms::fault::Fault;
 use std::alloc::Global;

@@ -5,6 +5,7 @@ ghost use Rattle.opc_cli_program.specs.Services.{IsEndOfService, IsService, IsSe
 use crate::listening::{Ports, System, open_port};
 use opc_cli_failures::failure::{Failure, Place};
 use opc_cli_failures::status::Status;
+use opc_cli_words::serve::Serve;
 use opc_gate::gate::Gate;
 use opc_http_head::routes::Routes;
 use opc_http_serve::arrival::ServeFault;
@@ -12,7 +13,6 @@ use opc_http_serve::connection::Connection;
 use opc_http_serve::serving::serve_on;
 use opc_state::tables::Tables;
 use opc_terms::fault::Fault;
-use opc_cli_words::serve::Serve;
 use std::io::Write;
 use std::net::{Net, OpenListener};
 use std::rt::Clock;

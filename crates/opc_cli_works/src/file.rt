@@ -7,8 +7,8 @@ ghost use Rattle.opc_cli_works.specs.Works.{IsWorkAt};
 
 use opc_cli_failures::failure::Failure;
 use opc_cli_failures::status::Status;
-use opc_io::watched::Watched;
 use opc_cli_program::work::{Work, work_on};
+use opc_io::watched::Watched;
 use opc_store::opening::OpenFault;
 use opc_store::store::Store;
 use sqlite::{Error, FileFrom, FileStore, Files, Start};

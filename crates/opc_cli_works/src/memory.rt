@@ -3,9 +3,9 @@ ghost use Rattle.opc_cli_works.specs.Works.{IsRunInMemory};
 
 use opc_cli_failures::failure::Failure;
 use opc_cli_failures::status::Status;
-use opc_io::sink::Sink;
 use opc_cli_policy_files::openings::Openings;
 use opc_cli_program::run::run_on;
+use opc_io::sink::Sink;
 use opc_store::store::Store;
 use opc_terms::fault::Fault;
 use std::io::Read;

@@ -19,23 +19,23 @@ ghost use Rattle.opc_machine.specs.Machine.{IsAborted, account_row, is_warned, o
 ghost use Rattle.opc_gate.specs.Handling.{IsDecision, IsHandled, IsNothingWhereSame};
 ghost use Rattle.opc_machine.specs.Deeds.{IsOutcome};
 
-use opc_gate_admin::administration::admin_on;
 use opc_board::rows::ConsoleRow;
 use opc_board::text::KeptText;
-use opc_gate_imports::bootstrap::bootstrap;
-use opc_state_cache::cached::Cached;
+use opc_gate_admin::administration::admin_on;
 use opc_gate_commands::command::{command_on, event_on};
+use opc_gate_imports::bootstrap::bootstrap;
 use opc_gate_imports::import::import_on;
 use opc_gate_listings::account::account_on;
 use opc_gate_listings::profiles::profiles_on;
+use opc_gate_rulings::ruling::acting_user_on;
 use opc_machine::outcome::{Decided, Deed, Denial};
 use opc_machine::request::{Answer, Request};
 use opc_names::name::{ConsoleName, Name, NameKind, UserId};
 use opc_policy_members::row::Row;
-use opc_gate_rulings::ruling::acting_user_on;
 use opc_state::account::AccountRow;
 use opc_state::change::Change;
 use opc_state::tables::Tables;
+use opc_state_cache::cached::Cached;
 use opc_terms::fault::Fault;
 use opc_terms::rule::Rule;
 use opc_terms::store_fault::StoreFault;

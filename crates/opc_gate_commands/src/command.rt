@@ -19,18 +19,20 @@ use crate::effects::{act_on, apply_event, log_off, log_on};
 use opc_board::event::Event;
 use opc_board::fault::BoardFault;
 use opc_board::rows::ConsoleRow;
-use opc_policy::ruling::Ruling;
+use opc_gate_footprints::footprint::{console_footprint_on, event_footprint_on, footprint_on};
+use opc_gate_rulings::requester::console_for;
+use opc_gate_rulings::ruling::{
+    RulingBasis, logon_ruling_on, ruling_basis_at, ruling_on, shown_lines,
+};
 use opc_machine::fault;
 use opc_machine::outcome::{Decided, Deed, Denial, denied, done};
 use opc_names::name::{UnitName, UserId};
-use opc_table::need;
+use opc_policy::ruling::Ruling;
 use opc_policy_members::user::User;
-use opc_reader_commands::command::{Command, Password};
 use opc_reader::line::{ReadFault, read_command};
-use opc_gate_rulings::requester::console_for;
-use opc_gate_rulings::ruling::{RulingBasis, logon_ruling_on, ruling_on, shown_lines, ruling_basis_at};
-use opc_gate_footprints::footprint::{console_footprint_on, event_footprint_on, footprint_on};
+use opc_reader_commands::command::{Command, Password};
 use opc_state::tables::Tables;
+use opc_table::need;
 use opc_terms::fault::Fault;
 use opc_terms::need::Need;
 use opc_terms::rule::Rule;

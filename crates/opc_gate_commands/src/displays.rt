@@ -12,9 +12,9 @@ ghost use Rattle.opc_state.specs.Changes.{IsKept};
 
 use opc_board::line::{Line, console_lines, device_lines, lines_of, reply_lines, unit_lines};
 use opc_board::rows::ConsoleRow;
+use opc_gate_rulings::ruling::{RulingBasis, shown_lines};
 use opc_machine::outcome::{Decided, Deed};
 use opc_reader_commands::command::Command;
-use opc_gate_rulings::ruling::{RulingBasis, shown_lines};
 use opc_state::tables::Tables;
 use opc_terms::rule::Rule;
 use opc_terms::store_fault::StoreFault;

@@ -12,7 +12,7 @@ ghost use Rattle.opc_gate_commands.specs.Acted.{AreNoneWhereSame, IsActed};
 use opc_board::board::Board;
 use opc_board::event::Event;
 use opc_board::fault::BoardFault;
-use opc_board::laws::{histories_only_grow, footprints_suffice};
+use opc_board::laws::{footprints_suffice, histories_only_grow};
 use opc_board::line::Line;
 use opc_board::rows::ConsoleRow;
 use opc_names::name::{ConsoleName, UserId};

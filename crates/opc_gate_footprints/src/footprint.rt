@@ -11,8 +11,8 @@ ghost use Rattle.opc_machine.specs.Commands.{is_display};
 ghost use Rattle.opc_gate_footprints.specs.BoardKeys.{HasKeys};
 ghost use Rattle.opc_gate_footprints.specs.Loading.{LoadsFirst, HasLoaded, IsConsoleFootprint, IsEventFootprint, IsPart, IsFootprint};
 
-use crate::keys::{BoardKeys, keys_of_event, keys_of_command};
-use crate::load_one::{load_console, load_device, load_reply, add_console, load_unit};
+use crate::keys::{BoardKeys, keys_of_command, keys_of_event};
+use crate::load_one::{add_console, load_console, load_device, load_reply, load_unit};
 use crate::load_several::{load_addressed, load_leaving, load_swapped, load_taken, load_varied};
 use opc_board::board::{Board, BoardRows};
 use opc_board::event::Event;
@@ -65,7 +65,11 @@ fn load_keys<T: Tables>(
 }
 
 // What is named of the board, and whether the day is halted.
-fn loaded_rows<T: Tables>(tables: &mut T, alloc: Global, keys: BoardKeys) -> Result<BoardRows, StoreFault>
+fn loaded_rows<T: Tables>(
+    tables: &mut T,
+    alloc: Global,
+    keys: BoardKeys,
+) -> Result<BoardRows, StoreFault>
     ensures kept { IsKept T.is_sure T.represents T.may_leave tables.old tables.new }
     ensures footprint { Answers (T.is_sure tables.new) (T.represents tables.old) result (λ s part. IsKeyed s × HasLoaded s no_rows part (λ footprint. HasKeys footprint (without_history s.board) keys)) }
 {

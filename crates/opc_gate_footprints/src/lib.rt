@@ -1,7 +1,7 @@
 //! What is loaded of a board for a command, an event, a logon or a logoff: the rows that it names or asks about.
 #![tactic(auto)]
 
+pub mod footprint;
 mod keys;
 mod load_one;
 mod load_several;
-pub mod footprint;

@@ -11,14 +11,14 @@ ghost use Rattle.opc_state.specs.State.{State};
 ghost use Rattle.opc_machine.specs.Deeds.{IsOutcome};
 ghost use Rattle.opc_machine.specs.Imports.{batch_line, batch_of, batch_outcome, import_outcome, new_batch, same_batch, same_rows};
 
+use crate::bootstrap::row_edits_on;
 use opc_board::line::{Item, Line};
 use opc_board::rows::ConsoleRow;
 use opc_board::text::KeptText;
-use crate::bootstrap::row_edits_on;
+use opc_gate_rulings::requester::{is_special, requester_on};
 use opc_machine::outcome::{Decided, Deed, denied};
 use opc_policy_members::row::Row;
 use opc_rows::Rows;
-use opc_gate_rulings::requester::{is_special, requester_on};
 use opc_state::change::{Batch, Edit};
 use opc_state::tables::Tables;
 use opc_terms::fault::Fault;

@@ -1,5 +1,5 @@
 //! Policies that are imported in numbered batches: what a batch comes to.
 #![tactic(auto)]
 
-pub mod import;
 pub mod bootstrap;
+pub mod import;

@@ -2,5 +2,5 @@
 #![tactic(auto)]
 
 pub mod account;
-pub mod profiles;
 mod listing;
+pub mod profiles;

@@ -15,11 +15,11 @@ ghost use Rattle.opc_machine.specs.Rulings.{acting, acting_user, is_auto, is_req
 use crate::held::level_on;
 use opc_board::line::{Item, Line};
 use opc_board::rows::ConsoleRow;
-use opc_policy::ruling::{Ruling, console_ruling, ruling_at};
 use opc_names::class::Class;
 use opc_names::group::Group;
 use opc_names::level::Level;
 use opc_names::name::{ConsoleName, Name, NameKind, Resource, UserId};
+use opc_policy::ruling::{Ruling, console_ruling, ruling_at};
 use opc_policy_members::user::User;
 use opc_rows::Rows;
 use opc_state::tables::Tables;

@@ -9,11 +9,11 @@ ghost use Rattle.opc_http.specs.Exchange.{IsCutOff, IsFaulty, IsServed, IsReport
 use opc_gate::gate::Gate;
 use opc_http_head::refusal::Refusal;
 use opc_http_head::routes::Routes;
-use opc_io::sink::{Sink, write_whole};
-use opc_io::source::Source;
 use opc_http_requests::ask::read_request;
 use opc_http_requests::fault::ReadingFault;
 use opc_http_responses::response::{Response, answered, refused};
+use opc_io::sink::{Sink, write_whole};
+use opc_io::source::Source;
 use opc_machine::request::Answer;
 use opc_state::tables::Tables;
 use std::alloc::Global;

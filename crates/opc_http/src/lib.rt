@@ -4,6 +4,6 @@
 
 pub mod exchange;
 
-pub use opc_io_failing::{reader, writer};
 pub use opc_http_head::routes;
 pub use opc_io::{sink, source, watched};
+pub use opc_io_failing::{reader, writer};

@@ -7,7 +7,7 @@ ghost use Rattle.opc_http_head.specs.Head.{FoundHead, MayLook, NoHead, Starts, S
 
 use httparse::Status;
 use httparse::spans::{HeaderSpan, RequestSpans, parse_request};
-use opc_io::source::{SourceFault, Source, read_more};
+use opc_io::source::{Source, SourceFault, read_more};
 
 /// The most bytes that a head may take.
 pub const HEAD_LIMIT: usize = 8192;

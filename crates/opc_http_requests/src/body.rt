@@ -3,7 +3,7 @@ ghost use Rattle.std.specs.Prelude.{◌≡◌, ◌<◌, ◌-◌, IfOk, if◌then
 ghost use Rattle.opc_io.specs.Reads.{ReadsInto, TakesAtMost, is_read};
 ghost use Rattle.opc_http_requests.specs.Bodies.{MayFill, ReadsTo};
 
-use opc_io::source::{SourceFault, Source, read_more};
+use opc_io::source::{Source, SourceFault, read_more};
 
 /// Reads until `buf` has so many bytes, and no further; whether it has them, before the source ends.
 pub(crate) fn read_to<S: Source>(

@@ -1,11 +1,11 @@
 //! Exchanges with one client after another.
 #![tactic(auto)]
 
+pub mod acceptor;
 pub mod arrival;
 pub mod arrivals;
-mod drain;
 pub mod clock;
 pub mod connection;
-pub mod acceptor;
+mod drain;
 pub mod exchanges;
 pub mod serving;

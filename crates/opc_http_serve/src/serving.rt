@@ -3,11 +3,11 @@ ghost use Rattle.std.specs.Prelude.{◌≡◌, IfErr, IfSome, IsSomeAnd, OnOk, f
 ghost use Rattle.opc_http_serve.specs.Handled.{AreHandled, IsExchange};
 ghost use Rattle.opc_http_serve.specs.Serving.{AreServed, IsCutShort, IsServed, ServesClients};
 
+use crate::acceptor::Acceptor;
 use crate::arrival::{Arrival, ServeFault};
 use crate::arrivals::{Arrivals, next};
-use crate::drain::drain;
 use crate::connection::Connection;
-use crate::acceptor::Acceptor;
+use crate::drain::drain;
 use crate::exchanges::Exchanges;
 use opc_gate::gate::Gate;
 use opc_http_head::routes::Routes;

@@ -1,18 +1,18 @@
 //! A gate, what it begins with, and exchanges with it.
 use crate::trials;
 use anyhow::{Context, Result, bail};
-use opc_state_cache::cached::Cached;
-use opc_io_failing::reader::FailingReader;
-use opc_io_failing::writer::FailingWriter;
 use opc_cli_failures::status::Status;
+use opc_cli_script::run::run_script;
 use opc_gate::gate::Gate;
 use opc_http::exchange::{LinkFault, Served, exchange};
 use opc_http_head::routes::Routes;
-use opc_io::watched::Watched;
 use opc_import::fault::ImportFault;
 use opc_import::read::read_policy;
-use opc_cli_script::run::run_script;
+use opc_io::watched::Watched;
+use opc_io_failing::reader::FailingReader;
+use opc_io_failing::writer::FailingWriter;
 use opc_state::tables::Tables;
+use opc_state_cache::cached::Cached;
 use opc_terms::fault::Fault;
 use std::alloc::Global;
 

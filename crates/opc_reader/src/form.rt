@@ -2,12 +2,12 @@
 ghost use Rattle.std.specs.Prelude.{◌≡◌};
 ghost use Rattle.opc_reader.specs.Reading.{fixed, only, display, cancel, force, start, stop, modify, reply, vary_device, vary_console, vary, mount, unload, swap, reset, send, log, logon, command};
 
-use opc_reader_commands::command::Command;
 use crate::operand::{
     any_text, authority, last_name, name, number_prefix, quoted_prefix, quoted_text,
 };
-use opc_reader_commands::piece::Piece;
 use crate::verb::Verb;
+use opc_reader_commands::command::Command;
+use opc_reader_commands::piece::Piece;
 
 /// The command, where a piece is one word.
 fn fixed<'a>(s: &Piece<'a>, word: &str, command: Command<'a>) -> Option<Command<'a>>

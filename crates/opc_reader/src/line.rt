@@ -8,11 +8,11 @@ ghost use Rattle.opc_reader.specs.declared.line.ReadFault.TheVariants.{OpenQuote
 ghost use Rattle.opc_reader.specs.Lines.{Reads, IsReadFault, OperandsAreSlices, is_space, is_typeable, trimmed, skip_spaces, open_at, open_place};
 ghost use Rattle.opc_reader.specs.Reading.{outcome_of, reading};
 
-use opc_reader_commands::command::Command;
 use crate::form::command;
+use crate::verb::Verb;
+use opc_reader_commands::command::Command;
 use opc_reader_commands::piece::{Piece, Span};
 use opc_reader_commands::quote::is_open;
-use crate::verb::Verb;
 use std::error::Error;
 use std::fmt;
 

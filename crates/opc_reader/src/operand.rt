@@ -7,13 +7,13 @@ ghost use Rattle.opc_reader.specs.Authorities.{authorities};
 ghost use Rattle.opc_reader.specs.Operands.{in_name, number};
 ghost use Rattle.opc_reader.specs.Reading.{name, last_name, number_prefix, authority, quoted_text, quoted_prefix, any_text};
 
-use opc_reader_commands::command::{Operand, Text};
-use opc_reader_commands::piece::Piece;
-use opc_reader_commands::quote::{is_quoted, opens_quote, quoted_len};
 use opc_names::auth::Auth;
 use opc_names::name::{Name, NameKind};
 use opc_names::reply_id::ReplyId;
 use opc_names::spellings::spelled_in;
+use opc_reader_commands::command::{Operand, Text};
+use opc_reader_commands::piece::Piece;
+use opc_reader_commands::quote::{is_quoted, opens_quote, quoted_len};
 
 fn in_name(byte: u8) -> bool
     ensures { result ≡ in_name byte }

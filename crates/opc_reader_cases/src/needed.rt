@@ -1,9 +1,9 @@
 //! What commands need.
 use anyhow::Result;
 use opc_names::name::UnitName;
-use opc_table::need;
-use opc_reader_commands::command::Command;
 use opc_reader::line::read_command;
+use opc_reader_commands::command::Command;
+use opc_table::need;
 use opc_terms::need::Need;
 use opc_terms::unit_kind::UnitKindAt;
 use std::alloc::Global;

@@ -1,7 +1,7 @@
 //! What texts say, and which characters may stand in them.
 use anyhow::{Result, anyhow};
-use opc_reader_commands::command::{Command, Text};
 use opc_reader::line::{ReadFault, read_command};
+use opc_reader_commands::command::{Command, Text};
 use std::alloc::Global;
 
 /// What the text of a line says, and where it stands.

@@ -12,9 +12,9 @@ ghost use Rattle.opc_state.specs.State.{deciding_in};
 ghost use Rattle.opc_state_cache.specs.Cache.{IsKeptWith, invalidates, pattern_of, redefines, adds_or_removes_profile, remembered};
 
 use crate::deciding_cache::DecidingCache;
-use opc_policy::search::Found;
 use opc_names::class::Class;
 use opc_names::name::{Pattern, Resource};
+use opc_policy::search::Found;
 use opc_policy_members::profile::Profile;
 use opc_state::change::{Change, Edit};
 use opc_state::tables::Tables;
@@ -77,7 +77,11 @@ impl<T: Tables> Cached<T> {
 
     /// Forgets all names before a change that may change which profile decides. Before the commit, since afterwards the
     /// cache would be stale when a commit succeeded but could not report success.
-    pub(crate) fn invalidate_for(&mut self, alloc: Global, change: &Change) -> Result<(), StoreFault>
+    pub(crate) fn invalidate_for(
+        &mut self,
+        alloc: Global,
+        change: &Change,
+    ) -> Result<(), StoreFault>
         ensures kept { IsKept T.is_sure T.represents T.may_leave self.old.tables self.new.tables }
         ensures forgets { Answers (T.is_sure self.new.tables) (T.represents self.old.tables) result (λ s _. self.new.recent ≡ remembered s.policy change.now.edits.items self.old.recent) }
         ensures failed { OnErr result (self.new.recent ≡ self.old.recent) }
@@ -155,11 +159,7 @@ fn adds_or_removes_profile<T: Tables>(
 
 // Whether edits may change which profile decides. Only where there is one are the tables asked: whether a profile that
 // it puts is there is one look-up by its key. A change without a profile asks nothing.
-fn invalidates<T: Tables>(
-    tables: &mut T,
-    alloc: Global,
-    edits: &[Edit],
-) -> Result<bool, StoreFault>
+fn invalidates<T: Tables>(tables: &mut T, alloc: Global, edits: &[Edit]) -> Result<bool, StoreFault>
     ensures kept { IsKept T.is_sure T.represents T.may_leave tables.old tables.new }
     ensures redecides { Answers (T.is_sure tables.new) (T.represents tables.old) result (λ s redecides. redecides ≡ invalidates s.policy edits.now) }
 {

@@ -1,8 +1,8 @@
 //! The store as a source of profiles.
 use crate::store::Store;
-use opc_policy::source::{ProfileSource, Taken};
 use opc_names::class::Class;
 use opc_names::name::Resource;
+use opc_policy::source::{ProfileSource, Taken};
 use opc_store_search::search::first_in_on;
 use opc_terms::store_fault::StoreFault;
 use sqlite::Alter;

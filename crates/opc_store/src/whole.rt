@@ -5,14 +5,14 @@ ghost use Rattle.opc_state.specs.PolicyFile.{rows_of};
 ghost use Rattle.opc_store_schema.specs.Asked.{Finds};
 
 use opc_board::board::BoardRows;
+use opc_policy_members::row::Row;
 use opc_store_board::board::live_rows_on;
 use opc_store_board::consoles::consoles_on;
 use opc_store_history::answered::answered_on;
 use opc_store_history::log::log_on;
 use opc_store_history::messages::messages_on;
-use opc_policy_members::row::Row;
-use opc_terms::store_fault::StoreFault;
 use opc_store_whole_policy::rows::policy_rows_on;
+use opc_terms::store_fault::StoreFault;
 use sqlite::{Alter, Connection};
 use std::alloc::Global;
 

@@ -5,10 +5,10 @@ ghost use Rattle.opc_state.specs.Changes.{with_halted};
 ghost use Rattle.opc_store_schema.specs.Asked.{Finds, Makes};
 ghost use Rattle.opc_store_schema.specs.Represented.{halted_row};
 
-use opc_store_sql::run;
 use opc_store_schema::columns::value_in;
 use opc_store_schema::faults::unreadable;
 use opc_store_schema::queries::read;
+use opc_store_sql::run;
 use opc_terms::store_fault::StoreFault;
 use sqlite::{Alter, Connection, Error, Row, Transaction, params};
 

@@ -14,10 +14,12 @@ ghost use Rattle.opc_board.specs.declared.rows.UnitKind.{UnitKind as TheKind};
 use opc_board::rows::{UnitKind, UnitRow};
 use opc_names::name::UnitName;
 use opc_rows::Rows;
-use opc_store_sql::{put, run};
-use opc_store_schema::columns::{TableRow, name_in, name_or_none_in, text_at, text_or_none_in, value_in};
+use opc_store_schema::columns::{
+    TableRow, name_in, name_or_none_in, text_at, text_or_none_in, value_in,
+};
 use opc_store_schema::faults::unreadable;
 use opc_store_schema::queries::{member_on, members_on};
+use opc_store_sql::{put, run};
 use opc_terms::store_fault::StoreFault;
 use sqlite::{Alter, Connection, Error, Row, Transaction, params};
 use std::alloc::Global;

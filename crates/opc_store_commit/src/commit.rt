@@ -8,6 +8,7 @@ ghost use Rattle.opc_store_schema.specs.Asked.{Makes};
 ghost use Rattle.opc_store_schema.specs.Ending.{IsUndone, IsCommitted};
 ghost use Rattle.opc_store_schema.specs.Represented.{Represents, AreTablesOf};
 
+use opc_state::change::{Change, Edit};
 use opc_store_board::consoles::{put_console, remove_console};
 use opc_store_board::day::set_halted;
 use opc_store_board::devices::{put_device, remove_device};
@@ -20,13 +21,12 @@ use opc_store_history::log::add_log;
 use opc_store_history::messages::add_message;
 use opc_store_profiles::entries::{put_entry, remove_entry};
 use opc_store_profiles::profiles::{put_profile, remove_profile};
-use opc_state::change::{Change, Edit};
 use opc_store_schema::faults::fault;
-use opc_terms::store_fault::StoreFault;
 use opc_store_users::classes::set_active;
 use opc_store_users::connects::{put_connect, remove_connect};
 use opc_store_users::groups::{put_group, remove_group};
 use opc_store_users::users::{put_user, remove_user};
+use opc_terms::store_fault::StoreFault;
 use sqlite::{Alter, Connection, Error, Transaction};
 use std::alloc::Global;
 

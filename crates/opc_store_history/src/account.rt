@@ -9,10 +9,10 @@ ghost use Rattle.opc_store_history.specs.Loads.{account_page, numbered_shown};
 
 use opc_rows::Rows;
 use opc_state::account::AccountRow;
-use opc_store_sql::numbers::last_number;
-use opc_store_sql::run;
 use opc_store_schema::columns::{text_in, value_in};
 use opc_store_schema::queries::read;
+use opc_store_sql::numbers::last_number;
+use opc_store_sql::run;
 use opc_terms::store_fault::StoreFault;
 use sqlite::{Alter, Connection, Error, ErrorCode, Row, Transaction, params};
 use std::alloc::{AllocError, Global};

@@ -7,10 +7,10 @@ ghost use Rattle.opc_store_schema.specs.Represented.{reply_shown};
 
 use opc_board::rows::ReplyRow;
 use opc_rows::Rows;
-use opc_store_sql::numbers::last_number;
-use opc_store_sql::run;
 use opc_store_schema::columns::{TableRow, decode_all, reply_in, reply_number};
 use opc_store_schema::queries::read;
+use opc_store_sql::numbers::last_number;
+use opc_store_sql::run;
 use opc_terms::store_fault::StoreFault;
 use sqlite::{Alter, Connection, Error, Row, Transaction, params};
 use std::alloc::Global;

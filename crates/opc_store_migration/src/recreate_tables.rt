@@ -10,8 +10,8 @@ ghost use Rattle.opc_store_schema.specs.Tables.{lasting_schema};
 ghost use Rattle.opc_store_old_tables.specs.Tables.{old_schema};
 ghost use Rattle.opc_store_migration.specs.Between.{lasting_rows, without_last};
 
-use opc_store_sql::run_all;
 use opc_store_schema::making::create_last_tables;
+use opc_store_sql::run_all;
 use sqlite::{Alter, Error, Transaction};
 
 /// Each table before those that it refers to.

@@ -5,8 +5,8 @@ ghost use Rattle.opc_state.specs.declared.change.Batch.{Batch as TheBatch};
 ghost use Rattle.opc_store_sql.specs.Steps.{Looks};
 ghost use Rattle.opc_store_old_tables.specs.Read.{AreSaid, FindsOld, batch_puts, batch_shown};
 
-use opc_store_history::batches::rows_in;
 use opc_state::change::{Batch, Edit};
+use opc_store_history::batches::rows_in;
 use opc_store_schema::columns::{text_in, value_in};
 use opc_store_schema::queries::read;
 use opc_terms::store_fault::StoreFault;

@@ -7,8 +7,8 @@ ghost use Rattle.opc_store_old_tables.specs.Read.{FindsOld, connect_puts};
 
 use opc_state::change::Edit;
 use opc_store_schema::queries::read;
-use opc_terms::store_fault::StoreFault;
 use opc_store_users::connects::connect_in;
+use opc_terms::store_fault::StoreFault;
 use sqlite::{Alter, Connection, Row};
 use std::alloc::Global;
 

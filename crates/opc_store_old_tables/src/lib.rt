@@ -4,7 +4,7 @@
 
 pub mod batches;
 pub mod connects;
+pub mod edits;
 pub mod entries;
 pub mod profiles;
-pub mod edits;
 pub mod users;

@@ -11,8 +11,8 @@ ghost use Rattle.opc_store_old_tables.specs.Read.{AreAmong, FindsOld, by_text, p
 
 use crate::entries::access_list_on;
 use opc_policy_members::profile::Profile;
-use opc_store_profiles::profiles::definition_in;
 use opc_state::change::Edit;
+use opc_store_profiles::profiles::definition_in;
 use opc_store_schema::queries::read;
 use opc_terms::store_fault::StoreFault;
 use sqlite::{Alter, Connection, Row};

@@ -39,7 +39,10 @@ pub trait TableRow<M> {
 }
 
 /// The members that are kept in some rows, in their order.
-pub fn decode_all<M: Drop, T: TableRow<M>>(alloc: Global, rows: &[Row]) -> Result<Rows<M>, StoreFault>
+pub fn decode_all<M: Drop, T: TableRow<M>>(
+    alloc: Global,
+    rows: &[Row],
+) -> Result<Rows<M>, StoreFault>
     ensures { (xs : List M) → rows.now ≡ map T.row_of xs → IfOk result (λ v. v ≡ xs) }
 {
     let mut members = Rows::new(alloc);

@@ -1,8 +1,8 @@
 //! The tables as a source of profiles.
 use crate::search::first_with_head_on;
-use opc_policy::source::{ProfileSource, Taken};
 use opc_names::class::Class;
 use opc_names::name::Resource;
+use opc_policy::source::{ProfileSource, Taken};
 use opc_terms::store_fault::StoreFault;
 use sqlite::{Alter, Connection};
 use std::alloc::Global;

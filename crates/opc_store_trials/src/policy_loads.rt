@@ -2,11 +2,11 @@
 use crate::records::{add_entries, profile_row, profiles_records, records_of};
 use crate::words::{add_word, answer_line, ended, fault_line, nothing};
 use anyhow::{Context, Result};
-use opc_policy::explained::explain;
 use opc_import::write::write_policy;
 use opc_names::class::Class;
 use opc_names::level::Level;
 use opc_names::name::{ConsoleName, Pattern, Resource, UserId};
+use opc_policy::explained::explain;
 use opc_policy_members::row::Row;
 use opc_state::tables::Tables;
 use opc_terms::entry_id::EntryId;

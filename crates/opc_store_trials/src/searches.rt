@@ -2,11 +2,11 @@
 use crate::policy_loads::class_of;
 use crate::records::{add_profile, profile_row, profiles_records, records_of, rows_in};
 use anyhow::{Result, bail};
+use opc_names::class::Class;
+use opc_names::name::Resource;
 use opc_policy::policy_source::{first_of_class, profiles_of_class};
 use opc_policy::search::{Found, search};
 use opc_policy::source::{ProfileSource, Taken};
-use opc_names::class::Class;
-use opc_names::name::Resource;
 use opc_policy_members::policy::Policy;
 use opc_state::tables::Tables;
 use std::alloc::Global;

@@ -8,10 +8,10 @@ ghost use Rattle.opc_store_schema.specs.Represented.{class_row};
 
 use opc_names::class::Class;
 use opc_policy_members::policy::ActiveClasses;
-use opc_store_sql::run;
 use opc_store_schema::columns::value_in;
 use opc_store_schema::faults::unreadable;
 use opc_store_schema::queries::read;
+use opc_store_sql::run;
 use opc_terms::store_fault::StoreFault;
 use sqlite::{Alter, Connection, Error, Row, Transaction, params};
 

@@ -10,10 +10,10 @@ ghost use Rattle.opc_store_schema.specs.Represented.{group_row};
 
 use opc_names::name::GroupName;
 use opc_rows::Rows;
-use opc_store_sql::{put, run};
 use opc_store_schema::columns::{TableRow, name_in};
 use opc_store_schema::queries::members_on;
 use opc_store_schema::there::is_there_on;
+use opc_store_sql::{put, run};
 use opc_terms::store_fault::StoreFault;
 use sqlite::{Alter, Connection, Error, Row, Transaction, params};
 use std::alloc::Global;

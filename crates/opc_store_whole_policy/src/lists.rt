@@ -9,13 +9,13 @@ use opc_policy_members::connect::Connect;
 use opc_policy_members::policy::ActiveClasses;
 use opc_policy_members::profile::Profile;
 use opc_policy_members::user::User;
-use opc_store_profiles::profiles::profiles_on;
 use opc_rows::Rows;
-use opc_terms::store_fault::StoreFault;
+use opc_store_profiles::profiles::profiles_on;
 use opc_store_users::classes::actives_on;
 use opc_store_users::connects::connects_on;
 use opc_store_users::groups::groups_on;
 use opc_store_users::users::users_on;
+use opc_terms::store_fault::StoreFault;
 use sqlite::{Alter, Connection};
 use std::alloc::Global;
 

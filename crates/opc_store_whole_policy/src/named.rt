@@ -7,8 +7,8 @@ ghost use Rattle.opc_store_schema.specs.Asked.{Finds};
 use opc_names::name::UserId;
 use opc_store_profiles::entries::has_entry_on;
 use opc_store_profiles::profiles::has_owner_on;
-use opc_terms::store_fault::StoreFault;
 use opc_store_users::connects::has_connect_on;
+use opc_terms::store_fault::StoreFault;
 use sqlite::{Alter, Connection};
 
 /// Whether a connect, an owner or an access list names this user. Three queries for one row each, by a key, not one

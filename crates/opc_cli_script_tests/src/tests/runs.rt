@@ -1,10 +1,10 @@
 //! What is printed over tables that fail, and to writers that fail.
 use super::failing_tables::FailingTables;
 use opc_cli_failures::status::Status;
-use opc_gate::gate::Gate;
-use opc_io::watched::Watched;
 use opc_cli_script::run::run_script;
 use opc_cli_script::script::ScriptFault;
+use opc_gate::gate::Gate;
+use opc_io::watched::Watched;
 use std::io;
 use std::io::{ErrorKind, Write};
 use std::process::Abort;

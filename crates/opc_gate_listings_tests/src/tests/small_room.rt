@@ -3,12 +3,12 @@ ghost use Rattle.opc_state.specs.State.{State};
 
 use opc_board::rows::{ConsoleRow, DeviceRow, ReplyRow, UnitRow};
 use opc_board::text::KeptText;
-use opc_policy::search::Found;
 use opc_names::auth::Auth;
 use opc_names::class::Class;
 use opc_names::level::Level;
 use opc_names::name::{ConsoleName, Device, GroupName, Pattern, Resource, UnitName, UserId};
 use opc_names::reply_id::ReplyId;
+use opc_policy::search::Found;
 use opc_policy_members::entries::Entries;
 use opc_policy_members::entry::Entry;
 use opc_policy_members::policy::Policy;

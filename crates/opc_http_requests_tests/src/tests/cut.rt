@@ -1,11 +1,11 @@
 //! Requests that are cut off, readers that fail, and lengths at their limits.
 use super::reading::asked;
-use opc_io_failing::reader::FailingReader;
 use opc_http_head::refusal::Refusal;
 use opc_http_head::routes::Routes;
-use opc_io::watched::Watched;
 use opc_http_requests::ask::read_request;
 use opc_http_requests::fault::ReadingFault;
+use opc_io::watched::Watched;
+use opc_io_failing::reader::FailingReader;
 use std::alloc::{AllocError, Global};
 use std::process::Abort;
 use std::test::Fail;

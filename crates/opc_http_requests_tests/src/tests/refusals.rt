@@ -1,8 +1,8 @@
 //! What is refused, and by which refusal first.
 use super::reading::{asked, get, post};
-use opc_io_failing::reader::FailingReader;
 use opc_http_head::refusal::{Method, Refusal};
 use opc_http_requests::fault::ReadingFault;
+use opc_io_failing::reader::FailingReader;
 use opc_terms::fault::Why;
 use std::process::Abort;
 use std::test::Fail;

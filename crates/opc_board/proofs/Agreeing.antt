@@ -24,7 +24,8 @@ pub found_named : {R : Type 0} (key : R → Name) (name : Name) (row : R) (rows 
 found_named key name row [] at = absurd (cc)
 found_named key name row (r ∷ rows) at = go (is (key r) name) refl at (found_named key name row rows)
   where
-    go : (a : Bool) → is (key r) name ≡ a → cond a (Some r) (find (λ r. is (key r) name) rows) ≡ Some row → (find (λ r. is (key r) name) rows ≡ Some row → is (key row) name ≡ true) → is (key row) name ≡ true
+    go : (a : Bool) → is (key r) name ≡ a → cond a (Some r) (find (λ r. is (key r) name) rows) ≡ Some row
+        → (find (λ r. is (key r) name) rows ≡ Some row → is (key row) name ≡ true) → is (key row) name ≡ true
     go true here at more = let same : r ≡ row = cc in ap (λ q. is (key q) name) (sym same) ∙ here
     go false here at more = more at
 
@@ -43,23 +44,30 @@ module _ (footprint : Footprint) where
   pub left_alone : (b : BoardRows) → AreLeft footprint b b
   left_alone b = record { units = refl; devices = refl; consoles = refl; replies = refl }
 
-  pub found_then : {A : Type 0} (b : BoardRows) (f : BoardFault) (part whole : Option A) → part ≡ whole → (run more : A → Outcome) → ((x : A) → whole ≡ Some x → Agrees b (run x) (more x)) → Agrees b (found f part >>= run) (found f whole >>= more)
+  pub found_then : {A : Type 0} (b : BoardRows) (f : BoardFault) (part whole : Option A) → part ≡ whole
+      → (run more : A → Outcome) → ((x : A) → whole ≡ Some x → Agrees b (run x) (more x))
+      → Agrees b (found f part >>= run) (found f whole >>= more)
   found_then b f part (Some x) same run more h = rw same (h x refl)
   found_then b f part None same run more h = (ap (λ o. found f o >>= run) same, tt)
 
-  pub faults_then : (b : BoardRows) (faults : List (Bool × BoardFault)) (part whole : Outcome) → Agrees b part whole → Agrees b (faults_or faults part) (faults_or faults whole)
+  pub faults_then : (b : BoardRows) (faults : List (Bool × BoardFault)) (part whole : Outcome) → Agrees b part whole
+      → Agrees b (faults_or faults part) (faults_or faults whole)
   faults_then b [] part whole h = h
   faults_then b ((there, fault) ∷ faults) part whole h = go there (faults_then b faults part whole h)
     where
-      go : (there : Bool) → Agrees b (faults_or faults part) (faults_or faults whole) → Agrees b (if there then Err fault else faults_or faults part) (if there then Err fault else faults_or faults whole)
+      go : (there : Bool) → Agrees b (faults_or faults part) (faults_or faults whole)
+          → Agrees b (if there then Err fault else faults_or faults part)
+          (if there then Err fault else faults_or faults whole)
       go true more = (refl, tt)
       go false more = more
 
   -- the same, where the faults are looked for on the board
-  pub faults_same : (b : BoardRows) (few faults : List (Bool × BoardFault)) (part whole : Outcome) → few ≡ faults → Agrees b part whole → Agrees b (faults_or few part) (faults_or faults whole)
+  pub faults_same : (b : BoardRows) (few faults : List (Bool × BoardFault)) (part whole : Outcome) → few ≡ faults
+      → Agrees b part whole → Agrees b (faults_or few part) (faults_or faults whole)
   faults_same b few faults part whole same h = rw same (faults_then b faults part whole h)
 
-  pub done_then : (b part whole : BoardRows) (lines : List Line) → part ≡ only footprint whole → IsInOrder whole → AreLeft footprint b whole → Agrees b (done_with part lines) (done_with whole lines)
+  pub done_then : (b part whole : BoardRows) (lines : List Line) → part ≡ only footprint whole → IsInOrder whole
+      → AreLeft footprint b whole → Agrees b (done_with part lines) (done_with whole lines)
   done_then b part whole lines same order left = (ap (λ c. done_with c lines) same, (order, left))
 
   -- look-ups at names of the footprint
@@ -68,7 +76,8 @@ module _ (footprint : Footprint) where
   unit_seen b name sees = find_seen (λ u. is u.name name) (has_unit_of footprint) (λ u here. named footprint.units name u.name sees here) b.units
 
   pub device_seen : (b : BoardRows) (number : Name) → footprint.devices number ≡ true → device_at (only footprint b) number ≡ device_at b number
-  device_seen b number sees = find_seen (λ d. is d.number number) (has_device_of footprint) (λ d here. named footprint.devices number d.number sees here) b.devices
+  device_seen b number sees = find_seen (λ d. is d.number number) (has_device_of footprint)
+      (λ d here. named footprint.devices number d.number sees here) b.devices
 
   pub console_seen : (b : BoardRows) (name : Name) → footprint.consoles name ≡ true → console_at (only footprint b) name ≡ console_at b name
   console_seen b name sees = find_seen (λ c. is c.name name) (has_console_of footprint) (λ c here. named footprint.consoles name c.name sees here) b.consoles

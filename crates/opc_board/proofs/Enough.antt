@@ -39,26 +39,38 @@ apart x y after = is_mirrored y x (apart_names x y x (is_itself x) after)
 
 module _ (b : BoardRows) (order : IsInOrder b) where
   devices_found : AllByRecursion (λ d. device_at b d.number ≡ Some d) b.devices
-  devices_found = found_each (λ (x y : DeviceRow). is x.number y.number) device_before (λ d. is_itself d.number) (λ x y after. apart x.number y.number after) b.devices order.devices
+  devices_found = found_each (λ (x y : DeviceRow). is x.number y.number) device_before (λ d. is_itself d.number)
+      (λ x y after. apart x.number y.number after) b.devices order.devices
 
   consoles_found : AllByRecursion (λ c. console_at b c.name ≡ Some c) b.consoles
-  consoles_found = found_each (λ (x y : ConsoleRow). is x.name y.name) console_before (λ c. is_itself c.name) (λ x y after. apart x.name y.name after) b.consoles order.consoles
+  consoles_found = found_each (λ (x y : ConsoleRow). is x.name y.name) console_before (λ c. is_itself c.name)
+      (λ x y after. apart x.name y.name after) b.consoles order.consoles
 
   leaving_seen : (name : Name) → HasLeaving (leaving b name) b name
-  leaving_seen name =
-      (is_itself name, all_weaker (λ d. device_at b d.number ≡ Some d) (λ d. is_holder name d.unit ≡ true → has_device_of (leaving b name) d ≡ true) (λ d found held. ap (has (λ (e : DeviceRow). is_holder name e.unit)) found ∙ held) b.devices devices_found)
+  leaving_seen name = (
+    is_itself name,
+    all_weaker (λ d. device_at b d.number ≡ Some d)
+        (λ d. is_holder name d.unit ≡ true → has_device_of (leaving b name) d ≡ true)
+        (λ d found held. ap (has (λ (e : DeviceRow). is_holder name e.unit)) found ∙ held) b.devices devices_found,
+  )
 
   varied_seen : (name : Name) → HasVaried (varying b name) b name
   varied_seen name = (
     or_first (is name name) (has is_master (console_at b name)) (is_itself name),
     any_seen (λ c. is_master c && not (is c.name name)) (has_console_of (varying b name)) b.consoles
-        (all_weaker (λ c. console_at b c.name ≡ Some c) (λ c. is_master c && not (is c.name name) ≡ true → has_console_of (varying b name) c ≡ true) (λ c found other. or_second (is c.name name) (has is_master (console_at b c.name)) (ap (has is_master) found ∙ and_first (is_master c) (not (is c.name name)) other)) b.consoles consoles_found),
+        (all_weaker (λ c. console_at b c.name ≡ Some c)
+        (λ c. is_master c && not (is c.name name) ≡ true → has_console_of (varying b name) c ≡ true)
+        (λ c found other. or_second (is c.name name) (has is_master (console_at b c.name))
+        (ap (has is_master) found ∙ and_first (is_master c) (not (is c.name name)) other)) b.consoles
+        consoles_found),
   )
 
   addressed_seen : (user : Name) → (is_on user (only (addressed b user) b) ≡ is_on user b) × ((addressed b user).units user ≡ true)
   addressed_seen user = (
     any_seen (λ c. is_holder user c.user) (has_console_of (addressed b user)) b.consoles
-        (all_weaker (λ c. console_at b c.name ≡ Some c) (λ c. is_holder user c.user ≡ true → has_console_of (addressed b user) c ≡ true) (λ c found on. ap (has (λ (e : ConsoleRow). is_holder user e.user)) found ∙ on) b.consoles consoles_found),
+        (all_weaker (λ c. console_at b c.name ≡ Some c)
+        (λ c. is_holder user c.user ≡ true → has_console_of (addressed b user) c ≡ true)
+        (λ c found on. ap (has (λ (e : ConsoleRow). is_holder user e.user)) found ∙ on) b.consoles consoles_found),
     is_itself user,
   )
 
@@ -83,7 +95,10 @@ commands_see b order (command.VaryConsoleOffline name) console = varied_seen b o
 commands_see b order (command.VaryConsoleAuth name auth) console = varied_seen b order name.value
 commands_see b order (command.Mount device volume) console = is_itself device.value
 commands_see b order (command.Unload device) console = is_itself device.value
-commands_see b order (command.Swap from to) console = (or_first (is from.value from.value) (is from.value to.value) (is_itself from.value), or_second (is to.value from.value) (is to.value to.value) (is_itself to.value))
+commands_see b order (command.Swap from to) console = (
+  or_first (is from.value from.value) (is from.value to.value) (is_itself from.value),
+  or_second (is to.value from.value) (is to.value to.value) (is_itself to.value),
+)
 commands_see b order (command.ResetConsole name) console = is_itself name.value
 commands_see b order (command.Send text user) console = addressed_seen b order user.value
 commands_see b order (command.Log text) console = tt

@@ -48,7 +48,9 @@ is_mirrored [] (y ∷ ys) e = refl
 is_mirrored (x ∷ xs) [] e = refl
 is_mirrored (x ∷ xs) (y ∷ ys) e =
     elim (is (y ∷ ys) (x ∷ xs)) as (λ b. is (y ∷ ys) (x ∷ xs) ≡ b → b ≡ false) [
-      | true ↦ λ same. let alike : y ∷ ys ≡ x ∷ xs = is_same_name (y ∷ ys) (x ∷ xs) same in let itself : is (x ∷ xs) (y ∷ ys) ≡ true = subst (λ (n : Name). is (x ∷ xs) n ≡ true) (sym alike) (is_itself (x ∷ xs)) in absurd (cc)
+      | true ↦ λ same. let alike : y ∷ ys ≡ x ∷ xs =
+          is_same_name (y ∷ ys) (x ∷ xs) same in let itself : is (x ∷ xs) (y ∷ ys) ≡ true =
+          subst (λ (n : Name). is (x ∷ xs) n ≡ true) (sym alike) (is_itself (x ∷ xs)) in absurd (cc)
       | false ↦ λ same. refl
     ] refl
 

@@ -1,5 +1,29 @@
 -- What a hole with a width writes.
-use Rattle.std.proofs.Common.{◌≡◌, ℕ, ◌-◌, ◌^◌, ◌<◌, ◌≤◌, true, false, List, [], ◌∷◌, ◌++◌, length, replicate, refl, ap, arith, suc, ◌==◌, Result, Ok, Err, IfOk}
+use Rattle.std.proofs.Common.{
+  ◌≡◌,
+  ℕ,
+  ◌-◌,
+  ◌^◌,
+  ◌<◌,
+  ◌≤◌,
+  true,
+  false,
+  List,
+  [],
+  ◌∷◌,
+  ◌++◌,
+  length,
+  replicate,
+  refl,
+  ap,
+  arith,
+  suc,
+  ◌==◌,
+  Result,
+  Ok,
+  Err,
+  IfOk,
+}
 use Rattle.std.proofs.lemmas.Bool.Decides.{nat_tests}
 use Rattle.std.specs.Fmt.{char_count, take_chars, padded, format_spec, is_char_start}
 use Rattle.std.specs.Str.{IsAscii}
@@ -26,7 +50,9 @@ take_ascii n (b ∷ text) ascii short =
 
 pub padded_left : (w : ℕ) (text : List ℕ) → IsAscii text → length text ≤ 1000 → padded (format_spec 32 1 0 w (2 ^ 64 - 1)) text ≡ left w text
 unfolding padded
-padded_left w text ascii short = let whole : take_chars (2 ^ 64 - 1) text ≡ text = take_ascii (2 ^ 64 - 1) text ascii (omega arith) in rw (whole, count_ascii text ascii, spaces) (ap (λ n. text ++ replicate n 32) (omega arith))
+padded_left w text ascii short = let whole : take_chars (2 ^ 64 - 1) text ≡ text =
+    take_ascii (2 ^ 64 - 1) text ascii (omega arith) in
+    rw (whole, count_ascii text ascii, spaces) (ap (λ n. text ++ replicate n 32) (omega arith))
 
 pub if_ok : {A E : Type 0} (P Q : A → Type 0) → ((x : A) → P x → Q x) → (r : Result A E) → IfOk r P → IfOk r Q
 if_ok P Q weaker (Ok x) holds = weaker x holds

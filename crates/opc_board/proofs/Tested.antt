@@ -22,11 +22,14 @@ joined : (p q : Bool) → p ≡ true → q ≡ true → p && q ≡ true
 joined true q e f = f
 joined false q e f = absurd (cc)
 
-shown : (units : List UnitRow) (online : Bool) (unit : Option Name) → holds_rightly units online unit ≡ true → IfSome unit (λ n. (online ≡ true) × (is_some (find (λ u. is u.name n) units) ≡ true))
+shown : (units : List UnitRow) (online : Bool) (unit : Option Name) → holds_rightly units online unit ≡ true
+    → IfSome unit (λ n. (online ≡ true) × (is_some (find (λ u. is u.name n) units) ≡ true))
 shown units online None e = tt
 shown units online (Some n) e = both online _ e
 
-passed : (units : List UnitRow) (online : Bool) (unit : Option Name) → IfSome unit (λ n. (online ≡ true) × (is_some (find (λ u. is u.name n) units) ≡ true)) → holds_rightly units online unit ≡ true
+passed : (units : List UnitRow) (online : Bool) (unit : Option Name)
+    → IfSome unit (λ n. (online ≡ true) × (is_some (find (λ u. is u.name n) units) ≡ true))
+    → holds_rightly units online unit ≡ true
 passed units online None e = refl
 passed units online (Some n) e = joined online _ e.0 e.1
 
@@ -48,14 +51,20 @@ less_is Less e = refl
 less_is Equal e = absurd (cc)
 less_is Greater e = absurd (cc)
 
-pub units_tested : (xs : List UnitRow) (r : Bool) → IsAllAdjacentAnswer (λ x y b. b ≡ unit_before x y) xs r → (r ≡ true → Ascends unit_before xs) × (r ≡ false → Ascends unit_before xs → ⊥)
+pub units_tested : (xs : List UnitRow) (r : Bool) → IsAllAdjacentAnswer (λ x y b. b ≡ unit_before x y) xs r
+    → (r ≡ true → Ascends unit_before xs) × (r ≡ false → Ascends unit_before xs → ⊥)
 units_tested xs r answer = split (Ascends unit_before xs) r (ascends_or_not unit_before (λ x y z. earlier_on x.name y.name z.name) xs r answer)
 
-pub devices_tested : (xs : List DeviceRow) (r : Bool) → IsAllAdjacentAnswer (λ x y b. b ≡ device_before x y) xs r → (r ≡ true → Ascends device_before xs) × (r ≡ false → Ascends device_before xs → ⊥)
+pub devices_tested : (xs : List DeviceRow) (r : Bool) → IsAllAdjacentAnswer (λ x y b. b ≡ device_before x y) xs r
+    → (r ≡ true → Ascends device_before xs) × (r ≡ false → Ascends device_before xs → ⊥)
 devices_tested xs r answer = split (Ascends device_before xs) r (ascends_or_not device_before (λ x y z. earlier_on x.number y.number z.number) xs r answer)
 
-pub consoles_tested : (xs : List ConsoleRow) (r : Bool) → IsAllAdjacentAnswer (λ x y b. b ≡ console_before x y) xs r → (r ≡ true → Ascends console_before xs) × (r ≡ false → Ascends console_before xs → ⊥)
+pub consoles_tested : (xs : List ConsoleRow) (r : Bool) → IsAllAdjacentAnswer (λ x y b. b ≡ console_before x y) xs r
+    → (r ≡ true → Ascends console_before xs) × (r ≡ false → Ascends console_before xs → ⊥)
 consoles_tested xs r answer = split (Ascends console_before xs) r (ascends_or_not console_before (λ x y z. earlier_on x.name y.name z.name) xs r answer)
 
-pub replies_tested : (xs : List ReplyRow) (r : Bool) → IsAllAdjacentAnswer (λ x y b. b ≡ reply_before x y) xs r → (r ≡ true → Ascends reply_before xs) × (r ≡ false → Ascends reply_before xs → ⊥)
-replies_tested xs r answer = split (Ascends reply_before xs) r (ascends_or_not reply_before (λ x y z e f. ap is_lt (nat_cmp_total.trans x.id y.id z.id (less_is _ e) (less_is _ f))) xs r answer)
+pub replies_tested : (xs : List ReplyRow) (r : Bool) → IsAllAdjacentAnswer (λ x y b. b ≡ reply_before x y) xs r
+    → (r ≡ true → Ascends reply_before xs) × (r ≡ false → Ascends reply_before xs → ⊥)
+replies_tested xs r answer = split (Ascends reply_before xs) r
+    (ascends_or_not reply_before (λ x y z e f. ap is_lt
+    (nat_cmp_total.trans x.id y.id z.id (less_is _ e) (less_is _ f))) xs r answer)

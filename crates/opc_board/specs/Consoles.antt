@@ -72,7 +72,14 @@ logged_off name b = at_console name (λ c. record c { user = None }) b
 
 -- a console with this authority and mode: a new one is online with nobody on, and another keeps all else
 abbrev pub new_console : Name → Auth → Mode → ConsoleRow
-new_console name auth mode = record { name = name; auth = auth; mode = mode; online = true; user = None; monitor = false }
+new_console name auth mode = record {
+  name = name;
+  auth = auth;
+  mode = mode;
+  online = true;
+  user = None;
+  monitor = false;
+}
 
 abbrev pub defined : Name → Auth → Mode → Option ConsoleRow → BoardRows → BoardRows
 defined name auth mode None b = record b { consoles = put console_before (new_console name auth mode) b.consoles }

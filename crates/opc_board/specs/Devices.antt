@@ -78,7 +78,8 @@ abbrev pub attach_faults : Name → BoardRows → List (Bool × BoardFault)
 attach_faults number b = (is_some (device_at b number), DeviceState) ∷ []
 
 abbrev pub attach : Name → BoardRows → Outcome
-attach number b = faults_or (attach_faults number b) (done (record b { devices = put device_before (new_device number) b.devices }))
+attach number b = faults_or (attach_faults number b)
+    (done (record b { devices = put device_before (new_device number) b.devices }))
 
 -- a unit takes an online device that nobody has
 abbrev pub allocate_faults : DeviceRow → List (Bool × BoardFault)

@@ -1,7 +1,37 @@
 -- What each command and each event does to a board: the board afterwards and the lines, or the first fault.
 use Rattle.std.specs.Prelude.{Bool, true, false, map}
 use Rattle.opc_reader_commands.specs.declared.command.Command.{Command}
-use Rattle.opc_reader_commands.specs.declared.command.Command.TheVariants.{DisplayUnits, DisplayUnit, DisplayDevices, DisplayConsoles, DisplayReplies, Cancel, CancelUser, Force, Start, StartAs, Stop, Modify, Reply, VaryDeviceOnline, VaryDeviceOffline, VaryConsoleOnline, VaryConsoleOffline, VaryConsoleAuth, Mount, Unload, Swap, ResetConsole, Send, Log, Monitor, StopMonitor, Halt, Logon, Logoff}
+use Rattle.opc_reader_commands.specs.declared.command.Command.TheVariants.{
+  DisplayUnits,
+  DisplayUnit,
+  DisplayDevices,
+  DisplayConsoles,
+  DisplayReplies,
+  Cancel,
+  CancelUser,
+  Force,
+  Start,
+  StartAs,
+  Stop,
+  Modify,
+  Reply,
+  VaryDeviceOnline,
+  VaryDeviceOffline,
+  VaryConsoleOnline,
+  VaryConsoleOffline,
+  VaryConsoleAuth,
+  Mount,
+  Unload,
+  Swap,
+  ResetConsole,
+  Send,
+  Log,
+  Monitor,
+  StopMonitor,
+  Halt,
+  Logon,
+  Logoff,
+}
 use Rattle.opc_reader_commands.specs.Quotes.{text_value}
 use Rattle.opc_board.specs.declared.board.BoardRows.{BoardRows}
 use Rattle.opc_board.specs.declared.event.Event.{Event}
@@ -11,7 +41,13 @@ use Rattle.opc_board.specs.Texts.{unit_line, lines_of, device_line, console_line
 use Rattle.opc_board.specs.Outcome.{Outcome, done, done_with}
 use Rattle.opc_board.specs.Units.{cancel, cancel_user, force, job_end, job_in, start, stop, modify}
 use Rattle.opc_board.specs.Devices.{vary_online, vary_offline, mount, unload, swap, attach, allocate, free}
-use Rattle.opc_board.specs.Consoles.{vary_console_online, vary_console_offline, vary_console_auth, reset_console, monitored}
+use Rattle.opc_board.specs.Consoles.{
+  vary_console_online,
+  vary_console_offline,
+  vary_console_auth,
+  reset_console,
+  monitored,
+}
 use Rattle.opc_board.specs.Replies.{reply, ask, send, log_line, halt, resumed}
 
 -- A command that is typed at a console. LOGON and LOGOFF leave the board to whoever checks the password.

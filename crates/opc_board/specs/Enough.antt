@@ -1,7 +1,37 @@
 -- The smallest footprint of a command or an event: the rows that it names, and those that it asks about.
 use Rattle.std.specs.Prelude.{ℕ, Bool, true, false, ◌||◌, ◌==◌, Option, Some, None}
 use Rattle.opc_reader_commands.specs.declared.command.Command.{Command}
-use Rattle.opc_reader_commands.specs.declared.command.Command.TheVariants.{DisplayUnits, DisplayUnit, DisplayDevices, DisplayConsoles, DisplayReplies, Cancel, CancelUser, Force, Start, StartAs, Stop, Modify, Reply, VaryDeviceOnline, VaryDeviceOffline, VaryConsoleOnline, VaryConsoleOffline, VaryConsoleAuth, Mount, Unload, Swap, ResetConsole, Send, Log, Monitor, StopMonitor, Halt, Logon, Logoff}
+use Rattle.opc_reader_commands.specs.declared.command.Command.TheVariants.{
+  DisplayUnits,
+  DisplayUnit,
+  DisplayDevices,
+  DisplayConsoles,
+  DisplayReplies,
+  Cancel,
+  CancelUser,
+  Force,
+  Start,
+  StartAs,
+  Stop,
+  Modify,
+  Reply,
+  VaryDeviceOnline,
+  VaryDeviceOffline,
+  VaryConsoleOnline,
+  VaryConsoleOffline,
+  VaryConsoleAuth,
+  Mount,
+  Unload,
+  Swap,
+  ResetConsole,
+  Send,
+  Log,
+  Monitor,
+  StopMonitor,
+  Halt,
+  Logon,
+  Logoff,
+}
 use Rattle.opc_board.specs.declared.board.BoardRows.{BoardRows}
 use Rattle.opc_board.specs.declared.event.Event.{Event}
 use Rattle.opc_board.specs.declared.event.Event.TheVariants.{JobIn, JobEnd, Ask, Attach, Allocate, Free, Resume}
@@ -85,4 +115,5 @@ enough_for_event b Resume = no_rows
 abbrev pub FewRowsSuffice : Type 0
 FewRowsSuffice =
     (b : BoardRows) → IsInOrder b
-    → ((command : Command) (console : Name) → IsFootprintOf (enough b command console) b command console) × ((event : Event) → IsFootprintOfEvent (enough_for_event b event) b event)
+    → ((command : Command) (console : Name) → IsFootprintOf (enough b command console) b command console)
+    × ((event : Event) → IsFootprintOfEvent (enough_for_event b event) b event)

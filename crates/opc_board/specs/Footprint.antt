@@ -4,7 +4,37 @@ use Rattle.std.specs.Prelude.{◌≡◌, ℕ, Bool, true, not, ◌&&◌, List, O
 use Rattle.std.specs.List.{AllByRecursion, list_any}
 use Rattle.opc_rows.specs.Ordered.{Ascends}
 use Rattle.opc_reader_commands.specs.declared.command.Command.{Command}
-use Rattle.opc_reader_commands.specs.declared.command.Command.TheVariants.{DisplayUnits, DisplayUnit, DisplayDevices, DisplayConsoles, DisplayReplies, Cancel, CancelUser, Force, Start, StartAs, Stop, Modify, Reply, VaryDeviceOnline, VaryDeviceOffline, VaryConsoleOnline, VaryConsoleOffline, VaryConsoleAuth, Mount, Unload, Swap, ResetConsole, Send, Log, Monitor, StopMonitor, Halt, Logon, Logoff}
+use Rattle.opc_reader_commands.specs.declared.command.Command.TheVariants.{
+  DisplayUnits,
+  DisplayUnit,
+  DisplayDevices,
+  DisplayConsoles,
+  DisplayReplies,
+  Cancel,
+  CancelUser,
+  Force,
+  Start,
+  StartAs,
+  Stop,
+  Modify,
+  Reply,
+  VaryDeviceOnline,
+  VaryDeviceOffline,
+  VaryConsoleOnline,
+  VaryConsoleOffline,
+  VaryConsoleAuth,
+  Mount,
+  Unload,
+  Swap,
+  ResetConsole,
+  Send,
+  Log,
+  Monitor,
+  StopMonitor,
+  Halt,
+  Logon,
+  Logoff,
+}
 use Rattle.opc_board.specs.declared.board.BoardRows.{BoardRows}
 use Rattle.opc_board.specs.declared.event.Event.{Event}
 use Rattle.opc_board.specs.declared.event.Event.TheVariants.{JobIn, JobEnd, Ask, Attach, Allocate, Free, Resume}
@@ -50,10 +80,14 @@ only footprint b = record b {
 
 -- The other rows are the same on two boards.
 pub record AreLeft (footprint : Footprint) (old new : BoardRows) : Type 0 where
-  pub units : filter (λ u. not (has_unit_of footprint u)) new.units ≡ filter (λ u. not (has_unit_of footprint u)) old.units
-  pub devices : filter (λ d. not (has_device_of footprint d)) new.devices ≡ filter (λ d. not (has_device_of footprint d)) old.devices
-  pub consoles : filter (λ c. not (has_console_of footprint c)) new.consoles ≡ filter (λ c. not (has_console_of footprint c)) old.consoles
-  pub replies : filter (λ r. not (has_reply_of footprint r)) new.replies ≡ filter (λ r. not (has_reply_of footprint r)) old.replies
+  pub units : filter (λ u. not (has_unit_of footprint u)) new.units ≡ filter (λ u. not (has_unit_of footprint u))
+      old.units
+  pub devices : filter (λ d. not (has_device_of footprint d)) new.devices ≡ filter
+      (λ d. not (has_device_of footprint d)) old.devices
+  pub consoles : filter (λ c. not (has_console_of footprint c)) new.consoles ≡ filter
+      (λ c. not (has_console_of footprint c)) old.consoles
+  pub replies : filter (λ r. not (has_reply_of footprint r)) new.replies ≡ filter (λ r. not (has_reply_of footprint r))
+      old.replies
 
 -- The rows are in order, so that no name or number comes twice.
 pub record IsInOrder (b : BoardRows) : Type 0 where
@@ -82,11 +116,13 @@ has_other_master name consoles = list_any (λ c. is_master c && not (is c.name n
 
 -- It has the unit, with the devices that the unit has: they are freed when it leaves.
 abbrev pub HasLeaving : Footprint → BoardRows → Name → Type 0
-HasLeaving footprint b name = (footprint.units name ≡ true) × AllByRecursion (λ d. is_holder name d.unit ≡ true → has_device_of footprint d ≡ true) b.devices
+HasLeaving footprint b name = (footprint.units name ≡ true)
+    × AllByRecursion (λ d. is_holder name d.unit ≡ true → has_device_of footprint d ≡ true) b.devices
 
 -- It has the console, and another master if there is one: without it this one would be the last.
 abbrev pub HasVaried : Footprint → BoardRows → Name → Type 0
-HasVaried footprint b name = (footprint.consoles name ≡ true) × (has_other_master name (only footprint b).consoles ≡ has_other_master name b.consoles)
+HasVaried footprint b name = (footprint.consoles name ≡ true)
+    × (has_other_master name (only footprint b).consoles ≡ has_other_master name b.consoles)
 
 -- What the footprint of a command has to have: what the command names, and what it asks about others. A display of all
 -- rows needs them all, and SE whether the user is on at some console. Any choice that has these rows will do.
@@ -111,9 +147,11 @@ IsFootprintOf footprint b (VaryConsoleOffline name) console = HasVaried footprin
 IsFootprintOf footprint b (VaryConsoleAuth name auth) console = HasVaried footprint b name.value
 IsFootprintOf footprint b (Mount device volume) console = footprint.devices device.value ≡ true
 IsFootprintOf footprint b (Unload device) console = footprint.devices device.value ≡ true
-IsFootprintOf footprint b (Swap from to) console = (footprint.devices from.value ≡ true) × (footprint.devices to.value ≡ true)
+IsFootprintOf footprint b (Swap from to) console =
+    (footprint.devices from.value ≡ true) × (footprint.devices to.value ≡ true)
 IsFootprintOf footprint b (ResetConsole name) console = footprint.consoles name.value ≡ true
-IsFootprintOf footprint b (Send text user) console = (is_on user.value (only footprint b) ≡ is_on user.value b) × (footprint.units user.value ≡ true)
+IsFootprintOf footprint b (Send text user) console =
+    (is_on user.value (only footprint b) ≡ is_on user.value b) × (footprint.units user.value ≡ true)
 IsFootprintOf footprint b (Log text) console = Unit {0}
 IsFootprintOf footprint b Monitor console = footprint.consoles console ≡ true
 IsFootprintOf footprint b StopMonitor console = footprint.consoles console ≡ true
@@ -126,18 +164,21 @@ IsFootprintOfEvent footprint b (JobIn name kind cancelable) = footprint.units na
 IsFootprintOfEvent footprint b (JobEnd name) = HasLeaving footprint b name
 IsFootprintOfEvent footprint b (Ask id text) = footprint.replies id ≡ true
 IsFootprintOfEvent footprint b (Attach device) = footprint.devices device ≡ true
-IsFootprintOfEvent footprint b (Allocate device unit) = (footprint.devices device ≡ true) × (footprint.units unit ≡ true)
+IsFootprintOfEvent footprint b (Allocate device unit) =
+    (footprint.devices device ≡ true) × (footprint.units unit ≡ true)
 IsFootprintOfEvent footprint b (Free device) = footprint.devices device ≡ true
 IsFootprintOfEvent footprint b Resume = Unit {0}
 
 -- A command does on its footprint what it does on the board; and so does an event.
 abbrev pub CommandsAreLocal : Type 0
 CommandsAreLocal =
-    (footprint : Footprint) (b : BoardRows) (command : Command) (console : Name) → IsInOrder b → IsFootprintOf footprint b command console
+    (footprint : Footprint) (b : BoardRows) (command : Command) (console : Name) → IsInOrder b
+    → IsFootprintOf footprint b command console
     → IsLocal footprint b (λ c. effect c command console)
 
 abbrev pub EventsAreLocal : Type 0
-EventsAreLocal = (footprint : Footprint) (b : BoardRows) (event : Event) → IsInOrder b → IsFootprintOfEvent footprint b event → IsLocal footprint b (λ c. event_effect c event)
+EventsAreLocal = (footprint : Footprint) (b : BoardRows) (event : Event) → IsInOrder b
+    → IsFootprintOfEvent footprint b event → IsLocal footprint b (λ c. event_effect c event)
 
 -- So does a logon or a logoff, whose footprint is its console.
 abbrev pub LogonsAreLocal : Type 0

@@ -5,7 +5,18 @@ use Rattle.std.specs.List.{find, list_any, AllByRecursion}
 use Rattle.std.specs.Cmp.Lexicographic.{pointwise, slice_cmp}
 use Rattle.std.specs.Ordering.{nat_cmp, is_lt}
 use Rattle.opc_names.specs.declared.auth.Auth.{Auth}
-use Rattle.opc_names.specs.declared.auth.Auth.TheVariants.{Master, All, Info, Sys, Io, Cons, SysIo, SysCons, IoCons, SysIoCons}
+use Rattle.opc_names.specs.declared.auth.Auth.TheVariants.{
+  Master,
+  All,
+  Info,
+  Sys,
+  Io,
+  Cons,
+  SysIo,
+  SysCons,
+  IoCons,
+  SysIoCons,
+}
 use Rattle.opc_terms.specs.declared.unit_kind.UnitKindAt.{UnitKindAt}
 use Rattle.opc_terms.specs.declared.unit_kind.UnitKindAt.TheVariants as at
 use Rattle.opc_rows.specs.Ordered.{Ascends}
@@ -85,7 +96,8 @@ abbrev pub held_rightly : List UnitRow → DeviceRow → Bool
 held_rightly units d = holds_rightly units d.online d.unit
 
 -- The rows are in order, so that no name or number comes twice, and each device in use is held rightly.
-pub record AreInvariants (units : List UnitRow) (devices : List DeviceRow) (consoles : List ConsoleRow) (replies : List ReplyRow) : Type 0 where
+pub record AreInvariants (units : List UnitRow) (devices : List DeviceRow) (consoles : List ConsoleRow)
+    (replies : List ReplyRow) : Type 0 where
   pub units_rise : Ascends unit_before units
   pub devices_rise : Ascends device_before devices
   pub consoles_rise : Ascends console_before consoles

@@ -1,5 +1,20 @@
 -- What a command or an event comes to.
-use Rattle.std.specs.Prelude.{◌≡◌, ◌≢◌, Bool, if◌then◌else◌, List, [], ◌∷◌, Option, Some, None, Result, Ok, Err, MatchResult}
+use Rattle.std.specs.Prelude.{
+  ◌≡◌,
+  ◌≢◌,
+  Bool,
+  if◌then◌else◌,
+  List,
+  [],
+  ◌∷◌,
+  Option,
+  Some,
+  None,
+  Result,
+  Ok,
+  Err,
+  MatchResult,
+}
 use Rattle.opc_board.specs.declared.board.BoardRows.{BoardRows}
 use Rattle.opc_board.specs.declared.fault.BoardFault.{BoardFault}
 use Rattle.opc_board.specs.declared.fault.BoardFault.TheVariants.{NoMemory}
@@ -23,7 +38,8 @@ done board = done_with board []
 -- A call without lines came to this outcome: the new board is that of the outcome, or it met the outcome's fault and
 -- left the board as it was.
 abbrev pub ComesTo : (old new : BoardRows) → Outcome → Result Unit BoardFault → Type 0
-ComesTo old new outcome result = MatchResult result (λ _. outcome ≡ done new) (λ fault. (new ≡ old) × (outcome ≡ Err fault))
+ComesTo old new outcome result = MatchResult result (λ _. outcome ≡ done new)
+    (λ fault. (new ≡ old) × (outcome ≡ Err fault))
 
 -- the same of a call that takes memory, which may be refused
 abbrev pub ComesToOrNoMemory : (old new : BoardRows) → Outcome → Result Unit BoardFault → Type 0

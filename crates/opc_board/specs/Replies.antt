@@ -29,7 +29,12 @@ abbrev pub ask_faults : ℕ → BoardRows → List (Bool × BoardFault)
 ask_faults id b = (is_some (reply_at b id), ReplyExists) ∷ []
 
 abbrev pub ask : ℕ → List ℕ → BoardRows → Outcome
-ask id text b = faults_or (ask_faults id b) (done (record b { replies = put reply_before (record { id = id; text = text }) b.replies }))
+ask id text b = faults_or (ask_faults id b) (done (record b {
+  replies = put reply_before (record {
+    id = id;
+    text = text;
+  }) b.replies;
+}))
 
 -- the user is on at some console
 abbrev pub is_on : Name → BoardRows → Bool
@@ -48,7 +53,12 @@ abbrev pub send_faults : Name → BoardRows → List (Bool × BoardFault)
 send_faults user b = (not (is_on user b || has_session user b), NoTarget) ∷ []
 
 abbrev pub send : Name → List ℕ → BoardRows → Outcome
-send user text b = faults_or (send_faults user b) (done (record b { messages = b.messages ++ record { user = user; text = text } ∷ [] }))
+send user text b = faults_or (send_faults user b) (done (record b {
+  messages = b.messages ++ record {
+    user = user;
+    text = text;
+  } ∷ [];
+}))
 
 -- L 'text': the line is kept after all others
 abbrev pub log_line : List ℕ → BoardRows → Outcome

@@ -1,5 +1,21 @@
 -- The lines of answers.
-use Rattle.std.specs.Prelude.{ℕ, ◌-◌, Bool, true, false, List, [], ◌∷◌, ◌++◌, length, replicate, Option, Some, None, codes}
+use Rattle.std.specs.Prelude.{
+  ℕ,
+  ◌-◌,
+  Bool,
+  true,
+  false,
+  List,
+  [],
+  ◌∷◌,
+  ◌++◌,
+  length,
+  replicate,
+  Option,
+  Some,
+  None,
+  codes,
+}
 use Rattle.opc_names.specs.Spellings.{auth_text}
 pub use Rattle.opc_names.specs.Spellings.{two_digits}
 use Rattle.opc_board.specs.declared.rows.UnitKind.{UnitKind}
@@ -52,10 +68,12 @@ abbrev pub unit_text : UnitRow → List ℕ
 unit_text u = columns (left 8 u.name ∷ kind_text u.kind ∷ activity_text u.stopping ∷ member_columns u.kind)
 
 abbrev pub device_text : DeviceRow → List ℕ
-device_text d = columns (d.number ∷ left 7 (online_text d.online) ∷ left 6 (text_or (codes "------") d.volume) ∷ text_or (codes "-") d.unit ∷ [])
+device_text d = columns (d.number ∷ left 7 (online_text d.online) ∷ left 6 (text_or (codes "------") d.volume)
+    ∷ text_or (codes "-") d.unit ∷ [])
 
 abbrev pub console_text : ConsoleRow → List ℕ
-console_text c = columns (left 8 c.name ∷ left 7 (online_text c.online) ∷ monitor_text c.monitor ∷ auth_text c.auth ∷ text_or (codes "-") c.user ∷ [])
+console_text c = columns (left 8 c.name ∷ left 7 (online_text c.online) ∷ monitor_text c.monitor ∷ auth_text c.auth
+    ∷ text_or (codes "-") c.user ∷ [])
 
 abbrev pub reply_text : ℕ → List ℕ → List ℕ
 reply_text id text = columns (two_digits id ∷ text ∷ [])

@@ -8,7 +8,14 @@ use Rattle.opc_board.specs.declared.rows.UnitRow.{UnitRow}
 use Rattle.opc_board.specs.declared.rows.DeviceRow.{DeviceRow}
 use Rattle.opc_board.specs.declared.board.BoardRows.{BoardRows}
 use Rattle.opc_board.specs.declared.fault.BoardFault.{BoardFault}
-use Rattle.opc_board.specs.declared.fault.BoardFault.TheVariants.{NoUnit, NonCancelable, Cancelable, UnitExists, Halted, WrongKind}
+use Rattle.opc_board.specs.declared.fault.BoardFault.TheVariants.{
+  NoUnit,
+  NonCancelable,
+  Cancelable,
+  UnitExists,
+  Halted,
+  WrongKind,
+}
 use Rattle.opc_board.specs.Invariants.{Name, is, unit_before, unit_at}
 use Rattle.opc_board.specs.Outcome.{Outcome, done, faults_or, found, ◌>>=◌}
 
@@ -27,7 +34,10 @@ freed name d = if is_holder name d.unit then record d { unit = None } else d
 
 -- the unit leaves the board and frees its devices
 abbrev pub without_unit : Name → BoardRows → BoardRows
-without_unit name b = record b { units = filter (λ u. not (is u.name name)) b.units; devices = map (freed name) b.devices }
+without_unit name b = record b {
+  units = filter (λ u. not (is u.name name)) b.units;
+  devices = map (freed name) b.devices;
+}
 
 -- C name: a unit that C may end leaves; C U=user: so does a user's session
 abbrev pub cancel_faults : UnitRow → List (Bool × BoardFault)
@@ -63,13 +73,20 @@ job_end name b = do
 
 -- a new unit comes, on a day that isn't halted
 abbrev pub new_unit : Name → UnitKind → Bool → UnitRow
-new_unit name kind cancelable = record { name = name; kind = kind; cancelable = cancelable; stopping = false; last_text = None }
+new_unit name kind cancelable = record {
+  name = name;
+  kind = kind;
+  cancelable = cancelable;
+  stopping = false;
+  last_text = None;
+}
 
 abbrev pub come_faults : Name → BoardRows → List (Bool × BoardFault)
 come_faults name b = (b.halted, Halted) ∷ (is_some (unit_at b name), UnitExists) ∷ []
 
 abbrev pub job_in : Name → UnitKind → Bool → BoardRows → Outcome
-job_in name kind cancelable b = faults_or (come_faults name b) (done (record b { units = put unit_before (new_unit name kind cancelable) b.units }))
+job_in name kind cancelable b = faults_or (come_faults name b)
+    (done (record b { units = put unit_before (new_unit name kind cancelable) b.units }))
 
 -- S member.id: a started task comes
 abbrev pub start : Name → Name → BoardRows → Outcome

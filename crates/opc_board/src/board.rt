@@ -2,7 +2,15 @@
 ghost use Rattle.std.specs.Prelude.{◌≡◌, ◌&&◌, MatchResult};
 ghost use Rattle.std.specs.List.{list_all};
 ghost use Rattle.opc_rows.specs.Ordered.{Ascends};
-ghost use Rattle.opc_board.specs.Invariants.{IsBoard, held_rightly, unit_before, kind_at, kind_found, has_master, is_master};
+ghost use Rattle.opc_board.specs.Invariants.{
+  IsBoard,
+  held_rightly,
+  unit_before,
+  kind_at,
+  kind_found,
+  has_master,
+  is_master,
+};
 
 use crate::rows::{ConsoleRow, DeviceRow, MessageRow, ReplyRow, UnitKind, UnitRow};
 use crate::text::KeptText;

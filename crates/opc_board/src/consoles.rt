@@ -4,7 +4,21 @@ ghost use Rattle.std.specs.List.{list_any};
 ghost use Rattle.opc_board.specs.declared.fault.BoardFault.TheVariants.{NoTarget};
 ghost use Rattle.opc_board.specs.Invariants.{console_at, has_master, is, is_master};
 ghost use Rattle.opc_board.specs.Outcome.{ComesTo, found};
-ghost use Rattle.opc_board.specs.Consoles.{at_console, console_defined, defined, logged_off, logged_on, monitored, replaced, varied, with_console, vary_console_online as vary_console_online_outcome, vary_console_offline as vary_console_offline_outcome, vary_console_auth as vary_console_auth_outcome, reset_console as reset_console_outcome};
+ghost use Rattle.opc_board.specs.Consoles.{
+  at_console,
+  console_defined,
+  defined,
+  logged_off,
+  logged_on,
+  monitored,
+  replaced,
+  varied,
+  with_console,
+  vary_console_online as vary_console_online_outcome,
+  vary_console_offline as vary_console_offline_outcome,
+  vary_console_auth as vary_console_auth_outcome,
+  reset_console as reset_console_outcome,
+};
 
 use crate::board::{Board, BoardRows};
 use crate::fault::BoardFault;
@@ -29,7 +43,8 @@ impl ConsoleRow {
 
 impl BoardRows {
     fn any_master_with(&self, row: &ConsoleRow) -> bool
-        ensures { result ≡ list_any (λ console. is_master (if is console.name row.now.name then row.now else console)) self.now.consoles }
+        ensures { result ≡ list_any (λ console. is_master (if is console.name row.now.name then row.now else console))
+            self.now.consoles }
     {
         self.consoles
             .as_slice()

@@ -3,7 +3,17 @@ ghost use Rattle.std.specs.Prelude.{◌≡◌, IfOk};
 ghost use Rattle.opc_board.specs.declared.fault.BoardFault.TheVariants.{NoDevice};
 ghost use Rattle.opc_board.specs.Invariants.{IsHeldRightly, device_at};
 ghost use Rattle.opc_board.specs.Outcome.{ComesTo, ComesToOrNoMemory, found};
-ghost use Rattle.opc_board.specs.Devices.{with_device, vary_online as vary_online_outcome, vary_offline as vary_offline_outcome, mount as mount_outcome, unload as unload_outcome, swap as swap_outcome, attach as attach_outcome, allocate as allocate_outcome, free as free_outcome};
+ghost use Rattle.opc_board.specs.Devices.{
+  with_device,
+  vary_online as vary_online_outcome,
+  vary_offline as vary_offline_outcome,
+  mount as mount_outcome,
+  unload as unload_outcome,
+  swap as swap_outcome,
+  attach as attach_outcome,
+  allocate as allocate_outcome,
+  free as free_outcome,
+};
 
 use crate::board::Board;
 use crate::fault::BoardFault;

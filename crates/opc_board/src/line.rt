@@ -2,7 +2,24 @@
 ghost use Rattle.std.specs.Prelude.{◌≡◌, ◌≤◌, ◌∷◌, [], IfOk, codes, length, map, string_bytes};
 ghost use Rattle.std.specs.Option.{option_copied};
 ghost use Rattle.std.specs.Str.{IsAscii};
-ghost use Rattle.opc_board.specs.Texts.{activity_text, columns, console_line, console_text, device_line, device_text, kind_text, left, lines_of, monitor_text, online_text, reply_line, reply_text, text_or, unit_line, unit_text};
+ghost use Rattle.opc_board.specs.Texts.{
+  activity_text,
+  columns,
+  console_line,
+  console_text,
+  device_line,
+  device_text,
+  kind_text,
+  left,
+  lines_of,
+  monitor_text,
+  online_text,
+  reply_line,
+  reply_text,
+  text_or,
+  unit_line,
+  unit_text,
+};
 
 use crate::rows::{ConsoleRow, DeviceRow, ReplyRow, UnitKind, UnitRow};
 use crate::text::KeptText;
@@ -86,7 +103,8 @@ fn task_columns(
 ) -> Result<String, AllocError>
     requires name { IsAscii name.now }
     requires name_short { length name.now ≤ 1000 }
-    ensures { IfOk result (λ text. string_bytes text ≡ columns (left 8 name.now ∷ codes "STC" ∷ activity.now ∷ member.now ∷ [])) }
+    ensures { IfOk result (λ text. string_bytes text ≡ columns
+        (left 8 name.now ∷ codes "STC" ∷ activity.now ∷ member.now ∷ [])) }
 {
     format!(in alloc; "{name:<8} STC {activity} {member}")
 }
@@ -103,7 +121,8 @@ fn device_columns(
     requires state_short { length state.now ≤ 1000 }
     requires volume { IsAscii volume.now }
     requires volume_short { length volume.now ≤ 1000 }
-    ensures { IfOk result (λ text. string_bytes text ≡ columns (number.now ∷ left 7 state.now ∷ left 6 volume.now ∷ unit.now ∷ [])) }
+    ensures { IfOk result (λ text. string_bytes text ≡ columns
+        (number.now ∷ left 7 state.now ∷ left 6 volume.now ∷ unit.now ∷ [])) }
 {
     format!(in alloc; "{number} {state:<7} {volume:<6} {unit}")
 }
@@ -121,7 +140,8 @@ fn console_columns(
     requires name_short { length name.now ≤ 1000 }
     requires state { IsAscii state.now }
     requires state_short { length state.now ≤ 1000 }
-    ensures { IfOk result (λ text. string_bytes text ≡ columns (left 8 name.now ∷ left 7 state.now ∷ monitor.now ∷ auth.now ∷ user.now ∷ [])) }
+    ensures { IfOk result (λ text. string_bytes text ≡ columns
+        (left 8 name.now ∷ left 7 state.now ∷ monitor.now ∷ auth.now ∷ user.now ∷ [])) }
 {
     format!(in alloc; "{name:<8} {state:<7} {monitor} {auth} {user}")
 }

@@ -3,7 +3,16 @@ ghost use Rattle.std.specs.Prelude.{◌≡◌, ◌≢◌, Err, MatchResult};
 ghost use Rattle.opc_board.specs.declared.fault.BoardFault.TheVariants.{NoMemory};
 ghost use Rattle.opc_board.specs.Outcome.{ComesTo, ComesToOrNoMemory, done, done_with};
 ghost use Rattle.opc_board.specs.Units.{is_holder};
-ghost use Rattle.opc_board.specs.Replies.{has_session, is_on, resumed, reply as reply_outcome, ask as ask_outcome, send as send_outcome, log_line as log_line_outcome, halt as halt_outcome};
+ghost use Rattle.opc_board.specs.Replies.{
+  has_session,
+  is_on,
+  resumed,
+  reply as reply_outcome,
+  ask as ask_outcome,
+  send as send_outcome,
+  log_line as log_line_outcome,
+  halt as halt_outcome,
+};
 
 use crate::board::Board;
 use crate::fault::BoardFault;

@@ -3,7 +3,19 @@ ghost use Rattle.std.specs.Prelude.{◌≡◌, MatchResult, None, Some};
 ghost use Rattle.opc_board.specs.declared.fault.BoardFault.TheVariants.{NoUnit};
 ghost use Rattle.opc_board.specs.Invariants.{unit_at};
 ghost use Rattle.opc_board.specs.Outcome.{ComesTo, ComesToOrNoMemory};
-ghost use Rattle.opc_board.specs.Units.{freed, is_tsu, without_unit, cancel as cancel_outcome, cancel_user as cancel_user_outcome, force as force_outcome, job_end as job_end_outcome, job_in as job_in_outcome, start as start_outcome, stop as stop_outcome, modify as modify_outcome};
+ghost use Rattle.opc_board.specs.Units.{
+  freed,
+  is_tsu,
+  without_unit,
+  cancel as cancel_outcome,
+  cancel_user as cancel_user_outcome,
+  force as force_outcome,
+  job_end as job_end_outcome,
+  job_in as job_in_outcome,
+  start as start_outcome,
+  stop as stop_outcome,
+  modify as modify_outcome,
+};
 
 use crate::board::Board;
 use crate::fault::BoardFault;

@@ -26,11 +26,13 @@ openings_fail opening.NoMemory = refl
 openings_fail opening.Store = refl
 openings_fail (opening.NotOurs version) = refl
 
-pub same_fault : {E : Type 0} (shown : E → Option (List ℕ)) (quiet reported : Watched E) (one other : Fault) → one ≡ other → IsFaultTold shown quiet reported one → IsFaultTold shown quiet reported other
+pub same_fault : {E : Type 0} (shown : E → Option (List ℕ)) (quiet reported : Watched E) (one other : Fault)
+    → one ≡ other → IsFaultTold shown quiet reported one → IsFaultTold shown quiet reported other
 same_fault shown quiet reported one other is h = subst (IsFaultTold shown quiet reported) is h
 
 -- where the words ask for a task, and that was done
-module _ {D : Type 0} (g : disk.Ghosts D) (is_fresh : Bool → D → Type 0) (image : Image) {W E : Type 0} (contents : W → Option (List ℕ)) (shown : E → Option (List ℕ)) (left : Option (List ℕ)) where
+module _ {D : Type 0} (g : disk.Ghosts D) (is_fresh : Bool → D → Type 0) (image : Image) {W E : Type 0}
+    (contents : W → Option (List ℕ)) (shown : E → Option (List ℕ)) (left : Option (List ℕ)) where
   pub task_done : (words : List (List ℕ)) (before first written : Watched W) (quiet heard reported : Watched E) (status : Status) (task : Task)
       → AreRead words shown before first quiet heard (Ok task) → IsTaskDone g is_fresh image contents shown left first written heard reported status task
       → AreDone g is_fresh image contents shown left before written quiet reported status words

@@ -12,7 +12,8 @@ use Rattle.opc_cli_script.specs.Running.{IsAnswered}
 use Rattle.opc_http_serve.specs.declared.arrival.ServeFault.{ServeFault}
 use Rattle.opc_http_serve.specs.Handled.{AreHandled}
 
--- The status of a script: what its answers come to; or that a line was bad, or that memory was refused or the output failed.
+-- The status of a script: what its answers come to; or that a line was bad, or that memory was refused or the output
+-- failed.
 abbrev pub status_of_script : Result Status ScriptFault → Status
 status_of_script (Ok status) = status
 status_of_script (Err (BadLine number)) = BadInput
@@ -25,16 +26,18 @@ status_of_service (Ok all) = Done
 status_of_service (Err fault) = Failed
 
 module _ {T : Type 0} (is_sure : T → Type 0) (represents may_leave : T → State → Type 0) (old new : T) where
-  -- A script was run, or its bad line was told and nothing was run; and this is the number of its status. It was cut by the
-  -- output exactly where a write failed.
-  pub record IsScript {K : Type 0} (held : K → Option (List ℕ)) (has_failed : K → Bool) (script : List ℕ) (before written : K) (number : ℕ) : Type 0 where
+  -- A script was run, or its bad line was told and nothing was run; and this is the number of its status. It was cut by
+  -- the output exactly where a write failed.
+  pub record IsScript {K : Type 0} (held : K → Option (List ℕ)) (has_failed : K → Bool) (script : List ℕ)
+      (before written : K) (number : ℕ) : Type 0 where
     pub ran : Result Status ScriptFault
     pub answered : IsAnswered is_sure represents may_leave old new script (held before) (held written) ran
     pub failed : has_failed written ≡ (if is_cut_by_output ran then true else has_failed before)
     pub ends : number ≡ number_of (status_of_script ran)
 
   -- So many clients were served, each waited for as long as it takes, or fewer; and this is the number of its status.
-  pub record IsService {C : Type 0} (limits : C → Duration → Bool → Type 0) (remaining contents : C → Option (List ℕ)) (count number : ℕ) : Type 0 where
+  pub record IsService {C : Type 0} (limits : C → Duration → Bool → Type 0) (remaining contents : C → Option (List ℕ))
+      (count number : ℕ) : Type 0 where
     pub served : Result (Unit {0}) ServeFault
     pub handled : AreHandled is_sure represents may_leave limits remaining contents None old new count served
     pub ends : number ≡ number_of (status_of_service served)

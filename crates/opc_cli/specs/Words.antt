@@ -32,26 +32,35 @@ status_of_work end (Err kept) = Failed
 module _ {E : Type 0} (shown : E → Option (List ℕ)) where
   -- A fault was printed first, unless a write failed.
   abbrev pub IsFaultTold : (quiet reported : Watched E) → Fault → Type 0
-  IsFaultTold quiet reported fault = reported.failed ≡ false → IsReported fault (shown quiet.inner) (shown reported.inner)
+  IsFaultTold quiet reported fault = reported.failed ≡ false
+      → IsReported fault (shown quiet.inner) (shown reported.inner)
 
   -- Where it failed, its fault was.
   abbrev pub IsEndTold : (quiet reported : Watched E) → Result Status Failure → Type 0
   IsEndTold quiet reported end = IfErr end (λ failure. IsFaultTold quiet reported failure.fault)
 
   -- The fault of its end was, and then, where the file was not closed, that the store failed.
-  abbrev pub IsWorkTold : {A B : Type 0} → (quiet reported : Watched E) → Result Status Failure → (closed : Result A B) → Type 0
+  abbrev pub IsWorkTold : {A B : Type 0} → (quiet reported : Watched E) → Result Status Failure → (closed : Result A B)
+      → Type 0
   IsWorkTold quiet reported end (Ok files) = IsEndTold quiet reported end
-  IsWorkTold quiet reported end (Err kept) = (first : Watched E) × IsEndTold quiet first end × (reported.failed ≡ false → first.failed ≡ false) × IsFaultTold first reported Store
+  IsWorkTold quiet reported end (Err kept) =
+      (first : Watched E) × IsEndTold quiet first end × (reported.failed ≡ false → first.failed ≡ false)
+      × IsFaultTold first reported Store
 
 -- The program ran over new tables in memory. Of what the files of the system hold nothing is known.
-pub record IsDoneInMemory {W E : Type 0} (contents : W → Option (List ℕ)) (shown : E → Option (List ℕ)) (left : Option (List ℕ)) (before written : Watched W) (quiet reported : Watched E) (status : Status) (policy : Option (Bor (List ℕ))) : Type 0 where
+pub record IsDoneInMemory {W E : Type 0} (contents : W → Option (List ℕ)) (shown : E → Option (List ℕ))
+    (left : Option (List ℕ)) (before written : Watched W) (quiet reported : Watched E) (status : Status)
+    (policy : Option (Bor (List ℕ))) : Type 0 where
   pub end : Result Status Failure
-  pub ran : IsRunInMemory (λ (w : Watched W). contents w.inner) (λ (w : Watched W). w.failed) (λ path. None) policy left before written end
+  pub ran : IsRunInMemory (λ (w : Watched W). contents w.inner) (λ (w : Watched W). w.failed) (λ path. None) policy left
+      before written end
   pub status_is : status ≡ status_of_end end
   pub end_told : IsEndTold shown quiet reported end
 
 -- Of a database file: `image` is what it holds at first.
-module _ {D : Type 0} (g : disk.Ghosts D) (is_fresh : Bool → D → Type 0) (image : Image) {W E : Type 0} (contents : W → Option (List ℕ)) (shown : E → Option (List ℕ)) (left : Option (List ℕ)) (before written : Watched W) (quiet reported : Watched E) (status : Status) where
+module _ {D : Type 0} (g : disk.Ghosts D) (is_fresh : Bool → D → Type 0) (image : Image) {W E : Type 0}
+    (contents : W → Option (List ℕ)) (shown : E → Option (List ℕ)) (left : Option (List ℕ)) (before written : Watched W)
+    (quiet reported : Watched E) (status : Status) where
   -- The file was opened, the work done over its tables, and the file closed, or not.
   pub record IsDoneInFile (work : Work) : Type 0 where
     pub end : Result Status Failure
@@ -78,7 +87,8 @@ module _ {D : Type 0} (g : disk.Ghosts D) (is_fresh : Bool → D → Type 0) (im
   -- What a task asks for was done.
   abbrev pub IsTaskDone : Task → Type 0
   IsTaskDone (task.Explain question) =
-      IsReportedAnswer contents (λ (e : Watched E). shown e.inner) (λ (e : Watched E). e.failed) before.inner written.inner quiet reported left question status
+      IsReportedAnswer contents (λ (e : Watched E). shown e.inner) (λ (e : Watched E). e.failed) before.inner
+      written.inner quiet reported left question status
   IsTaskDone (task.Run paths) = IsRun paths.database paths.policy
   IsTaskDone (task.Import import) = IsWorkInFile (work.Import import)
   IsTaskDone (task.Export path) = IsWorkInFile work.Export
@@ -86,4 +96,5 @@ module _ {D : Type 0} (g : disk.Ghosts D) (is_fresh : Bool → D → Type 0) (im
 
   -- What the words ask for was done; or they ask for nothing that is done, and that was told.
   abbrev pub AreDone : (words : List (List ℕ)) → Type 0
-  AreDone words = ((task : Task) × Ask words task × IsTaskDone task) ⊎ AskForNone words shown before written quiet reported status
+  AreDone words = ((task : Task) × Ask words task × IsTaskDone task)
+      ⊎ AskForNone words shown before written quiet reported status

@@ -30,8 +30,8 @@ use sqlite_disk::Disk;
 use std::io::{Read, Write};
 
 /// Does what the words of a command line ask for, the first of which is the program's own name, and returns the status:
-/// 0 done, 1 refused, 2 words or input that are bad, 3 something failed. `start` stands for what a database file that is
-/// named holds, and says what a torn write may leave.
+/// 0 done, 1 refused, 2 words or input that are bad, 3 something failed. `start` stands for what a database file that
+/// is named holds, and says what a torn write may leave.
 pub fn run_words<S: Start, R: Read, W: Write, E: Write>(
     rt: &HostRuntime,
     start: S,
@@ -41,7 +41,9 @@ pub fn run_words<S: Start, R: Read, W: Write, E: Write>(
     errors: &mut Watched<E>,
 ) -> u8
     ensures most { result ≤ 3 }
-    ensures done { (status : _) × (result ≡ number_of status) × AreDone ⟦<FileFrom<S> as Disk>⟧ IsFresh (image_at S.Start) W.contents E.contents (R.remaining input.old) output.old output.new errors.old errors.new status (words_after words.now) }
+    ensures done { (status : _) × (result ≡ number_of status)
+        × AreDone ⟦<FileFrom<S> as Disk>⟧ IsFresh (image_at S.Start) W.contents E.contents (R.remaining input.old)
+        output.old output.new errors.old errors.new status (words_after words.now) }
 {
     do_words(rt, start, words, input, output, errors).number()
 }
@@ -54,7 +56,8 @@ fn do_words<S: Start, R: Read, W: Write, E: Write>(
     output: &mut Watched<W>,
     errors: &mut Watched<E>,
 ) -> Status
-    ensures { AreDone ⟦<FileFrom<S> as Disk>⟧ IsFresh (image_at S.Start) W.contents E.contents (R.remaining input.old) output.old output.new errors.old errors.new result (words_after words.now) }
+    ensures { AreDone ⟦<FileFrom<S> as Disk>⟧ IsFresh (image_at S.Start) W.contents E.contents (R.remaining input.old)
+        output.old output.new errors.old errors.new result (words_after words.now) }
 {
     match read_words(rt.alloc(), words, output, errors) {
         Ok(Task::Explain(question)) => {
@@ -85,7 +88,8 @@ fn run_over<S: Start, R: Read, W: Write, E: Write>(
     output: &mut Watched<W>,
     errors: &mut Watched<E>,
 ) -> Status
-    ensures { IsRun ⟦<FileFrom<S> as Disk>⟧ IsFresh (image_at S.Start) W.contents E.contents (R.remaining input.old) output.old output.new errors.old errors.new result paths.now.database paths.now.policy }
+    ensures { IsRun ⟦<FileFrom<S> as Disk>⟧ IsFresh (image_at S.Start) W.contents E.contents (R.remaining input.old)
+        output.old output.new errors.old errors.new result paths.now.database paths.now.policy }
 {
     match paths.database {
         Some(path) => {
@@ -104,7 +108,8 @@ fn run_without_file<R: Read, W: Write, E: Write>(
     output: &mut Watched<W>,
     errors: &mut Watched<E>,
 ) -> Status
-    ensures { IsDoneInMemory W.contents E.contents (R.remaining input.old) output.old output.new errors.old errors.new result paths.now.policy }
+    ensures { IsDoneInMemory W.contents E.contents (R.remaining input.old) output.old output.new errors.old errors.new
+        result paths.now.policy }
 {
     reported(
         run_in_memory(rt, paths.policy, input, output),
@@ -135,7 +140,8 @@ fn work_in_file<S: Start, R: Read, W: Write, E: Write>(
     output: &mut Watched<W>,
     errors: &mut Watched<E>,
 ) -> Status
-    ensures { IsWorkInFile ⟦<FileFrom<S> as Disk>⟧ IsFresh (image_at S.Start) W.contents E.contents (R.remaining input.old) output.old output.new errors.old errors.new result work.now }
+    ensures { IsWorkInFile ⟦<FileFrom<S> as Disk>⟧ IsFresh (image_at S.Start) W.contents E.contents
+        (R.remaining input.old) output.old output.new errors.old errors.new result work.now }
 {
     match work_at(rt, path, start, work, input, output) {
         Ok((end, closed)) => ended(end, closed, &paths_of(path, work), errors),

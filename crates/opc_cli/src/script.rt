@@ -11,9 +11,9 @@ use opc_io::sink::Sink;
 use opc_state::tables::Tables;
 use std::alloc::Global;
 
-/// Runs a script over a gate, and writes the transcript of its answers. The number is 0 where all is done, 1 where anything
-/// was refused, 2 where a line is bad, which is written, and nothing is run; and 3 where there was no memory, or the tables or
-/// the output failed.
+/// Runs a script over a gate, and writes the transcript of its answers. The number is 0 where all is done, 1 where
+/// anything was refused, 2 where a line is bad, which is written, and nothing is run; and 3 where there was no memory,
+/// or the tables or the output failed.
 pub fn run_script<T: Tables, K: Sink>(
     alloc: Global,
     gate: &mut Gate<T>,
@@ -21,7 +21,8 @@ pub fn run_script<T: Tables, K: Sink>(
     output: &mut K,
 ) -> u8
     ensures sure { T.is_sure gate.new → T.is_sure gate.old }
-    ensures ran { IsScript T.is_sure T.represents T.may_leave gate.old gate.new K.held K.has_failed script.now output.old output.new result }
+    ensures ran { IsScript T.is_sure T.represents T.may_leave gate.old gate.new K.held K.has_failed script.now
+        output.old output.new result }
 {
     number_of(run::run_script(gate, alloc, script, output))
 }

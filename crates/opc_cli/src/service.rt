@@ -13,8 +13,8 @@ use opc_state::tables::Tables;
 use std::net::OpenListener;
 use std::rt::Clock;
 
-/// Serves so many clients that come to a listener, one after another, and waits for each as long as it takes. The number is 0
-/// once all were served, and 3 where one could not be taken.
+/// Serves so many clients that come to a listener, one after another, and waits for each as long as it takes. The
+/// number is 0 once all were served, and 3 where one could not be taken.
 pub fn serve_on<H: AllocGlobal + Clock, L: OpenListener, T: Tables>(
     rt: &H,
     listener: &L,
@@ -25,7 +25,8 @@ pub fn serve_on<H: AllocGlobal + Clock, L: OpenListener, T: Tables>(
 where
     L::Stream: Connection,
     ensures sure { T.is_sure gate.new → T.is_sure gate.old }
-    ensures served { IsService T.is_sure T.represents T.may_leave gate.old gate.new L.Stream.limits L.Stream.remaining L.Stream.contents count result }
+    ensures served { IsService T.is_sure T.represents T.may_leave gate.old gate.new L.Stream.limits L.Stream.remaining
+        L.Stream.contents count result }
 {
     number_of(serving::serve_on(rt, listener, count, None, routes, gate))
 }

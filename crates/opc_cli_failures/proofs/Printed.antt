@@ -11,13 +11,15 @@ pub nothing_yet : (a : Option (List ℕ)) → Grows a a
 nothing_yet a = ([], appends-none a)
 
 -- a fault's line, as it is put together
-pub put_together : (fault : Fault) (before code line : List ℕ) → line ≡ before ++ (code ++ 32 ∷ (fault_text fault ++ 10 ∷ [])) → before ≡ [] → code ≡ fault_code fault → line ≡ fault_line fault
+pub put_together : (fault : Fault) (before code line : List ℕ) → line ≡ before
+    ++ (code ++ 32 ∷ (fault_text fault ++ 10 ∷ [])) → before ≡ [] → code ≡ fault_code fault → line ≡ fault_line fault
 put_together fault before code line put empty is =
     put
     ∙ ap₂ (λ b c. b ++ (c ++ 32 ∷ (fault_text fault ++ 10 ∷ []))) empty is
     ∙ sym (append_assoc (fault_code fault ++ 32 ∷ []) (fault_text fault) (10 ∷ []) ∙ append_assoc (fault_code fault) (32 ∷ []) (fault_text fault ++ 10 ∷ []))
 
-pub line_told : {A E : Type 0} (result : Result A E) (a c : Option (List ℕ)) (fault : Fault) (bytes : List ℕ) → bytes ≡ fault_line fault → OnOk result (Appends a c bytes) → OnOk result (IsLineOf fault a c)
+pub line_told : {A E : Type 0} (result : Result A E) (a c : Option (List ℕ)) (fault : Fault) (bytes : List ℕ)
+    → bytes ≡ fault_line fault → OnOk result (Appends a c bytes) → OnOk result (IsLineOf fault a c)
 line_told (Ok v) a c fault bytes is k = record { line = fault_line fault; is = inl refl; text = subst (Appends a c) is k }
 line_told (Err e) a c fault bytes is k = tt
 
@@ -38,7 +40,8 @@ module _ {A E : Type 0} (result : Result A E) (a b c : Option (List ℕ)) where
       go (Err e) k = tt
 
   -- a code, and then a line feed
-  pub code_told : (fault : Fault) (code feed : List ℕ) → code ≡ fault_code fault → feed ≡ 10 ∷ [] → Appends a b code → OnOk result (Appends b c feed) → OnOk result (IsLineOf fault a c)
+  pub code_told : (fault : Fault) (code feed : List ℕ) → code ≡ fault_code fault → feed ≡ 10 ∷ [] → Appends a b code
+      → OnOk result (Appends b c feed) → OnOk result (IsLineOf fault a c)
   code_told fault code feed is feed_is h k = go result k
     where
       go : (r : Result A E) → OnOk r (Appends b c feed) → OnOk r (IsLineOf fault a c)
@@ -58,11 +61,13 @@ module _ {A E : Type 0} (result : Result A E) (a b c : Option (List ℕ)) where
       go (Err e) more = tt
 
 -- nothing failed, so it was printed
-pub not_failed : {A E P : Type 0} (result : Result A E) (before after : Bool) → after ≡ (if is_err result then true else before) → OnOk result P → after ≡ false → P
+pub not_failed : {A E P : Type 0} (result : Result A E) (before after : Bool)
+    → after ≡ (if is_err result then true else before) → OnOk result P → after ≡ false → P
 not_failed (Ok a) before after is h fine = h
 not_failed (Err e) before after is h fine = absurd (cc)
 
 -- and nothing had failed before
-pub had_not_failed : {A E : Type 0} (result : Result A E) (before after : Bool) → after ≡ (if is_err result then true else before) → after ≡ false → before ≡ false
+pub had_not_failed : {A E : Type 0} (result : Result A E) (before after : Bool)
+    → after ≡ (if is_err result then true else before) → after ≡ false → before ≡ false
 had_not_failed (Ok a) before after h fine = sym h ∙ fine
 had_not_failed (Err e) before after h fine = absurd (cc)

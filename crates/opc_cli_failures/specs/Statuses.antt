@@ -20,8 +20,8 @@ number_of Refused = 1
 number_of BadInput = 2
 number_of Failed = 3
 
--- The status that a fault ends the program with: bad input, a failure where there was no memory or the store or a device
--- failed, or else a refusal.
+-- The status that a fault ends the program with: bad input, a failure where there was no memory or the store or a
+-- device failed, or else a refusal.
 abbrev pub status_of : Fault → Status
 status_of (RowFault row why) = BadInput
 status_of NoMemory = Failed
@@ -45,7 +45,8 @@ IsFailure fault = (fault ≡ NoMemory) ⊎ (fault ≡ Store)
 
 -- What a read or a write that failed there with this error is told as.
 abbrev pub IsErrorAt : Place → Error → Failure → Type 0
-IsErrorAt at error failure = (failure.fault ≡ fault_of_kind (error_kind error)) × (failure.cause ≡ Some (at, System error))
+IsErrorAt at error failure = (failure.fault ≡ fault_of_kind (error_kind error))
+    × (failure.cause ≡ Some (at, System error))
 
 -- There was no memory, or the input failed.
 abbrev pub IsInputFailure : Failure → Type 0

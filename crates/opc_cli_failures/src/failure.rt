@@ -91,11 +91,12 @@ impl Failure {
         }
     }
 
-    /// Prints the fault, as its code and its text, and then, in a line of its own, what failed and why. Answers the status.
-    /// Takes no memory, so that it can print where there is none; then the first line alone is printed.
+    /// Prints the fault, as its code and its text, and then, in a line of its own, what failed and why. Answers the
+    /// status. Takes no memory, so that it can print where there is none; then the first line alone is printed.
     pub fn report<K: Sink>(&self, paths: &Paths<'_>, errors: &mut K) -> Status
         ensures status { result ≡ status_of self.now.fault }
-        ensures reported { K.has_failed errors.new ≡ false → IsReported self.now.fault (K.held errors.old) (K.held errors.new) }
+        ensures reported { K.has_failed errors.new ≡ false
+            → IsReported self.now.fault (K.held errors.old) (K.held errors.new) }
         ensures kept { K.has_failed errors.new ≡ false → K.has_failed errors.old ≡ false }
     {
         // The status tells the fault too, where no word can be printed.
@@ -107,7 +108,8 @@ impl Failure {
 /// The status of what was to be done; where it failed, that is told.
 pub fn reported<K: Sink>(end: Result<Status, Failure>, paths: &Paths<'_>, errors: &mut K) -> Status
     ensures status { result ≡ status_of_end end }
-    ensures reported { IfErr end (λ failure. K.has_failed errors.new ≡ false → IsReported failure.fault (K.held errors.old) (K.held errors.new)) }
+    ensures reported { IfErr end (λ failure. K.has_failed errors.new ≡ false
+        → IsReported failure.fault (K.held errors.old) (K.held errors.new)) }
     ensures silent { OnOk end (errors.new ≡ errors.old) }
     ensures kept { K.has_failed errors.new ≡ false → K.has_failed errors.old ≡ false }
 {

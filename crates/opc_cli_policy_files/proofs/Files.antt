@@ -37,7 +37,8 @@ refused : (left : Option (List ℕ)) (bytes : List ℕ) (fault : Fault) → AreF
 refused None bytes fault are bad = record { bytes = bytes; whole = tt; no_file = bad }
 refused (Some all) bytes fault are bad = record { bytes = all; whole = refl; no_file = no_file bytes all are fault bad }
 
-pub unread : (left : Option (List ℕ)) (bytes : List ℕ) (fault : Fault) → AreFirst left bytes → IsFailure fault ⊎ IsNoPolicyFile bytes fault → IsUnread left fault
+pub unread : (left : Option (List ℕ)) (bytes : List ℕ) (fault : Fault) → AreFirst left bytes → IsFailure fault
+    ⊎ IsNoPolicyFile bytes fault → IsUnread left fault
 unread left bytes fault are (inl failed) = inl failed
 unread left bytes fault are (inr bad) = inr (refused left bytes fault are bad)
 

@@ -5,7 +5,8 @@ use Rattle.std.specs.Io.KnownBytes.{Consumes, IsAtEnd, Keeps, ReadConsumes}
 use Rattle.std.proofs.lemmas.List.{append-nil, take_all, take_at}
 
 -- a read after others that gave nothing
-pub after_kept : {E : Type 0} (a b c : Option (List ℕ)) (result : Result ℕ E) (buf : List ℕ) → Keeps a b → ReadConsumes b c result buf → ReadConsumes a c result buf
+pub after_kept : {E : Type 0} (a b c : Option (List ℕ)) (result : Result ℕ E) (buf : List ℕ) → Keeps a b
+    → ReadConsumes b c result buf → ReadConsumes a c result buf
 after_kept None b c (Ok n) buf kept read = (tt, read.1)
 after_kept None b c (Err e) buf kept read = tt
 after_kept (Some xs) None c result buf kept read = absurd kept
@@ -22,7 +23,8 @@ kept_at_first None = tt
 kept_at_first (Some xs) = refl
 
 -- all that there was, where there were no more than so many
-pub whole_read : (most : ℕ) (a b : Option (List ℕ)) (bytes : List ℕ) → Consumes a b bytes → IsAtEnd b → length bytes ≤ most → IfSome a (λ all. bytes ≡ take most all)
+pub whole_read : (most : ℕ) (a b : Option (List ℕ)) (bytes : List ℕ) → Consumes a b bytes → IsAtEnd b
+    → length bytes ≤ most → IfSome a (λ all. bytes ≡ take most all)
 whole_read most None b bytes read end fits = tt
 whole_read most (Some all) None bytes read end fits = absurd read
 whole_read most (Some all) (Some rest) bytes read end fits =

@@ -19,7 +19,13 @@ use Rattle.opc_cli_policy_files.specs.PolicyFiles.{AreRead, IsUnread}
 
 -- the policy that rows make, one after another, of one with nothing in it
 abbrev pub policy_made : List Row → Result Policy Fault
-policy_made rows = policy_after rows (record { users = []; groups = []; connects = []; profiles = []; active = record { console = false; opercmds = false } })
+policy_made rows = policy_after rows (record {
+  users = [];
+  groups = [];
+  connects = [];
+  profiles = [];
+  active = record { console = false; opercmds = false };
+})
 
 abbrev pub answer_by : Question → Result Policy Fault → Result Explained Fault
 answer_by q (Ok policy) = explanation policy q.class q.resource q.user q.console q.level
@@ -38,7 +44,8 @@ module _ {W : Type 0} (contents : W → Option (List ℕ)) (before written : W) 
   -- returned. Or there was no memory, or the output failed.
   abbrev pub IsAnswer : Result Explained Fault → Result Status Failure → Type 0
   IsAnswer answer (Ok status) =
-      (explained : Explained) × (answer ≡ Ok explained) × (status ≡ status_of_verdict explained.verdict) × Appends (contents before) (contents written) (explained_text explained)
+      (explained : Explained) × (answer ≡ Ok explained) × (status ≡ status_of_verdict explained.verdict)
+      × Appends (contents before) (contents written) (explained_text explained)
   IsAnswer answer (Err failure) = IsFailure failure.fault ⊎ ((answer ≡ Err failure.fault) × (written ≡ before))
 
   -- No rows were read and nothing was written, or the rows that the input had answer the question.
@@ -48,8 +55,11 @@ module _ {W : Type 0} (contents : W → Option (List ℕ)) (before written : W) 
       ⊎ ((rows : List Row) × AreRead left rows × IsAnswer (answer_of question rows) end)
 
 -- The question was answered, and the status returned; a fault is printed, unless a write of it failed.
-pub record IsReportedAnswer {W K : Type 0} (contents : W → Option (List ℕ)) (held : K → Option (List ℕ)) (has_failed : K → Bool) (before written : W) (quiet reported : K) (left : Option (List ℕ)) (question : Question) (status : Status) : Type 0 where
+pub record IsReportedAnswer {W K : Type 0} (contents : W → Option (List ℕ)) (held : K → Option (List ℕ))
+    (has_failed : K → Bool) (before written : W) (quiet reported : K) (left : Option (List ℕ)) (question : Question)
+    (status : Status) : Type 0 where
   pub end : Result Status Failure
   pub answered : IsAnswered contents before written left question end
   pub status_is : status ≡ status_of_end end
-  pub printed : IfErr end (λ failure. has_failed reported ≡ false → IsReported failure.fault (held quiet) (held reported))
+  pub printed : IfErr end (λ failure. has_failed reported ≡ false
+      → IsReported failure.fault (held quiet) (held reported))

@@ -4,7 +4,13 @@ ghost use Rattle.std.specs.Io.KnownBytes.{Appends};
 ghost use Rattle.opc_policy.specs.Explained.{explained_text};
 ghost use Rattle.opc_terms.specs.declared.fault.Fault.TheVariants.{NoMemory};
 ghost use Rattle.opc_cli_failures.specs.Statuses.{IsFailure};
-ghost use Rattle.opc_cli_policy_files.specs.Questions.{IsAnswered, IsReportedAnswer, answer_of, policy_made, status_of_verdict};
+ghost use Rattle.opc_cli_policy_files.specs.Questions.{
+  IsAnswered,
+  IsReportedAnswer,
+  answer_of,
+  policy_made,
+  status_of_verdict,
+};
 
 use crate::policy_file::read_rows;
 use opc_cli_failures::failure::{Failure, NO_PATHS, Place, reported};
@@ -27,7 +33,8 @@ pub fn answer_question<R: Read, W: Write, K: Sink>(
     output: &mut W,
     errors: &mut K,
 ) -> Status
-    ensures { IsReportedAnswer W.contents K.held K.has_failed output.old output.new errors.old errors.new (R.remaining input.old) question.now result }
+    ensures { IsReportedAnswer W.contents K.held K.has_failed output.old output.new errors.old errors.new
+        (R.remaining input.old) question.now result }
 {
     reported(answer(alloc, question, input, output), &NO_PATHS, errors)
 }
@@ -74,7 +81,8 @@ fn policy_made(alloc: Global, rows: &[Row]) -> Result<Policy, Fault>
 }
 
 fn print<W: Write>(alloc: Global, explained: &Explained, output: &mut W) -> Result<Status, Failure>
-    ensures text { IfOk result (λ _. Appends (W.contents output.old) (W.contents output.new) (explained_text explained.now)) }
+    ensures text { IfOk result (λ _. Appends (W.contents output.old) (W.contents output.new)
+        (explained_text explained.now)) }
     ensures status { IfOk result (λ status. status ≡ status_of_verdict explained.now.verdict) }
     ensures fault { IfErr result (λ failure. IsFailure failure.fault) }
 {

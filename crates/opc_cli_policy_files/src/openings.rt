@@ -14,7 +14,8 @@ pub trait Openings {
 
     /// Opens the file at a path.
     fn open_to_read(&self, path: &str) -> io::Result<Self::File>
-        ensures { IfOk result (λ file. IfSome (holds self.now path.now) (λ bytes. Self.File.remaining file ≡ Some bytes)) };
+        ensures { IfOk result (λ file. IfSome (holds self.now path.now)
+            (λ bytes. Self.File.remaining file ≡ Some bytes)) };
 }
 
 // Of what the files of a system hold nothing is known.

@@ -31,7 +31,8 @@ fn read_once<R: Read>(input: &mut R, buf: &mut [u8]) -> io::Result<usize>
 /// Reads a block at most, so that `bytes` grow to `most` at most; 0 means the end, or that there are so many.
 fn read_block<R: Read>(input: &mut R, bytes: &mut Vec<u8>, most: usize) -> io::Result<usize>
     requires { vec_len bytes.old ≤ most }
-    ensures more { IfOk result (λ n. ReadsMore (R.remaining input.old) (R.remaining input.new) bytes.old.items bytes.new.items most n) }
+    ensures more { IfOk result (λ n. ReadsMore (R.remaining input.old) (R.remaining input.new) bytes.old.items
+        bytes.new.items most n) }
     ensures most { TakesAtMost (most - vec_len bytes.old) (R.remaining input.old) (R.remaining input.new) }
 {
     let mut block = [0u8; BLOCK];

@@ -36,14 +36,18 @@ module _ {X : Type 0} (f : X → List ℕ) where
       ∙ flat_map-append (take i xs) (get_or xs i d ∷ drop (i + 1) xs)
 
   -- those before one of them, and a prefix of that one's
-  pub cut_in_one : (a b c : Option (List ℕ)) (xs : List X) (i : ℕ) (d : X) → i < length xs → Appends a b (flat_map f (take i xs)) → AppendsPrefix b c (f (get_or xs i d)) → AppendsPrefix a c (flat_map f xs)
+  pub cut_in_one : (a b c : Option (List ℕ)) (xs : List X) (i : ℕ) (d : X) → i < length xs
+      → Appends a b (flat_map f (take i xs)) → AppendsPrefix b c (f (get_or xs i d)) → AppendsPrefix a c (flat_map f xs)
   cut_in_one a b c xs i d h before k =
       let rest = flat_map f (drop (i + 1) xs) in
       subst (AppendsPrefix a c) (sym (parts xs i d h))
       (cut_in_second a b c (flat_map f (take i xs)) (f (get_or xs i d) ++ rest) before (cut_in_first b c (f (get_or xs i d)) rest k))
 
   -- those before one of them, and that one's
-  pub one_more : (a b c : Option (List ℕ)) (xs : List X) (i : ℕ) (d : X) → i < length xs → Appends a b (flat_map f (take i xs)) → Appends b c (f (get_or xs i d)) → Appends a c (flat_map f (take (i + 1) xs))
+  pub one_more : (a b c : Option (List ℕ)) (xs : List X) (i : ℕ) (d : X) → i < length xs
+      → Appends a b (flat_map f (take i xs)) → Appends b c (f (get_or xs i d))
+      → Appends a c (flat_map f (take (i + 1) xs))
   one_more a b c xs i d h before k =
-      subst (Appends a c) (sym (ap (flat_map f) (take_more xs i d h) ∙ flat_map-append (take i xs) (get_or xs i d ∷ []) ∙ ap (λ t. flat_map f (take i xs) ++ t) (append-nil (f (get_or xs i d)))))
+      subst (Appends a c) (sym (ap (flat_map f) (take_more xs i d h) ∙ flat_map-append (take i xs) (get_or xs i d ∷ [])
+      ∙ ap (λ t. flat_map f (take i xs) ++ t) (append-nil (f (get_or xs i d)))))
       (Appends-trans a b c (flat_map f (take i xs)) (f (get_or xs i d)) before k)

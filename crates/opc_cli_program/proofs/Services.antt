@@ -13,15 +13,17 @@ use Rattle.opc_cli_program.specs.Listening.{Listens, SaysWhere}
 use Rattle.opc_cli_program.specs.Services.{IsServiceAfter}
 use Rattle.opc_cli_program.proofs.Uncached.{run}
 
-pub says_where : {P L : Type 0} (binds : P → SocketAddr → L → Type 0) (is_at : P → L → SocketAddr → Type 0) (ports : P) (asked : ℕ) (before after : Option (List ℕ))
+pub says_where : {P L : Type 0} (binds : P → SocketAddr → L → Type 0) (is_at : P → L → SocketAddr → Type 0) (ports : P)
+    (asked : ℕ) (before after : Option (List ℕ))
     → Listens binds is_at ports asked before after → SaysWhere before after
 says_where binds is_at ports asked before after reported = (reported.1.port, reported.1.reported)
 
--- `tables` are those below the cache. What both represent in the end the tables represent, and what the tables represent
--- at first both do.
+-- `tables` are those below the cache. What both represent in the end the tables represent, and what the tables
+-- represent at first both do.
 module _ {T C : Type 0} (tables : C → T) (is_sure : T → Type 0) (represents may_leave : T → State → Type 0) (kept : C → State → Type 0)
     (below : (c : C) (s : State) → kept c s → represents (tables c) s) (old new : C) (above : (s : State) → represents (tables old) s → kept old s) where
-  requests : (handled : Handled) → IsRunOf (λ c. is_sure (tables c)) kept (λ c s. may_leave (tables c) s) old new handled → IsRunOf is_sure represents may_leave (tables old) (tables new) handled
+  requests : (handled : Handled) → IsRunOf (λ c. is_sure (tables c)) kept (λ c s. may_leave (tables c) s) old new
+      handled → IsRunOf is_sure represents may_leave (tables old) (tables new) handled
   requests handled were = record {
     moments = were.moments;
     run = λ is s h. run tables is_sure represents may_leave kept below old new above s handled.requests handled.answers (were.run is s (above s h));
@@ -42,9 +44,11 @@ module _ {T C : Type 0} (tables : C → T) (is_sure : T → Type 0) (represents 
         inr (says reported, record { served = are.served; handled = clients serve.timeout serve.count are.served are.handled; ends = are.ends })
 
     -- the same over tables that are these
-    pub handed_back : (first last : T) → tables old ≡ first → last ≡ tables new → (serve : Serve) (end : Result Status Failure) (said wanted : Type 0) → (said → wanted)
+    pub handed_back : (first last : T) → tables old ≡ first → last ≡ tables new
+        → (serve : Serve) (end : Result Status Failure) (said wanted : Type 0) → (said → wanted)
         → IsServiceAfter (λ c. is_sure (tables c)) kept (λ c s. may_leave (tables c) s) limits remaining contents old new serve end said
         → IsServiceAfter is_sure represents may_leave limits remaining contents first last serve end wanted
     handed_back first last is was serve end said wanted says service =
         subst (λ (t : T). IsServiceAfter is_sure represents may_leave limits remaining contents t last serve end wanted) is
-        (subst (λ (t : T). IsServiceAfter is_sure represents may_leave limits remaining contents (tables old) t serve end wanted) (sym was) (uncached serve end said wanted says service))
+        (subst (λ (t : T). IsServiceAfter is_sure represents may_leave limits remaining contents (tables old) t serve
+        end wanted) (sym was) (uncached serve end said wanted says service))

@@ -11,8 +11,8 @@ use Rattle.opc_cli_script.specs.Running.{IsAnswered, IsCut, IsNotBegun, IsScript
 use Rattle.opc_cli_script.specs.Scripts.{bad_line, requests_in}
 use Rattle.opc_cli_program.specs.Runs.{IsAnsweredInput, IsInputRun, IsNothingRun, IsRunOfBytes}
 
--- `tables` are those below the cache. What both represent in the end the tables represent, and what the tables represent
--- at first both do.
+-- `tables` are those below the cache. What both represent in the end the tables represent, and what the tables
+-- represent at first both do.
 module _ {T C : Type 0} (tables : C → T) (is_sure : T → Type 0) (represents may_leave : T → State → Type 0) (kept : C → State → Type 0)
     (below : (c : C) (s : State) → kept c s → represents (tables c) s) (old new : C) (above : (s : State) → represents (tables old) s → kept old s) where
   abbrev pub sure : C → Type 0
@@ -21,7 +21,8 @@ module _ {T C : Type 0} (tables : C → T) (is_sure : T → Type 0) (represents 
   abbrev pub leaves : C → State → Type 0
   leaves c s = may_leave (tables c) s
 
-  pub run : (s : State) (rs : List (ℕ × Request)) (answers : List Answer) → IsRun kept leaves old new s rs answers → IsRun represents may_leave (tables old) (tables new) s rs answers
+  pub run : (s : State) (rs : List (ℕ × Request)) (answers : List Answer) → IsRun kept leaves old new s rs answers
+      → IsRun represents may_leave (tables old) (tables new) s rs answers
   run s rs answers r = record { last = r.last; runs = r.runs; represented = below new r.last r.represented; crash = r.crash; acknowledged = r.acknowledged }
 
   whole : (rs : List (ℕ × Request)) (before written : Option (List ℕ)) (status : Status) → IsWhole sure kept leaves old new rs before written status
@@ -54,7 +55,8 @@ module _ {T C : Type 0} (tables : C → T) (is_sure : T → Type 0) (represents 
       → IsNotBegun is_sure represents may_leave (tables old) (tables new) before written fault
   not_begun before written fault w = record { no_memory = w.no_memory; same = ap tables w.same; nothing = w.nothing }
 
-  script : (rs : List (ℕ × Request)) (before written : Option (List ℕ)) (ran : Result Status ScriptFault) → IsScriptRun sure kept leaves old new rs before written ran
+  script : (rs : List (ℕ × Request)) (before written : Option (List ℕ)) (ran : Result Status ScriptFault)
+      → IsScriptRun sure kept leaves old new rs before written ran
       → IsScriptRun is_sure represents may_leave (tables old) (tables new) rs before written ran
   script rs before written (Ok status) w = whole rs before written status w
   script rs before written (Err fault) (inl w) = inl (not_begun before written fault w)
@@ -77,10 +79,12 @@ module _ {T C : Type 0} (tables : C → T) (is_sure : T → Type 0) (represents 
   bytes text before written ran = map_either (λ w. (w.0, answered text before written ran w.1)) (λ w. (w.0, ap tables w.1, w.2))
 
   module _ {K : Type 0} (held : K → Option (List ℕ)) (has_failed : K → Bool) (left : Option (List ℕ)) (before written : K) (end : Result Status Failure) where
-    nothing : IsNothingRun sure kept leaves held has_failed old new before written end → IsNothingRun is_sure represents may_leave held has_failed (tables old) (tables new) before written end
+    nothing : IsNothingRun sure kept leaves held has_failed old new before written end
+        → IsNothingRun is_sure represents may_leave held has_failed (tables old) (tables new) before written end
     nothing w = record { unread = w.unread; same = ap tables w.same; silent = w.silent }
 
-    input : IsInputRun sure kept leaves held has_failed old new left before written end → IsInputRun is_sure represents may_leave held has_failed (tables old) (tables new) left before written end
+    input : IsInputRun sure kept leaves held has_failed old new left before written end
+        → IsInputRun is_sure represents may_leave held has_failed (tables old) (tables new) left before written end
     input w = record {
       script = w.script;
       are = w.are;

@@ -1,5 +1,28 @@
 -- What `import` does with a policy file on its input, and what `export` writes.
-use Rattle.std.specs.Prelude.{◌≡◌, ◌≢◌, ◌⊎◌, ℕ, Bool, true, List, Option, Some, None, Result, Ok, Err, IfErr, IfOk, IsErr, IsErrAnd, MatchResult, OnErr, OnOk, if◌then◌else◌, is_err}
+use Rattle.std.specs.Prelude.{
+  ◌≡◌,
+  ◌≢◌,
+  ◌⊎◌,
+  ℕ,
+  Bool,
+  true,
+  List,
+  Option,
+  Some,
+  None,
+  Result,
+  Ok,
+  Err,
+  IfErr,
+  IfOk,
+  IsErr,
+  IsErrAnd,
+  MatchResult,
+  OnErr,
+  OnOk,
+  if◌then◌else◌,
+  is_err,
+}
 use Rattle.std.specs.Io.KnownBytes.{Appends}
 use Rattle.std.specs.List.{flat_map}
 use Rattle.opc_terms.specs.declared.fault.Fault.TheVariants.{NoMemory, Store}
@@ -33,28 +56,34 @@ IsEnded end = MatchResult end (λ status. status ≡ Done) (λ failure. IsFailur
 
 -- A text was written, and where that failed a prefix of it.
 abbrev pub IsWritten : List ℕ → (before written : Option (List ℕ)) → Result Status Failure → Type 0
-IsWritten text before written end = MatchResult end (λ _. Appends before written text) (λ _. AppendsPrefix before written text)
+IsWritten text before written end = MatchResult end (λ _. Appends before written text)
+    (λ _. AppendsPrefix before written text)
 
 -- It failed exactly where a write did.
 abbrev pub FailsAsWritten : {K : Type 0} → (K → Bool) → (before written : K) → Result Status Failure → Type 0
 FailsAsWritten has_failed before written end = has_failed written ≡ (if is_err end then true else has_failed before)
 
 -- An answer is told: what is done by its lines, and what is refused by its fault, of which nothing is printed.
-abbrev pub IsReported : {K : Type 0} → (K → Option (List ℕ)) → (K → Bool) → Answer → (before written : K) → Result Status Failure → Type 0
+abbrev pub IsReported : {K : Type 0} → (K → Option (List ℕ)) → (K → Bool) → Answer → (before written : K)
+    → Result Status Failure → Type 0
 IsReported held has_failed (answer.Done lines rule) before written end =
-    IsEnded end × IsWritten (lines_text lines) (held before) (held written) end × FailsAsWritten has_failed before written end
-IsReported held has_failed (answer.Refused fault rule) before written end = IsErrAnd end (λ failure. failure.fault ≡ fault) × (written ≡ before)
+    IsEnded end × IsWritten (lines_text lines) (held before) (held written) end
+    × FailsAsWritten has_failed before written end
+IsReported held has_failed (answer.Refused fault rule) before written end =
+    IsErrAnd end (λ failure. failure.fault ≡ fault) × (written ≡ before)
 
 -- the text of the policy file of a state
 abbrev pub exported : State → List ℕ
 exported s = policy_text (rows_of s.policy s.board.consoles)
 
-module _ {T : Type 0} (is_sure : T → Type 0) (represents may_leave : T → State → Type 0) (old new : T) (end : Result Status Failure) where
-  -- What becomes of a first policy over a state, and what a crash may leave: the state with it, in whole, or what it might
-  -- have left before.
+module _ {T : Type 0} (is_sure : T → Type 0) (represents may_leave : T → State → Type 0) (old new : T)
+    (end : Result Status Failure) where
+  -- What becomes of a first policy over a state, and what a crash may leave: the state with it, in whole, or what it
+  -- might have left before.
   pub record IsTakenOver (s : State) (rows : List Row) : Type 0 where
     pub done : OnOk end (IsBootstrap represents may_leave new s rows)
-    pub refused : IfErr end (λ failure. failure.fault ≢ NoMemory → failure.fault ≢ Store → bootstrapped rows s ≡ Err failure.fault)
+    pub refused : IfErr end (λ failure. failure.fault ≢ NoMemory → failure.fault ≢ Store
+        → bootstrapped rows s ≡ Err failure.fault)
     pub unchanged : OnErr end (represents new s)
     pub crash : (left : State) → may_leave new left → may_leave old left ⊎ (bootstrapped rows s ≡ Ok left)
     pub idle : HaveNothingNew rows s → LeavesAsBefore may_leave old new
@@ -66,7 +95,8 @@ module _ {T : Type 0} (is_sure : T → Type 0) (represents may_leave : T → Sta
 
   -- What a reader had left was taken as a first policy, or not. It may be that no rows were read, and nothing was done.
   abbrev pub IsPolicyTaken : Option (List ℕ) → Type 0
-  IsPolicyTaken left = (IsErrAnd end (λ failure. IsUnread left failure.fault) × (new ≡ old)) ⊎ ((rows : List Row) × AreRead left rows × IsFirstPolicy rows)
+  IsPolicyTaken left = (IsErrAnd end (λ failure. IsUnread left failure.fault) × (new ≡ old))
+      ⊎ ((rows : List Row) × AreRead left rows × IsFirstPolicy rows)
 
   module _ {K : Type 0} (held : K → Option (List ℕ)) (has_failed : K → Bool) (before written : K) where
     -- Nothing was handled: there was no memory, the input failed, or it is no policy file.
@@ -78,7 +108,8 @@ module _ {T : Type 0} (is_sure : T → Type 0) (represents may_leave : T → Sta
     -- One request was handled, in one step of the access machine, and its answer told.
     pub record IsOneStep (moment : ℕ) (r : Input) : Type 0 where
       pub answer : Answer
-      pub handled : is_sure new → (s : State) → represents old s → IsHandled represents may_leave old new s moment r answer
+      pub handled : is_sure new → (s : State) → represents old s
+          → IsHandled represents may_leave old new s moment r answer
       pub reported : IsReported held has_failed answer before written end
 
     -- The rows are a batch with this number at the console that is named; where none is, they are a first policy, and
@@ -89,9 +120,11 @@ module _ {T : Type 0} (is_sure : T → Type 0) (represents may_leave : T → Sta
 
     -- Nothing was handled, or the rows of the policy file that the input had left were taken.
     abbrev pub IsImport : Option (List ℕ) → ℕ → Import → Type 0
-    IsImport left moment import = IsNotBegun left ⊎ ((rows : List Row) × AreRead left rows × AreTaken moment import.batch import.console rows)
+    IsImport left moment import = IsNotBegun left
+        ⊎ ((rows : List Row) × AreRead left rows × AreTaken moment import.batch import.console rows)
 
-    -- Where the tables are sure, the policy file of their state was written. Where it is not begun, nothing was printed.
+    -- Where the tables are sure, the policy file of their state was written. Where it is not begun, nothing was
+    -- printed.
     pub record IsExport : Type 0 where
       pub ends : IsEnded end
       pub text : is_sure new → (s : State) → represents old s → IsWritten (exported s) (held before) (held written) end

@@ -17,7 +17,8 @@ listening_line port = codes "LISTENING 127.0.0.1:" ++ decimal port ++ codes "\n"
 abbrev pub SaysWhere : (before after : Option (List ℕ)) → Type 0
 SaysWhere before after = (port : ℕ) × Appends before after (listening_line port)
 
-module _ {P L : Type 0} (binds : P → SocketAddr → L → Type 0) (is_at : P → L → SocketAddr → Type 0) (ports : P) (asked : ℕ) (listener : L) where
+module _ {P L : Type 0} (binds : P → SocketAddr → L → Type 0) (is_at : P → L → SocketAddr → Type 0) (ports : P)
+    (asked : ℕ) (listener : L) where
   -- The listener was bound to the port of 127.0.0.1 that was asked for, and is at this port.
   pub record IsListening (port : ℕ) : Type 0 where
     pub address : SocketAddr
@@ -35,5 +36,6 @@ module _ {P L : Type 0} (binds : P → SocketAddr → L → Type 0) (is_at : P �
     pub reported : Appends before after (listening_line port)
 
 -- A listener was bound to the port that was asked for, and the output says at which it is.
-abbrev pub Listens : {P L : Type 0} → (P → SocketAddr → L → Type 0) → (P → L → SocketAddr → Type 0) → P → ℕ → (before after : Option (List ℕ)) → Type 0
+abbrev pub Listens : {P L : Type 0} → (P → SocketAddr → L → Type 0) → (P → L → SocketAddr → Type 0) → P → ℕ
+    → (before after : Option (List ℕ)) → Type 0
 Listens binds is_at ports asked before after = (listener : _) × IsReported binds is_at ports asked listener before after

@@ -1,5 +1,25 @@
 -- What the program does with a script on its input.
-use Rattle.std.specs.Prelude.{◌≡◌, ◌⊎◌, ◌+◌, ℕ, Bool, true, List, Option, Some, None, Result, Ok, Err, IfSome, IsErrAnd, IsUtf8, MatchResult, if◌then◌else◌, take}
+use Rattle.std.specs.Prelude.{
+  ◌≡◌,
+  ◌⊎◌,
+  ◌+◌,
+  ℕ,
+  Bool,
+  true,
+  List,
+  Option,
+  Some,
+  None,
+  Result,
+  Ok,
+  Err,
+  IfSome,
+  IsErrAnd,
+  IsUtf8,
+  MatchResult,
+  if◌then◌else◌,
+  take,
+}
 use Rattle.std.specs.Borrow.{Bor}
 use Rattle.opc_terms.specs.declared.fault.Fault.TheVariants as fault
 use Rattle.opc_state.specs.State.{State}
@@ -28,15 +48,19 @@ AreScriptBytes left bytes = IfSome left (λ all. bytes ≡ take (script_limit + 
 
 module _ {T : Type 0} (is_sure : T → Type 0) (represents may_leave : T → State → Type 0) where
   -- The bytes are run as a script where they are UTF-8. If they are not, that is told as a bad line with the number 0.
-  abbrev pub IsRunOfBytes : (old new : T) → (script : List ℕ) → (before written : Option (List ℕ)) → Result Status ScriptFault → Type 0
+  abbrev pub IsRunOfBytes : (old new : T) → (script : List ℕ) → (before written : Option (List ℕ))
+      → Result Status ScriptFault → Type 0
   IsRunOfBytes old new script before written ran =
-      (IsUtf8 script × IsAnswered is_sure represents may_leave old new script before written ran) ⊎ ((IsUtf8 script → ⊥) × (new ≡ old) × IsBadRun 0 before written ran)
+      (IsUtf8 script × IsAnswered is_sure represents may_leave old new script before written ran)
+      ⊎ ((IsUtf8 script → ⊥) × (new ≡ old) × IsBadRun 0 before written ran)
 
-  -- Where a file of a first policy is named, what that file holds was taken as one, or not. `holds` says what the file at
-  -- a path holds, where that is known.
-  abbrev pub IsNamedPolicyTaken : (holds : List ℕ → Option (List ℕ)) → (old new : T) → Option (Bor (List ℕ)) → Result Status Failure → Type 0
+  -- Where a file of a first policy is named, what that file holds was taken as one, or not. `holds` says what the file
+  -- at a path holds, where that is known.
+  abbrev pub IsNamedPolicyTaken : (holds : List ℕ → Option (List ℕ)) → (old new : T) → Option (Bor (List ℕ))
+      → Result Status Failure → Type 0
   IsNamedPolicyTaken holds old new None end = (end ≡ Ok Done) × (new ≡ old)
-  IsNamedPolicyTaken holds old new (Some path) end = IsPolicyTaken is_sure represents may_leave old new end (holds path.now)
+  IsNamedPolicyTaken holds old new (Some path) end =
+      IsPolicyTaken is_sure represents may_leave old new end (holds path.now)
 
   module _ {K : Type 0} (held : K → Option (List ℕ)) (has_failed : K → Bool) where
     -- Nothing was run and nothing printed.
@@ -46,7 +70,8 @@ module _ {T : Type 0} (is_sure : T → Type 0) (represents may_leave : T → Sta
       pub silent : written ≡ before
 
     -- The bytes that the input gave were run, and it ended as they did: cut by the output exactly where a write failed.
-    pub record IsInputRun (old new : T) (left : Option (List ℕ)) (before written : K) (end : Result Status Failure) : Type 0 where
+    pub record IsInputRun (old new : T) (left : Option (List ℕ)) (before written : K)
+        (end : Result Status Failure) : Type 0 where
       pub script : List ℕ
       pub are : AreScriptBytes left script
       pub ran : Result Status ScriptFault
@@ -55,14 +80,18 @@ module _ {T : Type 0} (is_sure : T → Type 0) (represents may_leave : T → Sta
       pub ends : IsEndOf ran end
 
     -- There was no memory or the input failed, and nothing was done, or what the input gave was run.
-    abbrev pub IsAnsweredInput : (old new : T) → (left : Option (List ℕ)) → (before written : K) → Result Status Failure → Type 0
-    IsAnsweredInput old new left before written end = IsNothingRun old new before written end ⊎ IsInputRun old new left before written end
+    abbrev pub IsAnsweredInput : (old new : T) → (left : Option (List ℕ)) → (before written : K) → Result Status Failure
+        → Type 0
+    IsAnsweredInput old new left before written end =
+        IsNothingRun old new before written end ⊎ IsInputRun old new left before written end
 
-    -- The first policy was taken, if one is named, and then the script run over the tables that it left. Where the policy
-    -- was not taken, that is the end, and nothing is printed.
-    pub record IsProgramRun (holds : List ℕ → Option (List ℕ)) (old new : T) (policy : Option (Bor (List ℕ))) (left : Option (List ℕ)) (before written : K) (end : Result Status Failure) : Type 0 where
+    -- The first policy was taken, if one is named, and then the script run over the tables that it left. Where the
+    -- policy was not taken, that is the end, and nothing is printed.
+    pub record IsProgramRun (holds : List ℕ → Option (List ℕ)) (old new : T) (policy : Option (Bor (List ℕ)))
+        (left : Option (List ℕ)) (before written : K) (end : Result Status Failure) : Type 0 where
       pub mid : T
       pub taken : Result Status Failure
       pub takes : IsNamedPolicyTaken holds old mid policy taken
       pub sure : is_sure new → is_sure mid
-      pub runs : MatchResult taken (λ _. IsAnsweredInput mid new left before written end) (λ failure. (end ≡ Err failure) × (new ≡ mid) × (written ≡ before))
+      pub runs : MatchResult taken (λ _. IsAnsweredInput mid new left before written end)
+          (λ failure. (end ≡ Err failure) × (new ≡ mid) × (written ≡ before))

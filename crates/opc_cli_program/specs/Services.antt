@@ -20,17 +20,19 @@ IsEndOfService (Err (Accept error)) end = IsErrAnd end (IsErrorAt place.Connecti
 IsEndOfService (Err (Clock error)) end = IsErrAnd end (IsErrorAt place.Clock error)
 
 module _ {T : Type 0} (is_sure : T → Type 0) (represents may_leave : T → State → Type 0)
-    {C : Type 0} (limits : C → Duration → Bool → Type 0) (remaining contents : C → Option (List ℕ)) (old new : T) (serve : Serve) (end : Result Status Failure) where
+    {C : Type 0} (limits : C → Duration → Bool → Type 0) (remaining contents : C → Option (List ℕ)) (old new : T)
+    (serve : Serve) (end : Result Status Failure) where
   -- It failed before its first client, and nothing was handled.
   pub record IsNotBegun : Type 0 where
     pub failed : status_of_end end ≡ Failed
     pub same : new ≡ old
 
-  -- As many clients as were asked for were served, with the timeout that was asked for; or fewer were, and then none could be
-  -- taken. The program ended so.
+  -- As many clients as were asked for were served, with the timeout that was asked for; or fewer were, and then none
+  -- could be taken. The program ended so.
   pub record AreClients : Type 0 where
     pub served : Result (Unit {0}) ServeFault
-    pub handled : AreHandled is_sure represents may_leave limits remaining contents serve.timeout old new serve.count served
+    pub handled : AreHandled is_sure represents may_leave limits remaining contents serve.timeout old new serve.count
+        served
     pub ends : IsEndOfService served end
 
   -- It failed before its first client, or this was said and then clients were served.

@@ -15,18 +15,29 @@ use Rattle.opc_cli_program.specs.Services.{IsService}
 use Rattle.opc_cli_program.specs.declared.work.Work.{Work}
 use Rattle.opc_cli_program.specs.declared.work.Work.TheVariants as work
 
-module _ {T : Type 0} (is_sure : T → Type 0) (represents may_leave : T → State → Type 0) {W : Type 0} (contents : W → Option (List ℕ)) (old new : T) (left : Option (List ℕ)) (before written : Watched W) (end : Result Status Failure) where
+module _ {T : Type 0} (is_sure : T → Type 0) (represents may_leave : T → State → Type 0) {W : Type 0}
+    (contents : W → Option (List ℕ)) (old new : T) (left : Option (List ℕ)) (before written : Watched W)
+    (end : Result Status Failure) where
   -- The clock failed and nothing was done, or the policy file was imported at a moment.
   abbrev pub IsImportNow : Import → Type 0
   IsImportNow import =
       (IsErrAnd end (λ failure. IsFailure failure.fault) × (new ≡ old) × (written ≡ before))
-      ⊎ ((moment : ℕ) × (moment ≤ LAST_MOMENT) × IsImport is_sure represents may_leave old new end (λ (w : Watched W). contents w.inner) (λ (w : Watched W). w.failed) before written left moment import)
+      ⊎ ((moment : ℕ) × (moment ≤ LAST_MOMENT)
+      × IsImport is_sure represents may_leave old new end (λ (w : Watched W). contents w.inner)
+      (λ (w : Watched W). w.failed) before written left moment import)
 
-  -- Each work does what is said of it alone. `limits`, `remaining` and `taken` say of a client's connection whether its waits
-  -- are limited, what it has left and what it took, where that is known; `holds` what the file at a path holds.
-  abbrev pub IsDone : {C : Type 0} → (limits : C → Duration → Bool → Type 0) → (remaining taken : C → Option (List ℕ)) → (holds : List ℕ → Option (List ℕ)) → Work → Type 0
-  IsDone limits remaining taken holds (work.Run policy) = IsProgramRun is_sure represents may_leave (λ (w : Watched W). contents w.inner) (λ (w : Watched W). w.failed) holds old new policy left before written end
+  -- Each work does what is said of it alone. `limits`, `remaining` and `taken` say of a client's connection whether its
+  -- waits are limited, what it has left and what it took, where that is known; `holds` what the file at a path holds.
+  abbrev pub IsDone : {C : Type 0} → (limits : C → Duration → Bool → Type 0) → (remaining taken : C → Option (List ℕ))
+      → (holds : List ℕ → Option (List ℕ)) → Work → Type 0
+  IsDone limits remaining taken holds (work.Run policy) =
+      IsProgramRun is_sure represents may_leave (λ (w : Watched W). contents w.inner) (λ (w : Watched W). w.failed)
+      holds old new policy left before written end
   IsDone limits remaining taken holds (work.Import import) = IsImportNow import
   IsDone limits remaining taken holds work.Export =
-      IsKept is_sure represents may_leave old new × IsExport is_sure represents may_leave old new end (λ (w : Watched W). contents w.inner) (λ (w : Watched W). w.failed) before written
-  IsDone limits remaining taken holds (work.Serve serve) = IsService is_sure represents may_leave limits remaining taken old new serve end (contents before.inner) (contents written.inner)
+      IsKept is_sure represents may_leave old new
+      × IsExport is_sure represents may_leave old new end (λ (w : Watched W). contents w.inner)
+      (λ (w : Watched W). w.failed) before written
+  IsDone limits remaining taken holds (work.Serve serve) =
+      IsService is_sure represents may_leave limits remaining taken old new serve end (contents before.inner)
+      (contents written.inner)

@@ -30,7 +30,8 @@ pub fn import_on<T: Tables, R: Read, K: Sink>(
     output: &mut K,
 ) -> (Result<Status, Failure>, T)
     ensures sure { T.is_sure result.1 → T.is_sure tables }
-    ensures imports { IsImport T.is_sure T.represents T.may_leave tables result.1 result.0 K.held K.has_failed output.old output.new (R.remaining input.old) moment import.now }
+    ensures imports { IsImport T.is_sure T.represents T.may_leave tables result.1 result.0 K.held K.has_failed
+        output.old output.new (R.remaining input.old) moment import.now }
 {
     let mut gate = Gate::over(tables);
     let end = import_over(alloc, &mut gate, moment, import, input, output);
@@ -46,7 +47,8 @@ fn import_over<T: Tables, R: Read, K: Sink>(
     output: &mut K,
 ) -> Result<Status, Failure>
     ensures sure { T.is_sure gate.new → T.is_sure gate.old }
-    ensures imports { IsImport T.is_sure T.represents T.may_leave gate.old gate.new result K.held K.has_failed output.old output.new (R.remaining input.old) moment import.now }
+    ensures imports { IsImport T.is_sure T.represents T.may_leave gate.old gate.new result K.held K.has_failed
+        output.old output.new (R.remaining input.old) moment import.now }
 {
     let rows = read_rows(alloc, Place::Input, input)?;
     let Some(console) = import.console else {
@@ -84,7 +86,8 @@ fn handle_alone<T: Tables, K: Sink>(
     output: &mut K,
 ) -> Result<Status, Failure>
     ensures sure { T.is_sure gate.new → T.is_sure gate.old }
-    ensures handles { IsOneStep T.is_sure T.represents T.may_leave gate.old gate.new result K.held K.has_failed output.old output.new moment (input_of request.now) }
+    ensures handles { IsOneStep T.is_sure T.represents T.may_leave gate.old gate.new result K.held K.has_failed
+        output.old output.new moment (input_of request.now) }
 {
     let answer = gate.handle(alloc, moment, request);
     print_answer(&answer, output)
@@ -105,7 +108,8 @@ pub fn export_on<T: Tables, K: Sink>(
 ) -> (Result<Status, Failure>, T)
     ensures sure { T.is_sure result.1 → T.is_sure tables }
     ensures kept { IsKept T.is_sure T.represents T.may_leave tables result.1 }
-    ensures exports { IsExport T.is_sure T.represents T.may_leave tables result.1 result.0 K.held K.has_failed output.old output.new }
+    ensures exports { IsExport T.is_sure T.represents T.may_leave tables result.1 result.0 K.held K.has_failed
+        output.old output.new }
 {
     let mut gate = Gate::over(tables);
     let end = export_over(alloc, &mut gate, output);
@@ -119,7 +123,8 @@ fn export_over<T: Tables, K: Sink>(
 ) -> Result<Status, Failure>
     ensures sure { T.is_sure gate.new → T.is_sure gate.old }
     ensures kept { IsKept T.is_sure T.represents T.may_leave gate.old gate.new }
-    ensures exports { IsExport T.is_sure T.represents T.may_leave gate.old gate.new result K.held K.has_failed output.old output.new }
+    ensures exports { IsExport T.is_sure T.represents T.may_leave gate.old gate.new result K.held K.has_failed
+        output.old output.new }
 {
     let rows = gate.export(alloc).map_err(Failure::of_gate)?;
     let Ok(text) = write_policy(alloc, rows.as_slice()) else {

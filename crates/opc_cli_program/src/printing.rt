@@ -15,7 +15,8 @@ use std::io;
 
 /// Writes a text and a line feed.
 fn write_line<K: Sink>(output: &mut K, text: &str) -> io::Result<()>
-    ensures text { MatchResult result (λ _. Appends (K.held output.old) (K.held output.new) (ended text.now)) (λ _. AppendsPrefix (K.held output.old) (K.held output.new) (ended text.now)) }
+    ensures text { MatchResult result (λ _. Appends (K.held output.old) (K.held output.new) (ended text.now))
+        (λ _. AppendsPrefix (K.held output.old) (K.held output.new) (ended text.now)) }
     ensures failed { K.has_failed output.new ≡ (if is_err result then true else K.has_failed output.old) }
 {
     write_text(output, text)?;
@@ -24,7 +25,8 @@ fn write_line<K: Sink>(output: &mut K, text: &str) -> io::Result<()>
 
 /// Writes the lines of an answer, and takes no memory: what was done is told where there is none.
 fn write_lines<K: Sink>(output: &mut K, lines: &[Line]) -> io::Result<()>
-    ensures text { MatchResult result (λ _. Appends (K.held output.old) (K.held output.new) (lines_text lines.now)) (λ _. AppendsPrefix (K.held output.old) (K.held output.new) (lines_text lines.now)) }
+    ensures text { MatchResult result (λ _. Appends (K.held output.old) (K.held output.new) (lines_text lines.now))
+        (λ _. AppendsPrefix (K.held output.old) (K.held output.new) (lines_text lines.now)) }
     ensures failed { K.has_failed output.new ≡ (if is_err result then true else K.has_failed output.old) }
 {
     for line in lines {

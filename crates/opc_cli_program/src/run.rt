@@ -20,7 +20,8 @@ use std::alloc::Global;
 use std::io::Read;
 use std::str;
 
-/// Takes the first policy, if one is named, and then runs the script on the input over these tables, which it hands back.
+/// Takes the first policy, if one is named, and then runs the script on the input over these tables, which it hands
+/// back.
 pub fn run_on<H: AllocGlobal + Openings, T: Tables, R: Read, K: Sink>(
     rt: &H,
     tables: T,
@@ -29,7 +30,8 @@ pub fn run_on<H: AllocGlobal + Openings, T: Tables, R: Read, K: Sink>(
     output: &mut K,
 ) -> (Result<Status, Failure>, T)
     ensures sure { T.is_sure result.1 → T.is_sure tables }
-    ensures runs { IsProgramRun T.is_sure T.represents T.may_leave K.held K.has_failed (H.holds rt.now) tables result.1 policy.entry (R.remaining input.old) output.old output.new result.0 }
+    ensures runs { IsProgramRun T.is_sure T.represents T.may_leave K.held K.has_failed (H.holds rt.now) tables result.1
+        policy.entry (R.remaining input.old) output.old output.new result.0 }
 {
     let (taken, tables) = take_policy(rt, tables, policy);
     match taken {
@@ -45,7 +47,8 @@ fn take_policy<H: AllocGlobal + Openings, T: Tables>(
     policy: Option<&str>,
 ) -> (Result<Status, Failure>, T)
     ensures sure { T.is_sure result.1 → T.is_sure tables }
-    ensures takes { IsNamedPolicyTaken T.is_sure T.represents T.may_leave (H.holds rt.now) tables result.1 policy.entry result.0 }
+    ensures takes { IsNamedPolicyTaken T.is_sure T.represents T.may_leave (H.holds rt.now) tables result.1 policy.entry
+        result.0 }
 {
     let Some(path) = policy else {
         return (Ok(Status::Done), tables);
@@ -75,7 +78,8 @@ fn run_cached<T: Tables, R: Read, K: Sink>(
     output: &mut K,
 ) -> (Result<Status, Failure>, T)
     ensures sure { T.is_sure result.1 → T.is_sure tables }
-    ensures runs { IsAnsweredInput T.is_sure T.represents T.may_leave K.held K.has_failed tables result.1 (R.remaining input.old) output.old output.new result.0 }
+    ensures runs { IsAnsweredInput T.is_sure T.represents T.may_leave K.held K.has_failed tables result.1
+        (R.remaining input.old) output.old output.new result.0 }
 {
     let mut gate = match Gate::new(alloc, tables) {
         Ok(gate) => gate,
@@ -93,7 +97,8 @@ fn answer_script<T: Tables, R: Read, K: Sink>(
     output: &mut K,
 ) -> Result<Status, Failure>
     ensures sure { T.is_sure gate.new → T.is_sure gate.old }
-    ensures runs { IsAnsweredInput T.is_sure T.represents T.may_leave K.held K.has_failed gate.old gate.new (R.remaining input.old) output.old output.new result }
+    ensures runs { IsAnsweredInput T.is_sure T.represents T.may_leave K.held K.has_failed gate.old gate.new
+        (R.remaining input.old) output.old output.new result }
 {
     let bytes = match read_up_to(alloc, input, SCRIPT_LIMIT) {
         Ok(bytes) => bytes,
@@ -109,7 +114,8 @@ fn run_bytes<T: Tables, K: Sink>(
     output: &mut K,
 ) -> Result<Status, ScriptFault>
     ensures sure { T.is_sure gate.new → T.is_sure gate.old }
-    ensures runs { IsRunOfBytes T.is_sure T.represents T.may_leave gate.old gate.new bytes.now (K.held output.old) (K.held output.new) result }
+    ensures runs { IsRunOfBytes T.is_sure T.represents T.may_leave gate.old gate.new bytes.now (K.held output.old)
+        (K.held output.new) result }
     ensures failed { K.has_failed output.new ≡ (if is_cut_by_output result then true else K.has_failed output.old) }
 {
     match str::from_utf8(bytes) {

@@ -38,7 +38,8 @@ pub fn serve_tables<H: AllocGlobal + Clock + Net, T: Tables, W: Write>(
 where
     H::Stream: Connection,
     ensures sure { T.is_sure result.1 → T.is_sure tables }
-    ensures serves { IsService T.is_sure T.represents T.may_leave H.Stream.limits H.Stream.remaining H.Stream.contents tables result.1 serve.now result.0 (W.contents output.old) (W.contents output.new) }
+    ensures serves { IsService T.is_sure T.represents T.may_leave H.Stream.limits H.Stream.remaining H.Stream.contents
+        tables result.1 serve.now result.0 (W.contents output.old) (W.contents output.new) }
 {
     let mut gate = match Gate::new(rt.alloc(), tables) {
         Ok(gate) => gate,
@@ -60,7 +61,9 @@ where
     L: Drop,
     L::Stream: Connection,
     ensures sure { T.is_sure gate.new → T.is_sure gate.old }
-    ensures serves { IsServiceAfter T.is_sure T.represents T.may_leave L.Stream.limits L.Stream.remaining L.Stream.contents gate.old gate.new serve.now result (Listens P.binds P.is_at ports.now serve.now.port (W.contents output.old) (W.contents output.new)) }
+    ensures serves { IsServiceAfter T.is_sure T.represents T.may_leave L.Stream.limits L.Stream.remaining
+        L.Stream.contents gate.old gate.new serve.now result
+        (Listens P.binds P.is_at ports.now serve.now.port (W.contents output.old) (W.contents output.new)) }
 {
     let Ok(routes) = Routes::new(rt.alloc()) else {
         return Err(Failure::from(Fault::NoMemory));

@@ -41,7 +41,8 @@ pub fn work_on<H: AllocGlobal + Clock + Net + Openings, T: Tables, R: Read, W: W
 where
     H::Stream: Connection,
     ensures sure { T.is_sure result.1 → T.is_sure tables }
-    ensures done { IsDone T.is_sure T.represents T.may_leave W.contents tables result.1 (R.remaining input.old) output.old output.new result.0 H.Stream.limits H.Stream.remaining H.Stream.contents (H.holds rt.now) work.now }
+    ensures done { IsDone T.is_sure T.represents T.may_leave W.contents tables result.1 (R.remaining input.old)
+        output.old output.new result.0 H.Stream.limits H.Stream.remaining H.Stream.contents (H.holds rt.now) work.now }
 {
     match work {
         Work::Run(policy) => run_on(rt, tables, *policy, input, output),
@@ -60,7 +61,8 @@ fn import_now<H: AllocGlobal + Clock, T: Tables, R: Read, W: Write>(
     output: &mut Watched<W>,
 ) -> (Result<Status, Failure>, T)
     ensures sure { T.is_sure result.1 → T.is_sure tables }
-    ensures imports { IsImportNow T.is_sure T.represents T.may_leave W.contents tables result.1 (R.remaining input.old) output.old output.new result.0 import.now }
+    ensures imports { IsImportNow T.is_sure T.represents T.may_leave W.contents tables result.1 (R.remaining input.old)
+        output.old output.new result.0 import.now }
 {
     match moment(rt) {
         Ok(moment) => import_on(rt.alloc(), tables, moment, import, input, output),

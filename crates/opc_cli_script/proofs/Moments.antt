@@ -1,5 +1,32 @@
 -- Numbers without a sign, as `parse` reads them.
-use Rattle.std.proofs.Common.{◌≡◌, ◌<◌, ◌≤◌, ◌==◌, ◌&&◌, ◌^◌, ℕ, Bool, true, false, List, [], ◌∷◌, Some, Result, Ok, Err, length, nat_le, refl, sym, ap, subst, ◌∙◌, rules, arith}
+use Rattle.std.proofs.Common.{
+  ◌≡◌,
+  ◌<◌,
+  ◌≤◌,
+  ◌==◌,
+  ◌&&◌,
+  ◌^◌,
+  ℕ,
+  Bool,
+  true,
+  false,
+  List,
+  [],
+  ◌∷◌,
+  Some,
+  Result,
+  Ok,
+  Err,
+  length,
+  nat_le,
+  refl,
+  sym,
+  ap,
+  subst,
+  ◌∙◌,
+  rules,
+  arith,
+}
 use Rattle.std.proofs.lemmas.Bool.Decides.{nat_tests}
 use Rattle.std.proofs.lemmas.Str.Parse.{digits_value_short, numerals_by_value, tells_digits}
 use Rattle.std.specs.Char.{is_ascii_digit, digit_value}
@@ -18,7 +45,8 @@ digits_are : (text : List ℕ) → list_all is_ascii_digit text ≡ true → All
 digits_are [] h = tt
 digits_are (c ∷ text) h = go (is_ascii_digit c) refl h (digits_are text)
   where
-    go : (b : Bool) → is_ascii_digit c ≡ b → (b && list_all is_ascii_digit text) ≡ true → (list_all is_ascii_digit text ≡ true → AllDigits 10 text) → AllDigits 10 (c ∷ text)
+    go : (b : Bool) → is_ascii_digit c ≡ b → (b && list_all is_ascii_digit text) ≡ true
+        → (list_all is_ascii_digit text ≡ true → AllDigits 10 text) → AllDigits 10 (c ∷ text)
     go true e k next = (digit_is c e, next k)
     go false e k next = absurd (search (rules, k))
 
@@ -34,7 +62,8 @@ numeral_is (c ∷ text) h = go (is_ascii_digit c) refl (all_of h)
     go false e k = absurd (search (rules, k))
 
 -- with so few digits they fit, and `parse` reads their value
-pub parsed_as : {E : Type 0} (text : List ℕ) (r : Result ℕ E) → is_number text ≡ true → nat_le (length text) moment_digits ≡ true → ParsesUnsigned 64 10 text r → result_ok r ≡ moment_in text
+pub parsed_as : {E : Type 0} (text : List ℕ) (r : Result ℕ E) → is_number text ≡ true
+    → nat_le (length text) moment_digits ≡ true → ParsesUnsigned 64 10 text r → result_ok r ≡ moment_in text
 parsed_as text (Ok x) is short parses = rw (is, short) (ap Some (parses.1 ∙ ap (digits_value 10) (numeral_is text is).1))
 parsed_as text (Err e) is short refused =
     let n = numeral_is text is in

@@ -1,5 +1,37 @@
 -- Two digits.
-use Rattle.std.proofs.Common.{◌≡◌, ◌<◌, ◌≤◌, ◌+◌, ◌-◌, ◌*◌, ◌/◌, ◌%◌, ◌==◌, ◌&&◌, ℕ, zero, suc, Bool, true, false, not, List, [], ◌∷◌, Option, Some, None, if◌then◌else◌, refl, sym, ap, subst, ◌∙◌, rules, arith}
+use Rattle.std.proofs.Common.{
+  ◌≡◌,
+  ◌<◌,
+  ◌≤◌,
+  ◌+◌,
+  ◌-◌,
+  ◌*◌,
+  ◌/◌,
+  ◌%◌,
+  ◌==◌,
+  ◌&&◌,
+  ℕ,
+  zero,
+  suc,
+  Bool,
+  true,
+  false,
+  not,
+  List,
+  [],
+  ◌∷◌,
+  Option,
+  Some,
+  None,
+  if◌then◌else◌,
+  refl,
+  sym,
+  ap,
+  subst,
+  ◌∙◌,
+  rules,
+  arith,
+}
 use Rattle.std.proofs.lemmas.Bool.Decides.{nat_tests}
 use Rattle.opc_cli_script.proofs.Words.{IsWord, bytes_same}
 use Rattle.std.specs.Fmt.{digits}
@@ -14,7 +46,8 @@ abbrev below : ℕ → (ℕ → Bool) → Bool
 below zero p = true
 below (suc n) p = p n && below n p
 
-or_below : (n : ℕ) (p : ℕ → Bool) (k : ℕ) (b : Bool) → (k == n) ≡ b → (p n && below n p) ≡ true → k < suc n → (below n p ≡ true → k < n → p k ≡ true) → p k ≡ true
+or_below : (n : ℕ) (p : ℕ → Bool) (k : ℕ) (b : Bool) → (k == n) ≡ b → (p n && below n p) ≡ true → k < suc n
+    → (below n p ≡ true → k < n → p k ≡ true) → p k ≡ true
 or_below n p k true e h low next =
     let same : k ≡ n = grind (arith, nat_tests, e) in
     subst (λ j. p j ≡ true) (sym same) (search (rules, h))
@@ -50,7 +83,9 @@ id_is (a ∷ []) id h = absurd (search (rules, h))
 id_is (a ∷ (b ∷ (c ∷ rest))) id h = absurd (search (rules, h))
 id_is (a ∷ (b ∷ [])) id h = go (is_ascii_digit a) (is_ascii_digit b) refl refl h
   where
-    go : (x y : Bool) → is_ascii_digit a ≡ x → is_ascii_digit b ≡ y → (if x && y then Some (10 * (a - 48) + (b - 48)) else None) ≡ Some id → (id < 100) × (a ∷ (b ∷ []) ≡ two_digits id)
+    go : (x y : Bool) → is_ascii_digit a ≡ x → is_ascii_digit b ≡ y
+        → (if x && y then Some (10 * (a - 48) + (b - 48)) else None) ≡ Some id → (id < 100)
+        × (a ∷ (b ∷ []) ≡ two_digits id)
     go false y d e k = absurd (search (rules, k))
     go true false d e k = absurd (search (rules, k))
     go true true d e k =

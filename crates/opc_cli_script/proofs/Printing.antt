@@ -1,5 +1,28 @@
 -- What a listener prints that writes the text of each answer it hears.
-use Rattle.std.proofs.Common.{◌≡◌, ℕ, Bool, true, if◌then◌else◌, suc, List, [], ◌∷◌, ◌++◌, Option, Result, Ok, Err, IfErr, OnOk, length, refl, sym, ap, subst, ◌∙◌}
+use Rattle.std.proofs.Common.{
+  ◌≡◌,
+  ℕ,
+  Bool,
+  true,
+  if◌then◌else◌,
+  suc,
+  List,
+  [],
+  ◌∷◌,
+  ◌++◌,
+  Option,
+  Result,
+  Ok,
+  Err,
+  IfErr,
+  OnOk,
+  length,
+  refl,
+  sym,
+  ap,
+  subst,
+  ◌∙◌,
+}
 use Rattle.std.specs.Io.KnownBytes.{Appends}
 use Rattle.std.proofs.lemmas.List.{append_assoc, append-nil}
 use Rattle.opc_state.specs.State.{State}
@@ -19,7 +42,8 @@ use Rattle.opc_cli_script.proofs.Written.{appends_more, appends_none}
 module _ {L N : Type 0} (heard : L → ℕ → Answer → L → Type 0) (same : L → N) (contents : L → Option (List ℕ)) (failed : L → Bool) (status : L → Status) where
   abbrev pub Prints : Type 0
   Prints = (l : L) (moment : ℕ) (answer : Answer) (n : L) → heard l moment answer n
-      → (same n ≡ same l) × Appends (contents l) (contents n) (answer_text moment answer) × (failed n ≡ failed l) × ((answers : List Answer) → status l ≡ status_of answers → status n ≡ status_of (answers ++ answer ∷ []))
+      → (same n ≡ same l) × Appends (contents l) (contents n) (answer_text moment answer) × (failed n ≡ failed l)
+      × ((answers : List Answer) → status l ≡ status_of answers → status n ≡ status_of (answers ++ answer ∷ []))
 
   pub record IsPrinted (rs : List (ℕ × Request)) (answers : List Answer) (from to : L) : Type 0 where
     pub same_output : same to ≡ same from
@@ -67,7 +91,8 @@ module _ {L N : Type 0} (heard : L → ℕ → Answer → L → Type 0) (same : 
     pub whole_same : Prints → IsHeardRun is_sure represents may_leave heard old new rs from to → same to ≡ same from
     whole_same prints run = (printed prints rs run.answers from to run.heard_all).same_output
 
-    pub cut : (missed : L → ℕ → Answer → L → ScriptFault → Type 0) (fault : ScriptFault) → Prints → CutsOff missed → IsEndedRun is_sure represents may_leave heard missed old new rs from to fault
+    pub cut : (missed : L → ℕ → Answer → L → ScriptFault → Type 0) (fault : ScriptFault) → Prints → CutsOff missed
+        → IsEndedRun is_sure represents may_leave heard missed old new rs from to fault
         → IsCut is_sure represents may_leave old new rs (contents from) (contents to) fault
     cut missed fault prints cuts run =
         let done = printed prints run.before run.answers from run.met run.heard_before in
@@ -85,13 +110,15 @@ module _ {L N : Type 0} (heard : L → ℕ → Answer → L → Type 0) (same : 
           cut_off = (cuts run.met run.request.0 run.answer to fault run.missed_last).1;
         }
 
-    pub cut_failed : (missed : L → ℕ → Answer → L → ScriptFault → Type 0) (fault : ScriptFault) → Prints → CutsOff missed → IsEndedRun is_sure represents may_leave heard missed old new rs from to fault
+    pub cut_failed : (missed : L → ℕ → Answer → L → ScriptFault → Type 0) (fault : ScriptFault) → Prints
+        → CutsOff missed → IsEndedRun is_sure represents may_leave heard missed old new rs from to fault
         → failed to ≡ (if is_output fault then true else failed from)
     cut_failed missed fault prints cuts run =
         (cuts run.met run.request.0 run.answer to fault run.missed_last).2
         ∙ ap (λ before. if is_output fault then true else before) (printed prints run.before run.answers from run.met run.heard_before).fine
 
-    pub cut_same : (missed : L → ℕ → Answer → L → ScriptFault → Type 0) (fault : ScriptFault) → Prints → CutsOff missed → IsEndedRun is_sure represents may_leave heard missed old new rs from to fault → same to ≡ same from
+    pub cut_same : (missed : L → ℕ → Answer → L → ScriptFault → Type 0) (fault : ScriptFault) → Prints → CutsOff missed
+        → IsEndedRun is_sure represents may_leave heard missed old new rs from to fault → same to ≡ same from
     cut_same missed fault prints cuts run =
         (cuts run.met run.request.0 run.answer to fault run.missed_last).0 ∙ (printed prints run.before run.answers from run.met run.heard_before).same_output
 
@@ -110,6 +137,7 @@ either_way (Err e) p m f g = g e m
 
 -- whether a write failed, whichever way it ends
 pub failed_by : {A P : Type 0} {M : ScriptFault → Type 0} (r : Result A ScriptFault) (before after : Bool) → OnOk r P → IfErr r M
-    → (P → after ≡ before) → ((fault : ScriptFault) → M fault → after ≡ (if is_output fault then true else before)) → after ≡ (if is_cut_by_output r then true else before)
+    → (P → after ≡ before) → ((fault : ScriptFault) → M fault → after ≡ (if is_output fault then true else before))
+    → after ≡ (if is_cut_by_output r then true else before)
 failed_by (Ok a) before after p m f g = f p
 failed_by (Err e) before after p m f g = g e m

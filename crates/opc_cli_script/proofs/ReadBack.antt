@@ -1,5 +1,32 @@
 -- An event reads back from its text.
-use Rattle.std.proofs.Common.{◌≡◌, ◌<◌, ◌≤◌, ◌++◌, ◌+◌, ℕ, suc, inl, inr, cond, Bool, true, false, not, List, [], ◌∷◌, Some, None, length, codes, refl, sym, ap, ◌∙◌, arith}
+use Rattle.std.proofs.Common.{
+  ◌≡◌,
+  ◌<◌,
+  ◌≤◌,
+  ◌++◌,
+  ◌+◌,
+  ℕ,
+  suc,
+  inl,
+  inr,
+  cond,
+  Bool,
+  true,
+  false,
+  not,
+  List,
+  [],
+  ◌∷◌,
+  Some,
+  None,
+  length,
+  codes,
+  refl,
+  sym,
+  ap,
+  ◌∙◌,
+  arith,
+}
 use Rattle.std.proofs.lemmas.Bool.Decides.{nat_tests, eqb_tells}
 use Rattle.std.specs.List.{position, position_or_len}
 use Rattle.std.specs.Option.{option_map}
@@ -13,7 +40,22 @@ use Rattle.opc_board.specs.declared.rows.UnitKind.{UnitKind}
 use Rattle.opc_board.specs.declared.rows.UnitKind.TheVariants.{Job, Stc, Tsu}
 use Rattle.opc_board.specs.Texts.{columns, two_digits}
 use Rattle.opc_cli_script.specs.Events.{IsName, IsKind, kind_words, cancelable_words, event_text}
-use Rattle.opc_cli_script.specs.Reading.{is_space, separated, name_in, plain_kind, started_kind, kind_of, kind_in, job_in, allocate, not_empty, asked, ask, event_of, event_in}
+use Rattle.opc_cli_script.specs.Reading.{
+  is_space,
+  separated,
+  name_in,
+  plain_kind,
+  started_kind,
+  kind_of,
+  kind_in,
+  job_in,
+  allocate,
+  not_empty,
+  asked,
+  ask,
+  event_of,
+  event_in,
+}
 use Rattle.opc_cli_script.specs.Laws.{EventsReadBack}
 use Rattle.opc_names.proofs.Faults.{begin_follows, name_passes, none_of_map}
 use Rattle.opc_cli_script.proofs.Words.{IsWord, separated_back, separated_none}
@@ -37,7 +79,8 @@ no_space_in a c h = elim (eqb_tells c 32) [
 all_words : (a : Alphabet) (cs : List ℕ) → length cs ≤ position_or_len (λ d. not (may_follow a d)) cs → IsWord cs
 all_words a [] h = refl
 all_words a (c ∷ cs) h =
-    elim (may_follow a c) as (λ b. may_follow a c ≡ b → suc (length cs) ≤ cond (not (not b)) (1 + position_or_len (λ d. not (may_follow a d)) cs) 0 → IsWord (c ∷ cs)) [
+    elim (may_follow a c) as (λ b. may_follow a c ≡ b
+    → suc (length cs) ≤ cond (not (not b)) (1 + position_or_len (λ d. not (may_follow a d)) cs) 0 → IsWord (c ∷ cs)) [
       | true ↦ (λ e k. rw (no_space_in a c e) (all_words a cs (omega arith)))
       | false ↦ (λ e k. absurd (omega arith))
     ] refl h
@@ -45,7 +88,8 @@ all_words a (c ∷ cs) h =
 characters_are : (a : Alphabet) (text : List ℕ) → bad_character a text ≡ None → IsWord text
 characters_are a [] h = refl
 characters_are a (c ∷ cs) h =
-    elim (may_begin a c) as (λ b. may_begin a c ≡ b → cond b (option_map (λ i. i + 1) (position (λ d. not (may_follow a d)) cs)) (Some 0) ≡ None → IsWord (c ∷ cs)) [
+    elim (may_begin a c) as (λ b. may_begin a c ≡ b
+    → cond b (option_map (λ i. i + 1) (position (λ d. not (may_follow a d)) cs)) (Some 0) ≡ None → IsWord (c ∷ cs)) [
       | true ↦ (λ e k.
           let none = none_of_map (λ i. i + 1) (position (λ d. not (may_follow a d)) cs) k in
           rw (no_space_in a c (begin_follows a c e)) (all_words a cs (grind (arith, nat_tests, none))))
@@ -94,7 +138,8 @@ told_back reported h = grind (arith, nat_tests, h)
 ask_back : (id : ℕ) (reported : List ℕ) → id < 100 → 0 < length reported → ask (two_digits id ++ 32 ∷ reported) ≡ Some (event.Ask id reported)
 unfolding asked
 ask_back id reported low long =
-    let parts : separated (two_digits id ++ 32 ∷ reported) ≡ Some (two_digits id, reported) = separated_back (two_digits id) reported (digits_are_word id low) in
+    let parts : separated (two_digits id ++ 32 ∷ reported) ≡ Some (two_digits id, reported) =
+    separated_back (two_digits id) reported (digits_are_word id low) in
     rw (parts, id_back id low, told_back reported long) refl
 
 -- what follows a verb is read by the verb
@@ -103,7 +148,9 @@ verb_back verb rest e w h = ap (event_of (verb ++ 32 ∷ rest)) (separated_back 
 
 pub reads_back : EventsReadBack
 reads_back (event.JobIn name kind cancelable) h =
-    let text : event_text (event.JobIn name kind cancelable) ≡ codes "JOBIN" ++ 32 ∷ (name ++ 32 ∷ columns (kind_words kind ++ cancelable_words cancelable)) = ap (λ t. codes "JOBIN" ++ 32 ∷ t) (before_kind name kind (cancelable_words cancelable)) in
+    let text : event_text (event.JobIn name kind cancelable) ≡ codes "JOBIN" ++ 32
+    ∷ (name ++ 32 ∷ columns (kind_words kind ++ cancelable_words cancelable)) =
+    ap (λ t. codes "JOBIN" ++ 32 ∷ t) (before_kind name kind (cancelable_words cancelable)) in
     ap event_in text ∙ verb_back (codes "JOBIN") _ _ refl (job_back name kind cancelable h.0 h.1)
 reads_back (event.JobEnd name) h = verb_back (codes "JOBEND") name _ refl (ap (option_map event.JobEnd) (name_back unit_rule name h))
 reads_back (event.Ask id reported) h = verb_back (codes "ASK") (two_digits id ++ 32 ∷ reported) _ refl (ask_back id reported h.0 h.1)

@@ -1,5 +1,30 @@
 -- A text tells an event only where it is that event's text.
-use Rattle.std.proofs.Common.{◌≡◌, ◌<◌, ◌++◌, ℕ, Bool, true, false, List, [], ◌∷◌, Option, Some, None, if◌then◌else◌, length, drop, codes, refl, sym, ap, subst, ◌∙◌, rules, arith}
+use Rattle.std.proofs.Common.{
+  ◌≡◌,
+  ◌<◌,
+  ◌++◌,
+  ℕ,
+  Bool,
+  true,
+  false,
+  List,
+  [],
+  ◌∷◌,
+  Option,
+  Some,
+  None,
+  if◌then◌else◌,
+  length,
+  drop,
+  codes,
+  refl,
+  sym,
+  ap,
+  subst,
+  ◌∙◌,
+  rules,
+  arith,
+}
 use Rattle.std.specs.Option.{option_map}
 use Rattle.std.specs.Str.{bytes_eq}
 use Rattle.opc_names.specs.Names.{unit_rule, device_rule}
@@ -10,7 +35,27 @@ use Rattle.opc_board.specs.declared.rows.UnitKind.{UnitKind}
 use Rattle.opc_board.specs.declared.rows.UnitKind.TheVariants.{Job, Stc, Tsu}
 use Rattle.opc_board.specs.Texts.{columns, two_digits}
 use Rattle.opc_cli_script.specs.Events.{IsKind, IsEvent, kind_words, cancelable_words, event_text}
-use Rattle.opc_cli_script.specs.Reading.{◌>>=◌, separated, name_in, id_in, flag_of, flagged, kinds, plain_kind, started_kind, kind_of, kind_in, job_in, allocate, not_empty, asked, ask, verbs, event_by, event_of}
+use Rattle.opc_cli_script.specs.Reading.{
+  ◌>>=◌,
+  separated,
+  name_in,
+  id_in,
+  flag_of,
+  flagged,
+  kinds,
+  plain_kind,
+  started_kind,
+  kind_of,
+  kind_in,
+  job_in,
+  allocate,
+  not_empty,
+  asked,
+  ask,
+  verbs,
+  event_by,
+  event_of,
+}
 use Rattle.opc_cli_script.specs.Laws.{EventsAreSpelled}
 use Rattle.opc_cli_script.proofs.Words.{bytes_same, bind_some, mapped, name_is, separated_is}
 use Rattle.opc_cli_script.proofs.Numbers.{id_is}
@@ -25,7 +70,9 @@ Flagged text word = IsOf text (word.0 ∷ cancelable_words word.1)
 flagged_is : (text : List ℕ) (word : List ℕ × Bool) → flagged text ≡ Some word → Flagged text word
 flagged_is text word h = go (separated text) refl h
   where
-    test : (words : List ℕ × List ℕ) → separated text ≡ Some words → (b : Bool) → bytes_eq words.1 (codes "NONCANCEL") ≡ b → (if b then Some (words.0, false) else None) ≡ Some word → Flagged text word
+    test : (words : List ℕ × List ℕ) → separated text ≡ Some words → (b : Bool)
+        → bytes_eq words.1 (codes "NONCANCEL") ≡ b → (if b then Some (words.0, false) else None) ≡ Some word
+        → Flagged text word
     test words p true e k =
         let same : (words.0, false) ≡ word = search (rules, k) in
         let ends : words.1 ≡ codes "NONCANCEL" = bytes_same _ _ e in
@@ -42,9 +89,13 @@ Kinded text kind = IsKind kind.0 × IsOf text (kind_words kind.0 ++ cancelable_w
 kind_spelled : (word : List ℕ) (kind : UnitKind) → lookup kinds word ≡ Some kind → IsKind kind × (kind_words kind ≡ word ∷ [])
 kind_spelled word kind h = go (bytes_eq word (codes "JOB")) (bytes_eq word (codes "TSU")) refl refl h
   where
-    go : (x y : Bool) → bytes_eq word (codes "JOB") ≡ x → bytes_eq word (codes "TSU") ≡ y → (if x then Some Job else (if y then Some Tsu else None)) ≡ Some kind → IsKind kind × (kind_words kind ≡ word ∷ [])
-    go true y d e k = subst (λ q. IsKind q × (kind_words q ≡ word ∷ [])) (let same : Job ≡ kind = search (rules, k) in same) (tt, ap (λ w. w ∷ []) (sym (bytes_same _ _ d)))
-    go false true d e k = subst (λ q. IsKind q × (kind_words q ≡ word ∷ [])) (let same : Tsu ≡ kind = search (rules, k) in same) (tt, ap (λ w. w ∷ []) (sym (bytes_same _ _ e)))
+    go : (x y : Bool) → bytes_eq word (codes "JOB") ≡ x → bytes_eq word (codes "TSU") ≡ y
+        → (if x then Some Job else (if y then Some Tsu else None)) ≡ Some kind → IsKind kind
+        × (kind_words kind ≡ word ∷ [])
+    go true y d e k = subst (λ q. IsKind q × (kind_words q ≡ word ∷ []))
+        (let same : Job ≡ kind = search (rules, k) in same) (tt, ap (λ w. w ∷ []) (sym (bytes_same _ _ d)))
+    go false true d e k = subst (λ q. IsKind q × (kind_words q ≡ word ∷ []))
+        (let same : Tsu ≡ kind = search (rules, k) in same) (tt, ap (λ w. w ∷ []) (sym (bytes_same _ _ e)))
     go false false d e k = absurd (search (rules, k))
 
 plain_is : (text : List ℕ) (kind : UnitKind × Bool) → plain_kind text ≡ Some kind → Kinded text kind
@@ -56,7 +107,8 @@ plain_is text kind h =
     let same : (k.0, w.0.1) ≡ kind = search (rules, k.2) in
     subst (Kinded text) same (s.0, flagged_is text w.0 w.1 ∙ ap (λ words. columns (words ++ cancelable_words w.0.1)) (sym s.1))
 
-started_is : (text : List ℕ) (kind : UnitKind × Bool) → started_kind text ≡ Some kind → IsKind kind.0 × (codes "STC" ++ 32 ∷ text ≡ columns (kind_words kind.0 ++ cancelable_words kind.1))
+started_is : (text : List ℕ) (kind : UnitKind × Bool) → started_kind text ≡ Some kind → IsKind kind.0
+    × (codes "STC" ++ 32 ∷ text ≡ columns (kind_words kind.0 ++ cancelable_words kind.1))
 unfolding started_kind
 started_is text kind h =
     let w = bind_some (flagged text) _ kind h in
@@ -69,7 +121,8 @@ started_is text kind h =
 kind_is : (text : List ℕ) (kind : UnitKind × Bool) → kind_in text ≡ Some kind → Kinded text kind
 kind_is text kind h = go (separated text) refl h
   where
-    test : (words : List ℕ × List ℕ) → separated text ≡ Some words → (b : Bool) → bytes_eq words.0 (codes "STC") ≡ b → (if b then started_kind words.1 else plain_kind text) ≡ Some kind → Kinded text kind
+    test : (words : List ℕ × List ℕ) → separated text ≡ Some words → (b : Bool) → bytes_eq words.0 (codes "STC") ≡ b
+        → (if b then started_kind words.1 else plain_kind text) ≡ Some kind → Kinded text kind
     test words p true e k =
         let s = started_is words.1 kind k in
         (s.0, separated_is text words p ∙ ap (λ t. t ++ 32 ∷ words.1) (bytes_same _ _ e) ∙ s.1)
@@ -83,7 +136,8 @@ kind_is text kind h = go (separated text) refl h
 abbrev After : List ℕ → List ℕ → Event → Type 0
 After verb text e = IsEvent e × (verb ++ 32 ∷ text ≡ event_text e)
 
-pub before_kind : (name : List ℕ) (kind : UnitKind) (more : List (List ℕ)) → columns (name ∷ (kind_words kind ++ more)) ≡ name ++ 32 ∷ columns (kind_words kind ++ more)
+pub before_kind : (name : List ℕ) (kind : UnitKind) (more : List (List ℕ))
+    → columns (name ∷ (kind_words kind ++ more)) ≡ name ++ 32 ∷ columns (kind_words kind ++ more)
 before_kind name Job more = refl
 before_kind name (Stc member) more = refl
 before_kind name Tsu more = refl
@@ -99,7 +153,8 @@ job_is text e h =
     let same : event.JobIn n.0 k.0.0 k.0.1 ≡ e = search (rules, k.2) in
     subst (After (codes "JOBIN") text) same (
       (name.0, kind.0),
-      ap (λ t. codes "JOBIN" ++ 32 ∷ t) (separated_is text w.0 w.1 ∙ ap (λ t. t ++ 32 ∷ w.0.1) name.1 ∙ ap (λ t. n.0 ++ 32 ∷ t) kind.1 ∙ sym (before_kind n.0 k.0.0 (cancelable_words k.0.1))),
+      ap (λ t. codes "JOBIN" ++ 32 ∷ t) (separated_is text w.0 w.1 ∙ ap (λ t. t ++ 32 ∷ w.0.1) name.1
+          ∙ ap (λ t. n.0 ++ 32 ∷ t) kind.1 ∙ sym (before_kind n.0 k.0.0 (cancelable_words k.0.1))),
     )
 
 allocate_is : (text : List ℕ) (e : Event) → allocate text ≡ Some e → After (codes "ALLOCATE") text e
@@ -143,8 +198,10 @@ ask_is text e h =
     subst (After (codes "ASK") text) a.2 (parts.0, ap (λ t. codes "ASK" ++ 32 ∷ t) parts.1)
 
 -- a row of the table of verbs, and those that follow it
-row_is : (verb text word : List ℕ) (e : Event) (read : List ℕ → Option Event) (rows : List (List ℕ × (List ℕ → Option Event))) (b : Bool) → bytes_eq verb word ≡ b
-    → ((if b then Some read else lookup rows verb) >>= (λ r. r text)) ≡ Some e → (read text ≡ Some e → After word text e) → ((lookup rows verb >>= (λ r. r text)) ≡ Some e → After verb text e)
+row_is : (verb text word : List ℕ) (e : Event) (read : List ℕ → Option Event)
+    (rows : List (List ℕ × (List ℕ → Option Event))) (b : Bool) → bytes_eq verb word ≡ b
+    → ((if b then Some read else lookup rows verb) >>= (λ r. r text)) ≡ Some e
+    → (read text ≡ Some e → After word text e) → ((lookup rows verb >>= (λ r. r text)) ≡ Some e → After verb text e)
     → After verb text e
 row_is verb text word e read rows true eq h here next = subst (λ v. After v text e) (sym (bytes_same verb word eq)) (here h)
 row_is verb text word e read rows false eq h here next = next h
@@ -173,15 +230,19 @@ free_is text e h =
 by_is : (verb text : List ℕ) (e : Event) → event_by verb text ≡ Some e → After verb text e
 by_is verb text e h =
     row_is verb text (codes "JOBIN") e job_in (drop 1 verbs) (bytes_eq verb (codes "JOBIN")) refl h (job_is text e) (λ h.
-    row_is verb text (codes "JOBEND") e (λ text. option_map event.JobEnd (name_in unit_rule text)) (drop 2 verbs) (bytes_eq verb (codes "JOBEND")) refl h (job_end_is text e) (λ h.
-    row_is verb text (codes "ATTACH") e (λ text. option_map event.Attach (name_in device_rule text)) (drop 3 verbs) (bytes_eq verb (codes "ATTACH")) refl h (attach_is text e) (λ h.
+    row_is verb text (codes "JOBEND") e (λ text. option_map event.JobEnd (name_in unit_rule text)) (drop 2 verbs)
+    (bytes_eq verb (codes "JOBEND")) refl h (job_end_is text e) (λ h.
+    row_is verb text (codes "ATTACH") e (λ text. option_map event.Attach (name_in device_rule text)) (drop 3 verbs)
+    (bytes_eq verb (codes "ATTACH")) refl h (attach_is text e) (λ h.
     row_is verb text (codes "ALLOCATE") e allocate (drop 4 verbs) (bytes_eq verb (codes "ALLOCATE")) refl h (allocate_is text e) (λ h.
-    row_is verb text (codes "FREE") e (λ text. option_map event.Free (name_in device_rule text)) [] (bytes_eq verb (codes "FREE")) refl h (free_is text e) (λ h. no_row text e h)))))
+    row_is verb text (codes "FREE") e (λ text. option_map event.Free (name_in device_rule text)) []
+    (bytes_eq verb (codes "FREE")) refl h (free_is text e) (λ h. no_row text e h)))))
 
 pub spelled : EventsAreSpelled
 spelled text e h = go (separated text) refl h
   where
-    test : (words : List ℕ × List ℕ) → separated text ≡ Some words → (b : Bool) → bytes_eq words.0 (codes "ASK") ≡ b → (if b then ask words.1 else event_by words.0 words.1) ≡ Some e → IsEvent e × (text ≡ event_text e)
+    test : (words : List ℕ × List ℕ) → separated text ≡ Some words → (b : Bool) → bytes_eq words.0 (codes "ASK") ≡ b
+        → (if b then ask words.1 else event_by words.0 words.1) ≡ Some e → IsEvent e × (text ≡ event_text e)
     test words p true eq k =
         let a = ask_is words.1 e k in
         (a.0, separated_is text words p ∙ ap (λ t. t ++ 32 ∷ words.1) (bytes_same _ _ eq) ∙ a.1)

@@ -1,5 +1,33 @@
 -- Words separated at a space, and put together again.
-use Rattle.std.proofs.Common.{◌≡◌, ◌<◌, ◌+◌, ◌&&◌, ℕ, suc, Bool, true, false, not, List, [], ◌∷◌, ◌++◌, Option, Some, None, length, take, drop, get_or, refl, subst, rules, arith, nat_lt, if◌then◌else◌}
+use Rattle.std.proofs.Common.{
+  ◌≡◌,
+  ◌<◌,
+  ◌+◌,
+  ◌&&◌,
+  ℕ,
+  suc,
+  Bool,
+  true,
+  false,
+  not,
+  List,
+  [],
+  ◌∷◌,
+  ◌++◌,
+  Option,
+  Some,
+  None,
+  length,
+  take,
+  drop,
+  get_or,
+  refl,
+  subst,
+  rules,
+  arith,
+  nat_lt,
+  if◌then◌else◌,
+}
 use Rattle.std.proofs.lemmas.Bool.{lt-ltb, le-ltb}
 use Rattle.std.proofs.lemmas.Bool.Decides.{nat_tests}
 use Rattle.std.proofs.lemmas.Slice.Eq.{bytes_eq-Decides}
@@ -47,8 +75,11 @@ separated_is text words h =
     let c = chosen (nat_lt (position_or_len is_space text) (length text)) (λ at. (take at text, drop (at + 1) text)) (position_or_len is_space text) words h in
     let low : position_or_len is_space text < length text = grind (arith, nat_tests, c.0) in
     let at : get_or text (position_or_len is_space text) 0 ≡ 32 = is_32 _ (passes_at_first is_space text 0 low) in
-    let parts : text ≡ take (position_or_len is_space text) text ++ get_or text (position_or_len is_space text) 0 ∷ drop (position_or_len is_space text + 1) text = split_at_first is_space text 0 low in
-    subst (λ w. text ≡ w.0 ++ 32 ∷ w.1) c.1 (subst (λ x. text ≡ take (position_or_len is_space text) text ++ x ∷ drop (position_or_len is_space text + 1) text) at parts)
+    let parts : text ≡ take (position_or_len is_space text) text ++ get_or text (position_or_len is_space text) 0
+    ∷ drop (position_or_len is_space text + 1) text = split_at_first is_space text 0 low in
+    subst (λ w. text ≡ w.0 ++ 32 ∷ w.1) c.1
+    (subst (λ x. text ≡ take (position_or_len is_space text) text ++ x
+    ∷ drop (position_or_len is_space text + 1) text) at parts)
 
 -- no space in a word
 abbrev pub IsWord : List ℕ → Type 0
@@ -58,7 +89,8 @@ IsWord word = list_all (λ c. not (is_space c)) word ≡ true
 abbrev IsAt : List ℕ → List ℕ → Type 0
 IsAt word rest = position_or_len is_space (word ++ rest) ≡ length word
 
-further : (c : ℕ) (word rest : List ℕ) (b : Bool) → is_space c ≡ b → (not b && list_all (λ c. not (is_space c)) word) ≡ true → (IsWord word → IsAt word rest) → IsAt (c ∷ word) rest
+further : (c : ℕ) (word rest : List ℕ) (b : Bool) → is_space c ≡ b
+    → (not b && list_all (λ c. not (is_space c)) word) ≡ true → (IsWord word → IsAt word rest) → IsAt (c ∷ word) rest
 further c word rest true e h next = absurd (search (rules, h))
 further c word rest false e h next = rw e (omega (arith, next h))
 

@@ -24,5 +24,9 @@ module _ (bytes : List ℕ) (done count : ℕ) (low : done ≤ length bytes) (bo
       let short : count ≤ length (drop done bytes) = subst (λ xs. count ≤ length xs) rest_is bound in
       omega (arith, short, length-drop done bytes, low)
 
-  pub next_written : (a b c : Option (List ℕ)) → Appends a b (take done bytes) → Appends b c (take count (take (length bytes - done) (drop done bytes))) → Appends a c (take (done + count) bytes)
-  next_written a b c h k = subst (Appends a c) (sym (take-add done count bytes)) (appends_more a b c (take done bytes) (take count (drop done bytes)) h (subst (λ xs. Appends b c (take count xs)) rest_is k))
+  pub next_written : (a b c : Option (List ℕ)) → Appends a b (take done bytes)
+      → Appends b c (take count (take (length bytes - done) (drop done bytes)))
+      → Appends a c (take (done + count) bytes)
+  next_written a b c h k = subst (Appends a c) (sym (take-add done count bytes))
+      (appends_more a b c (take done bytes) (take count (drop done bytes)) h
+      (subst (λ xs. Appends b c (take count xs)) rest_is k))

@@ -17,7 +17,8 @@ pub record AppendsPrefix (old new : Option (List ℕ)) (text : List ℕ) : Type 
   pub len : ℕ
   pub prefix : Appends old new (take len text)
 
--- A text was not written in whole: there was no memory for it, and nothing was written, or the output took a prefix alone.
+-- A text was not written in whole: there was no memory for it, and nothing was written, or the output took a prefix
+-- alone.
 abbrev pub IsCutOff : ScriptFault → Option (List ℕ) → Option (List ℕ) → List ℕ → Type 0
 IsCutOff NoMemory before written text = written ≡ before
 IsCutOff (Output error) before written text = AppendsPrefix before written text
@@ -25,15 +26,18 @@ IsCutOff (BadLine number) before written text = ⊥
 
 module _ {T : Type 0} (is_sure : T → Type 0) (represents may_leave : T → State → Type 0) where
   -- All requests were handled, and what was written is the transcript of their answers.
-  pub record IsWhole (old new : T) (requests : List (ℕ × Request)) (before written : Option (List ℕ)) (status : Status) : Type 0 where
+  pub record IsWhole (old new : T) (requests : List (ℕ × Request)) (before written : Option (List ℕ))
+      (status : Status) : Type 0 where
     pub answers : List Answer
     pub each : length answers ≡ length requests
     pub run : is_sure new → (s : State) → represents old s → IsRun represents may_leave old new s requests answers
     pub text : Appends before written (transcript requests answers)
     pub ends : status ≡ status_of answers
 
-  -- The run ended at the first request whose answer was not written in whole. That request is the last one that is handled.
-  pub record IsCut (old new : T) (requests : List (ℕ × Request)) (before written : Option (List ℕ)) (fault : ScriptFault) : Type 0 where
+  -- The run ended at the first request whose answer was not written in whole. That request is the last one that is
+  -- handled.
+  pub record IsCut (old new : T) (requests : List (ℕ × Request)) (before written : Option (List ℕ))
+      (fault : ScriptFault) : Type 0 where
     pub reported : List (ℕ × Request)
     pub request : ℕ × Request
     pub later : List (ℕ × Request)
@@ -41,7 +45,8 @@ module _ {T : Type 0} (is_sure : T → Type 0) (represents may_leave : T → Sta
     pub answers : List Answer
     pub each : length answers ≡ length reported
     pub answer : Answer
-    pub run : is_sure new → (s : State) → represents old s → IsRun represents may_leave old new s (reported ++ request ∷ []) (answers ++ answer ∷ [])
+    pub run : is_sure new → (s : State) → represents old s
+        → IsRun represents may_leave old new s (reported ++ request ∷ []) (answers ++ answer ∷ [])
     pub met : Option (List ℕ)
     pub text : Appends before met (transcript reported answers)
     pub cut_off : IsCutOff fault met written (answer_text request.0 answer)
@@ -52,13 +57,16 @@ module _ {T : Type 0} (is_sure : T → Type 0) (represents may_leave : T → Sta
     pub same : new ≡ old
     pub nothing : written ≡ before
 
-  abbrev pub IsScriptRun : (old new : T) → List (ℕ × Request) → (before written : Option (List ℕ)) → Result Status ScriptFault → Type 0
+  abbrev pub IsScriptRun : (old new : T) → List (ℕ × Request) → (before written : Option (List ℕ))
+      → Result Status ScriptFault → Type 0
   IsScriptRun old new requests before written (Ok status) = IsWhole old new requests before written status
-  IsScriptRun old new requests before written (Err fault) = IsNotBegun old new before written fault ⊎ IsCut old new requests before written fault
+  IsScriptRun old new requests before written (Err fault) =
+      IsNotBegun old new before written fault ⊎ IsCut old new requests before written fault
 
 -- What is written says that the line is bad, or that was cut off.
 abbrev pub IsBadLinePrinted : ℕ → (before written : Option (List ℕ)) → ScriptFault → Type 0
-IsBadLinePrinted number before written (BadLine found) = (found ≡ number) × Appends before written (bad_line_text number)
+IsBadLinePrinted number before written (BadLine found) =
+    (found ≡ number) × Appends before written (bad_line_text number)
 IsBadLinePrinted number before written NoMemory = IsCutOff NoMemory before written (bad_line_text number)
 IsBadLinePrinted number before written (Output error) = IsCutOff (Output error) before written (bad_line_text number)
 
@@ -67,6 +75,8 @@ IsBadRun number before written (Ok status) = ⊥
 IsBadRun number before written (Err fault) = IsBadLinePrinted number before written fault
 
 -- A script was run, or its bad line was told and nothing was run.
-abbrev pub IsAnswered : {T : Type 0} → (T → Type 0) → (represents may_leave : T → State → Type 0) → (old new : T) → (script : List ℕ) → (before written : Option (List ℕ)) → Result Status ScriptFault → Type 0
+abbrev pub IsAnswered : {T : Type 0} → (T → Type 0) → (represents may_leave : T → State → Type 0) → (old new : T)
+    → (script : List ℕ) → (before written : Option (List ℕ)) → Result Status ScriptFault → Type 0
 IsAnswered is_sure represents may_leave old new script before written result =
-    MatchOption (bad_line script) (IsScriptRun is_sure represents may_leave old new (requests_in script) before written result) (λ number. (new ≡ old) × IsBadRun number before written result)
+    MatchOption (bad_line script) (IsScriptRun is_sure represents may_leave old new (requests_in script) before written
+    result) (λ number. (new ≡ old) × IsBadRun number before written result)

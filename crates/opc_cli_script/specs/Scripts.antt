@@ -1,5 +1,20 @@
 -- Scripts: requests with their moments, a line each.
-use Rattle.std.specs.Prelude.{◌==◌, ◌&&◌, ◌+◌, ℕ, Bool, not, if◌then◌else◌, List, Option, Some, None, codes, length, nat_le}
+use Rattle.std.specs.Prelude.{
+  ◌==◌,
+  ◌&&◌,
+  ◌+◌,
+  ℕ,
+  Bool,
+  not,
+  if◌then◌else◌,
+  List,
+  Option,
+  Some,
+  None,
+  codes,
+  length,
+  nat_le,
+}
 use Rattle.std.specs.Char.{is_ascii_digit}
 use Rattle.std.specs.List.{flat_map, list_all, position}
 use Rattle.std.specs.Option.{is_none, option_map, option_to_list}
@@ -57,7 +72,8 @@ is_bad line = not (is_blank line) && is_none (request_in line)
 
 -- The number of the first bad line, from 1 on; blank lines count. 0 stands for a script that is too long.
 abbrev pub bad_line : List ℕ → Option ℕ
-bad_line script = if nat_le (length script) script_limit then option_map (λ at. at + 1) (position is_bad (lines script)) else Some 0
+bad_line script = if nat_le (length script) script_limit then option_map (λ at. at + 1)
+    (position is_bad (lines script)) else Some 0
 
 -- The requests of a script, in order.
 abbrev pub requests_in : List ℕ → List (ℕ × Request)

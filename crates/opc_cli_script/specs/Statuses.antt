@@ -18,4 +18,5 @@ is_refused (answer.Done lines rule) = false
 
 -- Failed where there was no memory or the store failed, else refused where anything was refused, else done.
 abbrev pub status_of : List Answer → Status
-status_of answers = if list_any is_aborted answers then Failed else (if list_any is_refused answers then Refused else Done)
+status_of answers = if list_any is_aborted answers then Failed else
+    (if list_any is_refused answers then Refused else Done)

@@ -20,8 +20,11 @@ shown_line line = ended (codes "  " ++ line.text)
 
 -- The text of an answer: moment, what became of the request and its rule, and then the lines.
 abbrev pub answer_text : ℕ → Answer → List ℕ
-answer_text moment (Done lines rule) = ended (columns (decimal moment ∷ codes "DONE" ∷ rule_text_or_none rule ∷ [])) ++ flat_map shown_line lines
-answer_text moment (Refused fault rule) = ended (columns (decimal moment ∷ codes "REFUSED" ∷ fault_code fault ∷ fault_text fault ∷ rule_text_or_none rule ∷ []))
+answer_text moment (Done lines rule) = ended (columns (decimal moment ∷ codes "DONE" ∷ rule_text_or_none rule ∷ []))
+    ++ flat_map shown_line lines
+answer_text moment (Refused fault rule) =
+    ended (columns (decimal moment ∷ codes "REFUSED" ∷ fault_code fault ∷ fault_text fault ∷ rule_text_or_none rule
+    ∷ []))
 
 abbrev pub transcript : List (ℕ × Request) → List Answer → List ℕ
 transcript (r ∷ requests) (answer ∷ answers) = answer_text r.0 answer ++ transcript requests answers

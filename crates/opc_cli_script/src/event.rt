@@ -1,6 +1,21 @@
 //! Events, as a script tells them.
 ghost use Rattle.std.specs.Prelude.{◌≡◌, IfOk, MatchOption, None, Some};
-ghost use Rattle.opc_cli_script.specs.Reading.{ask, asked, allocate, event_by, event_in, flagged, id_in, job_in, kind_in, kinds, name_in, separated, plain_kind, started_kind};
+ghost use Rattle.opc_cli_script.specs.Reading.{
+  ask,
+  asked,
+  allocate,
+  event_by,
+  event_in,
+  flagged,
+  id_in,
+  job_in,
+  kind_in,
+  kinds,
+  name_in,
+  separated,
+  plain_kind,
+  started_kind,
+};
 ghost use Rattle.opc_names.specs.Spellings.{lookup};
 
 use opc_board::event::Event;
@@ -12,7 +27,8 @@ use std::alloc::{AllocError, Global};
 
 /// The first word of a text, and what follows the space after it.
 pub(crate) fn separated(text: &str) -> Option<(&str, &str)>
-    ensures { MatchOption result (separated text.now ≡ None) (λ words. separated text.now ≡ Some (words.0.now, words.1.now)) }
+    ensures { MatchOption result (separated text.now ≡ None)
+        (λ words. separated text.now ≡ Some (words.0.now, words.1.now)) }
 {
     text.split_once(' ')
 }

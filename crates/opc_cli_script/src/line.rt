@@ -54,7 +54,8 @@ fn request_of(alloc: Global, who: &str, text: &str) -> Result<Option<Request>, A
 // The parts of a line: its moment, who asks, and what.
 #[tactic(auto, unfolding(crate::specs::Scripts::parts_in))]
 fn parts_in(line: &str) -> Option<(u64, &str, &str)>
-    ensures { MatchOption result (parts_in line.now ≡ None) (λ parts. parts_in line.now ≡ Some (parts.0, (parts.1.now, parts.2.now))) }
+    ensures { MatchOption result (parts_in line.now ≡ None)
+        (λ parts. parts_in line.now ≡ Some (parts.0, (parts.1.now, parts.2.now))) }
 {
     let (moment, rest) = separated(line)?;
     let moment = moment_in(moment)?;

@@ -21,7 +21,8 @@ use std::io;
 
 /// Writes a text, or, where the output fails, some prefix of it.
 pub fn write_text<K: Sink>(output: &mut K, text: &str) -> io::Result<()>
-    ensures text { MatchResult result (λ _. Appends (K.held output.old) (K.held output.new) text.now) (λ _. AppendsPrefix (K.held output.old) (K.held output.new) text.now) }
+    ensures text { MatchResult result (λ _. Appends (K.held output.old) (K.held output.new) text.now)
+        (λ _. AppendsPrefix (K.held output.old) (K.held output.new) text.now) }
     ensures failed { K.has_failed output.new ≡ (if is_err result then true else K.has_failed output.old) }
 {
     let bytes = text.as_bytes();
@@ -53,9 +54,13 @@ impl<K: Sink> Printer<'_, K> {
     ) -> Result<(), ScriptFault>
         ensures sure { T.is_sure gate.new → T.is_sure gate.old }
         ensures same_reference { self.new.output.ghost_name ≡ self.old.output.ghost_name }
-        ensures whole { self.old.status ≡ Status.Done → OnOk result (IsWhole T.is_sure T.represents T.may_leave gate.old gate.new requests.now (K.held self.old.output.now) (K.held self.new.output.now) self.new.status) }
-        ensures cut { IfErr result (IsCut T.is_sure T.represents T.may_leave gate.old gate.new requests.now (K.held self.old.output.now) (K.held self.new.output.now)) }
-        ensures failed { K.has_failed self.new.output.now ≡ (if is_cut_by_output result then true else K.has_failed self.old.output.now) }
+        ensures whole { self.old.status ≡ Status.Done
+            → OnOk result (IsWhole T.is_sure T.represents T.may_leave gate.old gate.new requests.now
+            (K.held self.old.output.now) (K.held self.new.output.now) self.new.status) }
+        ensures cut { IfErr result (IsCut T.is_sure T.represents T.may_leave gate.old gate.new requests.now
+            (K.held self.old.output.now) (K.held self.new.output.now)) }
+        ensures failed { K.has_failed self.new.output.now
+            ≡ (if is_cut_by_output result then true else K.has_failed self.old.output.now) }
     {
         gate.run_heard(self.alloc, requests, self)
     }
@@ -65,12 +70,15 @@ impl<K: Sink> Listener for Printer<'_, K> {
     type Fault = ScriptFault;
 
     ghost heard = { λ old moment answer new.
-        (new.output.ghost_name ≡ old.output.ghost_name) × Appends (K.held old.output.now) (K.held new.output.now) (answer_text moment answer)
+        (new.output.ghost_name ≡ old.output.ghost_name)
+        × Appends (K.held old.output.now) (K.held new.output.now) (answer_text moment answer)
         × (K.has_failed new.output.now ≡ K.has_failed old.output.now)
-        × ((answers : List TheAnswer) → old.status ≡ status_of answers → new.status ≡ status_of (answers ++ answer ∷ [])) };
+        × ((answers : List TheAnswer) → old.status ≡ status_of answers
+        → new.status ≡ status_of (answers ++ answer ∷ [])) };
 
     ghost missed = { λ old moment answer new fault.
-        (new.output.ghost_name ≡ old.output.ghost_name) × IsCutOff fault (K.held old.output.now) (K.held new.output.now) (answer_text moment answer)
+        (new.output.ghost_name ≡ old.output.ghost_name)
+        × IsCutOff fault (K.held old.output.now) (K.held new.output.now) (answer_text moment answer)
         × (K.has_failed new.output.now ≡ (if is_output fault then true else K.has_failed old.output.now)) };
 
     fn hear(&mut self, moment: u64, answer: &Answer) -> Result<(), ScriptFault> {

@@ -16,7 +16,8 @@ use opc_state::tables::Tables;
 use std::alloc::Global;
 
 fn write_bad_line<K: Sink>(alloc: Global, number: usize, output: &mut K) -> Result<(), ScriptFault>
-    ensures text { MatchResult result (λ _. Appends (K.held output.old) (K.held output.new) (bad_line_text number)) (λ fault. IsCutOff fault (K.held output.old) (K.held output.new) (bad_line_text number)) }
+    ensures text { MatchResult result (λ _. Appends (K.held output.old) (K.held output.new) (bad_line_text number))
+        (λ fault. IsCutOff fault (K.held output.old) (K.held output.new) (bad_line_text number)) }
     ensures failed { K.has_failed output.new ≡ (if is_cut_by_output result then true else K.has_failed output.old) }
 {
     let text = bad_line_text(alloc, number)?;
@@ -37,9 +38,10 @@ pub fn print_bad_line<K: Sink>(alloc: Global, number: usize, output: &mut K) -> 
 
 /// Runs a script over a gate, and answers what the answers come to. What is written is the transcript of the access
 /// machine's answers. Where a line is bad or the script has more than 1,048,576 bytes, that is written, and nothing is
-/// run. Where the output fails or memory is refused for an answer's text, the run ends with that request: it is handled,
-/// and so are those before it, whose answers are written. That the output failed is told exactly where a write to it failed.
-/// A crash leaves what it might have left before, or a state that one of the handled requests makes, in whole.
+/// run. Where the output fails or memory is refused for an answer's text, the run ends with that request: it is
+/// handled, and so are those before it, whose answers are written. That the output failed is told exactly where a write
+/// to it failed. A crash leaves what it might have left before, or a state that one of the handled requests makes, in
+/// whole.
 pub fn run_script<T: Tables, K: Sink>(
     gate: &mut Gate<T>,
     alloc: Global,
@@ -47,8 +49,11 @@ pub fn run_script<T: Tables, K: Sink>(
     output: &mut K,
 ) -> Result<Status, ScriptFault>
     ensures sure { T.is_sure gate.new → T.is_sure gate.old }
-    ensures bad { IfSome (bad_line script.now) (λ number. (gate.new ≡ gate.old) × IsBadRun number (K.held output.old) (K.held output.new) result) }
-    ensures runs { bad_line script.now ≡ None → IsScriptRun T.is_sure T.represents T.may_leave gate.old gate.new (requests_in script.now) (K.held output.old) (K.held output.new) result }
+    ensures bad { IfSome (bad_line script.now)
+        (λ number. (gate.new ≡ gate.old) × IsBadRun number (K.held output.old) (K.held output.new) result) }
+    ensures runs { bad_line script.now ≡ None
+        → IsScriptRun T.is_sure T.represents T.may_leave gate.old gate.new (requests_in script.now) (K.held output.old)
+        (K.held output.new) result }
     ensures failed { K.has_failed output.new ≡ (if is_cut_by_output result then true else K.has_failed output.old) }
 {
     let requests = match requests_in(alloc, script) {

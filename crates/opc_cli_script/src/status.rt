@@ -9,7 +9,8 @@ use opc_terms::fault::Fault;
 
 /// The status of some answers, which is given, and one more.
 pub(crate) fn status_after(status: Status, answer: &Answer) -> Status
-    ensures { (answers : List TheAnswer) → status ≡ status_of answers → result ≡ status_of (answers ++ answer.now ∷ []) }
+    ensures { (answers : List TheAnswer) → status ≡ status_of answers
+        → result ≡ status_of (answers ++ answer.now ∷ []) }
 {
     match answer {
         Answer::Refused {

@@ -46,7 +46,10 @@ module _ (one other : List ℕ → Option (List ℕ)) (same : (name : List ℕ) 
     path = is.path ∙ given (codes "db");
     port = of_given (number_between 0 65_535) (codes "port") ∙ is.port;
     count = of_given (number_between 1 1_000_000) (codes "count") ∙ is.count;
-    waits = is.waits ∙ ap (λ (o : Option (List ℕ)). option_map (λ text. option_map (λ seconds. seconds * 1_000_000_000) (number_between 1 3_600 text)) o) (same (codes "timeout"));
+    waits = is.waits
+        ∙ ap (λ (o : Option (List ℕ)). option_map
+        (λ text. option_map (λ seconds. seconds * 1_000_000_000) (number_between 1 3_600 text)) o)
+        (same (codes "timeout"));
   }
 
   pub task_is : (command : List ℕ) (t : Task) → IsTaskOf one command t → IsTaskOf other command t
@@ -58,14 +61,27 @@ module _ (one other : List ℕ → Option (List ℕ)) (same : (name : List ℕ) 
 
   pub same_options : (command : List ℕ) → options_of one command ≡ options_of other command
   same_options command =
-      rw (same (codes "user"), same (codes "class"), same (codes "resource"), same (codes "console"), same (codes "level"), same (codes "batch"), same (codes "port"), same (codes "count"), same (codes "timeout")) refl
+      rw (
+        same (codes "user"),
+        same (codes "class"),
+        same (codes "resource"),
+        same (codes "console"),
+        same (codes "level"),
+        same (codes "batch"),
+        same (codes "port"),
+        same (codes "count"),
+        same (codes "timeout"),
+      )
+      refl
 
 -- a name and rows that are of one thing
 module _ {B : Type 0} (name_of : B → List ℕ) (rows_in : B → List Row) where
   abbrev both : B → List ℕ × List Row
   both b = (name_of b, rows_in b)
 
-  of_one : (o : Option B) (name : List ℕ) (rows : List Row) → Some name ≡ option_map name_of o → Some rows ≡ option_map (λ (p : List ℕ × List Row). p.1) (option_map both o) → option_map both o ≡ Some (name, rows)
+  of_one : (o : Option B) (name : List ℕ) (rows : List Row) → Some name ≡ option_map name_of o
+      → Some rows ≡ option_map (λ (p : List ℕ × List Row). p.1) (option_map both o)
+      → option_map both o ≡ Some (name, rows)
   of_one None name rows n r = absurd (cc)
   of_one (Some b) name rows n r =
       let same : name_of b ≡ name = cc in
@@ -73,7 +89,8 @@ module _ {B : Type 0} (name_of : B → List ℕ) (rows_in : B → List Row) wher
       ap₂ (λ x y. let p : List ℕ × List Row = (x, y) in Some p) same also
 
 pub fails_at : (found : ArgMatches) (chosen : Found) (command option : List ℕ) → Some command ≡ subcommand_name_of found
-    → Some (rows_of chosen) ≡ option_map (λ (p : List ℕ × List Row). p.1) (subcommand_rows_of found) → first_unread (options_of (first_value chosen) command) ≡ Some option
+    → Some (rows_of chosen) ≡ option_map (λ (p : List ℕ × List Row). p.1) (subcommand_rows_of found)
+    → first_unread (options_of (first_value chosen) command) ≡ Some option
     → FailsAt (subcommand_rows_of found) command option
 fails_at found chosen command option name rows is = (
   rows_of chosen,

@@ -41,11 +41,13 @@ module _ (built : Command) (is : app_of built ≡ command_line) (given after : L
   same_words : map string_bytes after ≡ words_after given
   same_words = ap (map string_bytes) rest
 
-  pub what_is_found : (found : ArgMatches) → HasMatchesOf (app_of built) (map string_bytes after) found → subcommand_rows_of found ≡ subcommand_of command_line (words_after given)
+  pub what_is_found : (found : ArgMatches) → HasMatchesOf (app_of built) (map string_bytes after) found
+      → subcommand_rows_of found ≡ subcommand_of command_line (words_after given)
   what_is_found found has = (subst (λ a. HasMatchesOf a (map string_bytes after) found) is has is_simple_line).1 ∙ ap (subcommand_of command_line) same_words
 
   pub what_fails : {T : Type 0} (result : Result T Error)
-      → (is_simple_and_free (app_of built) ≡ true → FailsBy (fault_of (app_of built) (map string_bytes after)) result) → FailsBy (fault_of command_line (words_after given)) result
+      → (is_simple_and_free (app_of built) ≡ true → FailsBy (fault_of (app_of built) (map string_bytes after)) result)
+      → FailsBy (fault_of command_line (words_after given)) result
   what_fails result fails =
       subst (λ words. FailsBy (fault_of command_line words) result) same_words
       (subst (λ a. is_simple_and_free a ≡ true → FailsBy (fault_of a (map string_bytes after)) result) is fails is_free_line)

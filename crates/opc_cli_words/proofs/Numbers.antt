@@ -1,5 +1,30 @@
 -- Numbers of digits, as `parse` refuses them.
-use Rattle.std.proofs.Common.{◌≡◌, ◌<◌, ◌==◌, ◌&&◌, ◌^◌, ℕ, Bool, if◌then◌else◌, Some, None, inl, inr, true, false, List, [], ◌∷◌, length, nat_le, refl, sym, subst, rules, arith}
+use Rattle.std.proofs.Common.{
+  ◌≡◌,
+  ◌<◌,
+  ◌==◌,
+  ◌&&◌,
+  ◌^◌,
+  ℕ,
+  Bool,
+  if◌then◌else◌,
+  Some,
+  None,
+  inl,
+  inr,
+  true,
+  false,
+  List,
+  [],
+  ◌∷◌,
+  length,
+  nat_le,
+  refl,
+  sym,
+  subst,
+  rules,
+  arith,
+}
 use Rattle.std.proofs.lemmas.Bool.{cases_Bool}
 use Rattle.std.proofs.lemmas.Bool.Decides.{nat_tests}
 use Rattle.std.specs.Char.{is_ascii_digit, digit_value}
@@ -17,7 +42,8 @@ digits_are : (text : List ℕ) → list_all is_ascii_digit text ≡ true → All
 digits_are [] h = tt
 digits_are (c ∷ text) h = go (is_ascii_digit c) refl h (digits_are text)
   where
-    go : (b : Bool) → is_ascii_digit c ≡ b → (b && list_all is_ascii_digit text) ≡ true → (list_all is_ascii_digit text ≡ true → AllDigits 10 text) → AllDigits 10 (c ∷ text)
+    go : (b : Bool) → is_ascii_digit c ≡ b → (b && list_all is_ascii_digit text) ≡ true
+        → (list_all is_ascii_digit text ≡ true → AllDigits 10 text) → AllDigits 10 (c ∷ text)
     go true e k next = (digit_is c e, next k)
     go false e k next = absurd (search (rules, k))
 

@@ -66,7 +66,8 @@ module _ {E : Type 0} (shown : E → Option (List ℕ)) (quiet reported : Watche
       go (inr unread) = (inr (record { taken = taken; unread = subst (IsToldUnread shown quiet reported) is unread }), refl)
 
   module _ {W : Type 0} (before written : W) where
-    pub help_told : (kind : ErrorKind) → IsHelp kind → (status : Status) → IsHelpTold shown quiet reported status → IsKindTold shown before written quiet reported kind status
+    pub help_told : (kind : ErrorKind) → IsHelp kind → (status : Status) → IsHelpTold shown quiet reported status
+        → IsKindTold shown before written quiet reported kind status
     help_told kind help Done silent = (help, silent)
     help_told kind help Refused none = absurd none
     help_told kind help BadInput none = absurd none
@@ -74,7 +75,8 @@ module _ {E : Type 0} (shown : E → Option (List ℕ)) (quiet reported : Watche
 
     -- where it does not
     pub kind_told : (words : List (List ℕ)) (error : Error) → HasKind (fault_of command_line words) error
-        → (status : Status) → IsKindTold shown before written quiet reported (kind_of error) status → AskForNone words shown before written quiet reported status
+        → (status : Status) → IsKindTold shown before written quiet reported (kind_of error) status
+        → AskForNone words shown before written quiet reported status
     kind_told words error (inl memory) Done (help, silent) = absurd (not_memory (kind_of error) help memory)
     kind_told words error (inr among) Done (help, silent) = (record { kind = kind_of error; among = among; help = help }, silent)
     kind_told words error has Refused none = absurd none

@@ -10,7 +10,8 @@ pub unread_here : (option : Reads) (options : List Reads) (word : List ℕ) → 
 unread_here option options word is reads = rw (reads, is) refl
 
 -- it is not this one
-pub unread_later : (option : Reads) (options : List Reads) (found : Option (List ℕ)) → option.1 ≡ true → first_unread options ≡ found → first_unread (option ∷ options) ≡ found
+pub unread_later : (option : Reads) (options : List Reads) (found : Option (List ℕ)) → option.1 ≡ true
+    → first_unread options ≡ found → first_unread (option ∷ options) ≡ found
 unread_later option options found reads later = rw (reads) later
 
 -- a line in five pieces, of which the last was written where that went well

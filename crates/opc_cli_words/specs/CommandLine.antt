@@ -24,7 +24,8 @@ command name options = record (new_shape name) { rules = options }
 
 abbrev pub explain_options : List Rule
 explain_options =
-    needed (codes "user") ∷ preset (codes "class") (codes "OPERCMDS") ∷ needed (codes "resource") ∷ valued (codes "console") ∷ needed (codes "level") ∷ []
+    needed (codes "user") ∷ preset (codes "class") (codes "OPERCMDS") ∷ needed (codes "resource")
+    ∷ valued (codes "console") ∷ needed (codes "level") ∷ []
 
 abbrev pub run_options : List Rule
 run_options = valued (codes "db") ∷ valued (codes "policy") ∷ []
@@ -36,7 +37,8 @@ abbrev pub export_options : List Rule
 export_options = needed (codes "db") ∷ []
 
 abbrev pub serve_options : List Rule
-serve_options = needed (codes "db") ∷ needed (codes "port") ∷ preset (codes "count") (codes "1000000") ∷ valued (codes "timeout") ∷ []
+serve_options = needed (codes "db") ∷ needed (codes "port") ∷ preset (codes "count") (codes "1000000")
+    ∷ valued (codes "timeout") ∷ []
 
 abbrev pub commands : List Shape
 commands =

@@ -1,5 +1,25 @@
 -- What is read of the words of the command line, and what is told where they ask for no task.
-use Rattle.std.specs.Prelude.{◌≡◌, ◌≢◌, ◌⊎◌, ◌++◌, ◌∷◌, ℕ, false, List, [], Option, None, Result, Ok, Err, codes, drop, map, String, string_bytes}
+use Rattle.std.specs.Prelude.{
+  ◌≡◌,
+  ◌≢◌,
+  ◌⊎◌,
+  ◌++◌,
+  ◌∷◌,
+  ℕ,
+  false,
+  List,
+  [],
+  Option,
+  None,
+  Result,
+  Ok,
+  Err,
+  codes,
+  drop,
+  map,
+  String,
+  string_bytes,
+}
 use Rattle.std.specs.Io.KnownBytes.{Appends}
 use Rattle.std.specs.declared.alloc.Global.{Global}
 use Rattle.clap.specs.Faults.{fault_of}
@@ -24,7 +44,8 @@ words_after words = map string_bytes (drop 1 words)
 
 -- what is printed of an option whose value does not read
 abbrev pub unread_line : (command option : List ℕ) → List ℕ
-unread_line command option = codes "error: the value of " ++ option ++ codes " does not read; see opcmds " ++ command ++ codes " --help\n"
+unread_line command option = codes "error: the value of " ++ option ++ codes " does not read; see opcmds " ++ command
+    ++ codes " --help\n"
 
 -- help, or the version
 abbrev pub IsHelp : ErrorKind → Type 0
@@ -55,12 +76,14 @@ module _ {E : Type 0} (shown : E → Option (List ℕ)) (quiet reported : Watche
     pub failure : IsFailure fault
     pub printed : reported.failed ≡ false → IsReported fault (shown quiet.inner) (shown reported.inner)
 
-  -- What was found is a command, and the value of this option of it does not read; that is printed, unless a write failed.
+  -- What was found is a command, and the value of this option of it does not read; that is printed, unless a write
+  -- failed.
   pub record IsToldUnread (found : Option (List ℕ × List Row)) : Type 0 where
     pub command : List ℕ
     pub option : List ℕ
     pub fails : FailsAt found command option
-    pub printed : reported.failed ≡ false → Appends (shown quiet.inner) (shown reported.inner) (unread_line command option)
+    pub printed : reported.failed ≡ false
+        → Appends (shown quiet.inner) (shown reported.inner) (unread_line command option)
 
   -- What was found is a task, and nothing is printed; or it is no command, or an option's value does not read.
   abbrev pub IsTaskRead : Option (List ℕ × List Row) → Result Task Status → Type 0
@@ -83,11 +106,13 @@ module _ {W E : Type 0} (shown : E → Option (List ℕ)) (before written : W) (
   IsKindTold kind Failed = IsToldFailure shown quiet reported
 
 -- The command line takes the words, but not the value of an option, and that is printed.
-pub record AreToldUnread {E : Type 0} (shown : E → Option (List ℕ)) (quiet reported : Watched E) (words : List (List ℕ)) : Type 0 where
+pub record AreToldUnread {E : Type 0} (shown : E → Option (List ℕ)) (quiet reported : Watched E)
+    (words : List (List ℕ)) : Type 0 where
   pub taken : fault_of command_line words ≡ []
   pub unread : IsToldUnread shown quiet reported (subcommand_of command_line words)
 
-module _ (words : List (List ℕ)) {W E : Type 0} (shown : E → Option (List ℕ)) (before written : W) (quiet reported : Watched E) where
+module _ (words : List (List ℕ)) {W E : Type 0} (shown : E → Option (List ℕ)) (before written : W)
+    (quiet reported : Watched E) where
   -- Why there is no task, by the status.
   abbrev pub AskForNone : Status → Type 0
   AskForNone Done = AskForHelp words × (reported ≡ quiet)

@@ -1,5 +1,27 @@
 -- What the words of the command line ask for, by the matches that `clap` found.
-use Rattle.std.specs.Prelude.{◌≡◌, ◌*◌, ℕ, Bool, true, false, List, [], ◌∷◌, Option, Some, None, Result, Ok, Err, codes, if◌then◌else◌, is_none, is_some, option_map, unwrap_or}
+use Rattle.std.specs.Prelude.{
+  ◌≡◌,
+  ◌*◌,
+  ℕ,
+  Bool,
+  true,
+  false,
+  List,
+  [],
+  ◌∷◌,
+  Option,
+  Some,
+  None,
+  Result,
+  Ok,
+  Err,
+  codes,
+  if◌then◌else◌,
+  is_none,
+  is_some,
+  option_map,
+  unwrap_or,
+}
 use Rattle.std.specs.Borrow.{Bor}
 use Rattle.std.specs.Duration.{as_nanos}
 use Rattle.std.specs.Option.{option_copied, option_map_or}
@@ -81,15 +103,18 @@ module _ (value : List ℕ → Option (List ℕ)) where
 
   -- A silent peer is waited for so long: for the seconds that are given, or without end where none are.
   abbrev pub IsWait : Option Duration → Type 0
-  IsWait wait = option_map (λ time. Some (as_nanos time)) wait ≡ option_map (λ text. option_map (λ seconds. seconds * 1_000_000_000) (number_between 1 3_600 text)) (value (codes "timeout"))
+  IsWait wait = option_map (λ time. Some (as_nanos time)) wait ≡ option_map
+      (λ text. option_map (λ seconds. seconds * 1_000_000_000) (number_between 1 3_600 text)) (value (codes "timeout"))
 
   abbrev pub timeout_option : Reads
-  timeout_option = (codes "--timeout", option_map_or (λ text. is_some (number_between 1 3_600 text)) (value (codes "timeout")) true)
+  timeout_option =
+      (codes "--timeout", option_map_or (λ text. is_some (number_between 1 3_600 text)) (value (codes "timeout")) true)
 
   -- the options of a command, in the order in which they are read
   abbrev pub options_of : (command : List ℕ) → List Reads
   options_of command =
-      if bytes_eq command (codes "explain") then user_option ∷ class_option ∷ resource_option ∷ console_option ∷ level_option ∷ []
+      if bytes_eq command (codes "explain") then user_option ∷ class_option ∷ resource_option ∷ console_option
+      ∷ level_option ∷ []
       else if bytes_eq command (codes "run") then []
       else if bytes_eq command (codes "import") then batch_option ∷ console_option ∷ []
       else if bytes_eq command (codes "export") then []
@@ -120,18 +145,21 @@ module _ (value : List ℕ → Option (List ℕ)) where
   -- what a command of this name asks for
   abbrev pub IsTaskOf : (command : List ℕ) → Task → Type 0
   IsTaskOf command (task.Explain question) = (command ≡ codes "explain") × IsQuestion question
-  IsTaskOf command (task.Run paths) = (command ≡ codes "run") × (option_copied paths.database ≡ value (codes "db")) × (option_copied paths.policy ≡ value (codes "policy"))
+  IsTaskOf command (task.Run paths) = (command ≡ codes "run") × (option_copied paths.database ≡ value (codes "db"))
+      × (option_copied paths.policy ≡ value (codes "policy"))
   IsTaskOf command (task.Import import) = (command ≡ codes "import") × IsImport import
   IsTaskOf command (task.Export path) = (command ≡ codes "export") × (path.now ≡ given (codes "db"))
   IsTaskOf command (task.Serve serve) = (command ≡ codes "serve") × IsService serve
 
 -- The words are those of a command, with the values of its options in these rows, and ask for this task.
 abbrev pub AsksFor : Option (List ℕ × List Row) → Task → Type 0
-AsksFor found task = (command : List ℕ) × (rows : List Row) × (found ≡ Some (command, rows)) × IsTaskOf (λ name. first_of name rows) command task
+AsksFor found task = (command : List ℕ) × (rows : List Row) × (found ≡ Some (command, rows))
+    × IsTaskOf (λ name. first_of name rows) command task
 
 -- They are those of a command, and the value of this option is the first of it that does not read.
 abbrev pub FailsAt : Option (List ℕ × List Row) → (command word : List ℕ) → Type 0
-FailsAt found command word = (rows : List Row) × (found ≡ Some (command, rows)) × (first_unread (options_of (λ name. first_of name rows) command) ≡ Some word)
+FailsAt found command word = (rows : List Row) × (found ≡ Some (command, rows))
+    × (first_unread (options_of (λ name. first_of name rows) command) ≡ Some word)
 
 -- what was found asks for this task
 abbrev pub IsTask : ArgMatches → Task → Type 0

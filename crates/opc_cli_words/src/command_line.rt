@@ -2,7 +2,19 @@
 ghost use Rattle.std.specs.Prelude.{◌≡◌, IfOk, false, codes, []};
 ghost use Rattle.clap.specs.Walk.{rule_of};
 ghost use Rattle.clap.specs.Simple.{app_of};
-ghost use Rattle.opc_cli_words.specs.CommandLine.{IsCommand, command_line, explain_options, export_options, import_options, needed, preset, program, run_options, serve_options, valued};
+ghost use Rattle.opc_cli_words.specs.CommandLine.{
+  IsCommand,
+  command_line,
+  explain_options,
+  export_options,
+  import_options,
+  needed,
+  preset,
+  program,
+  run_options,
+  serve_options,
+  valued,
+};
 
 use clap::{Arg, ArgAction, Command};
 use std::alloc::{AllocError, Global};

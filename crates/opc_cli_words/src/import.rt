@@ -18,7 +18,8 @@ pub struct Import<'a> {
 
 /// A batch's number, 1 to 999,999,999.
 fn batch_in(chosen: &ArgMatches<'_>) -> Result<u32, &'static str>
-    ensures { IsReadAs (λ batch. batch_of (first_value (found_of chosen.now)) ≡ Some batch) (batch_option (first_value (found_of chosen.now))) result }
+    ensures { IsReadAs (λ batch. batch_of (first_value (found_of chosen.now)) ≡ Some batch)
+        (batch_option (first_value (found_of chosen.now))) result }
 {
     match number_between(chosen.get_str("batch").unwrap_or(""), 1, 999_999_999) {
         Some(number) => Ok(number as u32),
@@ -29,7 +30,8 @@ fn batch_in(chosen: &ArgMatches<'_>) -> Result<u32, &'static str>
 impl<'a> Import<'a> {
     /// What these words ask for, or the name of the first option whose value does not read.
     pub fn read(chosen: &ArgMatches<'a>) -> Result<Self, &'static str>
-        ensures { AreReadAs (IsImport (first_value (found_of chosen.now))) (options_of (first_value (found_of chosen.now)) (codes "import")) result }
+        ensures { AreReadAs (IsImport (first_value (found_of chosen.now)))
+            (options_of (first_value (found_of chosen.now)) (codes "import")) result }
     {
         let batch = batch_in(chosen)?;
         let console = console_in(chosen)?;

@@ -2,7 +2,18 @@
 ghost use Rattle.std.specs.Prelude.{◌≡◌, Some, codes};
 ghost use Rattle.clap.specs.Matches.{first_value, found_of};
 ghost use Rattle.opc_names.specs.Spellings.{classes, levels, lookup};
-ghost use Rattle.opc_cli_words.specs.Tasks.{AreReadAs, IsQuestion, IsReadAs, class_option, console_option, given, level_option, options_of, resource_option, user_option};
+ghost use Rattle.opc_cli_words.specs.Tasks.{
+  AreReadAs,
+  IsQuestion,
+  IsReadAs,
+  class_option,
+  console_option,
+  given,
+  level_option,
+  options_of,
+  resource_option,
+  user_option,
+};
 
 use clap::ArgMatches;
 use opc_names::class::Class;
@@ -20,7 +31,8 @@ pub struct Question {
 }
 
 fn user_in(chosen: &ArgMatches<'_>) -> Result<UserId, &'static str>
-    ensures { IsReadAs (λ user. user ≡ given (first_value (found_of chosen.now)) (codes "user")) (user_option (first_value (found_of chosen.now))) result }
+    ensures { IsReadAs (λ user. user ≡ given (first_value (found_of chosen.now)) (codes "user"))
+        (user_option (first_value (found_of chosen.now))) result }
 {
     match UserId::read(chosen.get_str("user").unwrap_or("")) {
         Ok(user) => Ok(user),
@@ -29,7 +41,8 @@ fn user_in(chosen: &ArgMatches<'_>) -> Result<UserId, &'static str>
 }
 
 fn class_in(chosen: &ArgMatches<'_>) -> Result<Class, &'static str>
-    ensures { IsReadAs (λ class. lookup classes (given (first_value (found_of chosen.now)) (codes "class")) ≡ Some class) (class_option (first_value (found_of chosen.now))) result }
+    ensures { IsReadAs (λ class. lookup classes (given (first_value (found_of chosen.now)) (codes "class")) ≡ Some
+        class) (class_option (first_value (found_of chosen.now))) result }
 {
     match Class::read(chosen.get_str("class").unwrap_or("")) {
         Some(class) => Ok(class),
@@ -38,7 +51,8 @@ fn class_in(chosen: &ArgMatches<'_>) -> Result<Class, &'static str>
 }
 
 fn resource_in(chosen: &ArgMatches<'_>) -> Result<Resource, &'static str>
-    ensures { IsReadAs (λ resource. resource ≡ given (first_value (found_of chosen.now)) (codes "resource")) (resource_option (first_value (found_of chosen.now))) result }
+    ensures { IsReadAs (λ resource. resource ≡ given (first_value (found_of chosen.now)) (codes "resource"))
+        (resource_option (first_value (found_of chosen.now))) result }
 {
     match Resource::read(chosen.get_str("resource").unwrap_or("")) {
         Ok(resource) => Ok(resource),
@@ -48,7 +62,8 @@ fn resource_in(chosen: &ArgMatches<'_>) -> Result<Resource, &'static str>
 
 /// The console that is named, if one is.
 pub(crate) fn console_in(chosen: &ArgMatches<'_>) -> Result<Option<ConsoleName>, &'static str>
-    ensures { IsReadAs (λ console. console ≡ first_value (found_of chosen.now) (codes "console")) (console_option (first_value (found_of chosen.now))) result }
+    ensures { IsReadAs (λ console. console ≡ first_value (found_of chosen.now) (codes "console"))
+        (console_option (first_value (found_of chosen.now))) result }
 {
     let Some(text) = chosen.get_str("console") else {
         return Ok(None);
@@ -60,7 +75,8 @@ pub(crate) fn console_in(chosen: &ArgMatches<'_>) -> Result<Option<ConsoleName>,
 }
 
 fn level_in(chosen: &ArgMatches<'_>) -> Result<Level, &'static str>
-    ensures { IsReadAs (λ level. lookup levels (given (first_value (found_of chosen.now)) (codes "level")) ≡ Some level) (level_option (first_value (found_of chosen.now))) result }
+    ensures { IsReadAs (λ level. lookup levels (given (first_value (found_of chosen.now)) (codes "level")) ≡ Some level)
+        (level_option (first_value (found_of chosen.now))) result }
 {
     match Level::read(chosen.get_str("level").unwrap_or("")) {
         Some(level) => Ok(level),
@@ -71,7 +87,8 @@ fn level_in(chosen: &ArgMatches<'_>) -> Result<Level, &'static str>
 impl Question {
     /// The question of these words, or the name of the first option whose value does not read.
     pub fn read(chosen: &ArgMatches<'_>) -> Result<Self, &'static str>
-        ensures { AreReadAs (IsQuestion (first_value (found_of chosen.now))) (options_of (first_value (found_of chosen.now)) (codes "explain")) result }
+        ensures { AreReadAs (IsQuestion (first_value (found_of chosen.now)))
+            (options_of (first_value (found_of chosen.now)) (codes "explain")) result }
     {
         let user = user_in(chosen)?;
         let class = class_in(chosen)?;

@@ -8,7 +8,15 @@ ghost use Rattle.clap.specs.Simple.{subcommand_of, subcommand_rows_of};
 ghost use Rattle.clap.specs.Values.{kind_of};
 ghost use Rattle.opc_cli_failures.specs.Statuses.{IsFailure};
 ghost use Rattle.opc_cli_words.specs.CommandLine.{command_line};
-ghost use Rattle.opc_cli_words.specs.Reading.{AreRead, IsHelpTold, IsKindTold, IsTaskRead, IsToldFailure, unread_line, words_after};
+ghost use Rattle.opc_cli_words.specs.Reading.{
+  AreRead,
+  IsHelpTold,
+  IsKindTold,
+  IsTaskRead,
+  IsToldFailure,
+  unread_line,
+  words_after,
+};
 ghost use Rattle.opc_cli_words.specs.Tasks.{AreReadAs, IsTaskOf, options_of};
 
 use crate::command_line::command_line;
@@ -36,8 +44,8 @@ pub enum Task<'a> {
     Serve(Serve<'a>),
 }
 
-/// What the words ask for, of which the first is the program's own name. Where they ask for help or do not read, that is
-/// told, and the status is given.
+/// What the words ask for, of which the first is the program's own name. Where they ask for help or do not read, that
+/// is told, and the status is given.
 pub fn read_words<'a, W: Write, E: Write>(
     alloc: Global,
     words: &'a [String],
@@ -91,7 +99,8 @@ fn task_of<'a, E: Write>(
 
 /// What a command with these options asks for, or the name of the first one that does not read.
 fn asked<'a>(command: &str, chosen: &ArgMatches<'a>) -> Result<Task<'a>, &'static str>
-    ensures { AreReadAs (IsTaskOf (first_value (found_of chosen.now)) command.now) (options_of (first_value (found_of chosen.now)) command.now) result }
+    ensures { AreReadAs (IsTaskOf (first_value (found_of chosen.now)) command.now)
+        (options_of (first_value (found_of chosen.now)) command.now) result }
 {
     match command {
         "explain" => match Question::read(chosen) {
@@ -117,7 +126,8 @@ fn asked<'a>(command: &str, chosen: &ArgMatches<'a>) -> Result<Task<'a>, &'stati
 
 /// Tells that the value of an option does not read.
 fn tell_unread<K: Sink>(command: &str, option: &str, errors: &mut K)
-    ensures { K.has_failed errors.new ≡ false → Appends (K.held errors.old) (K.held errors.new) (unread_line command.now option.now) }
+    ensures { K.has_failed errors.new ≡ false
+        → Appends (K.held errors.old) (K.held errors.new) (unread_line command.now option.now) }
 {
     // The status tells it too, where no word can be printed.
     let _ = print_unread(command, option, errors);

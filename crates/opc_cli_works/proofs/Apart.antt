@@ -72,7 +72,8 @@ asked_there id = rw (same id) refl
 
 -- ---- an answer to which both stand is neither
 
-not_both : (answer : Answer) (reported other : Answer) → (reported ≡ other → ⊥) → IsAborted answer ⊎ (answer ≡ reported) → IsAborted answer ⊎ (answer ≡ other) → IsAborted answer
+not_both : (answer : Answer) (reported other : Answer) → (reported ≡ other → ⊥) → IsAborted answer ⊎ (answer ≡ reported)
+    → IsAborted answer ⊎ (answer ≡ other) → IsAborted answer
 not_both answer reported other apart (inl up) second = up
 not_both answer reported other apart (inr first) (inl up) = up
 not_both answer reported other apart (inr first) (inr second) = absurd (apart (sym first ∙ second))
@@ -93,7 +94,9 @@ at_console r name names = (
       (offline_console (with_offline name) r name (offline name) names (offline_there name) refl moment answer other two),
 )
 
-happens : (s : State) (e : Event) (b : BoardRows) → event_effect s.board e ≡ done b → (moment : ℕ) (answer : Answer) (new : State) → Step s moment (input.Event e) answer new → IsAborted answer ⊎ (answer ≡ Done [] None)
+happens : (s : State) (e : Event) (b : BoardRows) → event_effect s.board e ≡ done b
+    → (moment : ℕ) (answer : Answer) (new : State) → Step s moment (input.Event e) answer new → IsAborted answer
+    ⊎ (answer ≡ Done [] None)
 happens s e b does moment answer new step = elim (events_wherever s moment e _ answer new does step) [ inl up ↦ inl up | inr it ↦ inr it.answered ]
 
 an_event : (e : Event) → MayBeRefused (input.Event e) → AreApart (input.Event e)
@@ -111,7 +114,9 @@ an_event (event.JobEnd name) may = (
   λ moment answer new other one two.
       not_both answer (Refused fault.NoUnit None) (Done [] None) (λ is. cc)
       (event_faults empty moment (event.JobEnd name) board.NoUnit answer new refl one)
-      (happens (with_job name) (event.JobEnd name) (without_unit name (with_job name).board) (ap (λ o. found board.NoUnit o >>= λ unit. done (without_unit name (with_job name).board)) (job_there name)) moment answer other two),
+      (happens (with_job name) (event.JobEnd name) (without_unit name (with_job name).board)
+      (ap (λ o. found board.NoUnit o >>= λ unit. done (without_unit name (with_job name).board)) (job_there name))
+      moment answer other two),
 )
 an_event (event.Ask id text) may = (
   empty,

@@ -40,7 +40,20 @@ use Rattle.opc_cli_program.specs.declared.work.Work.{Work}
 use Rattle.opc_cli_words.specs.declared.import.Import.{Import as Asked}
 use Rattle.opc_io.specs.declared.watched.Watched.{Watched}
 use Rattle.opc_cli_works.specs.Works.{IsEnd}
-use Rattle.opc_cli_works.specs.Kept.{HoldTablesOf, IsFirstRefused, IsKeptFirstRun, IsKeptRequest, IsKeptScript, IsWorkOver, ExportsLeaveTheFile, FirstImportsAreKept, FirstPoliciesAreKept, ImportsAreKept, RefusedPoliciesChangeNothing, RunsAreKept}
+use Rattle.opc_cli_works.specs.Kept.{
+  HoldTablesOf,
+  IsFirstRefused,
+  IsKeptFirstRun,
+  IsKeptRequest,
+  IsKeptScript,
+  IsWorkOver,
+  ExportsLeaveTheFile,
+  FirstImportsAreKept,
+  FirstPoliciesAreKept,
+  ImportsAreKept,
+  RefusedPoliciesChangeNothing,
+  RunsAreKept,
+}
 
 taken_well : {X : Type 0} (Y : Failure → Type 0) (t : Result Status Failure) → t ≡ Ok Done → MatchResult t (λ _. X) Y → X
 taken_well Y (Ok status) is h = h
@@ -53,7 +66,8 @@ without Y (Some a) is h = absurd (cc)
 -- ---- answers that are told
 
 -- what ended well was done, and its lines were written
-done_told : {K : Type 0} (held : K → Option (List ℕ)) (has_failed : K → Bool) (a : Answer) (before written : K) (status : Status) → IsReported held has_failed a before written (Ok status)
+done_told : {K : Type 0} (held : K → Option (List ℕ)) (has_failed : K → Bool) (a : Answer) (before written : K)
+    (status : Status) → IsReported held has_failed a before written (Ok status)
     → (lines : List Line) × (rule : Option Rule) × (a ≡ answer.Done lines rule) × Appends (held before) (held written) (lines_text lines)
 done_told held has_failed (answer.Done lines rule) before written status reported = (lines, rule, refl, reported.1)
 done_told held has_failed (answer.Refused fault rule) before written status reported = absurd reported.0
@@ -63,7 +77,8 @@ not_aborted a lines rule is (inl memory) = absurd cc
 not_aborted a lines rule is (inr store) = absurd cc
 
 -- what is done is what the machine makes of the state
-made : (s : State) (moment : ℕ) (r : Input) (a : Answer) (next : State) (lines : List Line) (rule : Option Rule) → a ≡ answer.Done lines rule → Step s moment r a next
+made : (s : State) (moment : ℕ) (r : Input) (a : Answer) (next : State) (lines : List Line) (rule : Option Rule)
+    → a ≡ answer.Done lines rule → Step s moment r a next
     → (answer_of (outcome s r) ≡ answer.Done lines rule) × (next ≡ after s moment r (outcome s r))
 made s moment r a next lines rule is (inl left) = absurd (not_aborted a lines rule is left.aborts)
 made s moment r a next lines rule is (inr (inl full)) = absurd (not_aborted a lines rule is (inr full.answers))
@@ -113,13 +128,15 @@ module _ {D : Type 0} (g : disk.Ghosts D) where
     pub taken : bootstrapped rows s ≡ Ok first
     pub are : Are mid first
 
-  first_taken : (opened mid : Tables) (ended : Status) (s : State) → Sure mid → Are opened s → IsPolicyTaken Sure Are Leave opened mid (Ok ended) None → Begun opened mid s
+  first_taken : (opened mid : Tables) (ended : Status) (s : State) → Sure mid → Are opened s
+      → IsPolicyTaken Sure Are Leave opened mid (Ok ended) None → Begun opened mid s
   first_taken opened mid ended s sure was (inl unread) = absurd unread.0
   first_taken opened mid ended s sure was (inr it) =
       let over = (it.2.taken sure s was).done in
       record { rows = it.0; read = it.1; first = over.next; taken = over.becomes; are = over.represented }
 
-  first_refused : (opened mid : Tables) (failure : Failure) (s : State) → Sure mid → Are opened s → (IsFailure failure.fault → ⊥) → IsPolicyTaken Sure Are Leave opened mid (Err failure) None
+  first_refused : (opened mid : Tables) (failure : Failure) (s : State) → Sure mid → Are opened s
+      → (IsFailure failure.fault → ⊥) → IsPolicyTaken Sure Are Leave opened mid (Err failure) None
       → IsFirstRefused s failure.fault × Are mid s
   first_refused opened mid failure s sure was reported (inl (inl failed, same)) = absurd (reported failed)
   first_refused opened mid failure s sure was reported (inl (inr refused, same)) = (inl refused, subst (λ (t : Tables). Are t s) (sym same) was)
@@ -136,14 +153,17 @@ module _ {D : Type 0} (g : disk.Ghosts D) where
 
     -- ---- a script
 
-    begun : (mid last : Tables) (left : Option (List ℕ)) (before written : Watched W) (status : Status) → IsAnsweredInput Sure Are Leave held has_failed mid last left before written (Ok status)
+    begun : (mid last : Tables) (left : Option (List ℕ)) (before written : Watched W) (status : Status)
+        → IsAnsweredInput Sure Are Leave held has_failed mid last left before written (Ok status)
         → IsInputRun Sure Are Leave held has_failed mid last left before written (Ok status)
     begun mid last left before written status (inl nothing) = absurd nothing.unread
     begun mid last left before written status (inr run) = run
 
-    whole : (mid last : Tables) (requests : List (ℕ × Request)) (before written : Option (List ℕ)) (status : Status) (ran : Result Status ScriptFault) → IsEndOf ran (Ok status)
+    whole : (mid last : Tables) (requests : List (ℕ × Request)) (before written : Option (List ℕ)) (status : Status)
+        (ran : Result Status ScriptFault) → IsEndOf ran (Ok status)
         → IsScriptRun Sure Are Leave mid last requests before written ran → IsWhole Sure Are Leave mid last requests before written status
-    whole mid last requests before written status (Ok reported) ends w = subst (λ (x : Status). IsWhole Sure Are Leave mid last requests before written x) (cc) w
+    whole mid last requests before written status (Ok reported) ends w =
+        subst (λ (x : Status). IsWhole Sure Are Leave mid last requests before written x) (cc) w
     whole mid last requests before written status (Err (BadLine number)) ends (inl w) = absurd (let same = w.no_memory in cc)
     whole mid last requests before written status (Err (BadLine number)) ends (inr w) = absurd w.cut_off
     whole mid last requests before written status (Err NoMemory) ends w = absurd ends
@@ -155,7 +175,8 @@ module _ {D : Type 0} (g : disk.Ghosts D) where
     text_run mid last script before written ran text (inr not) = absurd (not.0 text)
 
     script_kept : (mid last : Tables) (s : State) (left : Option (List ℕ)) (before written : Watched W) (status : Status) (files : Files D)
-        → IsEnd last (Ok files) → AreClean g files.log files.db → Are mid s → IsAnsweredInput Sure Are Leave held has_failed mid last left before written (Ok status)
+        → IsEnd last (Ok files) → AreClean g files.log files.db → Are mid s
+        → IsAnsweredInput Sure Are Leave held has_failed mid last left before written (Ok status)
         → IsKeptScript g s left (held before) (held written) status files
     script_kept mid last s left before written status files ends clean was answered =
         let input = begun mid last left before written status answered in (
@@ -163,7 +184,8 @@ module _ {D : Type 0} (g : disk.Ghosts D) where
           input.are,
           λ text none.
               let ran = text_run mid last input.script (held before) (held written) input.ran text input.run in
-              let run = whole mid last (requests_in input.script) (held before) (held written) status input.ran input.ends (without _ (bad_line input.script) none ran) in
+              let run = whole mid last (requests_in input.script) (held before) (held written) status input.ran
+              input.ends (without _ (bad_line input.script) none ran) in
               let it = run.run (ends.1 clean).was_clean s was in
               record {
                 answers = run.answers;
@@ -177,10 +199,15 @@ module _ {D : Type 0} (g : disk.Ghosts D) where
 
     -- what came of the first policy, and then of the script
     abbrev Then : (mid last : Tables) → Option (List ℕ) → (before written : Watched W) → Result Status Failure → Result Status Failure → Type 0
-    Then mid last left before written end taken = MatchResult taken (λ _. IsAnsweredInput Sure Are Leave held has_failed mid last left before written end) (λ failure. (end ≡ Err failure) × (last ≡ mid) × (written ≡ before))
+    Then mid last left before written end taken =
+        MatchResult taken (λ _. IsAnsweredInput Sure Are Leave held has_failed mid last left before written end)
+        (λ failure. (end ≡ Err failure) × (last ≡ mid) × (written ≡ before))
 
-    module _ (opened mid last : Tables) (s : State) (left : Option (List ℕ)) (before written : Watched W) (files : Files D) (ends : IsEnd last (Ok files)) (clean : AreClean g files.log files.db) (sure : Sure mid) (was : Are opened s) where
-      first_kept : (status : Status) (taken : Result Status Failure) → IsPolicyTaken Sure Are Leave opened mid taken None → Then mid last left before written (Ok status) taken
+    module _ (opened mid last : Tables) (s : State) (left : Option (List ℕ)) (before written : Watched W)
+        (files : Files D) (ends : IsEnd last (Ok files)) (clean : AreClean g files.log files.db) (sure : Sure mid)
+        (was : Are opened s) where
+      first_kept : (status : Status) (taken : Result Status Failure)
+          → IsPolicyTaken Sure Are Leave opened mid taken None → Then mid last left before written (Ok status) taken
           → IsKeptFirstRun g s left (held before) (held written) status files
       first_kept status (Ok ended) takes answered =
           let first = first_taken opened mid ended s sure was takes in
@@ -193,7 +220,8 @@ module _ {D : Type 0} (g : disk.Ghosts D) where
           }
       first_kept status (Err failure) takes ended = absurd (let same = ended.0 in cc)
 
-      refused_kept : (failure : Failure) → (IsFailure failure.fault → ⊥) → (taken : Result Status Failure) → IsPolicyTaken Sure Are Leave opened mid taken None → Then mid last left before written (Err failure) taken
+      refused_kept : (failure : Failure) → (IsFailure failure.fault → ⊥) → (taken : Result Status Failure)
+          → IsPolicyTaken Sure Are Leave opened mid taken None → Then mid last left before written (Err failure) taken
           → IsFirstRefused s failure.fault × (written ≡ before) × HoldTablesOf g files s
       refused_kept failure reported (Ok ended) takes (inl nothing) = absurd (reported (input_failed failure nothing.unread))
       refused_kept failure reported (Ok ended) takes (inr run) = absurd (reported (script_failed run.ran failure run.ends))
@@ -206,7 +234,8 @@ module _ {D : Type 0} (g : disk.Ghosts D) where
           )
 
     request_kept : (opened last : Tables) (s : State) (moment : ℕ) (r : Input) (before written : Watched W) (status : Status) (files : Files D)
-        → IsEnd last (Ok files) → AreClean g files.log files.db → Are opened s → IsOneStep Sure Are Leave opened last (Ok status) held has_failed before written moment r
+        → IsEnd last (Ok files) → AreClean g files.log files.db → Are opened s
+        → IsOneStep Sure Are Leave opened last (Ok status) held has_failed before written moment r
         → IsKeptRequest g s moment r (held before) (held written) files
     request_kept opened last s moment r before written status files ends clean was step =
         let it = step.handled (ends.1 clean).was_clean s was in
@@ -222,7 +251,9 @@ module _ {D : Type 0} (g : disk.Ghosts D) where
 
     -- ---- each work
 
-    module _ {s : State} {work : Work} {left : Option (List ℕ)} {before written : Watched W} {end : Result Status Failure} {files : Files D} (over : IsWorkOver g contents s work left before written end files) where
+    module _ {s : State} {work : Work} {left : Option (List ℕ)} {before written : Watched W}
+        {end : Result Status Failure} {files : Files D}
+        (over : IsWorkOver g contents s work left before written end files) where
       last_sure : Sure over.works.last
       last_sure = (over.works.ends.1 over.clean).was_clean
 
@@ -233,26 +264,34 @@ module _ {D : Type 0} (g : disk.Ghosts D) where
     runs_are_kept s left before written status files over =
         let r = over.works in
         let answered = taken_well _ r.done.taken r.done.takes.0 r.done.runs in
-        let same = subst (λ (mid : Tables). IsAnsweredInput Sure Are Leave held has_failed mid r.last left before written (Ok status)) r.done.takes.1 answered in
+        let same = subst (λ (mid : Tables). IsAnsweredInput Sure Are Leave held has_failed mid r.last left before
+        written (Ok status)) r.done.takes.1 answered in
         script_kept r.opened r.last s left before written status files r.ends over.clean (start over) same
 
     pub first_policies_are_kept : FirstPoliciesAreKept g contents
     first_policies_are_kept s path left before written status files over =
         let r = over.works in
-        first_kept r.opened r.done.mid r.last s left before written files r.ends over.clean (r.done.sure (last_sure over)) (start over) status r.done.taken r.done.takes r.done.runs
+        first_kept r.opened r.done.mid r.last s left before written files r.ends over.clean
+        (r.done.sure (last_sure over)) (start over) status r.done.taken r.done.takes r.done.runs
 
     pub refused_change_nothing : RefusedPoliciesChangeNothing g contents
     refused_change_nothing s path left before written failure files over reported =
         let r = over.works in
-        refused_kept r.opened r.done.mid r.last s left before written files r.ends over.clean (r.done.sure (last_sure over)) (start over) failure reported r.done.taken r.done.takes r.done.runs
+        refused_kept r.opened r.done.mid r.last s left before written files r.ends over.clean
+        (r.done.sure (last_sure over)) (start over) failure reported r.done.taken r.done.takes r.done.runs
 
-    module _ (opened last : Tables) (s : State) (import : Asked) (left : Option (List ℕ)) (before written : Watched W) (status : Status) (files : Files D) (ends : IsEnd last (Ok files)) (clean : AreClean g files.log files.db) (was : Are opened s) where
+    module _ (opened last : Tables) (s : State) (import : Asked) (left : Option (List ℕ)) (before written : Watched W)
+        (status : Status) (files : Files D) (ends : IsEnd last (Ok files)) (clean : AreClean g files.log files.db)
+        (was : Are opened s) where
       at_console : (console : List ℕ) → import.console ≡ Some console → IsImportNow Sure Are Leave contents opened last left before written (Ok status) import
-          → (rows : List Row) × AreRead left rows × ((moment : ℕ) × IsKeptRequest g s moment (input.Import console import.batch rows) (held before) (held written) files)
+          → (rows : List Row) × AreRead left rows
+          × ((moment : ℕ) × IsKeptRequest g s moment (input.Import console import.batch rows) (held before)
+          (held written) files)
       at_console console is (inl failed) = absurd failed.0
       at_console console is (inr (moment, early, inl nothing)) = absurd nothing.unread
       at_console console is (inr (moment, early, inr (rows, read, taken))) =
-          let step = subst (λ (c : Option (List ℕ)). AreTaken Sure Are Leave opened last (Ok status) held has_failed before written moment import.batch c rows) is taken in
+          let step = subst (λ (c : Option (List ℕ)). AreTaken Sure Are Leave opened last (Ok status) held has_failed
+          before written moment import.batch c rows) is taken in
           (rows, read, (moment, request_kept opened last s moment (input.Import console import.batch rows) before written status files ends clean was step))
 
       without_console : import.console ≡ None → IsImportNow Sure Are Leave contents opened last left before written (Ok status) import
@@ -260,13 +299,15 @@ module _ {D : Type 0} (g : disk.Ghosts D) where
       without_console is (inl failed) = absurd failed.0
       without_console is (inr (moment, early, inl nothing)) = absurd nothing.unread
       without_console is (inr (moment, early, inr (rows, read, taken))) =
-          let both = subst (λ (c : Option (List ℕ)). AreTaken Sure Are Leave opened last (Ok status) held has_failed before written moment import.batch c rows) is taken in
+          let both = subst (λ (c : Option (List ℕ)). AreTaken Sure Are Leave opened last (Ok status) held has_failed
+          before written moment import.batch c rows) is taken in
           let over = (both.0.taken (ends.1 clean).was_clean s was).done in
           (rows, read, (over.next, over.becomes, both.1, holds_last last files ends clean over.next over.represented))
 
     pub imports_are_kept : ImportsAreKept g contents
     imports_are_kept s import console left before written status files over is =
-        at_console over.works.opened over.works.last s import left before written status files over.works.ends over.clean (start over) console is over.works.done
+        at_console over.works.opened over.works.last s import left before written status files over.works.ends
+        over.clean (start over) console is over.works.done
 
     pub first_imports_are_kept : FirstImportsAreKept g contents
     first_imports_are_kept s import left before written status files over is =

@@ -1,5 +1,33 @@
--- What a crash leaves at a request, or a fault of the disk that closes the tables, and what becomes of the requests after it.
-use Rattle.std.proofs.Common.{◌≡◌, ◌∙◌, ◌⊎◌, inl, inr, ℕ, zero, suc, ◌+◌, ◌^◌, ◌≤◌, ◌<◌, List, [], ◌∷◌, ◌++◌, length, length-append, Option, Ok, Err, refl, sym, ap, subst, arith}
+-- What a crash leaves at a request, or a fault of the disk that closes the tables, and what becomes of the requests
+-- after it.
+use Rattle.std.proofs.Common.{
+  ◌≡◌,
+  ◌∙◌,
+  ◌⊎◌,
+  inl,
+  inr,
+  ℕ,
+  zero,
+  suc,
+  ◌+◌,
+  ◌^◌,
+  ◌≤◌,
+  ◌<◌,
+  List,
+  [],
+  ◌∷◌,
+  ◌++◌,
+  length,
+  length-append,
+  Option,
+  Ok,
+  Err,
+  refl,
+  sym,
+  ap,
+  subst,
+  arith,
+}
 use Rattle.sqlite_disk.specs.declared.Disk as disk
 use Rattle.sqlite_trees.specs.declared.store.Store.{Ghosts}
 use Rattle.sqlite_trees.specs.Tree.{Trees}
@@ -47,7 +75,8 @@ longer n s less is = let same : length (rows n) ≡ length s.account = ap (λ (t
 longer_by : (old : List AccountRow) (row : AccountRow) (new : List AccountRow) → new ≡ old ++ row ∷ [] → length old ≤ length new
 longer_by old row new is = let more : length new ≡ length old + 1 = ap length is ∙ length-append old (row ∷ []) in omega (arith, more)
 
-refused_grows : (s : State) (moment : ℕ) (r : Input) (fault : Fault) (rule : Option Rule) (o : Outcome) → Refused fault rule ≡ answer_of o → length s.account ≤ length (after s moment r o).account
+refused_grows : (s : State) (moment : ℕ) (r : Input) (fault : Fault) (rule : Option Rule) (o : Outcome)
+    → Refused fault rule ≡ answer_of o → length s.account ≤ length (after s moment r o).account
 refused_grows s moment r fault rule (Ok deed) is = absurd cc
 refused_grows s moment r fault rule (Err denial) is = longer_by s.account _ _ refl
 
@@ -68,11 +97,17 @@ grows s moment r (Refused fault rule) next (inr (inr done)) =
 after_grows : (n : ℕ) (moment : ℕ) (r : Input) → 2 ^ 63 ≤ n → n ≤ length (after (accounting n) moment r (outcome (accounting n) r)).account
 after_grows n moment r high =
     let s = accounting n in
-    let unfit : Fits s → Fits (after s moment r (outcome s r)) = λ fits. absurd (let few : length (rows n) < 2 ^ 63 = fits.account in omega (arith, few, many n, high)) in
-    let more = grows s moment r (answer_of (outcome s r)) (after s moment r (outcome s r)) (inr (inr (record { answers = refl; becomes = refl; fits = unfit }))) in
+    let unfit : Fits s → Fits (after s moment r (outcome s r)) =
+    λ fits. absurd (let few : length (rows n) < 2 ^ 63 = fits.account in omega (arith, few, many n, high)) in
+    let more = grows s moment r (answer_of (outcome s r)) (after s moment r (outcome s r)) (inr (inr (record {
+      answers = refl;
+      becomes = refl;
+      fits = unfit;
+    }))) in
     omega (arith, more, many n)
 
-too_long : (moment : ℕ) (r : Input) (n : ℕ) (left : State) → 2 ^ 63 ≤ n → length left.account < n → left ≡ after (accounting n) moment r (outcome (accounting n) r) → ⊥
+too_long : (moment : ℕ) (r : Input) (n : ℕ) (left : State) → 2 ^ 63 ≤ n → length left.account < n
+    → left ≡ after (accounting n) moment r (outcome (accounting n) r) → ⊥
 too_long moment r n left high less is =
     let alike : length left.account ≡ length (after (accounting n) moment r (outcome (accounting n) r)).account = ap (λ (t : State). length t.account) is in
     absurd (omega (arith, alike, less, after_grows n moment r high))
@@ -90,7 +125,9 @@ module _ {S : Type 0} (g : Ghosts S) where
           let one = handled clean empty (every empty) in
           let n = suc (length one.next.account) in
           let two = handled clean (accounting n) (every (accounting n)) in
-          let same = one_state (state g new).now.trees one.next two.next (alone_from (state g new).now one.next (one.represented is_open)) (alone_from (state g new).now two.next (two.represented is_open)) in
+          let same = one_state (state g new).now.trees one.next two.next
+          (alone_from (state g new).now one.next (one.represented is_open))
+          (alone_from (state g new).now two.next (two.represented is_open)) in
           let alike : length one.next.account ≡ length two.next.account = ap (λ (t : State). length t.account) same in
           let more : length (rows n) ≤ length two.next.account = grows (accounting n) moment r answer two.next two.step in
           absurd (omega (arith, many n, alike, more))
@@ -110,7 +147,8 @@ module _ {S : Type 0} (g : Ghosts S) where
 
     -- ---- a crash at the request
 
-    module _ (s : State) (was : RepresentsIfOpen g old s) (alone : (left : State) → MayLeave g old left → left ≡ s) (trees : Trees) (may : (state g new).may_leave trees) where
+    module _ (s : State) (was : RepresentsIfOpen g old s) (alone : (left : State) → MayLeave g old left → left ≡ s)
+        (trees : Trees) (may : (state g new).may_leave trees) where
       abbrev next : State
       next = after s moment r (outcome s r)
 
@@ -134,7 +172,8 @@ module _ {S : Type 0} (g : Ghosts S) where
           ]
 
   pub stay : ShutTablesStay g
-  stay old new moment r answer handled clean shut = (still_shut old new moment r answer handled clean shut, nothing_new old new moment r answer handled clean shut)
+  stay old new moment r answer handled clean shut =
+      (still_shut old new moment r answer handled clean shut, nothing_new old new moment r answer handled clean shut)
 
   pub give_up : ShutTablesGiveUp g
   give_up old new moment r answer handled clean shut may = aborted old new moment r answer handled clean shut may

@@ -39,7 +39,8 @@ use Rattle.opc_cli_works.specs.Works.{IsWorkAt}
 
 -- Why a first policy is refused: the file has none, or its rows are.
 abbrev pub IsFirstRefused : State → Fault → Type 0
-IsFirstRefused s fault = IsRefused None fault ⊎ ((rows : List Row) × AreRead None rows × (bootstrapped rows s ≡ Err fault))
+IsFirstRefused s fault = IsRefused None fault
+    ⊎ ((rows : List Row) × AreRead None rows × (bootstrapped rows s ≡ Err fault))
 
 module _ {D : Type 0} (g : disk.Ghosts D) where
   -- The files hold tables of the state, as they read now and as a crash leaves them.
@@ -50,7 +51,8 @@ module _ {D : Type 0} (g : disk.Ghosts D) where
     pub left : (image : Image) → outcomes g files.log files.db image → HoldsAlone image trees
 
   -- The requests of a script were run from a state, its answers written, and the files hold the state that they led to.
-  pub record IsKeptRun (s : State) (script : List ℕ) (before written : Option (List ℕ)) (status : Status) (files : Files D) : Type 0 where
+  pub record IsKeptRun (s : State) (script : List ℕ) (before written : Option (List ℕ)) (status : Status)
+      (files : Files D) : Type 0 where
     pub answers : List Answer
     pub last : State
     pub runs : Runs s (inputs_of (requests_in script)) answers last
@@ -61,10 +63,12 @@ module _ {D : Type 0} (g : disk.Ghosts D) where
   -- A script was read of what the input had left. If no line of it is bad, it was run from this state.
   abbrev pub IsKeptScript : State → (left before written : Option (List ℕ)) → Status → Files D → Type 0
   IsKeptScript s left before written status files =
-      (script : List ℕ) × AreScriptBytes left script × (IsUtf8 script → bad_line script ≡ None → IsKeptRun s script before written status files)
+      (script : List ℕ) × AreScriptBytes left script
+      × (IsUtf8 script → bad_line script ≡ None → IsKeptRun s script before written status files)
 
   -- The rows of a first policy were taken, and the script run from the state that they made.
-  pub record IsKeptFirstRun (s : State) (left before written : Option (List ℕ)) (status : Status) (files : Files D) : Type 0 where
+  pub record IsKeptFirstRun (s : State) (left before written : Option (List ℕ)) (status : Status)
+      (files : Files D) : Type 0 where
     pub rows : List Row
     pub read : AreRead None rows
     pub first : State
@@ -72,7 +76,8 @@ module _ {D : Type 0} (g : disk.Ghosts D) where
     pub run : IsKeptScript first left before written status files
 
   -- The request was done, its lines written, and the files hold the state that it makes.
-  pub record IsKeptRequest (s : State) (moment : ℕ) (r : Input) (before written : Option (List ℕ)) (files : Files D) : Type 0 where
+  pub record IsKeptRequest (s : State) (moment : ℕ) (r : Input) (before written : Option (List ℕ))
+      (files : Files D) : Type 0 where
     pub lines : List Line
     pub rule : Option Rule
     pub answers : answer_of (outcome s r) ≡ Done lines rule
@@ -81,7 +86,8 @@ module _ {D : Type 0} (g : disk.Ghosts D) where
 
   module _ {W : Type 0} (contents : W → Option (List ℕ)) where
     -- In all of these the files held tables of the state, the work was done over them, and the files were closed.
-    pub record IsWorkOver (s : State) (work : Work) (left : Option (List ℕ)) (before written : Watched W) (end : Result Status Failure) (files : Files D) : Type 0 where
+    pub record IsWorkOver (s : State) (work : Work) (left : Option (List ℕ)) (before written : Watched W)
+        (end : Result Status Failure) (files : Files D) : Type 0 where
       pub image : Image
       pub found : Trees
       pub holds : HoldsDatabase image found
@@ -93,39 +99,49 @@ module _ {D : Type 0} (g : disk.Ghosts D) where
     abbrev pub RunsAreKept : Type 0
     RunsAreKept =
         (s : State) (left : Option (List ℕ)) (before written : Watched W) (status : Status) (files : Files D)
-        → IsWorkOver s (Run None) left before written (Ok status) files → IsKeptScript s left (contents before.inner) (contents written.inner) status files
+        → IsWorkOver s (Run None) left before written (Ok status) files
+        → IsKeptScript s left (contents before.inner) (contents written.inner) status files
 
     -- and so do they after a first policy, which was taken before.
     abbrev pub FirstPoliciesAreKept : Type 0
     FirstPoliciesAreKept =
-        (s : State) (path : Bor (List ℕ)) (left : Option (List ℕ)) (before written : Watched W) (status : Status) (files : Files D)
-        → IsWorkOver s (Run (Some path)) left before written (Ok status) files → IsKeptFirstRun s left (contents before.inner) (contents written.inner) status files
+        (s : State) (path : Bor (List ℕ)) (left : Option (List ℕ)) (before written : Watched W) (status : Status)
+        (files : Files D)
+        → IsWorkOver s (Run (Some path)) left before written (Ok status) files
+        → IsKeptFirstRun s left (contents before.inner) (contents written.inner) status files
 
-    -- Where the run ends by a fault that is not of memory, the store or a device, the first policy was refused, nothing was
-    -- printed, and they hold tables of the state as it was.
+    -- Where the run ends by a fault that is not of memory, the store or a device, the first policy was refused, nothing
+    -- was printed, and they hold tables of the state as it was.
     abbrev pub RefusedPoliciesChangeNothing : Type 0
     RefusedPoliciesChangeNothing =
-        (s : State) (path : Bor (List ℕ)) (left : Option (List ℕ)) (before written : Watched W) (failure : Failure) (files : Files D)
+        (s : State) (path : Bor (List ℕ)) (left : Option (List ℕ)) (before written : Watched W) (failure : Failure)
+        (files : Files D)
         → IsWorkOver s (Run (Some path)) left before written (Err failure) files → (IsFailure failure.fault → ⊥)
         → IsFirstRefused s failure.fault × (written ≡ before) × HoldTablesOf files s
 
     -- An import at a console that ends well was done, as one request,
     abbrev pub ImportsAreKept : Type 0
     ImportsAreKept =
-        (s : State) (import : Asked) (console : List ℕ) (left : Option (List ℕ)) (before written : Watched W) (status : Status) (files : Files D)
+        (s : State) (import : Asked) (console : List ℕ) (left : Option (List ℕ)) (before written : Watched W)
+        (status : Status) (files : Files D)
         → IsWorkOver s (Import import) left before written (Ok status) files → import.console ≡ Some console
-        → (rows : List Row) × AreRead left rows × ((moment : ℕ) × IsKeptRequest s moment (input.Import console import.batch rows) (contents before.inner) (contents written.inner) files)
+        → (rows : List Row) × AreRead left rows
+        × ((moment : ℕ) × IsKeptRequest s moment (input.Import console import.batch rows) (contents before.inner)
+        (contents written.inner) files)
 
     -- and one without a console was taken as a first policy, and nothing was printed.
     abbrev pub FirstImportsAreKept : Type 0
     FirstImportsAreKept =
-        (s : State) (import : Asked) (left : Option (List ℕ)) (before written : Watched W) (status : Status) (files : Files D)
+        (s : State) (import : Asked) (left : Option (List ℕ)) (before written : Watched W) (status : Status)
+        (files : Files D)
         → IsWorkOver s (Import import) left before written (Ok status) files → import.console ≡ None
-        → (rows : List Row) × AreRead left rows × ((first : State) × (bootstrapped rows s ≡ Ok first) × (written ≡ before) × HoldTablesOf files first)
+        → (rows : List Row) × AreRead left rows
+        × ((first : State) × (bootstrapped rows s ≡ Ok first) × (written ≡ before) × HoldTablesOf files first)
 
     -- An export writes the policy file of the state, whose tables they hold still.
     abbrev pub ExportsLeaveTheFile : Type 0
     ExportsLeaveTheFile =
-        (s : State) (left : Option (List ℕ)) (before written : Watched W) (end : Result Status Failure) (files : Files D)
+        (s : State) (left : Option (List ℕ)) (before written : Watched W) (end : Result Status Failure)
+        (files : Files D)
         → IsWorkOver s Export left before written end files
         → IsWritten (exported s) (contents before.inner) (contents written.inner) end × HoldTablesOf files s

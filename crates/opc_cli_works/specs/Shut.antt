@@ -1,4 +1,5 @@
--- What a crash leaves at a request, or a fault of the disk that closes the tables, and what becomes of the requests after it.
+-- What a crash leaves at a request, or a fault of the disk that closes the tables, and what becomes of the requests
+-- after it.
 use Rattle.std.specs.Prelude.{◌⊎◌, ℕ, ⊤}
 use Rattle.sqlite_disk.specs.declared.Disk as disk
 use Rattle.sqlite_store.specs.declared.store.FileStore.{FileStore}
@@ -27,30 +28,37 @@ MayBeRefused other = ⊤
 module _ {S : Type 0} (g : Ghosts S) where
   -- A gate over a store handled a request.
   abbrev pub IsHandledOver : (old new : Held S) → (moment : ℕ) → Input → Answer → Type 0
-  IsHandledOver old new moment r answer = IsSure g new → (s : State) → RepresentsIfOpen g old s → IsHandled (RepresentsIfOpen g) (MayLeave g) old new s moment r answer
+  IsHandledOver old new moment r answer =
+      IsSure g new → (s : State) → RepresentsIfOpen g old s
+      → IsHandled (RepresentsIfOpen g) (MayLeave g) old new s moment r answer
 
   -- Closed tables stay closed, whatever is asked, and a crash leaves nothing but what it would have left before.
   abbrev pub ShutTablesStay : Type 0
   ShutTablesStay =
-      (old new : Held S) (moment : ℕ) (r : Input) (answer : Answer) → IsHandledOver old new moment r answer → IsSure g new → IsShut g old
+      (old new : Held S) (moment : ℕ) (r : Input) (answer : Answer) → IsHandledOver old new moment r answer
+      → IsSure g new → IsShut g old
       → IsShut g new × ((left : State) → MayLeave g new left → MayLeave g old left)
 
   -- A request to them is aborted.
   abbrev pub ShutTablesGiveUp : Type 0
   ShutTablesGiveUp =
-      (old new : Held S) (moment : ℕ) (r : Input) (answer : Answer) → IsHandledOver old new moment r answer → IsSure g new → IsShut g old → MayBeRefused r → IsAborted answer
+      (old new : Held S) (moment : ℕ) (r : Input) (answer : Answer) → IsHandledOver old new moment r answer
+      → IsSure g new → IsShut g old → MayBeRefused r → IsAborted answer
 
 module _ {D : Type 0} (g : disk.Ghosts D) where
   -- Trees are tables of one of two states, and an opening of files that hold them finds that state.
   pub record AreOfOneOf (trees : Trees) (s next : State) : Type 0 where
     pub are : ¬ ¬ (AreTablesOf trees s ⊎ AreTablesOf trees next)
-    pub found : (image : Image) → HoldsDatabase image trees → (again : Held (FileStore D g)) → IsOpening image again → HasCleanDisk (file_state again)
+    pub found : (image : Image) → HoldsDatabase image trees → (again : Held (FileStore D g)) → IsOpening image again
+        → HasCleanDisk (file_state again)
         → ¬ ¬ (Represents (file_state again).now s ⊎ Represents (file_state again).now next)
 
-  -- Where a crash leaves one state alone before a request, as after an opening or a change that is acknowledged, then whatever becomes of
-  -- the request, and of the tables, a crash leaves those of the state before it or of the state after it, in whole.
+  -- Where a crash leaves one state alone before a request, as after an opening or a change that is acknowledged, then
+  -- whatever becomes of the request, and of the tables, a crash leaves those of the state before it or of the state
+  -- after it, in whole.
   abbrev pub RequestsAreLeftWhole : Type 0
   RequestsAreLeftWhole =
-      (old new : Held (FileStore D g)) (s : State) (moment : ℕ) (r : Input) (answer : Answer) → IsHandledOver over_files old new moment r answer
+      (old new : Held (FileStore D g)) (s : State) (moment : ℕ) (r : Input) (answer : Answer)
+      → IsHandledOver over_files old new moment r answer
       → RepresentsIfOpen over_files old s → LeavesAlone (MayLeave over_files) old s → IsSure over_files new
       → (trees : Trees) → (file_state new).may_leave trees → AreOfOneOf trees s (after s moment r (outcome s r))

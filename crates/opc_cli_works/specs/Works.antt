@@ -34,9 +34,12 @@ use Rattle.opc_cli_program.specs.declared.work.Work.{Work}
 module _ {D : Type 0} {g : disk.Ghosts D} where
   -- What the files held is what the tables represent, and a crash leaves that.
   pub record IsOpening (image : Image) (opened : Held (FileStore D g)) : Type 0 where
-    pub found : HasCleanDisk (file_state opened) → (db : Trees) → HoldsDatabase image db → (s : State) → AreTablesOf db s → Represents (file_state opened).now s
-    pub copied : HasCleanDisk (file_state opened) → (db : Trees) → HoldsDatabase image db → (version : Older) → (s : State) → AreOldTablesOf version db s → Represents (file_state opened).now s
-    pub made : HasCleanDisk (file_state opened) → (trees : Trees) × AreFoundIn image trees × (Lists (trees catalog_tree) no_schema → Represents (file_state opened).now empty)
+    pub found : HasCleanDisk (file_state opened) → (db : Trees) → HoldsDatabase image db → (s : State)
+        → AreTablesOf db s → Represents (file_state opened).now s
+    pub copied : HasCleanDisk (file_state opened) → (db : Trees) → HoldsDatabase image db → (version : Older)
+        → (s : State) → AreOldTablesOf version db s → Represents (file_state opened).now s
+    pub made : HasCleanDisk (file_state opened) → (trees : Trees) × AreFoundIn image trees
+        × (Lists (trees catalog_tree) no_schema → Represents (file_state opened).now empty)
     pub settled : LeavesItself (file_state opened)
     pub adopted : HasCleanDisk (file_state opened) → IsAdopted image opened
 
@@ -46,19 +49,25 @@ module _ {D : Type 0} {g : disk.Ghosts D} where
       (IsTrue (file_state last).is_open → (file_state last).now ≡ (file_state last).committed)
       × IfOk closed (λ files. AreClean g files.log files.db → IsCopied last files)
 
-  -- The work was done over the tables that were opened, and the file was closed over what it left. Of what the files of the
-  -- system hold nothing is known, nor of what bytes come and go over its connections.
-  pub record IsWorkAt {W : Type 0} (contents : W → Option (List ℕ)) (image : Image) (work : Work) (left : Option (List ℕ)) (before written : Watched W) (end : Result Status Failure) (closed : Result (Files D) (Error × FileStore D g)) : Type 0 where
+  -- The work was done over the tables that were opened, and the file was closed over what it left. Of what the files of
+  -- the system hold nothing is known, nor of what bytes come and go over its connections.
+  pub record IsWorkAt {W : Type 0} (contents : W → Option (List ℕ)) (image : Image) (work : Work)
+      (left : Option (List ℕ)) (before written : Watched W) (end : Result Status Failure)
+      (closed : Result (Files D) (Error × FileStore D g)) : Type 0 where
     pub opened : Held (FileStore D g)
     pub last : Held (FileStore D g)
     pub opening : IsOpening image opened
     pub sure : IsSure over_files last → IsSure over_files opened
-    pub done : IsDone (IsSure over_files) (RepresentsIfOpen over_files) (MayLeave over_files) contents opened last left before written end {C = TcpStream} (λ _ _ _. ⊤) (λ _. None) (λ _. None) (λ path. None) work
+    pub done : IsDone (IsSure over_files) (RepresentsIfOpen over_files) (MayLeave over_files) contents opened last left
+        before written end {C = TcpStream} (λ _ _ _. ⊤) (λ _. None) (λ _. None) (λ path. None) work
     pub ends : IsEnd last closed
 
--- The program ran over new tables in memory, those of an empty state. Or there was no memory for them, and nothing was run.
-abbrev pub IsRunInMemory : {K : Type 0} → (K → Option (List ℕ)) → (K → Bool) → (holds : List ℕ → Option (List ℕ)) → Option (Bor (List ℕ)) → Option (List ℕ) → (before written : K) → Result Status Failure → Type 0
+-- The program ran over new tables in memory, those of an empty state. Or there was no memory for them, and nothing was
+-- run.
+abbrev pub IsRunInMemory : {K : Type 0} → (K → Option (List ℕ)) → (K → Bool) → (holds : List ℕ → Option (List ℕ))
+    → Option (Bor (List ℕ)) → Option (List ℕ) → (before written : K) → Result Status Failure → Type 0
 IsRunInMemory held has_failed holds policy left before written end =
     (IsErrAnd end (λ failure. IsFailure failure.fault) × (written ≡ before))
     ⊎ ((opened : _) × (last : _) × Represents (state over_memory opened).now empty
-    × IsProgramRun (IsSure over_memory) (RepresentsIfOpen over_memory) (MayLeave over_memory) held has_failed holds opened last policy left before written end)
+    × IsProgramRun (IsSure over_memory) (RepresentsIfOpen over_memory) (MayLeave over_memory) held has_failed holds
+    opened last policy left before written end)

@@ -18,8 +18,8 @@ use std::io::{Read, Write};
 /// The two files of a database that is closed, with the last commit in the database file, or why they are not.
 pub type Closed<S> = Result<Files<FileFrom<S>>, (Error, FileStore<FileFrom<S>>)>;
 
-/// Opens the database file at a path, or makes it, does a work over its tables, and closes it. `start` stands for what the
-/// files hold, and says what a torn write may leave. Returns what the work came to, and what the closing did.
+/// Opens the database file at a path, or makes it, does a work over its tables, and closes it. `start` stands for what
+/// the files hold, and says what a torn write may leave. Returns what the work came to, and what the closing did.
 pub fn work_at<S: Start, R: Read, W: Write>(
     rt: &HostRuntime,
     path: &str,
@@ -28,7 +28,8 @@ pub fn work_at<S: Start, R: Read, W: Write>(
     input: &mut R,
     output: &mut Watched<W>,
 ) -> Result<(Result<Status, Failure>, Closed<S>), OpenFault>
-    ensures worked { IfOk result (λ r. IsWorkAt W.contents (image_at S.Start) work.now (R.remaining input.old) output.old output.new r.0 r.1) }
+    ensures worked { IfOk result (λ r. IsWorkAt W.contents (image_at S.Start) work.now (R.remaining input.old) output.old
+        output.new r.0 r.1) }
     ensures failed { IfErr result (IsNotOpened ⟦<FileFrom<S> as Disk>⟧ IsFresh (image_at S.Start)) }
     ensures silent { OnErr result (output.new ≡ output.old) }
 {

@@ -1,4 +1,5 @@
-//! Works of the program from their opening to their end: over the tables of a database file, and runs over tables in memory.
+//! Works of the program from their opening to their end: over the tables of a database file, and runs over tables in
+//! memory.
 #![tactic(auto)]
 
 pub mod file;

@@ -17,7 +17,8 @@ pub fn run_in_memory<H: AllocGlobal + Openings, R: Read, K: Sink>(
     input: &mut R,
     output: &mut K,
 ) -> Result<Status, Failure>
-    ensures ran { IsRunInMemory K.held K.has_failed (H.holds rt.now) policy.entry (R.remaining input.old) output.old output.new result }
+    ensures ran { IsRunInMemory K.held K.has_failed (H.holds rt.now) policy.entry (R.remaining input.old) output.old
+        output.new result }
 {
     match Store::in_memory(rt.alloc()) {
         Ok(tables) => run_on(rt, tables, policy, input, output).0,

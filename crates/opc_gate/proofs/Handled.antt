@@ -29,15 +29,20 @@ accounts_kept [] s = refl
 accounts_kept (e ∷ edits) s = accounts_kept edits (edited e s) ∙ account_kept e s
 
 -- edits and a row that leave the state as it is are nothing, where the edits are nothing then
-pub nothing_changed : (edits : List Edit) (account : Option AccountRow) (s : State) → (all_edited edits s ≡ s → edits ≡ []) → with_account account (all_edited edits s) ≡ s → (no_edits edits && is_none account) ≡ true
+pub nothing_changed : (edits : List Edit) (account : Option AccountRow) (s : State)
+    → (all_edited edits s ≡ s → edits ≡ []) → with_account account (all_edited edits s) ≡ s
+    → (no_edits edits && is_none account) ≡ true
 nothing_changed edits None s idle same = ap (λ es. no_edits es && true) (idle same)
-nothing_changed edits (Some row) s idle same = absurd (one_more s.account row (ap (λ rows. rows ++ row ∷ []) (sym (accounts_kept edits s)) ∙ ap (λ t. t.account) same))
+nothing_changed edits (Some row) s idle same =
+    absurd (one_more s.account row (ap (λ rows. rows ++ row ∷ []) (sym (accounts_kept edits s))
+    ∙ ap (λ t. t.account) same))
 
 nothing_changes : (c : Change) (s : State) → is_nothing c ≡ true → changed_by c s ≡ s
 nothing_changes c s none = search rules
 
 -- what has something to write changes the state
-pub some_change : (s : State) (moment : ℕ) (r : Input) (answer : Answer) (c : Change) → IsDecision s moment r answer c → IsNothingWhereSame s c → is_nothing c ≡ false → after s moment r (outcome s r) ≡ s → ⊥
+pub some_change : (s : State) (moment : ℕ) (r : Input) (answer : Answer) (c : Change) → IsDecision s moment r answer c
+    → IsNothingWhereSame s c → is_nothing c ≡ false → after s moment r (outcome s r) ≡ s → ⊥
 some_change s moment r answer c d idle something same =
     let none : is_nothing c ≡ true = idle (d.becomes ∙ same) in
     cc
@@ -56,7 +61,8 @@ module _ {T : Type 0} (represents may_leave : T → State → Type 0) where
     acknowledged = λ answered. absurd (answered gives);
   }
 
-  pub unwritten : (tables : T) (s : State) (moment : ℕ) (r : Input) (answer : Answer) (c : Change) → IsDecision s moment r answer c → is_nothing c ≡ true → represents tables s
+  pub unwritten : (tables : T) (s : State) (moment : ℕ) (r : Input) (answer : Answer) (c : Change)
+      → IsDecision s moment r answer c → is_nothing c ≡ true → represents tables s
       → IsHandled represents may_leave tables tables s moment r answer
   unwritten tables s moment r answer c d none represented = record {
     next = s;
@@ -67,7 +73,9 @@ module _ {T : Type 0} (represents may_leave : T → State → Type 0) where
     acknowledged = λ answered. inr (refl, λ left h. h);
   }
 
-  pub written : (old new : T) (s : State) (moment : ℕ) (r : Input) (answer : Answer) (c : Change) → IsDecision s moment r answer c → IsNothingWhereSame s c → is_nothing c ≡ false → represents new (changed_by c s) → (Fits s → Fits (changed_by c s))
+  pub written : (old new : T) (s : State) (moment : ℕ) (r : Input) (answer : Answer) (c : Change)
+      → IsDecision s moment r answer c → IsNothingWhereSame s c → is_nothing c ≡ false → represents new (changed_by c s)
+      → (Fits s → Fits (changed_by c s))
       → ((left : State) → may_leave new left → may_leave old left ⊎ (left ≡ changed_by c s)) → ((left : State) → may_leave new left → left ≡ changed_by c s)
       → IsHandled represents may_leave old new s moment r answer
   written old new s moment r answer c d nothing something represented fits crash acknowledged = record {

@@ -8,7 +8,8 @@ use Rattle.opc_gate.specs.Handling.{IsRun}
 use Rattle.opc_gate.specs.Listening.{AreHeard, IsEndedRun, IsHeardRun}
 use Rattle.opc_gate.proofs.Running.{IsNext, run_none, sure_more}
 
-pub heard_more : {L : Type 0} (heard : L → ℕ → Answer → L → Type 0) (rs : List (ℕ × Request)) (answers : List Answer) (from mid to : L) (r : ℕ × Request) (answer : Answer)
+pub heard_more : {L : Type 0} (heard : L → ℕ → Answer → L → Type 0) (rs : List (ℕ × Request)) (answers : List Answer)
+    (from mid to : L) (r : ℕ × Request) (answer : Answer)
     → AreHeard heard rs answers from mid → heard mid r.0 answer to → AreHeard heard (rs ++ r ∷ []) (answers ++ answer ∷ []) from to
 heard_more heard [] [] from mid to r answer same one = (to, subst (λ l. heard l r.0 answer to) same one, refl)
 heard_more heard [] (a ∷ answers) from mid to r answer are one = absurd are
@@ -27,19 +28,23 @@ module _ {T L : Type 0} (is_sure : T → Type 0) (represents may_leave : T → S
 
   -- one more answer, heard
   pub goes_on : (rs : List (ℕ × Request)) (i : ℕ) (r : ℕ × Request) (old mid new : T) (from met to : L) (answer : Answer) → i < length rs → r ≡ get_or rs i r
-      → IsHeardRun is_sure represents may_leave heard old mid (take i rs) from met → IsNext is_sure represents may_leave mid new r answer → heard met r.0 answer to
+      → IsHeardRun is_sure represents may_leave heard old mid (take i rs) from met
+      → IsNext is_sure represents may_leave mid new r answer → heard met r.0 answer to
       → IsHeardRun is_sure represents may_leave heard old new (take (i + 1) rs) from to
   goes_on rs i r old mid new from met to answer low is far next one =
       let all : take (i + 1) rs ≡ take i rs ++ r ∷ [] = take_more rs i r low ∙ ap (λ x. take i rs ++ x ∷ []) (sym is) in
       record {
         answers = far.answers ++ answer ∷ [];
         run = sure_more is_sure represents may_leave rs i r old mid new far.answers answer low is far.run next;
-        heard_all = subst (λ qs. AreHeard heard qs (far.answers ++ answer ∷ []) from to) (sym all) (heard_more heard (take i rs) far.answers from met to r answer far.heard_all one);
+        heard_all = subst (λ qs. AreHeard heard qs (far.answers ++ answer ∷ []) from to) (sym all)
+            (heard_more heard (take i rs) far.answers from met to r answer far.heard_all one);
       }
 
   -- one more answer, not heard
-  pub ends : {F : Type 0} (missed : L → ℕ → Answer → L → F → Type 0) (rs : List (ℕ × Request)) (i : ℕ) (r : ℕ × Request) (old mid new : T) (from met to : L) (answer : Answer) (fault : F) → i < length rs → r ≡ get_or rs i r
-      → IsHeardRun is_sure represents may_leave heard old mid (take i rs) from met → IsNext is_sure represents may_leave mid new r answer → missed met r.0 answer to fault
+  pub ends : {F : Type 0} (missed : L → ℕ → Answer → L → F → Type 0) (rs : List (ℕ × Request)) (i : ℕ) (r : ℕ × Request)
+      (old mid new : T) (from met to : L) (answer : Answer) (fault : F) → i < length rs → r ≡ get_or rs i r
+      → IsHeardRun is_sure represents may_leave heard old mid (take i rs) from met
+      → IsNext is_sure represents may_leave mid new r answer → missed met r.0 answer to fault
       → IsEndedRun is_sure represents may_leave heard missed old new rs from to fault
   ends missed rs i r old mid new from met to answer fault low is far next one =
       let all : take (i + 1) rs ≡ take i rs ++ r ∷ [] = take_more rs i r low ∙ ap (λ x. take i rs ++ x ∷ []) (sym is) in
@@ -50,7 +55,9 @@ module _ {T L : Type 0} (is_sure : T → Type 0) (represents may_leave : T → S
         are = sym (take-append-drop (i + 1) rs) ∙ ap (λ qs. qs ++ drop (i + 1) rs) all ∙ append_assoc (take i rs) (r ∷ []) (drop (i + 1) rs);
         answers = far.answers;
         answer = answer;
-        run = λ sure s represented. subst (λ qs. IsRun represents may_leave old new s qs (far.answers ++ answer ∷ [])) all (sure_more is_sure represents may_leave rs i r old mid new far.answers answer low is far.run next sure s represented);
+        run = λ sure s represented. subst (λ qs. IsRun represents may_leave old new s qs (far.answers ++ answer ∷ []))
+            all (sure_more is_sure represents may_leave rs i r old mid new far.answers answer low is far.run next sure s
+            represented);
         met = met;
         heard_before = far.heard_all;
         missed_last = one;

@@ -25,10 +25,13 @@ runs_long s (r ∷ rs) [] last runs = absurd runs
 runs_long s (r ∷ rs) (a ∷ answers) last runs = ap suc (runs_long runs.0 rs answers last runs.2)
 
 -- what one of some requests makes, one of these and one more makes
-made_before : (s : State) (rs : List (ℕ × Request)) (answers : List Answer) (last made : State) (r : ℕ × Request) (answer : Answer) → Runs s (inputs_of rs) answers last
+made_before : (s : State) (rs : List (ℕ × Request)) (answers : List Answer) (last made : State) (r : ℕ × Request)
+    (answer : Answer) → Runs s (inputs_of rs) answers last
     → IsMadeByOne s rs answers made → IsMadeByOne s (rs ++ r ∷ []) (answers ++ answer ∷ []) made
 made_before s rs answers last made r answer runs m =
-    let few : length m.before ≤ length answers = omega (arith, runs_long s rs answers last runs, ap length m.are, length-append m.before (m.request ∷ m.later)) in
+    let few : length m.before ≤ length answers =
+    omega (arith, runs_long s rs answers last runs, ap length m.are, length-append m.before (m.request ∷ m.later))
+    in
     record {
       before = m.before;
       request = m.request;
@@ -40,11 +43,13 @@ made_before s rs answers last made r answer runs m =
     }
 
 -- the last request makes its state of the one that those before it led to
-made_last : (s : State) (rs : List (ℕ × Request)) (answers : List Answer) (mid made : State) (r : ℕ × Request) (answer : Answer) → Runs s (inputs_of rs) answers mid
+made_last : (s : State) (rs : List (ℕ × Request)) (answers : List Answer) (mid made : State) (r : ℕ × Request)
+    (answer : Answer) → Runs s (inputs_of rs) answers mid
     → made ≡ after mid r.0 (input_of r.1) (outcome mid (input_of r.1)) → IsMadeByOne s (rs ++ r ∷ []) (answers ++ answer ∷ []) made
 made_last s rs answers mid made r answer runs makes =
     let long = runs_long s rs answers mid runs in
-    let all : take (length rs) (answers ++ answer ∷ []) ≡ answers = ap (λ n. take n (answers ++ answer ∷ [])) (sym long) ∙ take-append_seam answers (answer ∷ []) in
+    let all : take (length rs) (answers ++ answer ∷ []) ≡ answers =
+    ap (λ n. take n (answers ++ answer ∷ [])) (sym long) ∙ take-append_seam answers (answer ∷ []) in
     record {
       before = rs;
       request = r;
@@ -56,12 +61,14 @@ made_last s rs answers mid made r answer runs makes =
     }
 
 module _ {T : Type 0} (represents may_leave : T → State → Type 0) where
-  acknowledged_more : (old mid new : T) (s met next : State) → IsAcknowledged may_leave old mid s met → IsAcknowledged may_leave mid new met next → IsAcknowledged may_leave old new s next
+  acknowledged_more : (old mid new : T) (s met next : State) → IsAcknowledged may_leave old mid s met
+      → IsAcknowledged may_leave mid new met next → IsAcknowledged may_leave old new s next
   acknowledged_more old mid new s met next before (inl alone) = inl alone
   acknowledged_more old mid new s met next (inl alone) (inr same) = inl (λ left h. alone left (same.1 left h) ∙ sym same.0)
   acknowledged_more old mid new s met next (inr first) (inr same) = inr (same.0 ∙ first.0, λ left h. first.1 left (same.1 left h))
 
-  pub run_more : (rs : List (ℕ × Request)) (i : ℕ) (r : ℕ × Request) (old mid new : T) (s : State) (answers : List Answer) (answer : Answer) → i < length rs → r ≡ get_or rs i r
+  pub run_more : (rs : List (ℕ × Request)) (i : ℕ) (r : ℕ × Request) (old mid new : T) (s : State)
+      (answers : List Answer) (answer : Answer) → i < length rs → r ≡ get_or rs i r
       → (run : IsRun represents may_leave old mid s (take i rs) answers) → IsHandled represents may_leave mid new run.last r.0 (input_of r.1) answer
       → IsRun represents may_leave old new s (take (i + 1) rs) (answers ++ answer ∷ [])
   run_more rs i r old mid new s answers answer low is run handled =
@@ -91,9 +98,12 @@ module _ {T : Type 0} (is_sure : T → Type 0) (represents may_leave : T → Sta
 
   -- what one more request comes to, and what the tables are sure of
   abbrev pub IsNext : T → T → ℕ × Request → Answer → Type 0
-  IsNext mid new r answer = (is_sure new → is_sure mid) × (is_sure new → (s : State) → represents mid s → IsHandled represents may_leave mid new s r.0 (input_of r.1) answer)
+  IsNext mid new r answer = (is_sure new → is_sure mid)
+      × (is_sure new → (s : State) → represents mid s
+      → IsHandled represents may_leave mid new s r.0 (input_of r.1) answer)
 
-  pub sure_more : (rs : List (ℕ × Request)) (i : ℕ) (r : ℕ × Request) (old mid new : T) (answers : List Answer) (answer : Answer) → i < length rs → r ≡ get_or rs i r
+  pub sure_more : (rs : List (ℕ × Request)) (i : ℕ) (r : ℕ × Request) (old mid new : T) (answers : List Answer)
+      (answer : Answer) → i < length rs → r ≡ get_or rs i r
       → IsSureRun old mid (take i rs) answers → IsNext mid new r answer → IsSureRun old new (take (i + 1) rs) (answers ++ answer ∷ [])
   sure_more rs i r old mid new answers answer low is far next sure s represented =
       let was = far (next.0 sure) s represented in

@@ -28,14 +28,16 @@ LeavesAlone may_leave new s = (left : State) → may_leave new left → left ≡
 
 -- A change is acknowledged: a crash leaves the new state alone, or nothing was changed.
 abbrev pub IsAcknowledged : {T : Type 0} → (T → State → Type 0) → T → T → State → State → Type 0
-IsAcknowledged may_leave old new s next = LeavesAlone may_leave new next ⊎ ((next ≡ s) × LeavesAsBefore may_leave old new)
+IsAcknowledged may_leave old new s next =
+    LeavesAlone may_leave new next ⊎ ((next ≡ s) × LeavesAsBefore may_leave old new)
 
 -- the answer is that of the machine, and no word that the request was aborted
 abbrev pub IsAnswered : Answer → Type 0
 IsAnswered answer = IsAborted answer → ⊥
 
 -- One request, handled: a step of the machine, and what a crash may leave then.
-pub record IsHandled {T : Type 0} (represents may_leave : T → State → Type 0) (old new : T) (s : State) (moment : ℕ) (r : Input) (answer : Answer) : Type 0 where
+pub record IsHandled {T : Type 0} (represents may_leave : T → State → Type 0) (old new : T) (s : State) (moment : ℕ)
+    (r : Input) (answer : Answer) : Type 0 where
   pub next : State
   pub step : Step s moment r answer next
   pub represented : represents new next
@@ -57,7 +59,8 @@ pub record IsMadeByOne (s : State) (requests : List (ℕ × Request)) (answers :
   pub makes : made ≡ after met request.0 (input_of request.1) (outcome met (input_of request.1))
 
 -- The answers are those of a run of the machine, whose last state is represented, and what a crash may leave then.
-pub record IsRun {T : Type 0} (represents may_leave : T → State → Type 0) (old new : T) (s : State) (requests : List (ℕ × Request)) (answers : List Answer) : Type 0 where
+pub record IsRun {T : Type 0} (represents may_leave : T → State → Type 0) (old new : T) (s : State)
+    (requests : List (ℕ × Request)) (answers : List Answer) : Type 0 where
   pub last : State
   pub runs : Runs s (inputs_of requests) answers last
   pub represented : represents new last

@@ -77,8 +77,10 @@ fn console_on<T: Tables>(
     request: &Request,
 ) -> Result<Option<ConsoleRow>, StoreFault>
     ensures kept { IsKept T.is_sure T.represents T.may_leave tables.old tables.new }
-    ensures console { Answers (T.is_sure tables.new) (T.represents tables.old) result (λ s console. console ≡ option_and_then (console_at s.board) (console_of (input_of request.now))) }
-    ensures keyed { Answers (T.is_sure tables.new) (T.represents tables.old) result (λ s _. IfSome (console_of (input_of request.now)) (λ _. IsKeyed s)) }
+    ensures console { Answers (T.is_sure tables.new) (T.represents tables.old) result
+        (λ s console. console ≡ option_and_then (console_at s.board) (console_of (input_of request.now))) }
+    ensures keyed { Answers (T.is_sure tables.new) (T.represents tables.old) result
+        (λ s _. IfSome (console_of (input_of request.now)) (λ _. IsKeyed s)) }
 {
     match console_of(request) {
         Some(name) => tables.console(&name),
@@ -94,7 +96,8 @@ fn user_acting_on<T: Tables>(
     console: &Option<ConsoleRow>,
 ) -> Result<Option<UserId>, StoreFault>
     ensures kept { IsKept T.is_sure T.represents T.may_leave tables.old tables.new }
-    ensures user { Answers (T.is_sure tables.new) (T.represents tables.old) result (λ s u. u ≡ option_and_then (acting_user s) console.now) }
+    ensures user { Answers (T.is_sure tables.new) (T.represents tables.old) result
+        (λ s u. u ≡ option_and_then (acting_user s) console.now) }
 {
     match console {
         Some(console) => acting_user_on(tables, alloc, console),
@@ -125,7 +128,8 @@ fn account_row(
     code: &str,
     rule: &Option<Rule>,
 ) -> Result<AccountRow, AllocError>
-    ensures { IfOk result (λ row. (s : State) → user ≡ user_acting s (input_of request.now) → row ≡ account_row s moment (input_of request.now) code.now rule.now) }
+    ensures { IfOk result (λ row. (s : State) → user ≡ user_acting s (input_of request.now)
+        → row ≡ account_row s moment (input_of request.now) code.now rule.now) }
 {
     Ok(AccountRow {
         moment,
@@ -144,8 +148,11 @@ fn decide(
     user: Option<UserId>,
     outcome: Result<Deed, Denial>,
 ) -> Result<Decision, AllocError>
-    ensures decides { (s : State) → IsOutcome s (outcome_of s (input_of request.now)) outcome → user ≡ user_acting s (input_of request.now) → IfOk result (λ d. IsDecision s moment (input_of request.now) d.answer d.change) }
-    ensures idle { (s : State) → IsOutcome s (outcome_of s (input_of request.now)) outcome → IfOk result (λ d. IsNothingWhereSame s d.change) }
+    ensures decides { (s : State) → IsOutcome s (outcome_of s (input_of request.now)) outcome
+        → user ≡ user_acting s (input_of request.now)
+        → IfOk result (λ d. IsDecision s moment (input_of request.now) d.answer d.change) }
+    ensures idle { (s : State) → IsOutcome s (outcome_of s (input_of request.now)) outcome
+        → IfOk result (λ d. IsNothingWhereSame s d.change) }
 {
     match outcome {
         Ok(deed) => {
@@ -203,7 +210,10 @@ fn outcome_on<T: Tables>(
     request: &Request,
 ) -> Decided
     ensures kept { IsKept T.is_sure T.represents T.may_leave tables.old tables.new }
-    ensures outcome { Answers (T.is_sure tables.new) (T.represents tables.old) result (λ s o. console ≡ option_and_then (console_at s.board) (console_of (input_of request.now)) → IfSome (console_of (input_of request.now)) (λ _. IsKeyed s) → IsOutcome s (outcome_of s (input_of request.now)) o) }
+    ensures outcome { Answers (T.is_sure tables.new) (T.represents tables.old) result
+        (λ s o. console ≡ option_and_then (console_at s.board) (console_of (input_of request.now))
+        → IfSome (console_of (input_of request.now)) (λ _. IsKeyed s)
+        → IsOutcome s (outcome_of s (input_of request.now)) o) }
 {
     match request {
         Request::Command { text, .. } => command_on(tables, alloc, console, text.as_str()),
@@ -225,8 +235,10 @@ fn decision_on<T: Tables>(
     request: &Request,
 ) -> Result<Decision, StoreFault>
     ensures kept { IsKept T.is_sure T.represents T.may_leave tables.old tables.new }
-    ensures decides { Answers (T.is_sure tables.new) (T.represents tables.old) result (λ s d. IsDecision s moment (input_of request.now) d.answer d.change) }
-    ensures idle { Answers (T.is_sure tables.new) (T.represents tables.old) result (λ s d. IsNothingWhereSame s d.change) }
+    ensures decides { Answers (T.is_sure tables.new) (T.represents tables.old) result
+        (λ s d. IsDecision s moment (input_of request.now) d.answer d.change) }
+    ensures idle { Answers (T.is_sure tables.new) (T.represents tables.old) result
+        (λ s d. IsNothingWhereSame s d.change) }
 {
     let console = console_on(tables, request)?;
     let user = user_acting_on(tables, alloc, &console)?;
@@ -237,7 +249,8 @@ fn decision_on<T: Tables>(
 // Writes the change of a decision, and then answers.
 fn committed<T: Tables>(tables: &mut T, alloc: Global, decision: Decision) -> Answer
     ensures sure { T.is_sure tables.new → T.is_sure tables.old }
-    ensures handled { T.is_sure tables.new → (s : State) → T.represents tables.old s → (moment : ℕ) → (r : Input) → IsDecision s moment r decision.answer decision.change → IsNothingWhereSame s decision.change
+    ensures handled { T.is_sure tables.new → (s : State) → T.represents tables.old s → (moment : ℕ) → (r : Input)
+        → IsDecision s moment r decision.answer decision.change → IsNothingWhereSame s decision.change
         → IsHandled T.represents T.may_leave tables.old tables.new s moment r result }
 {
     let Decision { answer, change } = decision;
@@ -252,7 +265,8 @@ fn committed<T: Tables>(tables: &mut T, alloc: Global, decision: Decision) -> An
 
 fn handle<T: Tables>(tables: &mut T, alloc: Global, moment: u64, request: &Request) -> Answer
     ensures sure { T.is_sure tables.new → T.is_sure tables.old }
-    ensures handled { T.is_sure tables.new → (s : State) → T.represents tables.old s → IsHandled T.represents T.may_leave tables.old tables.new s moment (input_of request.now) result }
+    ensures handled { T.is_sure tables.new → (s : State) → T.represents tables.old s
+        → IsHandled T.represents T.may_leave tables.old tables.new s moment (input_of request.now) result }
 {
     match decision_on(tables, alloc, moment, request) {
         Ok(decision) => committed(tables, alloc, decision),
@@ -273,11 +287,12 @@ impl<T: Tables> Model for Gate<T> {
 }
 
 impl<T: Tables> Gate<Cached<T>> {
-    /// A gate over these tables, with a cache of which profile decides. Where memory is refused for it (E90) the tables are
-    /// handed back. With its cache, which is empty, the gate represents each state that the tables represent.
+    /// A gate over these tables, with a cache of which profile decides. Where memory is refused for it (E90) the tables
+    /// are handed back. With its cache, which is empty, the gate represents each state that the tables represent.
     pub fn new(alloc: Global, store: T) -> Result<Self, (Fault, T)>
         ensures made { IfOk result (λ gate. (gate.tables ≡ store) × (gate.recent ≡ [])) }
-        ensures represents { IfOk result (λ gate. (s : State) → T.represents store s → ⟦<Cached<T> as Tables>⟧.represents gate s) }
+        ensures represents { IfOk result
+            (λ gate. (s : State) → T.represents store s → ⟦<Cached<T> as Tables>⟧.represents gate s) }
         ensures refused { IfErr result (λ back. (back.0 ≡ why.NoMemory) × (back.1 ≡ store)) }
     {
         match Cached::new(alloc, store) {
@@ -286,8 +301,8 @@ impl<T: Tables> Gate<Cached<T>> {
         }
     }
 
-    /// How many names are cached, 256 at most. Each has the pattern that decides it in every state that the gate represents,
-    /// or none where none does.
+    /// How many names are cached, 256 at most. Each has the pattern that decides it in every state that the gate
+    /// represents, or none where none does.
     pub fn cached(&self) -> u32
         ensures count { result ≡ length self.now.recent }
         ensures most { result ≤ 256 }
@@ -324,20 +339,26 @@ impl<T: Tables> Gate<T> {
     /// nothing.
     pub fn bootstrap(&mut self, alloc: Global, rows: &[Row]) -> Result<(), Fault>
         ensures sure { T.is_sure self.new → T.is_sure self.old }
-        ensures done { T.is_sure self.new → (s : State) → T.represents self.old s → OnOk result (IsBootstrap T.represents T.may_leave self.new s rows.now) }
-        ensures refused { T.is_sure self.new → (s : State) → T.represents self.old s → IfErr result (λ f. f ≢ why.NoMemory → f ≢ why.Store → bootstrapped rows.now s ≡ Err f) }
-        ensures unchanged { T.is_sure self.new → (s : State) → T.represents self.old s → OnErr result (T.represents self.new s) }
-        ensures crash { T.is_sure self.new → (s : State) → T.represents self.old s → (left : State) → T.may_leave self.new left → T.may_leave self.old left ⊎ (bootstrapped rows.now s ≡ Ok left) }
-        ensures idle { T.is_sure self.new → (s : State) → T.represents self.old s → HaveNothingNew rows.now s → (left : State) → T.may_leave self.new left → T.may_leave self.old left }
+        ensures done { T.is_sure self.new → (s : State) → T.represents self.old s
+            → OnOk result (IsBootstrap T.represents T.may_leave self.new s rows.now) }
+        ensures refused { T.is_sure self.new → (s : State) → T.represents self.old s
+            → IfErr result (λ f. f ≢ why.NoMemory → f ≢ why.Store → bootstrapped rows.now s ≡ Err f) }
+        ensures unchanged { T.is_sure self.new → (s : State) → T.represents self.old s
+            → OnErr result (T.represents self.new s) }
+        ensures crash { T.is_sure self.new → (s : State) → T.represents self.old s → (left : State)
+            → T.may_leave self.new left → T.may_leave self.old left ⊎ (bootstrapped rows.now s ≡ Ok left) }
+        ensures idle { T.is_sure self.new → (s : State) → T.represents self.old s → HaveNothingNew rows.now s
+            → (left : State) → T.may_leave self.new left → T.may_leave self.old left }
     {
         bootstrap(&mut self.tables, alloc, rows)
     }
 
-    /// The policy and the consoles, as the rows of a policy file. They are those that a bootstrap of new tables makes the
-    /// same policy of, and the same authorities and modes.
+    /// The policy and the consoles, as the rows of a policy file. They are those that a bootstrap of new tables makes
+    /// the same policy of, and the same authorities and modes.
     pub fn export(&mut self, alloc: Global) -> Result<Vec<Row>, Fault>
         ensures kept { IsKept T.is_sure T.represents T.may_leave self.old self.new }
-        ensures rows { Answers (T.is_sure self.new) (T.represents self.old) result (λ s rows. rows.items ≡ rows_of s.policy s.board.consoles) }
+        ensures rows { Answers (T.is_sure self.new) (T.represents self.old) result
+            (λ s rows. rows.items ≡ rows_of s.policy s.board.consoles) }
         ensures fault { IfErr result (λ f. (f ≡ why.NoMemory) ⊎ (f ≡ why.Store)) }
     {
         Ok(self.tables.written(alloc)?)
@@ -348,7 +369,8 @@ impl<T: Tables> Gate<T> {
     /// the state after it alone.
     pub fn handle(&mut self, alloc: Global, moment: u64, request: &Request) -> Answer
         ensures sure { T.is_sure self.new → T.is_sure self.old }
-        ensures handled { T.is_sure self.new → (s : State) → T.represents self.old s → IsHandled T.represents T.may_leave self.old self.new s moment (input_of request.now) result }
+        ensures handled { T.is_sure self.new → (s : State) → T.represents self.old s
+            → IsHandled T.represents T.may_leave self.old self.new s moment (input_of request.now) result }
     {
         handle(&mut self.tables, alloc, moment, request)
     }

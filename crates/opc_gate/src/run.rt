@@ -12,16 +12,17 @@ use std::alloc::{AllocError, Global};
 
 impl<T: Tables> Gate<T> {
     /// Answers requests, with their moments, one after another. The answers, and the state that the tables represent
-    /// afterwards, are those of the access machine. The room for all answers is taken first: where memory is refused for
-    /// it, no request is handled. A crash leaves what it might have left before the requests or a state that one of them
-    /// makes, in whole; once all are answered, the last state alone, where anything was changed.
+    /// afterwards, are those of the access machine. The room for all answers is taken first: where memory is refused
+    /// for it, no request is handled. A crash leaves what it might have left before the requests or a state that one of
+    /// them makes, in whole; once all are answered, the last state alone, where anything was changed.
     pub fn run(
         &mut self,
         alloc: Global,
         requests: &[(u64, Request)],
     ) -> Result<Vec<Answer>, AllocError>
         ensures sure { T.is_sure self.new → T.is_sure self.old }
-        ensures run { IfOk result (λ answers. T.is_sure self.new → (s : State) → T.represents self.old s → IsRun T.represents T.may_leave self.old self.new s requests.now answers.items) }
+        ensures run { IfOk result (λ answers. T.is_sure self.new → (s : State) → T.represents self.old s
+            → IsRun T.represents T.may_leave self.old self.new s requests.now answers.items) }
         ensures each { IfOk result (λ answers. length answers.items ≡ length requests.now) }
         ensures refused { OnErr result (self.new ≡ self.old) }
     {
@@ -33,8 +34,8 @@ impl<T: Tables> Gate<T> {
     }
 
     /// Runs requests and lets a listener hear each answer before the next request is handled; no answer is kept. The
-    /// answers, the state and what a crash leaves are those of `run`. Where an answer is not heard, the run ends with that
-    /// request, which is handled.
+    /// answers, the state and what a crash leaves are those of `run`. Where an answer is not heard, the run ends with
+    /// that request, which is handled.
     pub fn run_heard<L: Listener>(
         &mut self,
         alloc: Global,
@@ -42,7 +43,8 @@ impl<T: Tables> Gate<T> {
         listener: &mut L,
     ) -> Result<(), L::Fault>
         ensures sure { T.is_sure self.new → T.is_sure self.old }
-        ensures heard { OnOk result (IsHeardRun T.is_sure T.represents T.may_leave L.heard self.old self.new requests.now listener.old listener.new) }
+        ensures heard { OnOk result (IsHeardRun T.is_sure T.represents T.may_leave L.heard self.old self.new requests.now
+            listener.old listener.new) }
         ensures ended { IfErr result (IsEndedRun T.is_sure T.represents T.may_leave L.heard L.missed self.old self.new requests.now listener.old listener.new) }
     {
         for request in requests {

@@ -46,13 +46,15 @@ one_edit s made p e makes becomes changes o is =
     subst (λ x. IsOutcome s x o) (ap (λ t. does t [] None) becomes ∙ ap (policy_outcome s) (sym makes)) (one_change s (Ok (edited e s)) e refl changes o is)
 
 -- where nothing is to be done, a deed without edits is the outcome
-pub left_alone : (s : State) (made : Result Policy Fault) → made ≡ Ok s.policy → (edits : Vec Edit Global) → edits.items ≡ [] → (r : Result (Result found.Deed found_denial.Denial) StoreFault)
+pub left_alone : (s : State) (made : Result Policy Fault) → made ≡ Ok s.policy → (edits : Vec Edit Global)
+    → edits.items ≡ [] → (r : Result (Result found.Deed found_denial.Denial) StoreFault)
     → r ≡ Ok (Ok (record { edits = edits; lines = []; rule = None })) → IfOk r (λ o. IsOutcome s (policy_outcome s made) o)
 left_alone s made makes edits none r is =
     subst (λ x. IfOk x (λ o. IsOutcome s (policy_outcome s made) o)) (sym is)
     (record { makes = ap (policy_outcome s) makes ∙ ap (λ es. does (all_edited es s) [] None) (sym none); idle = λ same. none })
 
-pub state_alone : (s : State) (made : Result State Fault) → made ≡ Ok s → (edits : Vec Edit Global) → edits.items ≡ [] → (r : Result (Result found.Deed found_denial.Denial) StoreFault)
+pub state_alone : (s : State) (made : Result State Fault) → made ≡ Ok s → (edits : Vec Edit Global) → edits.items ≡ []
+    → (r : Result (Result found.Deed found_denial.Denial) StoreFault)
     → r ≡ Ok (Ok (record { edits = edits; lines = []; rule = None })) → IfOk r (λ o. IsOutcome s (state_outcome made) o)
 state_alone s made makes edits none r is =
     subst (λ x. IfOk x (λ o. IsOutcome s (state_outcome made) o)) (sym is)
@@ -72,6 +74,7 @@ policy_alone s (Ok p) = ap (λ b. state_outcome (mastered b (record s { policy =
 policy_alone s (Err f) = refl
 
 -- so what is the outcome of the policy alone is that of the state
-pub to_state : (s : State) (made : Result Policy Fault) (r : Result (Result found.Deed found_denial.Denial) StoreFault) → IfOk r (λ o. IsKeyed s → IsOutcome s (policy_outcome s made) o)
+pub to_state : (s : State) (made : Result Policy Fault) (r : Result (Result found.Deed found_denial.Denial) StoreFault)
+    → IfOk r (λ o. IsKeyed s → IsOutcome s (policy_outcome s made) o)
     → IfOk r (λ o. IsKeyed s → IsOutcome s (state_outcome (with_rows_of s s.board made)) o)
 to_state s made r h = subst (λ x. IfOk r (λ o. IsKeyed s → IsOutcome s x o)) (sym (policy_alone s made)) h

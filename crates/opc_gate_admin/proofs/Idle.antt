@@ -1,5 +1,29 @@
 -- What is put among members in order, and when that leaves them as they are.
-use Rattle.std.proofs.Common.{◌≡◌, Bool, true, false, cond, not, ◌||◌, List, [], ◌∷◌, Option, Some, None, filter, Ordering, Less, Equal, Greater, refl, sym, ap, ◌∙◌, rules}
+use Rattle.std.proofs.Common.{
+  ◌≡◌,
+  Bool,
+  true,
+  false,
+  cond,
+  not,
+  ◌||◌,
+  List,
+  [],
+  ◌∷◌,
+  Option,
+  Some,
+  None,
+  filter,
+  Ordering,
+  Less,
+  Equal,
+  Greater,
+  refl,
+  sym,
+  ap,
+  ◌∙◌,
+  rules,
+}
 use Rattle.std.specs.BTreeSet.{insert_key, replace_key}
 use Rattle.std.specs.Cmp.{IsTotalOrder}
 use Rattle.std.specs.List.{find, list_any}
@@ -38,7 +62,8 @@ found_passes {K} test k (x ∷ xs) found = go (test x) refl found (found_passes 
     go false e f later = later f
 
 -- one that is put is found
-pub found_put : {K : Type 0} (cmp : K → K → Ordering) (test : K → Bool) (k : K) (xs : List K) → test k ≡ true → ((x : K) → test x ≡ true → cmp k x ≡ Equal) → find test (replace_key cmp xs k) ≡ Some k
+pub found_put : {K : Type 0} (cmp : K → K → Ordering) (test : K → Bool) (k : K) (xs : List K) → test k ≡ true
+    → ((x : K) → test x ≡ true → cmp k x ≡ Equal) → find test (replace_key cmp xs k) ≡ Some k
 found_put {K} cmp test k [] here tie = ap (λ b. let o : Option K = cond b (Some k) None in o) here
 found_put {K} cmp test k (x ∷ xs) here tie = go (cmp k x) refl (found_put cmp test k xs here tie)
   where
@@ -49,17 +74,20 @@ found_put {K} cmp test k (x ∷ xs) here tie = go (cmp k x) refl (found_put cmp 
     away true e greater = absurd (unlike (cmp k x) greater (tie x e))
     away false e greater = refl
 
-    go : (o : Ordering) → cmp k x ≡ o → find test (replace_key cmp xs k) ≡ Some k → find test (match_ordering o (k ∷ x ∷ xs) (k ∷ xs) (x ∷ replace_key cmp xs k)) ≡ Some k
+    go : (o : Ordering) → cmp k x ≡ o → find test (replace_key cmp xs k) ≡ Some k
+        → find test (match_ordering o (k ∷ x ∷ xs) (k ∷ xs) (x ∷ replace_key cmp xs k)) ≡ Some k
     go Less e later = first (x ∷ xs)
     go Equal e later = first xs
     go Greater e later = ap (λ b. cond b (Some x) (find test (replace_key cmp xs k))) (away (test x) refl e) ∙ later
 
 -- one that is found where it would be put leaves a list in order as it is
-pub put_again : {K : Type 0} (cmp : K → K → Ordering) → IsTotalOrder cmp → (test : K → Bool) (k : K) (xs : List K) → Ascends (λ q r. is_lt (cmp q r)) xs → find test xs ≡ Some k → replace_key cmp xs k ≡ xs
+pub put_again : {K : Type 0} (cmp : K → K → Ordering) → IsTotalOrder cmp → (test : K → Bool) (k : K) (xs : List K)
+    → Ascends (λ q r. is_lt (cmp q r)) xs → find test xs ≡ Some k → replace_key cmp xs k ≡ xs
 put_again cmp total test k [] order found = absurd (search (rules, found))
 put_again {K} cmp total test k (x ∷ xs) order found = go (test x) refl found (put_again cmp total test k xs order.1)
   where
-    go : (b : Bool) → test x ≡ b → cond b (Some x) (find test xs) ≡ Some k → (find test xs ≡ Some k → replace_key cmp xs k ≡ xs) → replace_key cmp (x ∷ xs) k ≡ x ∷ xs
+    go : (b : Bool) → test x ≡ b → cond b (Some x) (find test xs) ≡ Some k
+        → (find test xs ≡ Some k → replace_key cmp xs k ≡ xs) → replace_key cmp (x ∷ xs) k ≡ x ∷ xs
     go true e f later =
         let same : x ≡ k = some_is x k f in
         let compares_equal : cmp k x ≡ Equal = ap (λ y. cmp k y) same ∙ itself (cmp k k) (total.antisymm k k) in
@@ -70,7 +98,8 @@ put_again {K} cmp total test k (x ∷ xs) order found = go (test x) refl found (
         ap (λ o. match_ordering o (k ∷ x ∷ xs) (k ∷ xs) (x ∷ replace_key cmp xs k)) after ∙ ap (λ ys. x ∷ ys) (later f)
 
 -- one that is added is among them
-pub any_added : {K : Type 0} (cmp : K → K → Ordering) (test : K → Bool) (k : K) (xs : List K) → test k ≡ true → ((x : K) → cmp k x ≡ Equal → test x ≡ true) → list_any test (insert_key cmp xs k) ≡ true
+pub any_added : {K : Type 0} (cmp : K → K → Ordering) (test : K → Bool) (k : K) (xs : List K) → test k ≡ true
+    → ((x : K) → cmp k x ≡ Equal → test x ≡ true) → list_any test (insert_key cmp xs k) ≡ true
 any_added cmp test k [] here tie = ap (λ b. b || false) here
 any_added {K} cmp test k (x ∷ xs) here tie = go (cmp k x) refl (any_added cmp test k xs here tie)
   where
@@ -78,7 +107,8 @@ any_added {K} cmp test k (x ∷ xs) here tie = go (cmp k x) refl (any_added cmp 
     or_true true = refl
     or_true false = refl
 
-    go : (o : Ordering) → cmp k x ≡ o → list_any test (insert_key cmp xs k) ≡ true → list_any test (match_ordering o (k ∷ x ∷ xs) (x ∷ xs) (x ∷ insert_key cmp xs k)) ≡ true
+    go : (o : Ordering) → cmp k x ≡ o → list_any test (insert_key cmp xs k) ≡ true
+        → list_any test (match_ordering o (k ∷ x ∷ xs) (x ∷ xs) (x ∷ insert_key cmp xs k)) ≡ true
     go Less e later = ap (λ b. b || list_any test (x ∷ xs)) here
     go Equal e later = ap (λ b. b || list_any test xs) (tie x e)
     go Greater e later = ap (λ b. test x || b) later ∙ or_true (test x)
@@ -88,14 +118,17 @@ pub none_left : {K : Type 0} (test : K → Bool) (xs : List K) → list_any test
 none_left test [] = refl
 none_left {K} test (x ∷ xs) = go (test x) refl (none_left test xs)
   where
-    go : (b : Bool) → test x ≡ b → list_any test (filter (λ y. not (test y)) xs) ≡ false → list_any test (cond (not b) (x ∷ filter (λ y. not (test y)) xs) (filter (λ y. not (test y)) xs)) ≡ false
+    go : (b : Bool) → test x ≡ b → list_any test (filter (λ y. not (test y)) xs) ≡ false
+        → list_any test (cond (not b) (x ∷ filter (λ y. not (test y)) xs) (filter (λ y. not (test y)) xs)) ≡ false
     go true e later = later
     go false e later = ap (λ b. b || list_any test (filter (λ y. not (test y)) xs)) e ∙ later
 
-pub none_found : {K : Type 0} (test other : K → Bool) → ((x : K) → other x ≡ false → test x ≡ false) → (xs : List K) → find test (filter (λ x. not (other x)) xs) ≡ None
+pub none_found : {K : Type 0} (test other : K → Bool) → ((x : K) → other x ≡ false → test x ≡ false) → (xs : List K)
+    → find test (filter (λ x. not (other x)) xs) ≡ None
 none_found test other alike [] = refl
 none_found {K} test other alike (x ∷ xs) = go (other x) refl (none_found test other alike xs)
   where
-    go : (b : Bool) → other x ≡ b → find test (filter (λ y. not (other y)) xs) ≡ None → find test (cond (not b) (x ∷ filter (λ y. not (other y)) xs) (filter (λ y. not (other y)) xs)) ≡ None
+    go : (b : Bool) → other x ≡ b → find test (filter (λ y. not (other y)) xs) ≡ None
+        → find test (cond (not b) (x ∷ filter (λ y. not (other y)) xs) (filter (λ y. not (other y)) xs)) ≡ None
     go true e later = later
     go false e later = ap (λ b. cond b (Some x) (find test (filter (λ y. not (other y)) xs))) (alike x e) ∙ later

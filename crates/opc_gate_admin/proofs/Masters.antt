@@ -1,5 +1,35 @@
 -- A console that is defined, and whether a master is left.
-use Rattle.std.proofs.Common.{◌≡◌, Bool, true, false, cond, not, ◌&&◌, ◌||◌, List, [], ◌∷◌, Option, Some, None, Ok, Err, Ordering, Less, Equal, Greater, filter, take, is_eq, refl, sym, ap, ap₂, ◌∙◌, rules}
+use Rattle.std.proofs.Common.{
+  ◌≡◌,
+  Bool,
+  true,
+  false,
+  cond,
+  not,
+  ◌&&◌,
+  ◌||◌,
+  List,
+  [],
+  ◌∷◌,
+  Option,
+  Some,
+  None,
+  Ok,
+  Err,
+  Ordering,
+  Less,
+  Equal,
+  Greater,
+  filter,
+  take,
+  is_eq,
+  refl,
+  sym,
+  ap,
+  ap₂,
+  ◌∙◌,
+  rules,
+}
 use Rattle.std.specs.BTreeSet.{replace_key}
 use Rattle.std.specs.Cmp.Lexicographic.{texts_ties}
 use Rattle.std.specs.List.{find, list_any}
@@ -41,7 +71,8 @@ any_filtered : {A : Type 0} (q p : A → Bool) (xs : List A) → list_any p (fil
 any_filtered q p [] = refl
 any_filtered {A} q p (x ∷ xs) = go (q x) (any_filtered q p xs)
   where
-    go : (b : Bool) → list_any p (filter q xs) ≡ list_any (λ y. q y && p y) xs → list_any p (cond b (x ∷ filter q xs) (filter q xs)) ≡ ((b && p x) || list_any (λ y. q y && p y) xs)
+    go : (b : Bool) → list_any p (filter q xs) ≡ list_any (λ y. q y && p y) xs
+        → list_any p (cond b (x ∷ filter q xs) (filter q xs)) ≡ ((b && p x) || list_any (λ y. q y && p y) xs)
     go true later = ap (λ r. p x || r) later
     go false later = later
 
@@ -50,7 +81,8 @@ not_false true h = refl
 not_false false h = absurd (search (rules, h))
 
 -- of two consoles, one goes by another name
-two_tell : (name : Name) (xs : List ConsoleRow) → Ascends console_before xs → list_any (λ c. not (is c.name name)) (take 2 xs) ≡ list_any (λ c. not (is c.name name)) xs
+two_tell : (name : Name) (xs : List ConsoleRow) → Ascends console_before xs
+    → list_any (λ c. not (is c.name name)) (take 2 xs) ≡ list_any (λ c. not (is c.name name)) xs
 two_tell name [] order = refl
 two_tell name (x ∷ []) order = refl
 two_tell name (x ∷ y ∷ xs) order = go (not (is x.name name)) (not (is y.name name)) refl refl
@@ -97,7 +129,8 @@ back Equal h = absurd (search (rules, h))
 back Greater h = absurd (search (rules, h))
 
 -- a row that is put where one of its name is replaces it
-put_replaces : (row console : ConsoleRow) (xs : List ConsoleRow) → Ascends console_before xs → find (λ c. is c.name row.name) xs ≡ Some console → replace_key console_cmp xs row ≡ replaced row xs
+put_replaces : (row console : ConsoleRow) (xs : List ConsoleRow) → Ascends console_before xs
+    → find (λ c. is c.name row.name) xs ≡ Some console → replace_key console_cmp xs row ≡ replaced row xs
 put_replaces row console [] order found = absurd (search (rules, found))
 put_replaces row console (x ∷ xs) order found = go (is x.name row.name) refl found (put_replaces row console xs order.1)
   where
@@ -108,7 +141,9 @@ put_replaces row console (x ∷ xs) order found = go (is x.name row.name) refl f
     go false e f later =
         let before : console_before x console ≡ true = all_found (λ y. console_before x y ≡ true) (λ c. is c.name row.name) console xs f order.0 in
         let same = is_same_name console.name row.name (found_passes (λ (c : ConsoleRow). is c.name row.name) console xs f) in
-        let greater : console_cmp row x ≡ Greater = ap (λ n. console_cmp (record row { name = n }) x) (sym same) ∙ console_total.antisymm console x ∙ back (console_cmp x console) before in
+        let greater : console_cmp row x ≡ Greater =
+        ap (λ n. console_cmp (record row { name = n }) x) (sym same) ∙ console_total.antisymm console x
+        ∙ back (console_cmp x console) before in
         ap (λ o. match_ordering o (row ∷ x ∷ xs) (row ∷ xs) (x ∷ replace_key console_cmp xs row)) greater ∙ ap (λ ys. x ∷ ys) (later f)
 
 -- and one of a new name comes to its place
@@ -142,13 +177,16 @@ any_put q row (x ∷ xs) = go (console_before row x) (any_put q row xs)
     swapped true false c = refl
     swapped false b c = refl
 
-    go : (b : Bool) → list_any q (put console_before row xs) ≡ (q row || list_any q xs) → list_any q (cond b (row ∷ x ∷ xs) (x ∷ put console_before row xs)) ≡ (q row || (q x || list_any q xs))
+    go : (b : Bool) → list_any q (put console_before row xs) ≡ (q row || list_any q xs)
+        → list_any q (cond b (row ∷ x ∷ xs) (x ∷ put console_before row xs)) ≡ (q row || (q x || list_any q xs))
     go true later = refl
     go false later = ap (λ r. q x || r) later ∙ swapped (q x) (q row) (list_any q xs)
 
 put_changes : (s : State) (row : ConsoleRow) → (console_at s.board row.name ≡ Some row → ⊥) → edited (edit.PutConsole row) s ≡ s → ⊥
 put_changes s row other same =
-    other (sym (ap (λ (t : State). console_at t.board row.name) same) ∙ found_put console_cmp (λ (c : ConsoleRow). is c.name row.name) row s.board.consoles (is_itself row.name) (compares_equal row))
+    other (sym (ap (λ (t : State). console_at t.board row.name) same)
+    ∙ found_put console_cmp (λ (c : ConsoleRow). is c.name row.name) row s.board.consoles (is_itself row.name)
+    (compares_equal row))
 
 -- ---- a new console
 
@@ -164,10 +202,13 @@ new_one s name auth mode none =
     let row : ConsoleRow = new_console name auth mode in
     let added : BoardRows = record s.board { consoles = put console_before row s.board.consoles } in
     ap (λ o. mastered (loses_master s.board (defined name auth mode o s.board)) (record s { board = defined name auth mode o s.board })) none
-    ∙ ap (λ b. mastered b (record s { board = added })) (ap (λ h. has_master s.board.consoles && not h) (any_put is_master row s.board.consoles) ∙ none_of_more (is_master row) (has_master s.board.consoles))
+    ∙ ap (λ b. mastered b (record s { board = added }))
+    (ap (λ h. has_master s.board.consoles && not h) (any_put is_master row s.board.consoles)
+    ∙ none_of_more (is_master row) (has_master s.board.consoles))
     ∙ ap (λ cs. Ok (record s { board = record s.board { consoles = cs } })) (sym (put_adds row s.board.consoles none))
 
-pub new_one_changes : (s : State) (name : Name) (auth : Auth) (mode : Mode) → console_at s.board name ≡ None → edited (edit.PutConsole (new_console name auth mode)) s ≡ s → ⊥
+pub new_one_changes : (s : State) (name : Name) (auth : Auth) (mode : Mode) → console_at s.board name ≡ None
+    → edited (edit.PutConsole (new_console name auth mode)) s ≡ s → ⊥
 new_one_changes s name auth mode none = put_changes s (new_console name auth mode) (λ there. search (rules, sym none ∙ there))
 
 -- ---- one that is there
@@ -192,7 +233,8 @@ module _ (s : State) (name : Name) (auth : Auth) (mode : Mode) (stored : Console
   lost_is : loses_master s.board after ≡ (is_master stored && (not (is_master row) && not (has_other_master stored.name s.board.consoles)))
   lost_is = lost_at row stored s.board.consoles order.board.consoles by_row
 
-  pub last_lost : (is_master stored && (not (is_master row) && not (has_other_master stored.name s.board.consoles))) ≡ true → changed s (operation.DefineConsole name auth mode) ≡ Err LastMaster
+  pub last_lost : (is_master stored && (not (is_master row) && not (has_other_master stored.name s.board.consoles)))
+      ≡ true → changed s (operation.DefineConsole name auth mode) ≡ Err LastMaster
   last_lost lost = comes ∙ ap (λ b. mastered b (record s { board = after })) (lost_is ∙ lost)
 
   pub set_anew : (is_master stored && (not (is_master row) && not (has_other_master stored.name s.board.consoles))) ≡ false
@@ -204,7 +246,10 @@ module _ (s : State) (name : Name) (auth : Auth) (mode : Mode) (stored : Console
   pub set_changes : same_setting stored row ≡ false → edited (edit.PutConsole row) s ≡ s → ⊥
   set_changes differs = put_changes s row (λ there.
       let is_row : stored ≡ row = some_is stored row (sym by_row ∙ there) in
-      let alike : same_setting stored row ≡ true = ap (λ c. same_setting c row) is_row ∙ ap (λ b. b && bytes_eq (mode_text mode) (mode_text mode)) (name_itself (auth_text auth)) ∙ name_itself (mode_text mode) in
+      let alike : same_setting stored row ≡ true =
+      ap (λ c. same_setting c row) is_row
+      ∙ ap (λ b. b && bytes_eq (mode_text mode) (mode_text mode)) (name_itself (auth_text auth))
+      ∙ name_itself (mode_text mode) in
       cc)
 
   pub set_again : same_setting stored row ≡ true → changed s (operation.DefineConsole name auth mode) ≡ Ok s
@@ -212,7 +257,9 @@ module _ (s : State) (name : Name) (auth : Auth) (mode : Mode) (stored : Console
       let to_auth : stored.auth ≡ auth = auth_of _ _ (first _ _ same) in
       let to_mode : stored.mode ≡ mode = mode_of _ _ (rest (bytes_eq (auth_text stored.auth) (auth_text auth)) _ same) in
       let is_row : stored ≡ row = (λ i. record stored { auth = to_auth i; mode = to_mode i }) in
-      let again : replace_key console_cmp s.board.consoles row ≡ s.board.consoles = put_again console_cmp console_total (λ (c : ConsoleRow). is c.name row.name) row s.board.consoles order.board.consoles (by_row ∙ ap Some is_row) in
+      let again : replace_key console_cmp s.board.consoles row ≡ s.board.consoles =
+      put_again console_cmp console_total (λ (c : ConsoleRow). is c.name row.name) row s.board.consoles
+      order.board.consoles (by_row ∙ ap Some is_row) in
       let stays : replaced row s.board.consoles ≡ s.board.consoles = sym (put_replaces row stored s.board.consoles order.board.consoles by_row) ∙ again in
       comes ∙ ap (λ cs. mastered (has_master s.board.consoles && not (has_master cs)) (record s { board = record s.board { consoles = cs } })) stays
       ∙ ap (λ b. mastered b s) (none_lost (has_master s.board.consoles))

@@ -1,5 +1,36 @@
 -- Users, groups and connects that are put and removed: what the policy becomes, and that it changes.
-use Rattle.std.proofs.Common.{◌≡◌, ℕ, ◌==◌, length, arith, Bool, true, false, not, ◌||◌, ◌&&◌, List, [], ◌∷◌, Some, None, Result, Ok, Ordering, Less, Equal, Greater, is_eq, filter, cond, refl, sym, ap, ◌∙◌, rules}
+use Rattle.std.proofs.Common.{
+  ◌≡◌,
+  ℕ,
+  ◌==◌,
+  length,
+  arith,
+  Bool,
+  true,
+  false,
+  not,
+  ◌||◌,
+  ◌&&◌,
+  List,
+  [],
+  ◌∷◌,
+  Some,
+  None,
+  Result,
+  Ok,
+  Ordering,
+  Less,
+  Equal,
+  Greater,
+  is_eq,
+  filter,
+  cond,
+  refl,
+  sym,
+  ap,
+  ◌∙◌,
+  rules,
+}
 use Rattle.std.specs.Cmp.{IsTotalOrder}
 use Rattle.std.specs.Cmp.Lexicographic.{texts_ties}
 use Rattle.std.specs.List.{list_any}
@@ -52,7 +83,8 @@ compares_equal u v h = is_tie (user_cmp u v) (sym (texts_ties u.id v.id) ∙ h)
 
 user_put_changes : (s : State) (u : User) → (user_of s.policy.users u.id ≡ Some u → ⊥) → edited (edit.PutUser u) s ≡ s → ⊥
 user_put_changes s u other same =
-    other (sym (ap (λ (t : State). user_of t.policy.users u.id) same) ∙ found_put user_cmp (λ (v : User). bytes_eq u.id v.id) u s.policy.users (name_itself u.id) (compares_equal u))
+    other (sym (ap (λ (t : State). user_of t.policy.users u.id) same)
+    ∙ found_put user_cmp (λ (v : User). bytes_eq u.id v.id) u s.policy.users (name_itself u.id) (compares_equal u))
 
 user_put_again : (s : State) (u : User) → IsKeyed s → user_of s.policy.users u.id ≡ Some u → with_user u s.policy.users ≡ s.policy.users
 user_put_again s u order found = put_again user_cmp user_total (λ (v : User). bytes_eq u.id v.id) u s.policy.users order.users found
@@ -66,12 +98,15 @@ mirrored a b h = go (bytes_eq b a) refl
 
 -- one that is put at an id that is stored, and the same as before or not
 pub altered : (s : State) (b : BoardRows) (stored user : User) → user_of s.policy.users user.id ≡ Some stored
-    → policy_changed b (operation.AltUser user.id user.special user.auditor user.revoked user.digest user.restricted) s.policy ≡ Ok (record s.policy { users = with_user user s.policy.users })
+    → policy_changed b (operation.AltUser user.id user.special user.auditor user.revoked user.digest user.restricted)
+    s.policy ≡ Ok (record s.policy { users = with_user user s.policy.users })
 altered s b stored user found = ap (λ o. needing (is_some o) user.id (Ok (record s.policy { users = with_user user s.policy.users }))) found
 
-pub other_user_changes : (s : State) (stored user : User) → user_of s.policy.users user.id ≡ Some stored → same_user stored user ≡ false → edited (edit.PutUser user) s ≡ s → ⊥
+pub other_user_changes : (s : State) (stored user : User) → user_of s.policy.users user.id ≡ Some stored
+    → same_user stored user ≡ false → edited (edit.PutUser user) s ≡ s → ⊥
 other_user_changes s stored user found differs =
-    user_put_changes s user (λ h. let is : stored ≡ user = some_is stored user (sym found ∙ h) in search (rules, sym differs ∙ ap (λ u. same_user u user) is ∙ user_itself user))
+    user_put_changes s user (λ h. let is : stored ≡ user = some_is stored user (sym found ∙ h) in
+    search (rules, sym differs ∙ ap (λ u. same_user u user) is ∙ user_itself user))
 
 pub unaltered : (s : State) (b : BoardRows) (stored user : User) → IsKeyed s → user_of s.policy.users user.id ≡ Some stored → same_user stored user ≡ true
     → policy_changed b (operation.AltUser user.id user.special user.auditor user.revoked user.digest user.restricted) s.policy ≡ Ok s.policy
@@ -81,7 +116,9 @@ unaltered s b stored user order found same =
 
 pub user_removal_changes : (s : State) (id : List ℕ) → is_some (user_of s.policy.users id) ≡ true → edited (edit.RemoveUser id) s ≡ s → ⊥
 user_removal_changes s id there same =
-    let gone : user_of (without_user id s.policy.users) id ≡ None = none_found (λ (v : User). bytes_eq id v.id) (λ (v : User). bytes_eq v.id id) (λ v h. mirrored v.id id h) s.policy.users in
+    let gone : user_of (without_user id s.policy.users) id ≡ None =
+    none_found (λ (v : User). bytes_eq id v.id) (λ (v : User). bytes_eq v.id id) (λ v h. mirrored v.id id h)
+    s.policy.users in
     let still : user_of s.policy.users id ≡ None = sym (ap (λ (t : State). user_of t.policy.users id) same) ∙ gone in
     search (rules, sym there ∙ ap is_some still)
 
@@ -89,7 +126,8 @@ user_stored : (s : State) (u : User) → has_user s.policy u.id ≡ false → us
 user_stored s u none there = search (rules, sym none ∙ ap is_some there)
 
 pub added : (s : State) (b : BoardRows) (user : User) → user.revoked ≡ false → has_name s.policy user.id ≡ false
-    → policy_changed b (operation.AddUser user.id user.special user.auditor user.digest user.restricted) s.policy ≡ Ok (record s.policy { users = with_user user s.policy.users })
+    → policy_changed b (operation.AddUser user.id user.special user.auditor user.digest user.restricted) s.policy ≡ Ok
+    (record s.policy { users = with_user user s.policy.users })
 added s b user plain free =
     there_is_none (has_name s.policy user.id) user.id (Ok (record s.policy { users = with_user (record user { revoked = false }) s.policy.users })) free
     ∙ ap (λ r. Ok (record s.policy { users = with_user (record user { revoked = r }) s.policy.users })) (sym plain)
@@ -112,7 +150,8 @@ some_filtered {A} test (x ∷ xs) = go (test x) (some_filtered test xs)
     some : (ys : List A) → not (length (x ∷ ys) == 0) ≡ true
     some ys = grind (arith, nat_tests)
 
-    go : (b : Bool) → not (length (filter test xs) == 0) ≡ list_any test xs → not (length (cond b (x ∷ filter test xs) (filter test xs)) == 0) ≡ (b || list_any test xs)
+    go : (b : Bool) → not (length (filter test xs) == 0) ≡ list_any test xs
+        → not (length (cond b (x ∷ filter test xs) (filter test xs)) == 0) ≡ (b || list_any test xs)
     go true later = some (filter test xs)
     go false later = later
 
@@ -124,7 +163,8 @@ tied_names a b h = names a b (texts_ties a b ∙ ap is_eq h)
 pub new_group_changes : (s : State) (name : List ℕ) → has_name s.policy name ≡ false → edited (edit.PutGroup name) s ≡ s → ⊥
 new_group_changes s name free same =
     let there : is_group (with_group name s.policy.groups) name ≡ true =
-    any_added name_cmp (bytes_eq name) name s.policy.groups (name_itself name) (λ x h. ap (λ n. bytes_eq name n) (sym (tied_names name x h)) ∙ name_itself name) in
+    any_added name_cmp (bytes_eq name) name s.policy.groups (name_itself name)
+    (λ x h. ap (λ n. bytes_eq name n) (sym (tied_names name x h)) ∙ name_itself name) in
     let none : has_group s.policy name ≡ false = or_right (has_user s.policy name) (has_group s.policy name) free in
     search (rules, sym none ∙ sym (ap (λ (t : State). is_group t.policy.groups name) same) ∙ there)
 
@@ -133,7 +173,10 @@ same_connect c d h = go (name_cmp c.user d.user) refl h
   where
     go : (o : Ordering) → name_cmp c.user d.user ≡ o → ordering_then o (name_cmp c.group d.group) ≡ Equal → c ≡ d
     go Less e h = absurd (search (rules, h))
-    go Equal e h = let user : c.user ≡ d.user = tied_names c.user d.user e in let group : c.group ≡ d.group = tied_names c.group d.group h in λ i. record { user = user i; group = group i }
+    go Equal e h = let user : c.user ≡ d.user = tied_names c.user d.user e in let group : c.group ≡ d.group = tied_names c.group d.group h in λ i. record {
+      user = user i;
+      group = group i;
+    }
     go Greater e h = absurd (search (rules, h))
 
 connect_itself : (c : Connect) → (bytes_eq c.user c.user && bytes_eq c.group c.group) ≡ true
@@ -142,7 +185,9 @@ connect_itself c = ap (λ b. b && bytes_eq c.group c.group) (name_itself c.user)
 pub new_connect_changes : (s : State) (c : Connect) → is_connected s.policy c.user c.group ≡ false → edited (edit.PutConnect c) s ≡ s → ⊥
 new_connect_changes s c none same =
     let test : Connect → Bool = λ d. bytes_eq d.user c.user && bytes_eq d.group c.group in
-    let there : list_any test (with_connect c s.policy.connects) ≡ true = any_added connect_cmp test c s.policy.connects (connect_itself c) (λ x h. ap test (sym (same_connect c x h)) ∙ connect_itself c) in
+    let there : list_any test (with_connect c s.policy.connects) ≡ true =
+    any_added connect_cmp test c s.policy.connects (connect_itself c)
+    (λ x h. ap test (sym (same_connect c x h)) ∙ connect_itself c) in
     search (rules, sym none ∙ sym (ap (λ (t : State). list_any test t.policy.connects) same) ∙ there)
 
 pub connect_removal_changes : (s : State) (c : Connect) → is_connected s.policy c.user c.group ≡ true → edited (edit.RemoveConnect c) s ≡ s → ⊥

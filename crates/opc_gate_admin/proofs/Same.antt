@@ -36,7 +36,9 @@ user_is u v h =
     λ i. record { id = id i; special = special i; auditor = auditor i; revoked = revoked i; digest = digest i; restricted = restricted i }
 
 pub user_itself : (u : User) → same_user u u ≡ true
-user_itself u = both _ _ (name_itself u.id) (both _ _ (flag_itself u.special) (both _ _ (flag_itself u.auditor) (both _ _ (flag_itself u.revoked) (both _ _ (text_itself u.digest) (flag_itself u.restricted)))))
+user_itself u = both _ _ (name_itself u.id)
+    (both _ _ (flag_itself u.special) (both _ _ (flag_itself u.auditor)
+    (both _ _ (flag_itself u.revoked) (both _ _ (text_itself u.digest) (flag_itself u.restricted)))))
 
 pub record AreDefinedAlike (p q : Profile) : Type 0 where
   pub owner : p.owner ≡ q.owner

@@ -38,8 +38,10 @@ state_outcome made = do
   does new [] None
 
 -- Where the tables are sure, and represent a state with each key once, this is what the operation comes to.
-abbrev pub ComesTo : Type 0 → (State → Type 0) → Result (Result found.Deed found_denial.Denial) StoreFault → Operation → Type 0
-ComesTo sure represents result op = Answers sure represents result (λ s o. IsKeyed s → IsOutcome s (state_outcome (changed s op)) o)
+abbrev pub ComesTo : Type 0 → (State → Type 0) → Result (Result found.Deed found_denial.Denial) StoreFault → Operation
+    → Type 0
+ComesTo sure represents result op = Answers sure represents result
+    (λ s o. IsKeyed s → IsOutcome s (state_outcome (changed s op)) o)
 
 -- the operations on a profile and on its access list
 abbrev pub is_of_profiles : Operation → Bool
@@ -57,7 +59,8 @@ IsDoneBy edit (Err denial) = ⊥
 
 -- the level of the entry for an id in the access list of a profile, where there is such a profile
 abbrev pub level_in : Policy → Class → List ℕ → List ℕ → Option (List ℕ) → Option (Option Level)
-level_in p class pattern id when = option_map (λ (q : Profile). entry_level q.entries when id) (profile_of p.profiles class pattern)
+level_in p class pattern id when = option_map (λ (q : Profile). entry_level q.entries when id)
+    (profile_of p.profiles class pattern)
 
 -- whether a level is this one
 abbrev pub has_level : Option Level → Level → Bool
@@ -66,7 +69,8 @@ has_level (Some held) level = bytes_eq (level_text held) (level_text level)
 
 -- whether two profiles of one class and pattern are defined alike, whatever their access lists
 abbrev pub same_definition : Profile → Profile → Bool
-same_definition p q = bytes_eq p.owner q.owner && (bytes_eq (level_text p.uacc) (level_text q.uacc) && same_flag p.warning q.warning)
+same_definition p q = bytes_eq p.owner q.owner
+    && (bytes_eq (level_text p.uacc) (level_text q.uacc) && same_flag p.warning q.warning)
 
 -- whether two consoles have one authority and one mode
 abbrev pub same_setting : ConsoleRow → ConsoleRow → Bool

@@ -52,7 +52,8 @@ fn owns<T: Tables>(
     pattern: &Pattern,
 ) -> Result<bool, StoreFault>
     ensures kept { IsKept T.is_sure T.represents T.may_leave tables.old tables.new }
-    ensures owns { Answers (T.is_sure tables.new) (T.represents tables.old) result (λ s owns. owns ≡ is_owner user.now (profile_of s.policy.profiles class pattern.now)) }
+    ensures owns { Answers (T.is_sure tables.new) (T.represents tables.old) result
+        (λ s owns. owns ≡ is_owner user.now (profile_of s.policy.profiles class pattern.now)) }
 {
     match tables.definition(alloc, class, pattern)? {
         Some(profile) => Ok(is_owner(user, &profile)),
@@ -68,7 +69,8 @@ fn may_change<T: Tables>(
     op: &Operation,
 ) -> Result<bool, StoreFault>
     ensures kept { IsKept T.is_sure T.represents T.may_leave tables.old tables.new }
-    ensures may { Answers (T.is_sure tables.new) (T.represents tables.old) result (λ s may. asking.now.user ≡ acting s asking.now.console → may ≡ may_change s asking.now.console op.now) }
+    ensures may { Answers (T.is_sure tables.new) (T.represents tables.old) result
+        (λ s may. asking.now.user ≡ acting s asking.now.console → may ≡ may_change s asking.now.console op.now) }
 {
     if is_special(&asking.user) {
         return Ok(true);
@@ -93,7 +95,14 @@ fn given_user(
     digest: Option<[u8; 32]>,
     restricted: bool,
 ) -> User
-    ensures { result ≡ record { id = id; special = special; auditor = auditor; revoked = revoked; digest = digest; restricted = restricted } }
+    ensures { result ≡ record {
+      id = id;
+      special = special;
+      auditor = auditor;
+      revoked = revoked;
+      digest = digest;
+      restricted = restricted;
+    } }
 {
     User {
         id,
@@ -227,7 +236,9 @@ pub fn admin_on<T: Tables>(
     op: &Operation,
 ) -> Decided
     ensures kept { IsKept T.is_sure T.represents T.may_leave tables.old tables.new }
-    ensures outcome { Answers (T.is_sure tables.new) (T.represents tables.old) result (λ s o. (name : Name) → console ≡ console_at s.board name → IsKeyed s → IsOutcome s (admin_outcome s name op.now) o) }
+    ensures outcome { Answers (T.is_sure tables.new) (T.represents tables.old) result
+        (λ s o. (name : Name) → console ≡ console_at s.board name → IsKeyed s
+        → IsOutcome s (admin_outcome s name op.now) o) }
 {
     let asking = match requester_on(tables, alloc, console)? {
         Ok(asking) => asking,

@@ -55,7 +55,8 @@ fn has_other_master<T: Tables>(
     name: &ConsoleName,
 ) -> Result<bool, StoreFault>
     ensures kept { IsKept T.is_sure T.represents T.may_leave tables.old tables.new }
-    ensures other { Answers (T.is_sure tables.new) (T.represents tables.old) result (λ s other. IsKeyed s → other ≡ has_other_master name.now s.board.consoles) }
+    ensures other { Answers (T.is_sure tables.new) (T.represents tables.old) result
+        (λ s other. IsKeyed s → other ≡ has_other_master name.now s.board.consoles) }
 {
     let masters = tables.masters(alloc)?;
     Ok(any_other(masters.as_slice(), name))
@@ -78,8 +79,8 @@ fn loses_master<T: Tables>(
     Ok(!has_other_master(tables, alloc, &old.name)?)
 }
 
-/// A console gets an authority and a mode; a new one is online with nobody on. One that is there keeps all else, and the
-/// last online console with AUTH MASTER is not lost by it (E41).
+/// A console gets an authority and a mode; a new one is online with nobody on. One that is there keeps all else, and
+/// the last online console with AUTH MASTER is not lost by it (E41).
 pub(crate) fn define_console<T: Tables>(
     tables: &mut T,
     alloc: Global,
@@ -88,7 +89,8 @@ pub(crate) fn define_console<T: Tables>(
     mode: Mode,
 ) -> Decided
     ensures kept { IsKept T.is_sure T.represents T.may_leave tables.old tables.new }
-    ensures outcome { ComesTo (T.is_sure tables.new) (T.represents tables.old) result (operation.DefineConsole name auth mode) }
+    ensures outcome { ComesTo (T.is_sure tables.new) (T.represents tables.old) result
+        (operation.DefineConsole name auth mode) }
 {
     let stored = match tables.console(&name)? {
         Some(stored) => stored,

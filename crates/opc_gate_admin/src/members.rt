@@ -23,7 +23,8 @@ use std::alloc::Global;
 
 fn has_name<T: Tables>(tables: &mut T, name: &str) -> Result<bool, StoreFault>
     ensures kept { IsKept T.is_sure T.represents T.may_leave tables.old tables.new }
-    ensures there { Answers (T.is_sure tables.new) (T.represents tables.old) result (λ s there. there ≡ has_name s.policy name.now) }
+    ensures there { Answers (T.is_sure tables.new) (T.represents tables.old) result
+        (λ s there. there ≡ has_name s.policy name.now) }
 {
     Ok(tables.has_user(name)? || tables.has_group(name)?)
 }
@@ -31,7 +32,8 @@ fn has_name<T: Tables>(tables: &mut T, name: &str) -> Result<bool, StoreFault>
 // Whether a user is in use: named by a connect, an owner or an access list, or on at a console.
 fn is_in_use<T: Tables>(tables: &mut T, alloc: Global, id: &UserId) -> Result<bool, StoreFault>
     ensures kept { IsKept T.is_sure T.represents T.may_leave tables.old tables.new }
-    ensures used { Answers (T.is_sure tables.new) (T.represents tables.old) result (λ s used. used ≡ is_in_use s.policy s.board id.now) }
+    ensures used { Answers (T.is_sure tables.new) (T.represents tables.old) result
+        (λ s used. used ≡ is_in_use s.policy s.board id.now) }
 {
     if tables.is_named(id)? {
         return Ok(true);
@@ -45,7 +47,8 @@ pub(crate) fn add_user<T: Tables>(tables: &mut T, alloc: Global, user: User) -> 
     requires { user.revoked ≡ false }
     ensures kept { IsKept T.is_sure T.represents T.may_leave tables.old tables.new }
     ensures outcome { Answers (T.is_sure tables.new) (T.represents tables.old) result (λ s o.
-        IsOutcome s (policy_outcome s (policy_changed s.board (operation.AddUser user.id user.special user.auditor user.digest user.restricted) s.policy)) o) }
+        IsOutcome s (policy_outcome s (policy_changed s.board
+        (operation.AddUser user.id user.special user.auditor user.digest user.restricted) s.policy)) o) }
 {
     if has_name(tables, user.id.text())? {
         return exists(&user.id);
@@ -57,7 +60,8 @@ pub(crate) fn add_user<T: Tables>(tables: &mut T, alloc: Global, user: User) -> 
 pub(crate) fn alt_user<T: Tables>(tables: &mut T, alloc: Global, user: User) -> Decided
     ensures kept { IsKept T.is_sure T.represents T.may_leave tables.old tables.new }
     ensures outcome { Answers (T.is_sure tables.new) (T.represents tables.old) result (λ s o. IsKeyed s →
-        IsOutcome s (policy_outcome s (policy_changed s.board (operation.AltUser user.id user.special user.auditor user.revoked user.digest user.restricted) s.policy)) o) }
+        IsOutcome s (policy_outcome s (policy_changed s.board
+        (operation.AltUser user.id user.special user.auditor user.revoked user.digest user.restricted) s.policy)) o) }
 {
     match tables.user(alloc, &user.id)? {
         None => missing(&user.id),
@@ -97,7 +101,8 @@ pub(crate) fn add_group<T: Tables>(tables: &mut T, alloc: Global, name: GroupNam
 pub(crate) fn connect<T: Tables>(tables: &mut T, alloc: Global, connect: Connect) -> Decided
     ensures kept { IsKept T.is_sure T.represents T.may_leave tables.old tables.new }
     ensures outcome { Answers (T.is_sure tables.new) (T.represents tables.old) result (λ s o.
-        IsOutcome s (policy_outcome s (policy_changed s.board (operation.Connect connect.user connect.group) s.policy)) o) }
+        IsOutcome s (policy_outcome s (policy_changed s.board (operation.Connect connect.user connect.group) s.policy))
+        o) }
 {
     if !tables.has_user(connect.user.text())? {
         return missing(&connect.user);
@@ -115,7 +120,8 @@ pub(crate) fn connect<T: Tables>(tables: &mut T, alloc: Global, connect: Connect
 pub(crate) fn remove<T: Tables>(tables: &mut T, alloc: Global, connect: Connect) -> Decided
     ensures kept { IsKept T.is_sure T.represents T.may_leave tables.old tables.new }
     ensures outcome { Answers (T.is_sure tables.new) (T.represents tables.old) result (λ s o.
-        IsOutcome s (policy_outcome s (policy_changed s.board (operation.Remove connect.user connect.group) s.policy)) o) }
+        IsOutcome s (policy_outcome s (policy_changed s.board (operation.Remove connect.user connect.group) s.policy))
+        o) }
 {
     if !tables.has_user(connect.user.text())? {
         return missing(&connect.user);

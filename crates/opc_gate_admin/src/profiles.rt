@@ -32,7 +32,8 @@ fn is_defined<T: Tables>(
     pattern: &Pattern,
 ) -> Result<bool, StoreFault>
     ensures kept { IsKept T.is_sure T.represents T.may_leave tables.old tables.new }
-    ensures defined { Answers (T.is_sure tables.new) (T.represents tables.old) result (λ s defined. defined ≡ is_some (profile_of s.policy.profiles class pattern.now)) }
+    ensures defined { Answers (T.is_sure tables.new) (T.represents tables.old) result
+        (λ s defined. defined ≡ is_some (profile_of s.policy.profiles class pattern.now)) }
 {
     match tables.definition(alloc, class, pattern)? {
         Some(_) => Ok(true),
@@ -43,7 +44,8 @@ fn is_defined<T: Tables>(
 // Whether an entry may be for this id: a user or a group that is stored, or everyone.
 fn has_holder<T: Tables>(tables: &mut T, id: &EntryId) -> Result<bool, StoreFault>
     ensures kept { IsKept T.is_sure T.represents T.may_leave tables.old tables.new }
-    ensures there { Answers (T.is_sure tables.new) (T.represents tables.old) result (λ s there. there ≡ has_holder s.policy id.now) }
+    ensures there { Answers (T.is_sure tables.new) (T.represents tables.old) result
+        (λ s there. there ≡ has_holder s.policy id.now) }
 {
     Ok(id.text() == "*" || tables.has_user(id.text())? || tables.has_group(id.text())?)
 }
@@ -60,7 +62,8 @@ fn level_in<T: Tables>(
     when: &Option<ConsoleName>,
 ) -> Result<Option<Option<Level>>, StoreFault>
     ensures kept { IsKept T.is_sure T.represents T.may_leave tables.old tables.new }
-    ensures level { Answers (T.is_sure tables.new) (T.represents tables.old) result (λ s level. level ≡ level_in s.policy class pattern.now id.now when.now) }
+    ensures level { Answers (T.is_sure tables.new) (T.represents tables.old) result
+        (λ s level. level ≡ level_in s.policy class pattern.now id.now when.now) }
 {
     match tables.level_for(class, pattern, id, when.as_ref())? {
         Some(level) => Ok(Some(Some(level))),
@@ -96,7 +99,8 @@ pub(crate) fn rdefine<T: Tables>(tables: &mut T, alloc: Global, profile: Profile
     requires { profile.entries ≡ [] }
     ensures kept { IsKept T.is_sure T.represents T.may_leave tables.old tables.new }
     ensures outcome { Answers (T.is_sure tables.new) (T.represents tables.old) result (λ s o.
-        IsOutcome s (policy_outcome s (policy_changed s.board (operation.RDefine profile.class profile.pattern profile.owner profile.uacc profile.warning) s.policy)) o) }
+        IsOutcome s (policy_outcome s (policy_changed s.board
+        (operation.RDefine profile.class profile.pattern profile.owner profile.uacc profile.warning) s.policy)) o) }
 {
     if is_defined(tables, alloc, profile.class, &profile.pattern)? {
         return exists(&profile.pattern);
@@ -112,7 +116,8 @@ pub(crate) fn ralter<T: Tables>(tables: &mut T, alloc: Global, profile: Profile)
     requires { profile.entries ≡ [] }
     ensures kept { IsKept T.is_sure T.represents T.may_leave tables.old tables.new }
     ensures outcome { Answers (T.is_sure tables.new) (T.represents tables.old) result (λ s o. IsKeyed s →
-        IsOutcome s (policy_outcome s (policy_changed s.board (operation.RAlter profile.class profile.pattern profile.owner profile.uacc profile.warning) s.policy)) o) }
+        IsOutcome s (policy_outcome s (policy_changed s.board
+        (operation.RAlter profile.class profile.pattern profile.owner profile.uacc profile.warning) s.policy)) o) }
 {
     let Some(stored) = tables.definition(alloc, profile.class, &profile.pattern)? else {
         return missing(&profile.pattern);
@@ -154,7 +159,8 @@ pub(crate) fn permit<T: Tables>(
 ) -> Decided
     ensures kept { IsKept T.is_sure T.represents T.may_leave tables.old tables.new }
     ensures outcome { Answers (T.is_sure tables.new) (T.represents tables.old) result (λ s o. IsKeyed s →
-        IsOutcome s (policy_outcome s (policy_changed s.board (operation.Permit class pattern.now entry.id entry.level entry.when) s.policy)) o) }
+        IsOutcome s (policy_outcome s (policy_changed s.board
+        (operation.Permit class pattern.now entry.id entry.level entry.when) s.policy)) o) }
 {
     let Some(stored) = level_in(tables, alloc, class, pattern, &entry.id, &entry.when)? else {
         return missing(pattern);
@@ -180,7 +186,8 @@ pub(crate) fn permit_delete<T: Tables>(
 ) -> Decided
     ensures kept { IsKept T.is_sure T.represents T.may_leave tables.old tables.new }
     ensures outcome { Answers (T.is_sure tables.new) (T.represents tables.old) result (λ s o.
-        IsOutcome s (policy_outcome s (policy_changed s.board (operation.PermitDelete class pattern.now id.now when) s.policy)) o) }
+        IsOutcome s (policy_outcome s (policy_changed s.board (operation.PermitDelete class pattern.now id.now when)
+        s.policy)) o) }
 {
     match level_in(tables, alloc, class, pattern, id, &when)? {
         None => missing(pattern),

@@ -19,7 +19,8 @@ use Rattle.opc_machine.specs.Rulings.{ruling, shown}
 use Rattle.opc_gate_commands.specs.Acted.{IsActed, allowed_command}
 
 -- it acts: the lines are those that may be shown
-pub acted_outcome : (s : State) (c : ConsoleRow) (command : Command) (rule : Rule) (edits : List Edit) (lines given : List Line) → IsActed s (effect s.board command c.name) edits lines → given ≡ filter (shown s c) lines
+pub acted_outcome : (s : State) (c : ConsoleRow) (command : Command) (rule : Rule) (edits : List Edit)
+    (lines given : List Line) → IsActed s (effect s.board command c.name) edits lines → given ≡ filter (shown s c) lines
     → allowed_command s c command rule ≡ Ok (record { state = all_edited edits s; lines = given; rule = Some rule })
 acted_outcome s c command rule edits lines given acts shows =
     ap (λ o. acted (Some rule) o >>= λ act. does (record s { board = act.board }) (filter (shown s c) act.lines) (Some rule)) acts.makes
@@ -27,16 +28,19 @@ acted_outcome s c command rule edits lines given acts shows =
     ∙ ap (λ ls. does (all_edited edits s) ls (Some rule)) (sym shows)
 
 -- the board refuses it
-pub refused_outcome : (s : State) (c : ConsoleRow) (command : Command) (rule : Rule) (fault : BoardFault) (why : Fault) → effect s.board command c.name ≡ Err fault → why ≡ board_fault fault
+pub refused_outcome : (s : State) (c : ConsoleRow) (command : Command) (rule : Rule) (fault : BoardFault) (why : Fault)
+    → effect s.board command c.name ≡ Err fault → why ≡ board_fault fault
     → allowed_command s c command rule ≡ Err (record { fault = why; rule = Some rule })
 refused_outcome s c command rule fault why refuses is =
     ap (λ o. acted (Some rule) o >>= λ act. does (record s { board = act.board }) (filter (shown s c) act.lines) (Some rule)) refuses
     ∙ ap (λ f. Err (record { fault = f; rule = Some rule })) (sym is)
 
 -- what a command comes to is what it comes to by the rule that allows it
-pub by_the_rule : (s : State) (c : ConsoleRow) (command : Command) (need : Need) (rule : Rule) → ruling s c need ≡ Allowed rule → board_command s c command need ≡ allowed_command s c command rule
+pub by_the_rule : (s : State) (c : ConsoleRow) (command : Command) (need : Need) (rule : Rule)
+    → ruling s c need ≡ Allowed rule → board_command s c command need ≡ allowed_command s c command rule
 by_the_rule s c command need rule allows =
-    ap (λ r. allowed r >>= λ why. acted (Some why) (effect s.board command c.name) >>= λ act. does (record s { board = act.board }) (filter (shown s c) act.lines) (Some why)) allows
+    ap (λ r. allowed r >>= λ why. acted (Some why) (effect s.board command c.name) >>= λ act. does
+    (record s { board = act.board }) (filter (shown s c) act.lines) (Some why)) allows
 
 -- what follows of a success
 pub if_ok : {V E : Type 0} {P Q : V → Type 0} (r : Result V E) → ((v : V) → P v → Q v) → IfOk r P → IfOk r Q

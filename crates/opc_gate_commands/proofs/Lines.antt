@@ -6,6 +6,7 @@ use Rattle.opc_reader.specs.Lines.{Reads, IsReadFault}
 use Rattle.opc_reader.specs.Reading.{reading}
 use Rattle.opc_reader.proofs.Exact.{reads_so, fault_so}
 
-pub read_is : (line : List ℕ) (r : Result Command ReadFault) → ((c : Command) → (r ≡ Ok c) ↔ Reads line c) → ((f : ReadFault) → (r ≡ Err f) ↔ IsReadFault line f) → r ≡ reading line
+pub read_is : (line : List ℕ) (r : Result Command ReadFault) → ((c : Command) → (r ≡ Ok c) ↔ Reads line c)
+    → ((f : ReadFault) → (r ≡ Err f) ↔ IsReadFault line f) → r ≡ reading line
 read_is line (Ok c) h g = sym (reads_so line c ((h c).0 refl))
 read_is line (Err f) h g = sym (fault_so line f ((g f).0 refl))

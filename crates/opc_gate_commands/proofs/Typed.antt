@@ -11,7 +11,8 @@ use Rattle.opc_machine.specs.Commands.{command_outcome, console_for, need_of, ty
 use Rattle.opc_machine.specs.Deeds.{IsOutcome}
 use Rattle.opc_gate_rulings.proofs.Named.{found_by_name}
 
-pub typed_at : {E : Type 0} (s : State) (console : Option ConsoleRow) (row : ConsoleRow) (command : Command) (text : List ℕ) (r : Result (Result found.Deed found_denial.Denial) E)
+pub typed_at : {E : Type 0} (s : State) (console : Option ConsoleRow) (row : ConsoleRow) (command : Command)
+    (text : List ℕ) (r : Result (Result found.Deed found_denial.Denial) E)
     → console ≡ Some row → ((name : List ℕ) → console ≡ console_at s.board name → console_for s name ≡ Ok row) → reading text ≡ Ok command
     → IfOk r (λ o. console_at s.board row.name ≡ Some row → IsOutcome s (typed s row command (need_of s.board command)) o)
     → IfOk r (λ o. (name : List ℕ) → console ≡ console_at s.board name → IsOutcome s (command_outcome s name text) o)

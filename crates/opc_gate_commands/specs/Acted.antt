@@ -24,8 +24,10 @@ pub record IsActed (s : State) (o : BoardOutcome) (edits : List Edit) (lines : L
 
 -- There is nothing to write of a logon or a logoff at a console, by its footprint, where the state stays as it is.
 abbrev pub AreNoneWhereSame : List ℕ → BoardRows → List Edit → Type 0
-AreNoneWhereSame console board edits = (s : State) → IsConsoleFootprint s console board → all_edited edits s ≡ s → edits ≡ []
+AreNoneWhereSame console board edits = (s : State) → IsConsoleFootprint s console board → all_edited edits s ≡ s
+    → edits ≡ []
 
 -- What a command comes to that a rule allows: it acts on the board, and of its lines those are given that may be shown.
 abbrev pub allowed_command : State → ConsoleRow → Command → Rule → Outcome
-allowed_command s c command rule = acted (Some rule) (effect s.board command c.name) >>= λ act. does (record s { board = act.board }) (filter (shown s c) act.lines) (Some rule)
+allowed_command s c command rule = acted (Some rule) (effect s.board command c.name) >>=
+    λ act. does (record s { board = act.board }) (filter (shown s c) act.lines) (Some rule)

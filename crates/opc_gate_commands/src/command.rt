@@ -8,7 +8,22 @@ ghost use Rattle.opc_reader.specs.Reading.{reading};
 ghost use Rattle.opc_state.specs.Asked.{Answers};
 ghost use Rattle.opc_state.specs.Changes.{IsKept};
 ghost use Rattle.opc_gate_commands.specs.Acted.{allowed_command};
-ghost use Rattle.opc_machine.specs.Commands.{board_command as board_outcome, command_outcome, denial_fault, event_outcome, is_display, is_password, kind_named, known_by, logoff as logoff_outcome, logon_fault, logon as logon_outcome, without_need as no_need_outcome, typed as typed_outcome, need_of};
+ghost use Rattle.opc_machine.specs.Commands.{
+  board_command as board_outcome,
+  command_outcome,
+  denial_fault,
+  event_outcome,
+  is_display,
+  is_password,
+  kind_named,
+  known_by,
+  logoff as logoff_outcome,
+  logon_fault,
+  logon as logon_outcome,
+  without_need as no_need_outcome,
+  typed as typed_outcome,
+  need_of,
+};
 ghost use Rattle.opc_machine.specs.Deeds.{IsOutcome};
 ghost use Rattle.opc_machine.specs.Faults.{board_fault};
 ghost use Rattle.opc_machine.specs.Outcome.{does};
@@ -69,7 +84,8 @@ fn logon_fault(rule: &Rule) -> Fault
 
 fn kind_at<T: Tables>(tables: &mut T, name: &UnitName) -> Result<UnitKindAt, StoreFault>
     ensures kept { IsKept T.is_sure T.represents T.may_leave tables.old tables.new }
-    ensures kind { Answers (T.is_sure tables.new) (T.represents tables.old) result (λ s kind. kind ≡ kind_at s.board name.now) }
+    ensures kind { Answers (T.is_sure tables.new) (T.represents tables.old) result
+        (λ s kind. kind ≡ kind_at s.board name.now) }
 {
     match tables.unit(name)? {
         Some(unit) => Ok(unit.kind.found()),
@@ -80,7 +96,8 @@ fn kind_at<T: Tables>(tables: &mut T, name: &UnitName) -> Result<UnitKindAt, Sto
 // What the unit is that a command names, if it is one whose need goes by that.
 fn kind_named<T: Tables>(tables: &mut T, command: &Command<'_>) -> Result<UnitKindAt, StoreFault>
     ensures kept { IsKept T.is_sure T.represents T.may_leave tables.old tables.new }
-    ensures kind { Answers (T.is_sure tables.new) (T.represents tables.old) result (λ s kind. kind ≡ kind_named s.board command.now) }
+    ensures kind { Answers (T.is_sure tables.new) (T.represents tables.old) result
+        (λ s kind. kind ≡ kind_named s.board command.now) }
 {
     match command {
         Command::Cancel(name) => kind_at(tables, &name.value),
@@ -113,7 +130,9 @@ fn deed_on<T: Tables>(
     requires session { is_session_command command.now ≡ false }
     requires display { is_display command.now ≡ false }
     ensures kept { IsKept T.is_sure T.represents T.may_leave tables.old tables.new }
-    ensures outcome { Answers (T.is_sure tables.new) (T.represents tables.old) result (λ s o. console_at s.board console.now.name ≡ Some console.now → IsRulingBasis s console.now basis.now → IsOutcome s (allowed_command s console.now command.now rule) o) }
+    ensures outcome { Answers (T.is_sure tables.new) (T.represents tables.old) result
+        (λ s o. console_at s.board console.now.name ≡ Some console.now → IsRulingBasis s console.now basis.now
+        → IsOutcome s (allowed_command s console.now command.now rule) o) }
 {
     let board = footprint_on(tables, alloc, command, console)?;
     let acted = match act_on(alloc, board, command, &console.name) {
@@ -137,7 +156,9 @@ fn board_command<T: Tables>(
 ) -> Decided
     requires { is_session_command command.now ≡ false }
     ensures kept { IsKept T.is_sure T.represents T.may_leave tables.old tables.new }
-    ensures outcome { Answers (T.is_sure tables.new) (T.represents tables.old) result (λ s o. console_at s.board console.now.name ≡ Some console.now → IsOutcome s (board_outcome s console.now command.now need.now) o) }
+    ensures outcome { Answers (T.is_sure tables.new) (T.represents tables.old) result
+        (λ s o. console_at s.board console.now.name ≡ Some console.now
+        → IsOutcome s (board_outcome s console.now command.now need.now) o) }
 {
     let basis = ruling_basis_at(tables, alloc, console)?;
     let rule = match ruling_on(tables, alloc, &basis, console, need)? {
@@ -171,7 +192,8 @@ fn known_by<T: Tables>(
     password: &Password,
 ) -> Result<Option<User>, StoreFault>
     ensures kept { IsKept T.is_sure T.represents T.may_leave tables.old tables.new }
-    ensures user { Answers (T.is_sure tables.new) (T.represents tables.old) result (λ s user. user ≡ known_by s id.now password.now) }
+    ensures user { Answers (T.is_sure tables.new) (T.represents tables.old) result
+        (λ s user. user ≡ known_by s id.now password.now) }
 {
     match tables.user(alloc, id)? {
         Some(user) if is_password(password, &user.digest) => Ok(Some(user)),
@@ -189,7 +211,9 @@ fn admit<T: Tables>(
 ) -> Decided
     requires { console.now.user ≡ None }
     ensures kept { IsKept T.is_sure T.represents T.may_leave tables.old tables.new }
-    ensures outcome { Answers (T.is_sure tables.new) (T.represents tables.old) result (λ s o. console_at s.board console.now.name ≡ Some console.now → IsOutcome s (does (record s { board = logged_on console.now.name user s.board }) [] (Some rule)) o) }
+    ensures outcome { Answers (T.is_sure tables.new) (T.represents tables.old) result
+        (λ s o. console_at s.board console.now.name ≡ Some console.now
+        → IsOutcome s (does (record s { board = logged_on console.now.name user s.board }) [] (Some rule)) o) }
 {
     let board = console_footprint_on(tables, alloc, console)?;
     let edits = log_on(alloc, board, console, user)?;
@@ -204,7 +228,9 @@ fn logon<T: Tables>(
     password: &Password,
 ) -> Decided
     ensures kept { IsKept T.is_sure T.represents T.may_leave tables.old tables.new }
-    ensures outcome { Answers (T.is_sure tables.new) (T.represents tables.old) result (λ s o. console_at s.board console.now.name ≡ Some console.now → IsOutcome s (logon_outcome s console.now id.now password.now) o) }
+    ensures outcome { Answers (T.is_sure tables.new) (T.represents tables.old) result
+        (λ s o. console_at s.board console.now.name ≡ Some console.now
+        → IsOutcome s (logon_outcome s console.now id.now password.now) o) }
 {
     if let Some(user) = console.user {
         return denied(Fault::AlreadyOn(user), None);
@@ -220,7 +246,8 @@ fn logon<T: Tables>(
 
 fn logoff<T: Tables>(tables: &mut T, alloc: Global, console: &ConsoleRow) -> Decided
     ensures kept { IsKept T.is_sure T.represents T.may_leave tables.old tables.new }
-    ensures outcome { Answers (T.is_sure tables.new) (T.represents tables.old) result (λ s o. console_at s.board console.now.name ≡ Some console.now → IsOutcome s (logoff_outcome s console.now) o) }
+    ensures outcome { Answers (T.is_sure tables.new) (T.represents tables.old) result
+        (λ s o. console_at s.board console.now.name ≡ Some console.now → IsOutcome s (logoff_outcome s console.now) o) }
 {
     if console.user.is_none() {
         return denied(Fault::NotOn, None);
@@ -238,7 +265,9 @@ fn without_need<T: Tables>(
     command: &Command<'_>,
 ) -> Decided
     ensures kept { IsKept T.is_sure T.represents T.may_leave tables.old tables.new }
-    ensures outcome { Answers (T.is_sure tables.new) (T.represents tables.old) result (λ s o. console_at s.board console.now.name ≡ Some console.now → IsOutcome s (no_need_outcome s console.now command.now) o) }
+    ensures outcome { Answers (T.is_sure tables.new) (T.represents tables.old) result
+        (λ s o. console_at s.board console.now.name ≡ Some console.now
+        → IsOutcome s (no_need_outcome s console.now command.now) o) }
 {
     match command {
         Command::Logon(id, password) => logon(tables, alloc, console, &id.value, &password.value),
@@ -254,7 +283,9 @@ fn typed<T: Tables>(
     command: &Command<'_>,
 ) -> Decided
     ensures kept { IsKept T.is_sure T.represents T.may_leave tables.old tables.new }
-    ensures outcome { Answers (T.is_sure tables.new) (T.represents tables.old) result (λ s o. console_at s.board console.now.name ≡ Some console.now → IsOutcome s (typed_outcome s console.now command.now (need_of s.board command.now)) o) }
+    ensures outcome { Answers (T.is_sure tables.new) (T.represents tables.old) result
+        (λ s o. console_at s.board console.now.name ≡ Some console.now
+        → IsOutcome s (typed_outcome s console.now command.now (need_of s.board command.now)) o) }
 {
     let kind = kind_named(tables, command)?;
     match need(command, kind) {
@@ -272,7 +303,8 @@ pub fn command_on<T: Tables>(
     text: &str,
 ) -> Decided
     ensures kept { IsKept T.is_sure T.represents T.may_leave tables.old tables.new }
-    ensures outcome { Answers (T.is_sure tables.new) (T.represents tables.old) result (λ s o. (name : Name) → console ≡ console_at s.board name → IsOutcome s (command_outcome s name text.now) o) }
+    ensures outcome { Answers (T.is_sure tables.new) (T.represents tables.old) result
+        (λ s o. (name : Name) → console ≡ console_at s.board name → IsOutcome s (command_outcome s name text.now) o) }
 {
     let console = match console_for(console) {
         Ok(console) => console,
@@ -287,7 +319,8 @@ pub fn command_on<T: Tables>(
 /// What an event comes to.
 pub fn event_on<T: Tables>(tables: &mut T, alloc: Global, event: &Event) -> Decided
     ensures kept { IsKept T.is_sure T.represents T.may_leave tables.old tables.new }
-    ensures outcome { Answers (T.is_sure tables.new) (T.represents tables.old) result (λ s o. IsOutcome s (event_outcome s event.now) o) }
+    ensures outcome { Answers (T.is_sure tables.new) (T.represents tables.old) result
+        (λ s o. IsOutcome s (event_outcome s event.now) o) }
 {
     let board = event_footprint_on(tables, alloc, event)?;
     match apply_event(alloc, board, event) {

@@ -41,7 +41,8 @@ fn lines_on<T: Tables>(
 ) -> Result<Vec<Line>, StoreFault>
     requires { is_display command.now ≡ true }
     ensures kept { IsKept T.is_sure T.represents T.may_leave tables.old tables.new }
-    ensures lines { Answers (T.is_sure tables.new) (T.represents tables.old) result (λ s lines. (console : Name) → effect s.board command.now console ≡ done_with s.board lines.items) }
+    ensures lines { Answers (T.is_sure tables.new) (T.represents tables.old) result
+        (λ s lines. (console : Name) → effect s.board command.now console ≡ done_with s.board lines.items) }
 {
     let lines = match command {
         Command::DisplayUnits => unit_lines(alloc, tables.units(alloc)?.as_slice())?,
@@ -65,7 +66,8 @@ pub(crate) fn display_on<T: Tables>(
 ) -> Decided
     requires { is_display command.now ≡ true }
     ensures kept { IsKept T.is_sure T.represents T.may_leave tables.old tables.new }
-    ensures outcome { Answers (T.is_sure tables.new) (T.represents tables.old) result (λ s o. IsRulingBasis s console.now basis.now → IsOutcome s (allowed_command s console.now command.now rule) o) }
+    ensures outcome { Answers (T.is_sure tables.new) (T.represents tables.old) result
+        (λ s o. IsRulingBasis s console.now basis.now → IsOutcome s (allowed_command s console.now command.now rule) o) }
 {
     let lines = lines_on(tables, alloc, command)?;
     let lines = shown_lines(tables, alloc, basis, console, lines)?;

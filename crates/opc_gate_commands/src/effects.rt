@@ -37,8 +37,10 @@ pub(crate) fn act_on(
 ) -> Result<Acted, BoardFault>
     requires console { IsSome (console_at board console.now) }
     requires command { is_session_command command.now ≡ false }
-    ensures done { IfOk result (λ a. (s : State) → IsFootprint s command.now console.now board → IsActed s (effect s.board command.now console.now) a.edits.items a.lines.items) }
-    ensures refused { IfErr result (λ fault. fault ≢ NoMemory → (s : State) → IsFootprint s command.now console.now board → effect s.board command.now console.now ≡ Err fault) }
+    ensures done { IfOk result (λ a. (s : State) → IsFootprint s command.now console.now board
+        → IsActed s (effect s.board command.now console.now) a.edits.items a.lines.items) }
+    ensures refused { IfErr result (λ fault. fault ≢ NoMemory → (s : State)
+        → IsFootprint s command.now console.now board → effect s.board command.now console.now ≡ Err fault) }
 {
     histories_only_grow();
     footprints_suffice();
@@ -57,7 +59,8 @@ pub(crate) fn log_on(
 ) -> Result<Vec<Edit>, AllocError>
     requires there { console_at board console.now.name ≡ Some console.now }
     requires nobody { console.now.user ≡ None }
-    ensures becomes { IfOk result (λ edits. (s : State) → IsConsoleFootprint s console.now.name board → all_edited edits.items s ≡ record s { board = logged_on console.now.name user s.board }) }
+    ensures becomes { IfOk result (λ edits. (s : State) → IsConsoleFootprint s console.now.name board
+        → all_edited edits.items s ≡ record s { board = logged_on console.now.name user s.board }) }
     ensures idle { IfOk result (λ edits. AreNoneWhereSame console.now.name board edits.items) }
 {
     footprints_suffice();
@@ -75,7 +78,8 @@ pub(crate) fn log_off(
 ) -> Result<Vec<Edit>, AllocError>
     requires there { console_at board console.now.name ≡ Some console.now }
     requires somebody { console.now.user ≢ None }
-    ensures becomes { IfOk result (λ edits. (s : State) → IsConsoleFootprint s console.now.name board → all_edited edits.items s ≡ record s { board = logged_off console.now.name s.board }) }
+    ensures becomes { IfOk result (λ edits. (s : State) → IsConsoleFootprint s console.now.name board
+        → all_edited edits.items s ≡ record s { board = logged_off console.now.name s.board }) }
     ensures idle { IfOk result (λ edits. AreNoneWhereSame console.now.name board edits.items) }
 {
     footprints_suffice();
@@ -91,8 +95,10 @@ pub(crate) fn apply_event(
     mut board: Board,
     event: &Event,
 ) -> Result<Vec<Edit>, BoardFault>
-    ensures done { IfOk result (λ edits. (s : State) → IsEventFootprint s event.now board → IsActed s (event_effect s.board event.now) edits.items []) }
-    ensures refused { IfErr result (λ fault. fault ≢ NoMemory → (s : State) → IsEventFootprint s event.now board → event_effect s.board event.now ≡ Err fault) }
+    ensures done { IfOk result (λ edits. (s : State) → IsEventFootprint s event.now board
+        → IsActed s (event_effect s.board event.now) edits.items []) }
+    ensures refused { IfErr result (λ fault. fault ≢ NoMemory → (s : State) → IsEventFootprint s event.now board
+        → event_effect s.board event.now ≡ Err fault) }
 {
     histories_only_grow();
     footprints_suffice();

@@ -15,8 +15,11 @@ less_is Equal e = absurd (cc)
 less_is Greater e = absurd (cc)
 
 -- rows that are tested to be in order are
-pub tested : {K R : Type 0} (cmp : K → K → Ordering) → IsTotalOrder cmp → (key_of : R → K) (rows : List R) (r : Bool) → IsAllAdjacentAnswer (λ x y b. b ≡ comes_before cmp key_of x y) rows r → r ≡ true → IsInKeyOrder cmp key_of rows
-tested cmp total key_of rows true answer is = ascends_or_not (comes_before cmp key_of) (λ x y z e f. ap is_lt (total.trans (key_of x) (key_of y) (key_of z) (less_is _ e) (less_is _ f))) rows true answer
+pub tested : {K R : Type 0} (cmp : K → K → Ordering) → IsTotalOrder cmp → (key_of : R → K) (rows : List R) (r : Bool)
+    → IsAllAdjacentAnswer (λ x y b. b ≡ comes_before cmp key_of x y) rows r → r ≡ true → IsInKeyOrder cmp key_of rows
+tested cmp total key_of rows true answer is =
+    ascends_or_not (comes_before cmp key_of)
+    (λ x y z e f. ap is_lt (total.trans (key_of x) (key_of y) (key_of z) (less_is _ e) (less_is _ f))) rows true answer
 tested cmp total key_of rows false answer is = absurd (cc)
 
 or_false : (a b : Bool) → b ≡ false → a ≡ a || b
@@ -42,7 +45,8 @@ module _ {A : Type 0} (before : A → A → Bool) (is_at p : A → Bool) where
   stays_first false x xs ys = refl
 
   module _ (once : (x y : A) → is_at x ≡ true → before x y ≡ true → is_at y ≡ false) (one_way : (x y : A) → before x y ≡ true → before y x ≡ false) where
-    one_more : (row : A) (xs : List A) → Ascends before xs → find is_at xs ≡ Some row → joined before is_at (Some row) (filter p xs) ≡ filter (λ x. p x || is_at x) xs
+    one_more : (row : A) (xs : List A) → Ascends before xs → find is_at xs ≡ Some row
+        → joined before is_at (Some row) (filter p xs) ≡ filter (λ x. p x || is_at x) xs
     one_more row [] order at = absurd (cc)
     one_more row (x ∷ xs) order at = go (is_at x) (p x) refl refl at (one_more row xs order.1)
       where
@@ -51,13 +55,15 @@ module _ {A : Type 0} (before : A → A → Bool) (is_at p : A → Bool) where
 
         go : (a b : Bool) → is_at x ≡ a → p x ≡ b → cond a (Some x) (find is_at xs) ≡ Some row
             → (find is_at xs ≡ Some row → joined before is_at (Some row) (filter p xs) ≡ filter (λ y. p y || is_at y) xs)
-            → joined before is_at (Some row) (cond b (x ∷ filter p xs) (filter p xs)) ≡ cond (b || a) (x ∷ filter (λ y. p y || is_at y) xs) (filter (λ y. p y || is_at y) xs)
+            → joined before is_at (Some row) (cond b (x ∷ filter p xs) (filter p xs)) ≡ cond (b || a)
+            (x ∷ filter (λ y. p y || is_at y) xs) (filter (λ y. p y || is_at y) xs)
         go true true here there at later =
             ap (λ c. cond (is_some (cond c (Some x) (find is_at (filter p xs)))) (x ∷ filter p xs) (put before row (x ∷ filter p xs))) here
             ∙ ap (λ ws. x ∷ ws) (none_more xs (none here))
         go true false here there at later =
             let is : x ≡ row = cc in
-            ap (λ o. cond (is_some o) (filter p xs) (put before row (filter p xs))) (not_found (filter p xs) (all_filter (λ y. is_at y ≡ false) p xs (none here)))
+            ap (λ o. cond (is_some o) (filter p xs) (put before row (filter p xs)))
+            (not_found (filter p xs) (all_filter (λ y. is_at y ≡ false) p xs (none here)))
             ∙ ap (λ r. put before r (filter p xs)) (sym is)
             ∙ goes_first x (filter p xs) (all_filter (λ y. before x y ≡ true) p xs order.0)
             ∙ ap (λ ws. x ∷ ws) (none_more xs (none here))
@@ -70,7 +76,8 @@ module _ {A : Type 0} (before : A → A → Bool) (is_at p : A → Bool) where
         go false false here there at later = later at
 
     -- the row at a key, if there is one, joins those that are loaded
-    pub joins : (found : Option A) (xs : List A) → Ascends before xs → found ≡ find is_at xs → joined before is_at found (filter p xs) ≡ filter (λ x. p x || is_at x) xs
+    pub joins : (found : Option A) (xs : List A) → Ascends before xs → found ≡ find is_at xs
+        → joined before is_at found (filter p xs) ≡ filter (λ x. p x || is_at x) xs
     joins None xs order at = none_more xs (find_none is_at xs (ap is_some (sym at)))
     joins (Some row) xs order at = one_more row xs order (sym at)
 

@@ -15,7 +15,8 @@ HasMasters footprint b = AllByRecursion (λ c. has_console_of footprint c ≡ tr
 
 -- all consoles where a user is on
 abbrev pub HasConsolesOf : Footprint → BoardRows → Name → Type 0
-HasConsolesOf footprint b user = AllByRecursion (λ c. is_holder user c.user ≡ true → has_console_of footprint c ≡ true) b.consoles
+HasConsolesOf footprint b user = AllByRecursion (λ c. is_holder user c.user ≡ true → has_console_of footprint c ≡ true)
+    b.consoles
 
 abbrev pub HasKeys : Footprint → BoardRows → BoardKeys → Type 0
 HasKeys footprint b keys.Nothing = Unit {0}

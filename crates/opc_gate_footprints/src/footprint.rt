@@ -9,7 +9,14 @@ ghost use Rattle.opc_state.specs.Invariants.{IsKeyed};
 ghost use Rattle.opc_state.specs.State.{State};
 ghost use Rattle.opc_machine.specs.Commands.{is_display};
 ghost use Rattle.opc_gate_footprints.specs.BoardKeys.{HasKeys};
-ghost use Rattle.opc_gate_footprints.specs.Loading.{LoadsFirst, HasLoaded, IsConsoleFootprint, IsEventFootprint, IsPart, IsFootprint};
+ghost use Rattle.opc_gate_footprints.specs.Loading.{
+  LoadsFirst,
+  HasLoaded,
+  IsConsoleFootprint,
+  IsEventFootprint,
+  IsPart,
+  IsFootprint,
+};
 
 use crate::keys::{BoardKeys, keys_of_command, keys_of_event};
 use crate::load_one::{add_console, load_console, load_device, load_reply, load_unit};
@@ -48,7 +55,8 @@ fn load_keys<T: Tables>(
     keys: BoardKeys,
 ) -> Result<(), StoreFault>
     ensures kept { IsKept T.is_sure T.represents T.may_leave tables.old tables.new }
-    ensures footprint { Answers (T.is_sure tables.new) (T.represents tables.old) result (λ s _. LoadsFirst s part.old part.new (λ footprint. HasKeys footprint (without_history s.board) keys)) }
+    ensures footprint { Answers (T.is_sure tables.new) (T.represents tables.old) result
+        (λ s _. LoadsFirst s part.old part.new (λ footprint. HasKeys footprint (without_history s.board) keys)) }
 {
     match keys {
         BoardKeys::Nothing => Ok(()),
@@ -71,7 +79,8 @@ fn loaded_rows<T: Tables>(
     keys: BoardKeys,
 ) -> Result<BoardRows, StoreFault>
     ensures kept { IsKept T.is_sure T.represents T.may_leave tables.old tables.new }
-    ensures footprint { Answers (T.is_sure tables.new) (T.represents tables.old) result (λ s part. IsKeyed s × HasLoaded s no_rows part (λ footprint. HasKeys footprint (without_history s.board) keys)) }
+    ensures footprint { Answers (T.is_sure tables.new) (T.represents tables.old) result
+        (λ s part. IsKeyed s × HasLoaded s no_rows part (λ footprint. HasKeys footprint (without_history s.board) keys)) }
 {
     let halted = tables.is_halted()?;
     let mut part = nothing(alloc, halted);
@@ -97,7 +106,9 @@ pub fn footprint_on<T: Tables>(
     requires { is_display command.now ≡ false }
     ensures kept { IsKept T.is_sure T.represents T.may_leave tables.old tables.new }
     ensures there { IfOk result (λ board. IsSome (console_at board console.now.name)) }
-    ensures footprint { Answers (T.is_sure tables.new) (T.represents tables.old) result (λ s board. console_at s.board console.now.name ≡ Some console.now → IsFootprint s command.now console.now.name board) }
+    ensures footprint { Answers (T.is_sure tables.new) (T.represents tables.old) result
+        (λ s board. console_at s.board console.now.name ≡ Some console.now
+        → IsFootprint s command.now console.now.name board) }
 {
     let mut part = loaded_rows(tables, alloc, keys_of_command(command))?;
     add_console(&mut part, console)?;
@@ -111,7 +122,8 @@ pub fn event_footprint_on<T: Tables>(
     event: &Event,
 ) -> Result<Board, StoreFault>
     ensures kept { IsKept T.is_sure T.represents T.may_leave tables.old tables.new }
-    ensures footprint { Answers (T.is_sure tables.new) (T.represents tables.old) result (λ s board. IsEventFootprint s event.now board) }
+    ensures footprint { Answers (T.is_sure tables.new) (T.represents tables.old) result
+        (λ s board. IsEventFootprint s event.now board) }
 {
     let part = loaded_rows(tables, alloc, keys_of_event(event))?;
     board_of(part)
@@ -125,7 +137,9 @@ pub fn console_footprint_on<T: Tables>(
 ) -> Result<Board, StoreFault>
     ensures kept { IsKept T.is_sure T.represents T.may_leave tables.old tables.new }
     ensures there { IfOk result (λ board. console_at board console.now.name ≡ Some console.now) }
-    ensures footprint { Answers (T.is_sure tables.new) (T.represents tables.old) result (λ s board. console_at s.board console.now.name ≡ Some console.now → IsConsoleFootprint s console.now.name board) }
+    ensures footprint { Answers (T.is_sure tables.new) (T.represents tables.old) result
+        (λ s board. console_at s.board console.now.name ≡ Some console.now
+        → IsConsoleFootprint s console.now.name board) }
 {
     let mut part = nothing(alloc, tables.is_halted()?);
     add_console(&mut part, console)?;

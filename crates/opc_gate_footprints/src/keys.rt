@@ -35,7 +35,8 @@ pub enum BoardKeys {
 /// What a command names that does more than show. MN and PM name nothing but the console where they are typed.
 pub(crate) fn keys_of_command(command: &Command<'_>) -> BoardKeys
     requires { is_display command.now ≡ false }
-    ensures { (footprint : Footprint) → (b : BoardRows) → (console : Name) → IsInOrder b → HasKeys footprint b result → footprint.consoles console ≡ true → IsFootprintOf footprint b command.now console }
+    ensures { (footprint : Footprint) → (b : BoardRows) → (console : Name) → IsInOrder b → HasKeys footprint b result
+        → footprint.consoles console ≡ true → IsFootprintOf footprint b command.now console }
 {
     match command {
         Command::Cancel(name) => BoardKeys::Leaving(name.value),
@@ -72,7 +73,8 @@ pub(crate) fn keys_of_command(command: &Command<'_>) -> BoardKeys
 
 /// What an event names.
 pub(crate) fn keys_of_event(event: &Event) -> BoardKeys
-    ensures { (footprint : Footprint) → (b : BoardRows) → HasKeys footprint b result → IsFootprintOfEvent footprint b event.now }
+    ensures { (footprint : Footprint) → (b : BoardRows) → HasKeys footprint b result
+        → IsFootprintOfEvent footprint b event.now }
 {
     match event {
         Event::JobIn { name, .. } => BoardKeys::Unit(*name),

@@ -18,7 +18,8 @@ use opc_terms::store_fault::StoreFault;
 
 // Adds the row of a key, if there is one, to rows that may have it already. Rows out of order are refused.
 fn add<R: Keyed + Drop>(rows: &mut Rows<R>, key: &R::Key, row: Option<R>) -> Result<(), StoreFault>
-    ensures { OnOk result (rows.new ≡ joined (comes_before R.Key.cmp R.key_of) (λ row. R.Key.eq (R.key_of row) key.now) row rows.old) }
+    ensures { OnOk result (rows.new ≡ joined (comes_before R.Key.cmp R.key_of) (λ row. R.Key.eq (R.key_of row) key.now)
+        row rows.old) }
 {
     let Some(row) = row else {
         return Ok(());
@@ -35,7 +36,8 @@ fn add<R: Keyed + Drop>(rows: &mut Rows<R>, key: &R::Key, row: Option<R>) -> Res
 
 /// Sees a console whose row is loaded.
 pub(crate) fn add_console(part: &mut BoardRows, console: &ConsoleRow) -> Result<(), StoreFault>
-    ensures footprint { OnOk result ((s : State) → console_at s.board console.now.name ≡ Some console.now → LoadsMore s part.old part.new (λ footprint. footprint.consoles console.now.name ≡ true)) }
+    ensures footprint { OnOk result ((s : State) → console_at s.board console.now.name ≡ Some console.now
+        → LoadsMore s part.old part.new (λ footprint. footprint.consoles console.now.name ≡ true)) }
     ensures there { OnOk result (IsSome (console_at part.new console.now.name)) }
     ensures alone { OnOk result (part.old.consoles ≡ [] → console_at part.new console.now.name ≡ Some console.now) }
 {
@@ -48,7 +50,8 @@ pub(crate) fn load_unit<T: Tables>(
     name: &UnitName,
 ) -> Result<(), StoreFault>
     ensures kept { IsKept T.is_sure T.represents T.may_leave tables.old tables.new }
-    ensures footprint { Answers (T.is_sure tables.new) (T.represents tables.old) result (λ s _. LoadsMore s part.old part.new (λ footprint. footprint.units name.now ≡ true)) }
+    ensures footprint { Answers (T.is_sure tables.new) (T.represents tables.old) result
+        (λ s _. LoadsMore s part.old part.new (λ footprint. footprint.units name.now ≡ true)) }
 {
     let unit = tables.unit(name)?;
     add(&mut part.units, name, unit)
@@ -60,7 +63,8 @@ pub(crate) fn load_console<T: Tables>(
     name: &ConsoleName,
 ) -> Result<(), StoreFault>
     ensures kept { IsKept T.is_sure T.represents T.may_leave tables.old tables.new }
-    ensures footprint { Answers (T.is_sure tables.new) (T.represents tables.old) result (λ s _. LoadsMore s part.old part.new (λ footprint. footprint.consoles name.now ≡ true)) }
+    ensures footprint { Answers (T.is_sure tables.new) (T.represents tables.old) result
+        (λ s _. LoadsMore s part.old part.new (λ footprint. footprint.consoles name.now ≡ true)) }
 {
     let console = tables.console(name)?;
     add(&mut part.consoles, name, console)
@@ -72,7 +76,8 @@ pub(crate) fn load_reply<T: Tables>(
     id: ReplyId,
 ) -> Result<(), StoreFault>
     ensures kept { IsKept T.is_sure T.represents T.may_leave tables.old tables.new }
-    ensures footprint { Answers (T.is_sure tables.new) (T.represents tables.old) result (λ s _. LoadsMore s part.old part.new (λ footprint. footprint.replies id ≡ true)) }
+    ensures footprint { Answers (T.is_sure tables.new) (T.represents tables.old) result
+        (λ s _. LoadsMore s part.old part.new (λ footprint. footprint.replies id ≡ true)) }
 {
     let reply = tables.reply(id)?;
     add(&mut part.replies, &id, reply)
@@ -85,7 +90,8 @@ fn load_holder<T: Tables>(
     device: &Option<DeviceRow>,
 ) -> Result<(), StoreFault>
     ensures kept { IsKept T.is_sure T.represents T.may_leave tables.old tables.new }
-    ensures footprint { Answers (T.is_sure tables.new) (T.represents tables.old) result (λ s _. LoadsMore s part.old part.new (λ _. Unit {0})) }
+    ensures footprint { Answers (T.is_sure tables.new) (T.represents tables.old) result
+        (λ s _. LoadsMore s part.old part.new (λ _. Unit {0})) }
 {
     match device {
         Some(
@@ -104,7 +110,8 @@ pub(crate) fn load_device<T: Tables>(
     number: &Device,
 ) -> Result<(), StoreFault>
     ensures kept { IsKept T.is_sure T.represents T.may_leave tables.old tables.new }
-    ensures footprint { Answers (T.is_sure tables.new) (T.represents tables.old) result (λ s _. LoadsMore s part.old part.new (λ footprint. footprint.devices number.now ≡ true)) }
+    ensures footprint { Answers (T.is_sure tables.new) (T.represents tables.old) result
+        (λ s _. LoadsMore s part.old part.new (λ footprint. footprint.devices number.now ≡ true)) }
 {
     let device = tables.device(number)?;
     load_holder(tables, part, &device)?;

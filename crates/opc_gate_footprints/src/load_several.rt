@@ -23,7 +23,8 @@ pub(crate) fn load_leaving<T: Tables>(
     name: &UnitName,
 ) -> Result<(), StoreFault>
     ensures kept { IsKept T.is_sure T.represents T.may_leave tables.old tables.new }
-    ensures footprint { Answers (T.is_sure tables.new) (T.represents tables.old) result (λ s _. LoadsFirst s part.old part.new (λ footprint. HasLeaving footprint (without_history s.board) name.now)) }
+    ensures footprint { Answers (T.is_sure tables.new) (T.represents tables.old) result
+        (λ s _. LoadsFirst s part.old part.new (λ footprint. HasLeaving footprint (without_history s.board) name.now)) }
 {
     part.devices = tables.devices_of(alloc, name)?;
     load_unit(tables, part, name)
@@ -37,7 +38,9 @@ pub(crate) fn load_varied<T: Tables>(
     name: &ConsoleName,
 ) -> Result<(), StoreFault>
     ensures kept { IsKept T.is_sure T.represents T.may_leave tables.old tables.new }
-    ensures footprint { Answers (T.is_sure tables.new) (T.represents tables.old) result (λ s _. LoadsFirst s part.old part.new (λ footprint. (footprint.consoles name.now ≡ true) × HasMasters footprint (without_history s.board))) }
+    ensures footprint { Answers (T.is_sure tables.new) (T.represents tables.old) result
+        (λ s _. LoadsFirst s part.old part.new
+        (λ footprint. (footprint.consoles name.now ≡ true) × HasMasters footprint (without_history s.board))) }
 {
     part.consoles = tables.masters(alloc)?;
     load_console(tables, part, name)
@@ -51,7 +54,9 @@ pub(crate) fn load_addressed<T: Tables>(
     user: &UserId,
 ) -> Result<(), StoreFault>
     ensures kept { IsKept T.is_sure T.represents T.may_leave tables.old tables.new }
-    ensures footprint { Answers (T.is_sure tables.new) (T.represents tables.old) result (λ s _. LoadsFirst s part.old part.new (λ footprint. (footprint.units user.now ≡ true) × HasConsolesOf footprint (without_history s.board) user.now)) }
+    ensures footprint { Answers (T.is_sure tables.new) (T.represents tables.old) result
+        (λ s _. LoadsFirst s part.old part.new
+        (λ footprint. (footprint.units user.now ≡ true) × HasConsolesOf footprint (without_history s.board) user.now)) }
 {
     part.consoles = tables.consoles_of(alloc, user)?;
     load_unit(tables, part, &session_of(user))
@@ -64,7 +69,9 @@ pub(crate) fn load_swapped<T: Tables>(
     to: &Device,
 ) -> Result<(), StoreFault>
     ensures kept { IsKept T.is_sure T.represents T.may_leave tables.old tables.new }
-    ensures footprint { Answers (T.is_sure tables.new) (T.represents tables.old) result (λ s _. LoadsMore s part.old part.new (λ footprint. (footprint.devices from.now ≡ true) × (footprint.devices to.now ≡ true))) }
+    ensures footprint { Answers (T.is_sure tables.new) (T.represents tables.old) result
+        (λ s _. LoadsMore s part.old part.new
+        (λ footprint. (footprint.devices from.now ≡ true) × (footprint.devices to.now ≡ true))) }
 {
     load_device(tables, part, from)?;
     load_device(tables, part, to)
@@ -77,7 +84,9 @@ pub(crate) fn load_taken<T: Tables>(
     name: &UnitName,
 ) -> Result<(), StoreFault>
     ensures kept { IsKept T.is_sure T.represents T.may_leave tables.old tables.new }
-    ensures footprint { Answers (T.is_sure tables.new) (T.represents tables.old) result (λ s _. LoadsMore s part.old part.new (λ footprint. (footprint.devices number.now ≡ true) × (footprint.units name.now ≡ true))) }
+    ensures footprint { Answers (T.is_sure tables.new) (T.represents tables.old) result
+        (λ s _. LoadsMore s part.old part.new
+        (λ footprint. (footprint.devices number.now ≡ true) × (footprint.units name.now ≡ true))) }
 {
     load_device(tables, part, number)?;
     load_unit(tables, part, name)

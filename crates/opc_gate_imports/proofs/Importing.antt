@@ -1,5 +1,39 @@
 -- What an import comes to.
-use Rattle.std.proofs.Common.{◌≡◌, ◌==◌, ℕ, Bool, true, false, List, [], ◌∷◌, ◌++◌, Option, Some, None, Ok, Err, Result, Ordering, Less, Equal, Greater, cond, IfOk, codes, find, refl, sym, ap, subst, ◌∙◌, rules, append_assoc, eqb-true, eq-eqb}
+use Rattle.std.proofs.Common.{
+  ◌≡◌,
+  ◌==◌,
+  ℕ,
+  Bool,
+  true,
+  false,
+  List,
+  [],
+  ◌∷◌,
+  ◌++◌,
+  Option,
+  Some,
+  None,
+  Ok,
+  Err,
+  Result,
+  Ordering,
+  Less,
+  Equal,
+  Greater,
+  cond,
+  IfOk,
+  codes,
+  find,
+  refl,
+  sym,
+  ap,
+  subst,
+  ◌∙◌,
+  rules,
+  append_assoc,
+  eqb-true,
+  eq-eqb,
+}
 use Rattle.std.specs.BTreeSet.{replace_key}
 use Rattle.std.specs.Ordering.{match_ordering, nat_cmp, ordering_reverse}
 use Rattle.std.specs.Option.{option_map}
@@ -32,7 +66,8 @@ itself Equal e = refl
 itself Greater e = absurd (search (rules, e))
 
 -- one that is put is found
-found_put : {K : Type 0} (cmp : K → K → Ordering) (test : K → Bool) (k : K) (xs : List K) → test k ≡ true → ((x : K) → test x ≡ true → cmp k x ≡ Equal) → find test (replace_key cmp xs k) ≡ Some k
+found_put : {K : Type 0} (cmp : K → K → Ordering) (test : K → Bool) (k : K) (xs : List K) → test k ≡ true
+    → ((x : K) → test x ≡ true → cmp k x ≡ Equal) → find test (replace_key cmp xs k) ≡ Some k
 found_put {K} cmp test k [] here tie = ap (λ b. let o : Option K = cond b (Some k) None in o) here
 found_put {K} cmp test k (x ∷ xs) here tie = go (cmp k x) refl (found_put cmp test k xs here tie)
   where
@@ -43,7 +78,8 @@ found_put {K} cmp test k (x ∷ xs) here tie = go (cmp k x) refl (found_put cmp 
     away true e greater = absurd (unlike (cmp k x) greater (tie x e))
     away false e greater = refl
 
-    go : (o : Ordering) → cmp k x ≡ o → find test (replace_key cmp xs k) ≡ Some k → find test (match_ordering o (k ∷ x ∷ xs) (k ∷ xs) (x ∷ replace_key cmp xs k)) ≡ Some k
+    go : (o : Ordering) → cmp k x ≡ o → find test (replace_key cmp xs k) ≡ Some k
+        → find test (match_ordering o (k ∷ x ∷ xs) (k ∷ xs) (x ∷ replace_key cmp xs k)) ≡ Some k
     go Less e later = first (x ∷ xs)
     go Equal e later = first xs
     go Greater e later = ap (λ b. cond b (Some x) (find test (replace_key cmp xs k))) (away (test x) refl e) ∙ later
@@ -56,7 +92,8 @@ given X Y (Ok o) x h = h x
 given X Y (Err e) x h = tt
 
 -- a batch by what is loaded of it
-pub is_new : (s : State) (n : ℕ) (all : List Row) (r : Result (Result found.Deed found_denial.Denial) StoreFault) → batch_rows s.batches n ≡ None → IfOk r (λ o. batch_rows s.batches n ≡ None → IsOutcome s (new_batch s n all) o)
+pub is_new : (s : State) (n : ℕ) (all : List Row) (r : Result (Result found.Deed found_denial.Denial) StoreFault)
+    → batch_rows s.batches n ≡ None → IfOk r (λ o. batch_rows s.batches n ≡ None → IsOutcome s (new_batch s n all) o)
     → IfOk r (λ o. IsOutcome s (batch_outcome s n all (batch_of s.batches n)) o)
 is_new s n all r none h = go (batch_of s.batches n) none
   where
@@ -65,7 +102,10 @@ is_new s n all r none h = go (batch_of s.batches n) none
     go (Some b) e = absurd (search (rules, e))
 
 pub is_kept : (s : State) (n : ℕ) (all stored : List Row) (r : Result (Result found.Deed found_denial.Denial) StoreFault) → batch_rows s.batches n ≡ Some stored
-    → IfOk r (λ o. IsOutcome s (same_batch s n all (record { number = n; rows = stored })) o) → IfOk r (λ o. IsOutcome s (batch_outcome s n all (batch_of s.batches n)) o)
+    → IfOk r (λ o. IsOutcome s (same_batch s n all (record {
+      number = n;
+      rows = stored;
+    })) o) → IfOk r (λ o. IsOutcome s (batch_outcome s n all (batch_of s.batches n)) o)
 is_kept s n all stored r some h = go (batch_of s.batches n) some
   where
     same : (b : Batch) → b.rows ≡ stored → same_batch s n all b ≡ same_batch s n all (record { number = n; rows = stored })
@@ -75,7 +115,10 @@ is_kept s n all stored r some h = go (batch_of s.batches n) some
     go None e = absurd (search (rules, e))
     go (Some b) e = let rows : b.rows ≡ stored = search (rules, e) in subst (λ x. IfOk r (λ o. IsOutcome s x o)) (sym (same b rows)) h
 
-module _ (s : State) (n : ℕ) (all copy : List Row) (edits now : List Edit) (copies : copy ≡ all) (grown : now ≡ edits ++ edit.PutBatch (record { number = n; rows = copy }) ∷ []) where
+module _ (s : State) (n : ℕ) (all copy : List Row) (edits now : List Edit) (copies : copy ≡ all) (grown : now ≡ edits ++ edit.PutBatch (record {
+  number = n;
+  rows = copy;
+}) ∷ []) where
   abbrev batch : Batch
   batch = record { number = n; rows = all }
 
@@ -85,7 +128,11 @@ module _ (s : State) (n : ℕ) (all copy : List Row) (edits now : List Edit) (co
       ∙ edits_after edits (edit.PutBatch (record { number = n; rows = copy }) ∷ []) s
       ∙ ap (λ rows. all_edited (edit.PutBatch (record { number = n; rows = rows }) ∷ []) (all_edited edits s)) copies
 
-  pub kept_makes : with_rows all s ≡ Ok (all_edited edits s) → (lines : List Line) → lines ≡ batch_line n (codes "KEPT") ∷ [] → new_batch s n all ≡ Ok (record { state = all_edited now s; lines = lines; rule = None })
+  pub kept_makes : with_rows all s ≡ Ok (all_edited edits s) → (lines : List Line) → lines ≡ batch_line n (codes "KEPT") ∷ [] → new_batch s n all ≡ Ok (record {
+    state = all_edited now s;
+    lines = lines;
+    rule = None;
+  })
   kept_makes founded lines told =
       ap (λ r. or_refused r >>= λ new. does (record new { batches = with_batch batch new.batches }) (batch_line n (codes "KEPT") ∷ []) None) founded
       ∙ ap (λ t. does t (batch_line n (codes "KEPT") ∷ []) None) (sym state_is)
@@ -99,5 +146,7 @@ module _ (s : State) (n : ℕ) (all copy : List Row) (edits now : List Edit) (co
   kept_changes none same =
       let there : batch_rows (with_batch batch (all_edited edits s).batches) n ≡ Some all =
       ap (option_map (λ (b : Batch). b.rows)) (found_put batch_cmp (λ (b : Batch). b.number == n) batch (all_edited edits s).batches (eq-eqb n n refl) tie) in
-      let still : batch_rows s.batches n ≡ Some all = sym (ap (λ (t : State). batch_rows t.batches n) same) ∙ ap (λ (t : State). batch_rows t.batches n) state_is ∙ there in
+      let still : batch_rows s.batches n ≡ Some all =
+      sym (ap (λ (t : State). batch_rows t.batches n) same) ∙ ap (λ (t : State). batch_rows t.batches n) state_is
+      ∙ there in
       search (rules, sym none ∙ still)

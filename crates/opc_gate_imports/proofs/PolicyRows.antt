@@ -1,5 +1,43 @@
 -- Rows of a first policy, taken one after another.
-use Rattle.std.proofs.Common.{◌≡◌, ◌<◌, ◌+◌, ℕ, suc, Bool, true, false, List, [], ◌∷◌, ◌++◌, Option, Some, None, Result, Ok, Err, IfErr, IfOk, OnOk, take, drop, drop-cons, get_or, length, is_some, not, ◌&&◌, append_assoc, filter, refl, sym, subst, ap, ap₂, ◌∙◌}
+use Rattle.std.proofs.Common.{
+  ◌≡◌,
+  ◌<◌,
+  ◌+◌,
+  ℕ,
+  suc,
+  Bool,
+  true,
+  false,
+  List,
+  [],
+  ◌∷◌,
+  ◌++◌,
+  Option,
+  Some,
+  None,
+  Result,
+  Ok,
+  Err,
+  IfErr,
+  IfOk,
+  OnOk,
+  take,
+  drop,
+  drop-cons,
+  get_or,
+  length,
+  is_some,
+  not,
+  ◌&&◌,
+  append_assoc,
+  filter,
+  refl,
+  sym,
+  subst,
+  ap,
+  ap₂,
+  ◌∙◌,
+}
 use Rattle.std.proofs.Math.ListN.{take-append-drop}
 use Rattle.std.proofs.lemmas.List.{take_more, append-nil}
 use Rattle.std.proofs.lemmas.List.Elements.{filter_map-append}
@@ -44,7 +82,8 @@ policy_steps (row ∷ one) more p = go (after_row row p) (λ q. policy_steps one
     go (Ok q) later = later q
     go (Err fault) later = refl
 
-pub policy_more : (all : List Row) (i : ℕ) (row : Row) (start p q : Policy) → i < length all → row ≡ get_or all i row → policy_after (take i all) start ≡ Ok p → after_row row p ≡ Ok q
+pub policy_more : (all : List Row) (i : ℕ) (row : Row) (start p q : Policy) → i < length all → row ≡ get_or all i row
+    → policy_after (take i all) start ≡ Ok p → after_row row p ≡ Ok q
     → policy_after (take (i + 1) all) start ≡ Ok q
 policy_more all i row start p q low is was next =
     ap (λ xs. policy_after xs start) (take_more all i row low ∙ ap (λ x. take i all ++ x ∷ []) (sym is))
@@ -52,10 +91,12 @@ policy_more all i row start p q low is was next =
     ∙ ap (λ r. then_policy r (λ x. policy_after (row ∷ []) x)) was
     ∙ ap (λ r. then_policy r (λ x. policy_after [] x)) next
 
-pub policy_stops : (all : List Row) (i : ℕ) (row : Row) (start p : Policy) (f : Fault) → i < length all → row ≡ get_or all i row → policy_after (take i all) start ≡ Ok p → after_row row p ≡ Err f
+pub policy_stops : (all : List Row) (i : ℕ) (row : Row) (start p : Policy) (f : Fault) → i < length all
+    → row ≡ get_or all i row → policy_after (take i all) start ≡ Ok p → after_row row p ≡ Err f
     → policy_after all start ≡ Err f
 policy_stops all i row start p f low is was stops =
-    ap (λ xs. policy_after xs start) (sym (take-append-drop i all) ∙ ap (λ xs. take i all ++ xs) (drop-cons all i row low ∙ ap (λ x. x ∷ drop (suc i) all) (sym is)))
+    ap (λ xs. policy_after xs start) (sym (take-append-drop i all)
+    ∙ ap (λ xs. take i all ++ xs) (drop-cons all i row low ∙ ap (λ x. x ∷ drop (suc i) all) (sym is)))
     ∙ policy_steps (take i all) (row ∷ drop (suc i) all) start
     ∙ ap (λ r. then_policy r (λ x. policy_after (row ∷ drop (suc i) all) x)) was
     ∙ ap (λ r. then_policy r (λ x. policy_after (drop (suc i) all) x)) stops
@@ -64,7 +105,8 @@ pub consoles_steps : (one more : List Row) (b : BoardRows) → consoles_after (o
 consoles_steps [] more b = refl
 consoles_steps (row ∷ one) more b = consoles_steps one more (console_after row b)
 
-pub consoles_more : (all : List Row) (i : ℕ) (row : Row) (start b new : BoardRows) → i < length all → row ≡ get_or all i row → consoles_after (take i all) start ≡ b → new ≡ console_after row b
+pub consoles_more : (all : List Row) (i : ℕ) (row : Row) (start b new : BoardRows) → i < length all
+    → row ≡ get_or all i row → consoles_after (take i all) start ≡ b → new ≡ console_after row b
     → consoles_after (take (i + 1) all) start ≡ new
 consoles_more all i row start b new low is was next =
     ap (λ xs. consoles_after xs start) (take_more all i row low ∙ ap (λ x. take i all ++ x ∷ []) (sym is))
@@ -120,11 +162,16 @@ one_edit : (row : Row) (s : State) (q : Policy) → after_row row s.policy ≡ O
 one_edit (rows.Class class active) s q h = ap (λ p. record s { policy = p }) (ok_is _ q h)
 one_edit (rows.Group name) s q h = ap (λ p. record s { policy = p }) (ok_is _ q (unless_ok (has_user s.policy name) name _ q h))
 one_edit (rows.User user) s q h = ap (λ p. record s { policy = p }) (ok_is _ q (unless_ok (has_group s.policy user.id) user.id _ q h))
-one_edit (rows.Connect user group) s q h = ap (λ p. record s { policy = p }) (ok_is _ q (needing_ok (has_group s.policy group) group _ q (needing_ok (has_user s.policy user) user _ q h)))
+one_edit (rows.Connect user group) s q h =
+    ap (λ p. record s { policy = p }) (ok_is _ q
+    (needing_ok (has_group s.policy group) group _ q (needing_ok (has_user s.policy user) user _ q h)))
 one_edit (rows.Console name auth mode) s q h = ap (λ p. record s { policy = p }) (ok_is s.policy q h)
-one_edit (rows.Profile class pattern uacc owner warning) s q h = ap (λ p. record s { policy = p }) (ok_is _ q (needing_ok (has_user s.policy owner) owner _ q h))
+one_edit (rows.Profile class pattern uacc owner warning) s q h =
+    ap (λ p. record s { policy = p }) (ok_is _ q (needing_ok (has_user s.policy owner) owner _ q h))
 one_edit (rows.Permit class pattern id level when) s q h =
-    ap (λ p. record s { policy = p }) (ok_is _ q (needing_ok (has_holder s.policy id) id _ q (needing_ok (is_some (profile_of s.policy.profiles class pattern)) pattern _ q h)))
+    ap (λ p. record s { policy = p }) (ok_is _ q
+    (needing_ok (has_holder s.policy id) id _ q
+    (needing_ok (is_some (profile_of s.policy.profiles class pattern)) pattern _ q h)))
 
 pub rows_edited : (all : List Row) (s : State) (q : Policy) → policy_after all s.policy ≡ Ok q → all_edited (edits_of all) s ≡ record s { policy = q }
 rows_edited [] s q h = ap (λ p. record s { policy = p }) (ok_is s.policy q h)
@@ -140,13 +187,15 @@ rows_edited (row ∷ all) s q h = go (after_row row s.policy) refl h (λ p. rows
     go (Ok p) is h later = first_edit (edit_of row) refl ∙ ap (all_edited (edits_of all)) (one_edit row s p is) ∙ later p h
     go (Err f) is h later = absurd (not_err f q h)
 
-pub edits_more : (all : List Row) (i : ℕ) (row : Row) (start now new : List Edit) (o : Option Edit) → i < length all → row ≡ get_or all i row → now ≡ start ++ edits_of (take i all) → o ≡ edit_of row → new ≡ now ++ cons_option o []
+pub edits_more : (all : List Row) (i : ℕ) (row : Row) (start now new : List Edit) (o : Option Edit) → i < length all
+    → row ≡ get_or all i row → now ≡ start ++ edits_of (take i all) → o ≡ edit_of row → new ≡ now ++ cons_option o []
     → new ≡ start ++ edits_of (take (i + 1) all)
 edits_more all i row start now new o low is was edit added =
     added
     ∙ ap₂ (λ one other. one ++ cons_option other []) was edit
     ∙ append_assoc start (edits_of (take i all)) (cons_option (edit_of row) [])
-    ∙ ap (λ es. start ++ es) (sym (ap edits_of (take_more all i row low ∙ ap (λ x. take i all ++ x ∷ []) (sym is)) ∙ filter_map-append edit_of (take i all) (row ∷ [])))
+    ∙ ap (λ es. start ++ es) (sym (ap edits_of (take_more all i row low ∙ ap (λ x. take i all ++ x ∷ []) (sym is))
+    ∙ filter_map-append edit_of (take i all) (row ∷ [])))
 
 -- ---- what is made of a state
 
@@ -207,7 +256,8 @@ alone_is b =
     ∙ ap₂ (λ cs rs. record (only all_consoles (without_history b)) { consoles = cs; replies = rs }) (sym (all_kept b.consoles)) (sym (none_kept b.replies))
 
 -- the footprint of a state's board, and of the board that rows make of it
-seen_so : (s : State) (all : List Row) (old new : BoardRows) → IsInOrder s.board → old ≡ consoles_alone s.board → new ≡ consoles_after all (consoles_alone s.board) → IsBoard new
+seen_so : (s : State) (all : List Row) (old new : BoardRows) → IsInOrder s.board → old ≡ consoles_alone s.board
+    → new ≡ consoles_after all (consoles_alone s.board) → IsBoard new
     → AreFootprints old new s (without_history (consoles_after all s.board))
 seen_so s all old new order old_is new_is sound =
     let whole = consoles_after all s.board in
@@ -234,13 +284,16 @@ seen_so s all old new order old_is new_is sound =
 
 -- with its histories it is the board that rows make
 board_so : (s : State) (all : List Row) → with_board (without_history (consoles_after all s.board)) s ≡ record s { board = consoles_after all s.board }
-board_so s all = ap (λ b. record s { board = after (history_of s.board) b }) (sym (bare_after all s.board)) ∙ ap (λ b. record s { board = b }) (consoles_whole s.board all)
+board_so s all = ap (λ b. record s { board = after (history_of s.board) b }) (sym (bare_after all s.board))
+    ∙ ap (λ b. record s { board = b }) (consoles_whole s.board all)
 
-module _ (s : State) (all : List Row) (policy : Policy) (live : BoardRows) (policy_is : policy ≡ s.policy) (live_is : live ≡ consoles_alone s.board) (order : IsInOrder s.board) where
+module _ (s : State) (all : List Row) (policy : Policy) (live : BoardRows) (policy_is : policy ≡ s.policy)
+    (live_is : live ≡ consoles_alone s.board) (order : IsInOrder s.board) where
   pub refused_rows : (f : Fault) → policy_after all policy ≡ Err f → with_rows all s ≡ Err f
   refused_rows f h = ap (with_rows_of s (consoles_after all s.board)) (ap (policy_after all) (sym policy_is) ∙ h)
 
-  module _ (q : Policy) (old new : BoardRows) (taken : policy_after all policy ≡ Ok q) (copy : old ≡ without_history live) (defines : new ≡ consoles_after all live) where
+  module _ (q : Policy) (old new : BoardRows) (taken : policy_after all policy ≡ Ok q)
+      (copy : old ≡ without_history live) (defines : new ≡ consoles_after all live) where
     new_is : new ≡ consoles_after all (consoles_alone s.board)
     new_is = defines ∙ ap (consoles_after all) live_is
 
@@ -265,11 +318,15 @@ module _ (s : State) (all : List Row) (policy : Policy) (live : BoardRows) (poli
         edited_is =
             ap (λ es. all_edited es s) are.all
             ∙ edits_after are.first (edits_of all) s
-            ∙ ap (all_edited (edits_of all)) (are.becomes s (without_history (consoles_after all s.board)) (seen_so s all old new order old_is new_is are.sound) ∙ board_so s all)
+            ∙ ap (all_edited (edits_of all))
+            (are.becomes s (without_history (consoles_after all s.board))
+            (seen_so s all old new order old_is new_is are.sound) ∙ board_so s all)
             ∙ rows_edited all (record s { board = consoles_after all s.board }) q (ap (policy_after all) (sym policy_is) ∙ taken)
 
 -- rows with nothing new make no edits
-pub nothing_new : (s : State) (all : List Row) (live old new : BoardRows) (edits : List Edit) → live ≡ consoles_alone s.board → IsInOrder s.board → old ≡ without_history live → new ≡ consoles_after all live → AreEditsOf old new all edits → HaveNothingNew all s → edits ≡ []
+pub nothing_new : (s : State) (all : List Row) (live old new : BoardRows) (edits : List Edit)
+    → live ≡ consoles_alone s.board → IsInOrder s.board → old ≡ without_history live → new ≡ consoles_after all live
+    → AreEditsOf old new all edits → HaveNothingNew all s → edits ≡ []
 nothing_new s all live old new edits live_is order copy defines are none =
     let footprints = seen_so s all old new order (copy ∙ ap without_history live_is) (defines ∙ ap (consoles_after all) live_is) are.sound in
     let same : all_edited are.first s ≡ s = are.becomes s _ footprints ∙ board_so s all ∙ ap (λ b. record s { board = b }) none.board in

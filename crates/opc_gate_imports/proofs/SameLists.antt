@@ -82,7 +82,8 @@ derived_itself : (r : Row) → of_row.eq-value.it r r ≡ true
 derived_itself r = search rules
 
 same_row_by_derived : (r q : Row) → of_row.eq-value.it r q ≡ same_row r q
-same_row_by_derived r q = one_truth (of_row.eq-value.it r q) (same_row r q) (row_told r q) (λ h. ap (of_row.eq-value.it r) (sym (row_is r q h)) ∙ derived_itself r)
+same_row_by_derived r q = one_truth (of_row.eq-value.it r q) (same_row r q) (row_told r q)
+    (λ h. ap (of_row.eq-value.it r) (sym (row_is r q h)) ∙ derived_itself r)
 
 pub same_by_derived : (one other : List Row) → pointwise of_row.eq-value.it one other ≡ same_rows one other
 same_by_derived [] [] = refl

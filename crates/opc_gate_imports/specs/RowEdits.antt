@@ -20,8 +20,19 @@ edit_of (rows.Group name) = Some (edit.PutGroup name)
 edit_of (rows.User user) = Some (edit.PutUser user)
 edit_of (rows.Connect user group) = Some (edit.PutConnect (record { user = user; group = group }))
 edit_of (rows.Console name auth mode) = None
-edit_of (rows.Profile class pattern uacc owner warning) = Some (edit.PutProfile (record { class = class; pattern = pattern; owner = owner; uacc = uacc; warning = warning; entries = [] }))
-edit_of (rows.Permit class pattern id level when) = Some (edit.PutEntry class pattern (record { id = id; when = when; level = level }))
+edit_of (rows.Profile class pattern uacc owner warning) = Some (edit.PutProfile (record {
+  class = class;
+  pattern = pattern;
+  owner = owner;
+  uacc = uacc;
+  warning = warning;
+  entries = [];
+}))
+edit_of (rows.Permit class pattern id level when) = Some (edit.PutEntry class pattern (record {
+  id = id;
+  when = when;
+  level = level;
+}))
 
 abbrev pub edits_of : List Row → List Edit
 edits_of more = filter_map edit_of more
@@ -33,7 +44,16 @@ pub record HaveNothingNew (more : List Row) (s : State) : Type 0 where
 
 -- What rows ask of a board, and change of it: its consoles, and whether the day is halted besides.
 abbrev pub consoles_alone : BoardRows → BoardRows
-consoles_alone b = record { units = []; devices = []; consoles = b.consoles; replies = []; answered = []; log = []; messages = []; halted = b.halted }
+consoles_alone b = record {
+  units = [];
+  devices = [];
+  consoles = b.consoles;
+  replies = [];
+  answered = [];
+  log = [];
+  messages = [];
+  halted = b.halted;
+}
 
 -- Edits make one board of another, if there is anything to make, where these are what is seen of a state's and of
 -- another; and then they change the policy as rows do.
@@ -41,15 +61,19 @@ pub record AreEditsOf (old new : BoardRows) (more : List Row) (edits : List Edit
   pub first : List Edit
   pub all : edits ≡ first ++ edits_of more
   pub sound : IsBoard new
-  pub becomes : (s : State) (whole : BoardRows) → AreFootprints old new s whole → all_edited first s ≡ with_board whole s
+  pub becomes : (s : State) (whole : BoardRows) → AreFootprints old new s whole
+      → all_edited first s ≡ with_board whole s
   pub idle : (s : State) (whole : BoardRows) → AreFootprints old new s whole → all_edited first s ≡ s → first ≡ []
 
 -- A refusal that is not for memory or the store is the one that the rows meet.
-abbrev pub IsRefusedFor : {V : Type 0} → Type 0 → (State → Type 0) → Result V Fault → (State → Result State Fault) → Type 0
-IsRefusedFor sure represents result made = sure → (s : State) → represents s → IfErr result (λ f. f ≢ why.NoMemory → f ≢ why.Store → made s ≡ Err f)
+abbrev pub IsRefusedFor : {V : Type 0} → Type 0 → (State → Type 0) → Result V Fault → (State → Result State Fault)
+    → Type 0
+IsRefusedFor sure represents result made =
+    sure → (s : State) → represents s → IfErr result (λ f. f ≢ why.NoMemory → f ≢ why.Store → made s ≡ Err f)
 
 -- The bootstrap is done: its state is represented, and once a change is acknowledged a crash leaves it alone.
-pub record IsBootstrap {T : Type 0} (represents may_leave : T → State → Type 0) (new : T) (s : State) (more : List Row) : Type 0 where
+pub record IsBootstrap {T : Type 0} (represents may_leave : T → State → Type 0) (new : T) (s : State)
+    (more : List Row) : Type 0 where
   pub next : State
   pub becomes : bootstrapped more s ≡ Ok next
   pub represented : represents new next

@@ -7,8 +7,23 @@ ghost use Rattle.opc_board.specs.Footprint.{IsInOrder};
 ghost use Rattle.opc_state.specs.Asked.{Answers};
 ghost use Rattle.opc_state.specs.State.{State, has_users};
 ghost use Rattle.opc_state.specs.Changes.{IsKept, all_edited};
-ghost use Rattle.opc_gate_imports.specs.RowEdits.{AreEditsOf, consoles_alone, HaveNothingNew, IsBootstrap, IsRefusedFor, edit_of, edits_of};
-ghost use Rattle.opc_machine.specs.Bootstrap.{bootstrapped, console_after, consoles_after, with_rows, loses_master, policy_after};
+ghost use Rattle.opc_gate_imports.specs.RowEdits.{
+  AreEditsOf,
+  consoles_alone,
+  HaveNothingNew,
+  IsBootstrap,
+  IsRefusedFor,
+  edit_of,
+  edits_of,
+};
+ghost use Rattle.opc_machine.specs.Bootstrap.{
+  bootstrapped,
+  console_after,
+  consoles_after,
+  with_rows,
+  loses_master,
+  policy_after,
+};
 
 use opc_board::board::{Board, BoardRows};
 use opc_board::rows::ConsoleRow;
@@ -150,7 +165,8 @@ fn edits_of_consoles(
 ) -> Result<Vec<Edit>, Fault>
     ensures made { IfOk result (λ edits. AreEditsOf old.now (consoles_after rows.now board.old) rows.now edits.items) }
     ensures kept { OnOk result (loses_master old.now (consoles_after rows.now board.old) ≡ false) }
-    ensures refused { IfErr result (λ f. f ≢ why.NoMemory → (f ≡ why.LastMaster) × (loses_master old.now (consoles_after rows.now board.old) ≡ true)) }
+    ensures refused { IfErr result (λ f. f ≢ why.NoMemory → (f ≡ why.LastMaster)
+        × (loses_master old.now (consoles_after rows.now board.old) ≡ true)) }
 {
     define_all(board, rows)?;
     if loses_master(old, board) {
@@ -166,9 +182,12 @@ fn edits_of_rows(
     board: &mut Board,
     rows: &[Row],
 ) -> Result<Vec<Edit>, Fault>
-    ensures made { IfOk result (λ edits. (s : State) → policy.old ≡ s.policy → board.old ≡ consoles_alone s.board → IsInOrder s.board → with_rows rows.now s ≡ Ok (all_edited edits.items s)) }
-    ensures idle { IfOk result (λ edits. (s : State) → board.old ≡ consoles_alone s.board → IsInOrder s.board → HaveNothingNew rows.now s → edits.items ≡ []) }
-    ensures refused { IfErr result (λ f. f ≢ why.NoMemory → (s : State) → policy.old ≡ s.policy → board.old ≡ consoles_alone s.board → IsInOrder s.board → with_rows rows.now s ≡ Err f) }
+    ensures made { IfOk result (λ edits. (s : State) → policy.old ≡ s.policy → board.old ≡ consoles_alone s.board
+        → IsInOrder s.board → with_rows rows.now s ≡ Ok (all_edited edits.items s)) }
+    ensures idle { IfOk result (λ edits. (s : State) → board.old ≡ consoles_alone s.board → IsInOrder s.board
+        → HaveNothingNew rows.now s → edits.items ≡ []) }
+    ensures refused { IfErr result (λ f. f ≢ why.NoMemory → (s : State) → policy.old ≡ s.policy
+        → board.old ≡ consoles_alone s.board → IsInOrder s.board → with_rows rows.now s ≡ Err f) }
 {
     take_all(policy, alloc, rows)?;
     let old = copied(alloc, board)?;
@@ -178,7 +197,8 @@ fn edits_of_rows(
 // Loads what is stored. Of the board rows ask about consoles alone.
 fn stored_on<T: Tables>(tables: &mut T, alloc: Global) -> Result<Stored, StoreFault>
     ensures kept { IsKept T.is_sure T.represents T.may_leave tables.old tables.new }
-    ensures stored { Answers (T.is_sure tables.new) (T.represents tables.old) result (λ s stored. (stored.policy ≡ s.policy) × (stored.board ≡ consoles_alone s.board) × IsInOrder s.board) }
+    ensures stored { Answers (T.is_sure tables.new) (T.represents tables.old) result
+        (λ s stored. (stored.policy ≡ s.policy) × (stored.board ≡ consoles_alone s.board) × IsInOrder s.board) }
 {
     let policy = tables.policy(alloc)?;
     let halted = tables.is_halted()?;
@@ -190,7 +210,16 @@ fn stored_on<T: Tables>(tables: &mut T, alloc: Global) -> Result<Stored, StoreFa
 }
 
 fn alone(alloc: Global, consoles: Rows<ConsoleRow>, halted: bool) -> BoardRows
-    ensures { result ≡ record { units = []; devices = []; consoles = consoles; replies = []; answered = []; log = []; messages = []; halted = halted } }
+    ensures { result ≡ record {
+      units = [];
+      devices = [];
+      consoles = consoles;
+      replies = [];
+      answered = [];
+      log = [];
+      messages = [];
+      halted = halted;
+    } }
 {
     BoardRows {
         units: Rows::new(alloc),
@@ -211,8 +240,10 @@ pub fn row_edits_on<T: Tables>(
     rows: &[Row],
 ) -> Result<Vec<Edit>, Fault>
     ensures kept { IsKept T.is_sure T.represents T.may_leave tables.old tables.new }
-    ensures made { Answers (T.is_sure tables.new) (T.represents tables.old) result (λ s edits. with_rows rows.now s ≡ Ok (all_edited edits.items s)) }
-    ensures idle { Answers (T.is_sure tables.new) (T.represents tables.old) result (λ s edits. HaveNothingNew rows.now s → edits.items ≡ []) }
+    ensures made { Answers (T.is_sure tables.new) (T.represents tables.old) result
+        (λ s edits. with_rows rows.now s ≡ Ok (all_edited edits.items s)) }
+    ensures idle { Answers (T.is_sure tables.new) (T.represents tables.old) result
+        (λ s edits. HaveNothingNew rows.now s → edits.items ≡ []) }
     ensures refused { IsRefusedFor (T.is_sure tables.new) (T.represents tables.old) result (with_rows rows.now) }
 {
     let Stored {
@@ -225,8 +256,10 @@ pub fn row_edits_on<T: Tables>(
 // Loads what a first policy needs, and decides; writes nothing.
 fn edits_on<T: Tables>(tables: &mut T, alloc: Global, rows: &[Row]) -> Result<Vec<Edit>, Fault>
     ensures kept { IsKept T.is_sure T.represents T.may_leave tables.old tables.new }
-    ensures made { Answers (T.is_sure tables.new) (T.represents tables.old) result (λ s edits. bootstrapped rows.now s ≡ Ok (all_edited edits.items s)) }
-    ensures idle { Answers (T.is_sure tables.new) (T.represents tables.old) result (λ s edits. HaveNothingNew rows.now s → edits.items ≡ []) }
+    ensures made { Answers (T.is_sure tables.new) (T.represents tables.old) result
+        (λ s edits. bootstrapped rows.now s ≡ Ok (all_edited edits.items s)) }
+    ensures idle { Answers (T.is_sure tables.new) (T.represents tables.old) result
+        (λ s edits. HaveNothingNew rows.now s → edits.items ≡ []) }
     ensures refused { IsRefusedFor (T.is_sure tables.new) (T.represents tables.old) result (bootstrapped rows.now) }
 {
     if tables.has_users()? {
@@ -239,11 +272,14 @@ fn edits_on<T: Tables>(tables: &mut T, alloc: Global, rows: &[Row]) -> Result<Ve
 fn write_first<T: Tables>(tables: &mut T, alloc: Global, edits: Vec<Edit>) -> Result<(), Fault>
     ensures sure { T.is_sure tables.new → T.is_sure tables.old }
     ensures idle { edits.items ≡ [] → (left : State) → T.may_leave tables.new left → T.may_leave tables.old left }
-    ensures founds { T.is_sure tables.new → (s : State) → T.represents tables.old s → (rows : List TheRow) → bootstrapped rows s ≡ Ok (all_edited edits.items s)
+    ensures founds { T.is_sure tables.new → (s : State) → T.represents tables.old s → (rows : List TheRow)
+        → bootstrapped rows s ≡ Ok (all_edited edits.items s)
         → OnOk result (IsBootstrap T.represents T.may_leave tables.new s rows) }
     ensures refused { IfErr result (λ f. (f ≡ why.NoMemory) ⊎ (f ≡ why.Store)) }
-    ensures unchanged { T.is_sure tables.new → (s : State) → T.represents tables.old s → OnErr result (T.represents tables.new s) }
-    ensures crash { T.is_sure tables.new → (s : State) → T.represents tables.old s → (left : State) → T.may_leave tables.new left → T.may_leave tables.old left ⊎ (left ≡ all_edited edits.items s) }
+    ensures unchanged { T.is_sure tables.new → (s : State) → T.represents tables.old s
+        → OnErr result (T.represents tables.new s) }
+    ensures crash { T.is_sure tables.new → (s : State) → T.represents tables.old s → (left : State)
+        → T.may_leave tables.new left → T.may_leave tables.old left ⊎ (left ≡ all_edited edits.items s) }
 {
     let change = Change {
         edits,
@@ -259,11 +295,15 @@ fn write_first<T: Tables>(tables: &mut T, alloc: Global, edits: Vec<Edit>) -> Re
 /// Takes the rows of a first policy, where no user is stored.
 pub fn bootstrap<T: Tables>(tables: &mut T, alloc: Global, rows: &[Row]) -> Result<(), Fault>
     ensures sure { T.is_sure tables.new → T.is_sure tables.old }
-    ensures done { T.is_sure tables.new → (s : State) → T.represents tables.old s → OnOk result (IsBootstrap T.represents T.may_leave tables.new s rows.now) }
+    ensures done { T.is_sure tables.new → (s : State) → T.represents tables.old s
+        → OnOk result (IsBootstrap T.represents T.may_leave tables.new s rows.now) }
     ensures refused { IsRefusedFor (T.is_sure tables.new) (T.represents tables.old) result (bootstrapped rows.now) }
-    ensures unchanged { T.is_sure tables.new → (s : State) → T.represents tables.old s → OnErr result (T.represents tables.new s) }
-    ensures crash { T.is_sure tables.new → (s : State) → T.represents tables.old s → (left : State) → T.may_leave tables.new left → T.may_leave tables.old left ⊎ (bootstrapped rows.now s ≡ Ok left) }
-    ensures idle { T.is_sure tables.new → (s : State) → T.represents tables.old s → HaveNothingNew rows.now s → (left : State) → T.may_leave tables.new left → T.may_leave tables.old left }
+    ensures unchanged { T.is_sure tables.new → (s : State) → T.represents tables.old s
+        → OnErr result (T.represents tables.new s) }
+    ensures crash { T.is_sure tables.new → (s : State) → T.represents tables.old s → (left : State)
+        → T.may_leave tables.new left → T.may_leave tables.old left ⊎ (bootstrapped rows.now s ≡ Ok left) }
+    ensures idle { T.is_sure tables.new → (s : State) → T.represents tables.old s → HaveNothingNew rows.now s
+        → (left : State) → T.may_leave tables.new left → T.may_leave tables.old left }
 {
     let edits = edits_on(tables, alloc, rows)?;
     write_first(tables, alloc, edits)

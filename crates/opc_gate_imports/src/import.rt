@@ -9,7 +9,15 @@ ghost use Rattle.opc_state.specs.Changes.{IsKept};
 ghost use Rattle.opc_state.specs.Loads.{batch_rows};
 ghost use Rattle.opc_state.specs.State.{State};
 ghost use Rattle.opc_machine.specs.Deeds.{IsOutcome};
-ghost use Rattle.opc_machine.specs.Imports.{batch_line, batch_of, batch_outcome, import_outcome, new_batch, same_batch, same_rows};
+ghost use Rattle.opc_machine.specs.Imports.{
+  batch_line,
+  batch_of,
+  batch_outcome,
+  import_outcome,
+  new_batch,
+  same_batch,
+  same_rows,
+};
 
 use crate::bootstrap::row_edits_on;
 use opc_board::line::{Item, Line};
@@ -47,7 +55,8 @@ fn batch_lines(alloc: Global, number: u32, what: &str) -> Result<Rows<Line>, All
 
 // The edits of the rows, and the batch after them.
 fn keep(alloc: Global, edits: &mut Vec<Edit>, number: u32, rows: &[Row]) -> Result<(), AllocError>
-    ensures { OnOk result (edits.new.items ≡ edits.old.items ++ PutBatch (record { number = number; rows = rows.now }) ∷ []) }
+    ensures { OnOk result (edits.new.items ≡ edits.old.items ++ PutBatch (record { number = number; rows = rows.now })
+        ∷ []) }
 {
     let rows = Rows::from_slice(alloc, rows)?;
     edits.push(Edit::PutBatch(Batch { number, rows }))?;
@@ -57,7 +66,8 @@ fn keep(alloc: Global, edits: &mut Vec<Edit>, number: u32, rows: &[Row]) -> Resu
 // A batch with a new number: its rows are taken one after another, all of them or none.
 fn new_batch<T: Tables>(tables: &mut T, alloc: Global, number: u32, rows: &[Row]) -> Decided
     ensures kept { IsKept T.is_sure T.represents T.may_leave tables.old tables.new }
-    ensures outcome { Answers (T.is_sure tables.new) (T.represents tables.old) result (λ s o. batch_rows s.batches number ≡ None → IsOutcome s (new_batch s number rows.now) o) }
+    ensures outcome { Answers (T.is_sure tables.new) (T.represents tables.old) result
+        (λ s o. batch_rows s.batches number ≡ None → IsOutcome s (new_batch s number rows.now) o) }
 {
     let mut edits = match row_edits_on(tables, alloc, rows) {
         Ok(edits) => edits,
@@ -83,7 +93,8 @@ fn same_rows(rows: &[Row], others: &[Row]) -> bool
 
 // A batch whose number is kept: nothing is done, where its rows are the same.
 fn same_batch(alloc: Global, number: u32, kept: &[Row], rows: &[Row]) -> Decided
-    ensures { (s : State) → IfOk result (λ o. IsOutcome s (same_batch s number rows.now (record { number = number; rows = kept.now })) o) }
+    ensures { (s : State)
+        → IfOk result (λ o. IsOutcome s (same_batch s number rows.now (record { number = number; rows = kept.now })) o) }
 {
     if !same_rows(kept, rows) {
         return denied(Fault::BatchChanged, None);
@@ -99,7 +110,8 @@ fn same_batch(alloc: Global, number: u32, kept: &[Row], rows: &[Row]) -> Decided
 // What a batch comes to, by what is kept of its number.
 fn batch_on<T: Tables>(tables: &mut T, alloc: Global, number: u32, rows: &[Row]) -> Decided
     ensures kept { IsKept T.is_sure T.represents T.may_leave tables.old tables.new }
-    ensures outcome { Answers (T.is_sure tables.new) (T.represents tables.old) result (λ s o. IsOutcome s (batch_outcome s number rows.now (batch_of s.batches number)) o) }
+    ensures outcome { Answers (T.is_sure tables.new) (T.represents tables.old) result
+        (λ s o. IsOutcome s (batch_outcome s number rows.now (batch_of s.batches number)) o) }
 {
     match tables.batch(alloc, number)? {
         None => new_batch(tables, alloc, number, rows),
@@ -117,7 +129,9 @@ pub fn import_on<T: Tables>(
     rows: &Rows<Row>,
 ) -> Decided
     ensures kept { IsKept T.is_sure T.represents T.may_leave tables.old tables.new }
-    ensures outcome { Answers (T.is_sure tables.new) (T.represents tables.old) result (λ s o. (name : Name) → console ≡ console_at s.board name → IsOutcome s (import_outcome s name batch rows.now) o) }
+    ensures outcome { Answers (T.is_sure tables.new) (T.represents tables.old) result
+        (λ s o. (name : Name) → console ≡ console_at s.board name
+        → IsOutcome s (import_outcome s name batch rows.now) o) }
 {
     let asking = match requester_on(tables, alloc, console)? {
         Ok(asking) => asking,

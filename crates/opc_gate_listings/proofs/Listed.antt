@@ -1,5 +1,34 @@
 -- Which profiles are listed.
-use Rattle.std.proofs.Common.{◌≡◌, ◌<◌, ℕ, zero, suc, Bool, true, false, not, ◌||◌, List, [], ◌∷◌, Option, Some, None, Ok, filter, length, if◌then◌else◌, map, take, refl, rules, sym, ap, ◌∙◌, arith}
+use Rattle.std.proofs.Common.{
+  ◌≡◌,
+  ◌<◌,
+  ℕ,
+  zero,
+  suc,
+  Bool,
+  true,
+  false,
+  not,
+  ◌||◌,
+  List,
+  [],
+  ◌∷◌,
+  Option,
+  Some,
+  None,
+  Ok,
+  filter,
+  length,
+  if◌then◌else◌,
+  map,
+  take,
+  refl,
+  rules,
+  sym,
+  ap,
+  ◌∙◌,
+  arith,
+}
 use Rattle.opc_names.specs.declared.class.Class.{Class}
 use Rattle.opc_terms.specs.declared.fault.Fault.TheVariants.{NotSpecial}
 use Rattle.opc_policy_members.specs.declared.profile.Profile.{Profile}
@@ -50,27 +79,36 @@ module _ (s : State) (c : ConsoleRow) (profiles : List Profile) where
   -- whoever sees all is shown all,
   pub all_shown : (o : Option User) → o ≡ acting s c → sees_all o ≡ true → profiles ≡ filter (profile_shown s c) profiles
   all_shown o acts sees =
-      sym (alike (profile_shown s c) (λ p. true) (λ p. ap (λ b. b || is_owner (acting s c) (Some p) || holds_read s c (acting s c) p) (ap sees_all (sym acts) ∙ sees)) profiles ∙ kept_all profiles)
+      sym (alike (profile_shown s c) (λ p. true)
+      (λ p. ap (λ b. b || is_owner (acting s c) (Some p) || holds_read s c (acting s c) p)
+      (ap sees_all (sym acts) ∙ sees)) profiles ∙ kept_all profiles)
 
   -- nobody nothing,
   pub none_shown : None ≡ acting s c → filter (profile_shown s c) profiles ≡ []
-  none_shown acts = alike (profile_shown s c) (λ p. false) (λ p. ap (λ o. sees_all o || is_owner o (Some p) || holds_read s c o p) (sym acts)) profiles ∙ kept_none profiles
+  none_shown acts = alike (profile_shown s c) (λ p. false)
+      (λ p. ap (λ o. sees_all o || is_owner o (Some p) || holds_read s c o p) (sym acts)) profiles ∙ kept_none profiles
 
   -- and another user what that user sees
-  pub seen_shown : (u : User) → Some u ≡ acting s c → sees_all (Some u) ≡ false → filter (is_seen c u (groups_of s.policy.connects u.id)) profiles ≡ filter (profile_shown s c) profiles
+  pub seen_shown : (u : User) → Some u ≡ acting s c → sees_all (Some u) ≡ false
+      → filter (is_seen c u (groups_of s.policy.connects u.id)) profiles ≡ filter (profile_shown s c) profiles
   seen_shown u acts not_all =
       sym (alike (profile_shown s c) (is_seen c u (groups_of s.policy.connects u.id))
-      (λ p. ap (λ o. sees_all o || is_owner o (Some p) || holds_read s c o p) (sym acts) ∙ ap (λ b. b || is_owner (Some u) (Some p) || holds_read s c (Some u) p) not_all) profiles)
+      (λ p. ap (λ o. sees_all o || is_owner o (Some p) || holds_read s c o p) (sym acts)
+      ∙ ap (λ b. b || is_owner (Some u) (Some p) || holds_read s c (Some u) p) not_all) profiles)
 
 -- what a listing comes to, by what was found out of the console that asks
-pub account_told : (s : State) (name : List ℕ) (from count : ℕ) (c : ConsoleRow) (u : Option User) (lines : List Line) → console_asking s name ≡ Ok c → u ≡ acting s c → sees_all u ≡ true → lines ≡ map account_line (asked_for from count s.account)
+pub account_told : (s : State) (name : List ℕ) (from count : ℕ) (c : ConsoleRow) (u : Option User) (lines : List Line)
+    → console_asking s name ≡ Ok c → u ≡ acting s c → sees_all u ≡ true
+    → lines ≡ map account_line (asked_for from count s.account)
     → account_outcome s name from count ≡ does s lines None
 account_told s name from count c u lines asks acts sees are =
     ap (λ x. x >>= λ d. refuse_if NotSpecial None (not (account_shown s d)) >>= λ _. does s (map account_line (asked_for from count s.account)) None) asks
     ∙ ap (λ b. refuse_if NotSpecial None (not b) >>= λ _. does s (map account_line (asked_for from count s.account)) None) (ap sees_all (sym acts) ∙ sees)
     ∙ ap (λ l. does s l None) (sym are)
 
-pub profiles_told : (s : State) (name : List ℕ) (class : Class) (c : ConsoleRow) (lines : List Line) → console_asking s name ≡ Ok c → lines ≡ map profile_line (filter (profile_shown s c) (of_class class s.policy.profiles))
+pub profiles_told : (s : State) (name : List ℕ) (class : Class) (c : ConsoleRow) (lines : List Line)
+    → console_asking s name ≡ Ok c → lines ≡ map profile_line
+    (filter (profile_shown s c) (of_class class s.policy.profiles))
     → profiles_outcome s name class ≡ does s lines None
 profiles_told s name class c lines asks are =
     ap (λ x. x >>= λ d. does s (map profile_line (filter (profile_shown s d) (of_class class s.policy.profiles))) None) asks ∙ ap (λ l. does s l None) (sym are)

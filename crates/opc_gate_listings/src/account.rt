@@ -23,7 +23,8 @@ use opc_terms::store_fault::StoreFault;
 use std::alloc::{AllocError, Global};
 
 fn account_text(alloc: Global, number: u64, row: &AccountRow) -> Result<String, AllocError>
-    ensures { IfOk result (λ text. string_bytes text ≡ columns (decimal number ∷ decimal row.now.moment ∷ row.now.console ∷ row.now.user ∷ row.now.code ∷ row.now.rule ∷ [])) }
+    ensures { IfOk result (λ text. string_bytes text ≡ columns
+        (decimal number ∷ decimal row.now.moment ∷ row.now.console ∷ row.now.user ∷ row.now.code ∷ row.now.rule ∷ [])) }
 {
     let moment = row.moment;
     let (console, user) = (row.console.as_str(), row.user.as_str());
@@ -60,14 +61,15 @@ fn lines_on<T: Tables>(
     count: u32,
 ) -> Result<Rows<Line>, StoreFault>
     ensures kept { IsKept T.is_sure T.represents T.may_leave tables.old tables.new }
-    ensures lines { Answers (T.is_sure tables.new) (T.represents tables.old) result (λ s lines. lines ≡ map account_line (asked_for from count s.account)) }
+    ensures lines { Answers (T.is_sure tables.new) (T.represents tables.old) result
+        (λ s lines. lines ≡ map account_line (asked_for from count s.account)) }
 {
     let rows = tables.account(alloc, from, count)?;
     account_lines(alloc, rows.as_slice())
 }
 
-/// What a listing of the account comes to that is asked at a console, whose row is loaded: its rows from a number on, as
-/// many as asked for at most, where SPECIAL or AUDITOR asks (else E50).
+/// What a listing of the account comes to that is asked at a console, whose row is loaded: its rows from a number on,
+/// as many as asked for at most, where SPECIAL or AUDITOR asks (else E50).
 pub fn account_on<T: Tables>(
     tables: &mut T,
     alloc: Global,
@@ -76,7 +78,8 @@ pub fn account_on<T: Tables>(
     count: u32,
 ) -> Decided
     ensures kept { IsKept T.is_sure T.represents T.may_leave tables.old tables.new }
-    ensures outcome { Answers (T.is_sure tables.new) (T.represents tables.old) result (λ s o. (name : Name) → console ≡ console_at s.board name → IsOutcome s (account_outcome s name from count) o) }
+    ensures outcome { Answers (T.is_sure tables.new) (T.represents tables.old) result
+        (λ s o. (name : Name) → console ≡ console_at s.board name → IsOutcome s (account_outcome s name from count) o) }
 {
     let asking = match requester_on(tables, alloc, console)? {
         Ok(asking) => asking,

@@ -29,7 +29,8 @@ use opc_terms::store_fault::StoreFault;
 use std::alloc::{AllocError, Global};
 
 fn warned_text(alloc: Global, pattern: &str, uacc: &str, owner: &str) -> Result<String, AllocError>
-    ensures { IfOk result (λ text. string_bytes text ≡ columns (pattern.now ∷ codes "UACC" ∷ uacc.now ∷ codes "OWNER" ∷ owner.now ∷ codes "WARNING" ∷ [])) }
+    ensures { IfOk result (λ text. string_bytes text ≡ columns
+        (pattern.now ∷ codes "UACC" ∷ uacc.now ∷ codes "OWNER" ∷ owner.now ∷ codes "WARNING" ∷ [])) }
 {
     format!(in alloc; "{pattern} UACC {uacc} OWNER {owner} WARNING")
 }
@@ -90,7 +91,8 @@ fn seen_lines(
     groups: &[GroupName],
     profiles: &[Profile],
 ) -> Result<Rows<Line>, StoreFault>
-    ensures { IfOk result (λ lines. lines ≡ map profile_line (filter (is_seen console.now user.now groups.now) profiles.now)) }
+    ensures { IfOk result (λ lines. lines ≡ map profile_line
+        (filter (is_seen console.now user.now groups.now) profiles.now)) }
 {
     let mut lines = Rows::new(alloc);
     for profile in profiles {
@@ -109,7 +111,8 @@ fn all_groups<T: Tables>(
     user: &UserId,
 ) -> Result<Vec<GroupName>, StoreFault>
     ensures kept { IsKept T.is_sure T.represents T.may_leave tables.old tables.new }
-    ensures groups { Answers (T.is_sure tables.new) (T.represents tables.old) result (λ s groups. groups.items ≡ groups_of s.policy.connects user.now) }
+    ensures groups { Answers (T.is_sure tables.new) (T.represents tables.old) result
+        (λ s groups. groups.items ≡ groups_of s.policy.connects user.now) }
 {
     let groups = tables.groups_of(alloc, user, u32::MAX)?;
     // There are fewer groups than that, so these are all. With 4,294,967,295 the listing would be aborted.
@@ -123,7 +126,8 @@ fn all_groups<T: Tables>(
 #[tactic(auto, using(crate::proofs::Listed::bare_lines))]
 fn all_on<T: Tables>(tables: &mut T, alloc: Global, class: Class) -> Result<Rows<Line>, StoreFault>
     ensures kept { IsKept T.is_sure T.represents T.may_leave tables.old tables.new }
-    ensures lines { Answers (T.is_sure tables.new) (T.represents tables.old) result (λ s lines. lines ≡ map profile_line (of_class class s.policy.profiles)) }
+    ensures lines { Answers (T.is_sure tables.new) (T.represents tables.old) result
+        (λ s lines. lines ≡ map profile_line (of_class class s.policy.profiles)) }
 {
     let profiles = tables.definitions(alloc, class)?;
     profile_lines(alloc, profiles.as_slice())
@@ -138,7 +142,10 @@ fn seen_on<T: Tables>(
     class: Class,
 ) -> Result<Rows<Line>, StoreFault>
     ensures kept { IsKept T.is_sure T.represents T.may_leave tables.old tables.new }
-    ensures lines { Answers (T.is_sure tables.new) (T.represents tables.old) result (λ s lines. lines ≡ map profile_line (filter (is_seen console.now user.now (groups_of s.policy.connects user.now.id)) (of_class class s.policy.profiles))) }
+    ensures lines { Answers (T.is_sure tables.new) (T.represents tables.old) result
+        (λ s lines. lines ≡ map profile_line
+        (filter (is_seen console.now user.now (groups_of s.policy.connects user.now.id))
+        (of_class class s.policy.profiles))) }
 {
     let groups = all_groups(tables, alloc, &user.id)?;
     let profiles = tables.profiles(alloc, class)?;
@@ -155,7 +162,9 @@ fn lines_on<T: Tables>(
     class: Class,
 ) -> Result<Rows<Line>, StoreFault>
     ensures kept { IsKept T.is_sure T.represents T.may_leave tables.old tables.new }
-    ensures lines { Answers (T.is_sure tables.new) (T.represents tables.old) result (λ s lines. asking.now.user ≡ acting s asking.now.console → lines ≡ map profile_line (filter (profile_shown s asking.now.console) (of_class class s.policy.profiles))) }
+    ensures lines { Answers (T.is_sure tables.new) (T.represents tables.old) result
+        (λ s lines. asking.now.user ≡ acting s asking.now.console
+        → lines ≡ map profile_line (filter (profile_shown s asking.now.console) (of_class class s.policy.profiles))) }
 {
     if sees_all(&asking.user) {
         return all_on(tables, alloc, class);
@@ -166,8 +175,8 @@ fn lines_on<T: Tables>(
     }
 }
 
-/// What a listing of the profiles of a class comes to that is asked at a console, whose row is loaded: those that may be
-/// shown there, in their order.
+/// What a listing of the profiles of a class comes to that is asked at a console, whose row is loaded: those that may
+/// be shown there, in their order.
 pub fn profiles_on<T: Tables>(
     tables: &mut T,
     alloc: Global,
@@ -175,7 +184,8 @@ pub fn profiles_on<T: Tables>(
     class: Class,
 ) -> Decided
     ensures kept { IsKept T.is_sure T.represents T.may_leave tables.old tables.new }
-    ensures outcome { Answers (T.is_sure tables.new) (T.represents tables.old) result (λ s o. (name : Name) → console ≡ console_at s.board name → IsOutcome s (profiles_outcome s name class) o) }
+    ensures outcome { Answers (T.is_sure tables.new) (T.represents tables.old) result
+        (λ s o. (name : Name) → console ≡ console_at s.board name → IsOutcome s (profiles_outcome s name class) o) }
 {
     let asking = match requester_on(tables, alloc, console)? {
         Ok(asking) => asking,

@@ -53,7 +53,8 @@ apart x p before = go x.class p.class (bytes_eq x.pattern p.pattern) (bytes_eq-D
     never : x.pattern ≡ p.pattern → is_lt (pattern_cmp x.pattern p.pattern) ≡ true → true ≡ false
     never same before = sym (sym (ap is_lt (tie same)) ∙ before)
 
-    go : (c d : Class) (b : Bool) → Decides b (x.pattern ≡ p.pattern) → is_lt (ordering_then (class_cmp c d) (pattern_cmp x.pattern p.pattern)) ≡ true → (same_class c d && b) ≡ false
+    go : (c d : Class) (b : Bool) → Decides b (x.pattern ≡ p.pattern)
+        → is_lt (ordering_then (class_cmp c d) (pattern_cmp x.pattern p.pattern)) ≡ true → (same_class c d && b) ≡ false
     go Console Console true same h = never (same.0 refl) h
     go Console Console false same h = refl
     go Console Opercmds b same h = refl
@@ -81,7 +82,9 @@ each_found (x ∷ profiles) rise = (
 )
 
 -- so is the one that decides
-pub deciding_found : (profiles : List Profile) (class : Class) (resource : List ℕ) → Ascends (λ (q r : Profile). is_lt (profile_cmp q r)) profiles → IfSome (deciding (of_class class profiles) resource) (IsFound profiles)
+pub deciding_found : (profiles : List Profile) (class : Class) (resource : List ℕ)
+    → Ascends (λ (q r : Profile). is_lt (profile_cmp q r)) profiles
+    → IfSome (deciding (of_class class profiles) resource) (IsFound profiles)
 deciding_found profiles class resource rise =
     first_kept (IsFound profiles) (covering resource (of_class class profiles))
     (all_kept (IsFound profiles) _ (of_class class profiles) (all_kept (IsFound profiles) _ profiles (each_found profiles rise)))

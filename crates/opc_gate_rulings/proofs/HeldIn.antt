@@ -25,8 +25,10 @@ module _ (p : Policy) (profile : Profile) (user : User) (console : List ℕ) whe
   listed entries = record profile { entries = entries }
 
   -- by the whole list and all groups
-  pub by_both : (entries : List Entry) (groups : List (List ℕ)) (most : ℕ) → entries ≡ take most (access_list p profile.class profile.pattern) → length entries < most
-      → groups ≡ take most (groups_of p.connects user.id) → length groups < most → held (listed entries) user (Some console) groups ≡ held_in p profile user console
+  pub by_both : (entries : List Entry) (groups : List (List ℕ)) (most : ℕ)
+      → entries ≡ take most (access_list p profile.class profile.pattern) → length entries < most
+      → groups ≡ take most (groups_of p.connects user.id) → length groups < most
+      → held (listed entries) user (Some console) groups ≡ held_in p profile user console
   by_both entries groups most list few all fewer =
       ap₂ (λ (es : List Entry) (gs : List (List ℕ)). held (listed es) user (Some console) gs) (whole entries _ most list few) (whole groups _ most all fewer)
 
@@ -45,7 +47,10 @@ module _ (p : Policy) (profile : Profile) (user : User) (console : List ℕ) whe
 
   -- by the levels of the entries for every console and for the console alone
   pub by_levels : (groups : List (List ℕ)) (plain conditional : Option Level)
-      → plain ≡ first_level (access_list p profile.class profile.pattern) None user groups → conditional ≡ first_level (access_list p profile.class profile.pattern) (Some console) user groups
+      → plain ≡ first_level (access_list p profile.class profile.pattern) None user groups
+      → conditional ≡ first_level (access_list p profile.class profile.pattern) (Some console) user groups
       → higher_level (unwrap_or plain (universal_level profile user)) (unwrap_or conditional level.None) ≡ held (with_list p profile) user (Some console) groups
   unfolding held
-  by_levels groups plain conditional first second = ap₂ (λ (a b : Option Level). higher_level (unwrap_or a (universal_level profile user)) (unwrap_or b level.None)) first second
+  by_levels groups plain conditional first second =
+      ap₂ (λ (a b : Option Level). higher_level (unwrap_or a (universal_level profile user)) (unwrap_or b level.None))
+      first second

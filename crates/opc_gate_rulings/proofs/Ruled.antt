@@ -19,7 +19,9 @@ use Rattle.opc_gate_rulings.specs.Held.{class_ruling, held_in, with_list}
 
 -- the verdict of a class is its ruling, where it has one
 pub ruled : (active : Bool) (decided : Option Profile) (user : User) (console : Option (List ℕ)) (groups : List (List ℕ)) (needed : Level) (other : Ruling)
-    → by_verdict (verdict active decided user console groups needed) (verdict_rule active decided user console groups needed) other ≡ unwrap_or (class_ruling active decided user console groups needed) other
+    → by_verdict (verdict active decided user console groups needed)
+    (verdict_rule active decided user console groups needed) other ≡ unwrap_or
+    (class_ruling active decided user console groups needed) other
 ruled false decided user console groups needed other = refl
 ruled true None user console groups needed other = refl
 ruled true (Some p) user console groups needed other = ruling_by_verdict p user console groups needed other
@@ -52,7 +54,9 @@ module _ (s : State) (class : Class) (resource : List ℕ) (user : User) (consol
       same : (p q : Profile) → (let o : Option Profile = Some p in o) ≡ Some q → p ≡ q
       same p q is = search (rules, is)
 
-      go : (o : Option Profile) → IfSome o (λ p. profile_of s.policy.profiles p.class p.pattern ≡ Some p) → Some profile ≡ option_map bare o → Rules o (Some (ruling_at profile (held_in s.policy profile user console) needed))
+      go : (o : Option Profile) → IfSome o (λ p. profile_of s.policy.profiles p.class p.pattern ≡ Some p)
+          → Some profile ≡ option_map bare o
+          → Rules o (Some (ruling_at profile (held_in s.policy profile user console) needed))
       go None found is = absurd (search (rules, is))
       go (Some p) found is =
           ap (λ (q : Profile). Some (ruling_at q (held_in s.policy q user console) needed)) (same profile (bare p) is)

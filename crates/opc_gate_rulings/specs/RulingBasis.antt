@@ -12,5 +12,7 @@ use Rattle.opc_gate_rulings.specs.declared.ruling.RulingBasis.TheVariants.{Denie
 -- authority of the console decides.
 abbrev pub IsRulingBasis : State → ConsoleRow → RulingBasis → Type 0
 IsRulingBasis s c (Denied rule) = logon_denial s c ≡ Some rule
-IsRulingBasis s c (User user) = (logon_denial s c ≡ None) × (acting s c ≡ Some user) × (is_active s.policy.active Opercmds ≡ true)
-IsRulingBasis s c Console = (logon_denial s c ≡ None) × ((acting s c ≡ None) ⊎ (is_active s.policy.active Opercmds ≡ false))
+IsRulingBasis s c (User user) = (logon_denial s c ≡ None) × (acting s c ≡ Some user)
+    × (is_active s.policy.active Opercmds ≡ true)
+IsRulingBasis s c Console = (logon_denial s c ≡ None)
+    × ((acting s c ≡ None) ⊎ (is_active s.policy.active Opercmds ≡ false))

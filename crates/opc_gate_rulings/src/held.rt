@@ -24,13 +24,13 @@ use std::alloc::Global;
 /// with 16, 3,000 entries cost more than twice what ten cost; with 12, a refusal by ten entries cost 15 % more.
 const FIRST: u32 = 14;
 
-/// An access list of so many entries at most is asked about by its entries at once: the groups of the user are a query as
-/// well.
+/// An access list of so many entries at most is asked about by its entries at once: the groups of the user are a query
+/// as well.
 const FEW: usize = 1;
 
-/// The level that a user holds at a console in a profile, whose access list is still in the tables. More and more of the
-/// access list and of the user's groups are loaded, until one of them is whole: it asks for what counts of the other.
-/// So this takes in proportion to the shorter of both.
+/// The level that a user holds at a console in a profile, whose access list is still in the tables. More and more of
+/// the access list and of the user's groups are loaded, until one of them is whole: it asks for what counts of the
+/// other. So this takes in proportion to the shorter of both.
 pub(crate) fn level_on<T: Tables>(
     tables: &mut T,
     alloc: Global,
@@ -39,7 +39,8 @@ pub(crate) fn level_on<T: Tables>(
     console: &ConsoleName,
 ) -> Result<Level, StoreFault>
     ensures kept { IsKept T.is_sure T.represents T.may_leave tables.old tables.new }
-    ensures level { Answers (T.is_sure tables.new) (T.represents tables.old) result (λ s level. level ≡ held_in s.policy profile.now user.now console.now) }
+    ensures level { Answers (T.is_sure tables.new) (T.represents tables.old) result
+        (λ s level. level ≡ held_in s.policy profile.now user.now console.now) }
 {
     let mut most = FIRST;
     // Sixteen rounds suffice if one of the lists has fewer than 4,294,967,295 members; otherwise the request is given
@@ -63,7 +64,8 @@ fn level_within<T: Tables>(
     most: u32,
 ) -> Result<Option<Level>, StoreFault>
     ensures kept { IsKept T.is_sure T.represents T.may_leave tables.old tables.new }
-    ensures level { Answers (T.is_sure tables.new) (T.represents tables.old) result (λ s found. IfSome found (λ level. level ≡ held_in s.policy profile.now user.now console.now)) }
+    ensures level { Answers (T.is_sure tables.new) (T.represents tables.old) result
+        (λ s found. IfSome found (λ level. level ≡ held_in s.policy profile.now user.now console.now)) }
 {
     let entries = tables.entries(alloc, profile.class, &profile.pattern, most)?;
     let is_whole = entries.as_slice().len() < most as usize;
@@ -100,7 +102,9 @@ fn level_by_entries<T: Tables>(
     console: &ConsoleName,
 ) -> Result<Level, StoreFault>
     ensures kept { IsKept T.is_sure T.represents T.may_leave tables.old tables.new }
-    ensures level { Answers (T.is_sure tables.new) (T.represents tables.old) result (λ s level. entries ≡ access_list s.policy profile.now.class profile.now.pattern → level ≡ held_in s.policy profile.now user.now console.now) }
+    ensures level { Answers (T.is_sure tables.new) (T.represents tables.old) result
+        (λ s level. entries ≡ access_list s.policy profile.now.class profile.now.pattern
+        → level ≡ held_in s.policy profile.now user.now console.now) }
 {
     let groups = listed_groups_of(tables, alloc, user, entries.as_slice())?;
     Ok(level_by_list(profile, entries, user, console, groups.as_slice()))
@@ -135,7 +139,8 @@ fn listed_groups_of<T: Tables>(
     entries: &[Entry],
 ) -> Result<Vec<GroupName>, StoreFault>
     ensures kept { IsKept T.is_sure T.represents T.may_leave tables.old tables.new }
-    ensures groups { Answers (T.is_sure tables.new) (T.represents tables.old) result (λ s groups. groups.items ≡ listed_groups entries.now (groups_of s.policy.connects user.now.id)) }
+    ensures groups { Answers (T.is_sure tables.new) (T.represents tables.old) result
+        (λ s groups. groups.items ≡ listed_groups entries.now (groups_of s.policy.connects user.now.id)) }
 {
     let mut groups = Vec::new(alloc);
     for entry in entries {
@@ -164,7 +169,8 @@ fn level_by_groups<T: Tables>(
     groups: &[GroupName],
 ) -> Result<Level, StoreFault>
     ensures kept { IsKept T.is_sure T.represents T.may_leave tables.old tables.new }
-    ensures level { Answers (T.is_sure tables.new) (T.represents tables.old) result (λ s level. level ≡ held (with_list s.policy profile.now) user.now (Some console.now) groups.now) }
+    ensures level { Answers (T.is_sure tables.new) (T.represents tables.old) result
+        (λ s level. level ≡ held (with_list s.policy profile.now) user.now (Some console.now) groups.now) }
 {
     let plain = first_level_on(tables, profile, None, user, groups)?;
     let conditional = first_level_on(tables, profile, Some(console), user, groups)?;
@@ -180,7 +186,9 @@ fn first_level_on<T: Tables>(
     groups: &[GroupName],
 ) -> Result<Option<Level>, StoreFault>
     ensures kept { IsKept T.is_sure T.represents T.may_leave tables.old tables.new }
-    ensures level { Answers (T.is_sure tables.new) (T.represents tables.old) result (λ s level. level ≡ first_level (access_list s.policy profile.now.class profile.now.pattern) (option_copied when.entry) user.now groups.now) }
+    ensures level { Answers (T.is_sure tables.new) (T.represents tables.old) result
+        (λ s level. level ≡ first_level (access_list s.policy profile.now.class profile.now.pattern)
+        (option_copied when.entry) user.now groups.now) }
 {
     let own = level_of(tables, profile, when, &EntryId::from(user.id))?;
     let highest = highest_level_on(tables, profile, when, groups)?;
@@ -200,7 +208,9 @@ fn level_of<T: Tables>(
     id: &EntryId,
 ) -> Result<Option<Level>, StoreFault>
     ensures kept { IsKept T.is_sure T.represents T.may_leave tables.old tables.new }
-    ensures level { Answers (T.is_sure tables.new) (T.represents tables.old) result (λ s level. level ≡ entry_level (access_list s.policy profile.now.class profile.now.pattern) (option_copied when.entry) id.now) }
+    ensures level { Answers (T.is_sure tables.new) (T.represents tables.old) result
+        (λ s level. level ≡ entry_level (access_list s.policy profile.now.class profile.now.pattern)
+        (option_copied when.entry) id.now) }
 {
     tables.level_for(profile.class, &profile.pattern, id, when)
 }
@@ -213,7 +223,9 @@ fn highest_level_on<T: Tables>(
     groups: &[GroupName],
 ) -> Result<Option<Level>, StoreFault>
     ensures kept { IsKept T.is_sure T.represents T.may_leave tables.old tables.new }
-    ensures level { Answers (T.is_sure tables.new) (T.represents tables.old) result (λ s level. level ≡ highest_level (access_list s.policy profile.now.class profile.now.pattern) (option_copied when.entry) groups.now) }
+    ensures level { Answers (T.is_sure tables.new) (T.represents tables.old) result
+        (λ s level. level ≡ highest_level (access_list s.policy profile.now.class profile.now.pattern)
+        (option_copied when.entry) groups.now) }
 {
     let mut highest = None;
     for group in groups {

@@ -75,7 +75,8 @@ pub fn requester_on<T: Tables>(
     console: Option<ConsoleRow>,
 ) -> Result<Result<Requester, Denial>, StoreFault>
     ensures kept { IsKept T.is_sure T.represents T.may_leave tables.old tables.new }
-    ensures asking { Answers (T.is_sure tables.new) (T.represents tables.old) result (λ s asking. (name : Name) → console ≡ console_at s.board name → IsRequester s name asking) }
+    ensures asking { Answers (T.is_sure tables.new) (T.represents tables.old) result
+        (λ s asking. (name : Name) → console ≡ console_at s.board name → IsRequester s name asking) }
 {
     let console = match console_for(console) {
         Ok(console) => console,

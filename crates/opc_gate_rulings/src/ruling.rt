@@ -10,7 +10,19 @@ ghost use Rattle.opc_state.specs.State.{deciding_in};
 ghost use Rattle.opc_state.specs.Changes.{IsKept};
 ghost use Rattle.opc_gate_rulings.specs.Held.{class_ruling};
 ghost use Rattle.opc_gate_rulings.specs.RulingBasis.{IsRulingBasis};
-ghost use Rattle.opc_machine.specs.Rulings.{acting, acting_user, is_auto, is_required, is_allowed, logon_ruling, own_user, need_to_show, ruling, shown, to_show};
+ghost use Rattle.opc_machine.specs.Rulings.{
+  acting,
+  acting_user,
+  is_auto,
+  is_required,
+  is_allowed,
+  logon_ruling,
+  own_user,
+  need_to_show,
+  ruling,
+  shown,
+  to_show,
+};
 
 use crate::held::level_on;
 use opc_board::line::{Item, Line};
@@ -59,7 +71,8 @@ fn profile_ruling_on<T: Tables>(
 ) -> Result<Option<Ruling>, StoreFault>
     ensures kept { IsKept T.is_sure T.represents T.may_leave tables.old tables.new }
     ensures ruling { Answers (T.is_sure tables.new) (T.represents tables.old) result (λ s r. r ≡
-        class_ruling true (deciding_in s.policy class resource.now) user.now (Some console.now) (groups_of s.policy.connects user.now.id) needed) }
+        class_ruling true (deciding_in s.policy class resource.now) user.now (Some console.now)
+        (groups_of s.policy.connects user.now.id) needed) }
 {
     let found = tables.deciding(alloc, class, resource)?;
     let Some(profile) = found.profile else {
@@ -79,7 +92,8 @@ fn by_profile<T: Tables>(
 ) -> Result<Ruling, StoreFault>
     ensures kept { IsKept T.is_sure T.represents T.may_leave tables.old tables.new }
     ensures ruling { Answers (T.is_sure tables.new) (T.represents tables.old) result (λ s r. r ≡
-        policy_ruling true (deciding_in s.policy Opercmds need.now.resource) (Some user.now) (Some console.now.name) (groups_of s.policy.connects user.now.id) console.now.auth need.now) }
+        policy_ruling true (deciding_in s.policy Opercmds need.now.resource) (Some user.now) (Some console.now.name)
+        (groups_of s.policy.connects user.now.id) console.now.auth need.now) }
 {
     let ruling = profile_ruling_on(
         tables,
@@ -110,7 +124,8 @@ fn own_user_on<T: Tables>(
     console: &ConsoleRow,
 ) -> Result<Option<User>, StoreFault>
     ensures kept { IsKept T.is_sure T.represents T.may_leave tables.old tables.new }
-    ensures user { Answers (T.is_sure tables.new) (T.represents tables.old) result (λ s u. u ≡ option_and_then (user_of s.policy.users) (own_user s console.now)) }
+    ensures user { Answers (T.is_sure tables.new) (T.represents tables.old) result
+        (λ s u. u ≡ option_and_then (user_of s.policy.users) (own_user s console.now)) }
 {
     if !is_auto(console.mode) {
         return Ok(None);
@@ -125,7 +140,8 @@ pub fn acting_user_on<T: Tables>(
     console: &ConsoleRow,
 ) -> Result<Option<UserId>, StoreFault>
     ensures kept { IsKept T.is_sure T.represents T.may_leave tables.old tables.new }
-    ensures user { Answers (T.is_sure tables.new) (T.represents tables.old) result (λ s u. u ≡ acting_user s console.now) }
+    ensures user { Answers (T.is_sure tables.new) (T.represents tables.old) result
+        (λ s u. u ≡ acting_user s console.now) }
 {
     if console.user.is_some() {
         return Ok(console.user);
@@ -169,7 +185,8 @@ pub fn ruling_basis_at<T: Tables>(
     console: &ConsoleRow,
 ) -> Result<RulingBasis, StoreFault>
     ensures kept { IsKept T.is_sure T.represents T.may_leave tables.old tables.new }
-    ensures basis { Answers (T.is_sure tables.new) (T.represents tables.old) result (λ s basis. IsRulingBasis s console.now basis) }
+    ensures basis { Answers (T.is_sure tables.new) (T.represents tables.old) result
+        (λ s basis. IsRulingBasis s console.now basis) }
 {
     if is_required(console.mode) && console.user.is_none() {
         return Ok(RulingBasis::Denied(Rule::LogonRequired));
@@ -196,7 +213,8 @@ pub fn ruling_on<T: Tables>(
     need: &Need,
 ) -> Result<Ruling, StoreFault>
     ensures kept { IsKept T.is_sure T.represents T.may_leave tables.old tables.new }
-    ensures ruling { Answers (T.is_sure tables.new) (T.represents tables.old) result (λ s r. IsRulingBasis s console.now basis.now → r ≡ ruling s console.now need.now) }
+    ensures ruling { Answers (T.is_sure tables.new) (T.represents tables.old) result
+        (λ s r. IsRulingBasis s console.now basis.now → r ≡ ruling s console.now need.now) }
 {
     match basis {
         RulingBasis::Denied(rule) => Ok(Ruling::Denied(*rule)),
@@ -222,7 +240,8 @@ pub fn logon_ruling_on<T: Tables>(
     user: &User,
 ) -> Result<Ruling, StoreFault>
     ensures kept { IsKept T.is_sure T.represents T.may_leave tables.old tables.new }
-    ensures ruling { Answers (T.is_sure tables.new) (T.represents tables.old) result (λ s r. r ≡ logon_ruling s console.now user.now) }
+    ensures ruling { Answers (T.is_sure tables.new) (T.represents tables.old) result
+        (λ s r. r ≡ logon_ruling s console.now user.now) }
 {
     if user.revoked {
         return Ok(Ruling::Denied(Rule::Revoked));
@@ -283,7 +302,8 @@ fn is_shown<T: Tables>(
     line: &Line,
 ) -> Result<bool, StoreFault>
     ensures kept { IsKept T.is_sure T.represents T.may_leave tables.old tables.new }
-    ensures shown { Answers (T.is_sure tables.new) (T.represents tables.old) result (λ s b. IsRulingBasis s console.now basis.now → b ≡ shown s console.now line.now) }
+    ensures shown { Answers (T.is_sure tables.new) (T.represents tables.old) result
+        (λ s b. IsRulingBasis s console.now basis.now → b ≡ shown s console.now line.now) }
 {
     match need_to_show(line.item) {
         None => Ok(true),
@@ -303,7 +323,8 @@ pub fn shown_lines<T: Tables>(
     lines: Vec<Line>,
 ) -> Result<Rows<Line>, StoreFault>
     ensures kept { IsKept T.is_sure T.represents T.may_leave tables.old tables.new }
-    ensures lines { Answers (T.is_sure tables.new) (T.represents tables.old) result (λ s kept. IsRulingBasis s console.now basis.now → kept ≡ filter (shown s console.now) lines.items) }
+    ensures lines { Answers (T.is_sure tables.new) (T.represents tables.old) result
+        (λ s kept. IsRulingBasis s console.now basis.now → kept ≡ filter (shown s console.now) lines.items) }
 {
     let mut kept = Rows::new(alloc);
     for line in lines {

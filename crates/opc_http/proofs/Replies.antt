@@ -12,7 +12,8 @@ use Rattle.opc_http.specs.declared.exchange.LinkFault.{LinkFault}
 use Rattle.opc_http.specs.declared.exchange.LinkFault.TheVariants as fault
 use Rattle.opc_http.specs.declared.exchange.Served.{Served}
 
-module _ {T K : Type 0} (is_sure : T → Type 0) (represents may_leave : T → State → Type 0) (held : K → Option (List ℕ)) (left : Option (List ℕ)) (before after : K) (old new : T) (moment : ℕ) where
+module _ {T K : Type 0} (is_sure : T → Type 0) (represents may_leave : T → State → Type 0) (held : K → Option (List ℕ))
+    (left : Option (List ℕ)) (before after : K) (old new : T) (moment : ℕ) where
   -- a reply that is told is served
   pub served : (reply : Reply) → Replies is_sure represents may_leave left old new moment reply
       → (res : Result Served LinkFault) → IfOk res (IsReported held reply before after)
@@ -37,12 +38,14 @@ module _ {T K : Type 0} (is_sure : T → Type 0) (represents may_leave : T → S
   faulty reply replies (Err why) cut = cut_off reply replies why cut
 
 -- a reply that is cut off is not told as a failed read
-pub not_read : {K : Type 0} (held : K → Option (List ℕ)) (reply : Reply) (before after : K) (res : Result Served LinkFault) → IfErr res (IsCutOff held reply before after) → is_read res ≡ false
+pub not_read : {K : Type 0} (held : K → Option (List ℕ)) (reply : Reply) (before after : K)
+    (res : Result Served LinkFault) → IfErr res (IsCutOff held reply before after) → is_read res ≡ false
 not_read held reply before after (Ok done) cut = refl
 not_read held reply before after (Err fault.Read) cut = absurd cut
 not_read held reply before after (Err (fault.Write handled)) cut = refl
 not_read held reply before after (Err (fault.NoMemory handled)) cut = refl
 
 -- no read failed where what was read is refused
-pub refused_read : (fault : ReadingFault) (why : Refusal) → fault ≡ reading.Refused why → (old new : Bool) → new ≡ (if faults.is_read {A = Request} (Err fault) then true else old) → new ≡ old
+pub refused_read : (fault : ReadingFault) (why : Refusal) → fault ≡ reading.Refused why → (old new : Bool)
+    → new ≡ (if faults.is_read {A = Request} (Err fault) then true else old) → new ≡ old
 refused_read fault why is old new h = rw is at h

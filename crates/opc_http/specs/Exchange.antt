@@ -56,16 +56,18 @@ module _ {K : Type 0} (held : K → Option (List ℕ)) where
   -- Of the response no more than some first bytes were written, and nothing where there was no memory for it.
   abbrev pub IsCutOff : Reply → K → K → LinkFault → Type 0
   IsCutOff reply before after fault.Read = ⊥
-  IsCutOff reply before after (fault.Write handled) = AppendsPrefix (held before) (held after) (reply_bytes reply) × (handled ≡ is_ok reply)
+  IsCutOff reply before after (fault.Write handled) =
+      AppendsPrefix (held before) (held after) (reply_bytes reply) × (handled ≡ is_ok reply)
   IsCutOff reply before after (fault.NoMemory handled) = (after ≡ before) × (handled ≡ is_ok reply)
 
 module _ {T : Type 0} (is_sure : T → Type 0) (represents may_leave : T → State → Type 0) where
-  -- The request that is asked for was handled once, with this answer: a step of the access machine. What a crash may leave
-  -- goes by that answer.
+  -- The request that is asked for was handled once, with this answer: a step of the access machine. What a crash may
+  -- leave goes by that answer.
   pub record IsOneStep (left : Option (List ℕ)) (old new : T) (moment : ℕ) (answer : Answer) : Type 0 where
     pub request : Request
     pub asked : IsAsked left (Ok request)
-    pub handled : is_sure new → (s : State) → represents old s → IsHandled represents may_leave old new s moment (input_of request) answer
+    pub handled : is_sure new → (s : State) → represents old s
+        → IsHandled represents may_leave old new s moment (input_of request) answer
 
   -- The reply is the one to what is asked. Where that is no request, the tables are as they were.
   abbrev pub Replies : Option (List ℕ) → T → T → ℕ → Reply → Type 0
@@ -74,20 +76,25 @@ module _ {T : Type 0} (is_sure : T → Type 0) (represents may_leave : T → Sta
 
   module _ {K : Type 0} (held : K → Option (List ℕ)) where
     -- The reply to what is asked was written, whole.
-    pub record IsServed (left : Option (List ℕ)) (before after : K) (old new : T) (moment : ℕ) (served : Served) : Type 0 where
+    pub record IsServed (left : Option (List ℕ)) (before after : K) (old new : T) (moment : ℕ) (served : Served) : Type
+        0 where
       pub reply : Reply
       pub replies : Replies left old new moment reply
       pub reported : IsReported held reply before after served
 
     -- The reply to what is asked was not written, or not whole.
-    pub record IsUnserved (left : Option (List ℕ)) (before after : K) (old new : T) (moment : ℕ) (fault : LinkFault) : Type 0 where
+    pub record IsUnserved (left : Option (List ℕ)) (before after : K) (old new : T) (moment : ℕ)
+        (fault : LinkFault) : Type 0 where
       pub reply : Reply
       pub replies : Replies left old new moment reply
       pub cut_off : IsCutOff held reply before after fault
 
-    -- What a fault leaves: where nothing was read whole, or there was no memory and no request was handled, all is as it was.
+    -- What a fault leaves: where nothing was read whole, or there was no memory and no request was handled, all is as
+    -- it was.
     abbrev pub IsFaulty : Option (List ℕ) → K → K → T → T → ℕ → LinkFault → Type 0
     IsFaulty left before after old new moment fault.Read = (after ≡ before) × (new ≡ old)
     IsFaulty left before after old new moment (fault.NoMemory false) = (after ≡ before) × (new ≡ old)
-    IsFaulty left before after old new moment (fault.NoMemory true) = IsUnserved left before after old new moment (fault.NoMemory true)
-    IsFaulty left before after old new moment (fault.Write handled) = IsUnserved left before after old new moment (fault.Write handled)
+    IsFaulty left before after old new moment (fault.NoMemory true) =
+        IsUnserved left before after old new moment (fault.NoMemory true)
+    IsFaulty left before after old new moment (fault.Write handled) =
+        IsUnserved left before after old new moment (fault.Write handled)

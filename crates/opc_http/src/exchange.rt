@@ -85,8 +85,8 @@ fn send_refusal<K: Sink>(
 }
 
 /// Reads one request, of 73,728 bytes at most, lets the gate handle it, and writes its response, which is built whole
-/// before its first byte is written. What is no request is refused, and the gate is not asked. It reads on only where the
-/// head or its body is not there yet, and a read that fails ends it: that is told, and nothing is answered.
+/// before its first byte is written. What is no request is refused, and the gate is not asked. It reads on only where
+/// the head or its body is not there yet, and a read that fails ends it: that is told, and nothing is answered.
 pub fn exchange<T: Tables, S: Source, K: Sink>(
     alloc: Global,
     routes: &Routes,
@@ -95,8 +95,10 @@ pub fn exchange<T: Tables, S: Source, K: Sink>(
     gate: &mut Gate<T>,
     moment: u64,
 ) -> Result<Served, LinkFault>
-    ensures served { IfOk result (IsServed T.is_sure T.represents T.may_leave K.held (S.left source.old) sink.old sink.new gate.old gate.new moment) }
-    ensures fault { IfErr result (IsFaulty T.is_sure T.represents T.may_leave K.held (S.left source.old) sink.old sink.new gate.old gate.new moment) }
+    ensures served { IfOk result (IsServed T.is_sure T.represents T.may_leave K.held (S.left source.old) sink.old sink.new gate.old
+        gate.new moment) }
+    ensures fault { IfErr result (IsFaulty T.is_sure T.represents T.may_leave K.held (S.left source.old) sink.old sink.new
+        gate.old gate.new moment) }
     ensures sure { T.is_sure gate.new → T.is_sure gate.old }
     ensures stops { IfSome (S.left source.old) (λ all. StopsAtEnd all (S.left source.new)) }
     ensures most { TakesAtMost 73728 (S.left source.old) (S.left source.new) }

@@ -58,7 +58,8 @@ row-or-memory : (row : ℕ) (why : Why) → import.Row row why ≡ import.NoMemo
 row-or-memory row why e = cc
 
 -- a policy file with a bad row
-pub rows-fault : (bytes : List ℕ) (f : ImportFault) (row : ℕ) (why : Why) → IsUtf8 bytes → f ≡ import.Row row why → (f ≢ import.NoMemory → policy_of bytes ≡ Err f)
+pub rows-fault : (bytes : List ℕ) (f : ImportFault) (row : ℕ) (why : Why) → IsUtf8 bytes → f ≡ import.Row row why
+    → (f ≢ import.NoMemory → policy_of bytes ≡ Err f)
     → rows_in bytes ≡ Err (BadRow row why)
 rows-fault bytes f row why text is h =
     let bad : policy_of bytes ≡ Err (import.Row row why) = h (λ e. row-or-memory row why (sym is ∙ e)) ∙ ap Err is in

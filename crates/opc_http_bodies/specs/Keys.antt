@@ -47,7 +47,8 @@ spelled_at spellings key value = option_and_then (lookup spellings) (text_at key
 
 -- null stands for nothing
 abbrev pub or_nothing : {A : Type 0} → (List ℕ → Option A) → Data → Option (Option A)
-or_nothing reader value = if is_some (as_null value) then Some None else option_map Some (option_and_then reader (as_str value))
+or_nothing reader value = if is_some (as_null value) then Some None else option_map Some
+    (option_and_then reader (as_str value))
 
 -- the digest that a text is, which is not empty
 abbrev pub digest_in : Option (Option (List ℕ)) → Option (List ℕ)

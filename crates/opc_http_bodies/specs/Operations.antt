@@ -7,7 +7,17 @@ use Rattle.opc_names.specs.Spellings.{auths, classes, levels}
 use Rattle.opc_terms.specs.Modes.{modes}
 use Rattle.opc_machine.specs.declared.operation.Operation.{Operation}
 use Rattle.opc_machine.specs.declared.operation.Operation.TheVariants as operation
-use Rattle.opc_http_bodies.specs.Keys.{◌>>=◌, digest_at, entry_at, flag_at, has_keys, name_at, spelled_at, text_at, when_at}
+use Rattle.opc_http_bodies.specs.Keys.{
+  ◌>>=◌,
+  digest_at,
+  entry_at,
+  flag_at,
+  has_keys,
+  name_at,
+  spelled_at,
+  text_at,
+  when_at,
+}
 
 abbrev pub add_user : Data → Option Operation
 add_user value = do

@@ -28,7 +28,8 @@ fn text_of(value: &Value) -> Option<&str>
 
 // The JSON value that some bytes are.
 fn value_in(alloc: Global, body: &[u8]) -> Result<Value, AskFault>
-    ensures { MatchResult result (λ value. value_in body.now ≡ Ok (view value)) (λ fault. Refuses fault (value_in body.now)) }
+    ensures { MatchResult result (λ value. value_in body.now ≡ Ok (view value))
+        (λ fault. Refuses fault (value_in body.now)) }
 {
     match Value::from_slice(alloc, body) {
         Ok(value) => Ok(value),

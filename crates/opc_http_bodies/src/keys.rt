@@ -5,7 +5,18 @@ ghost use Rattle.opc_import.specs.Fields.{digest_of};
 ghost use Rattle.opc_names.specs.Spellings.{auths, classes, levels};
 ghost use Rattle.opc_terms.specs.Modes.{modes};
 ghost use Rattle.serde_json.specs.View.{view};
-ghost use Rattle.opc_http_bodies.specs.Keys.{digest_at, digest_in, entry_at, flag_at, has_keys, members_count, name_at, spelled_at, text_at, when_at};
+ghost use Rattle.opc_http_bodies.specs.Keys.{
+  digest_at,
+  digest_in,
+  entry_at,
+  flag_at,
+  has_keys,
+  members_count,
+  name_at,
+  spelled_at,
+  text_at,
+  when_at,
+};
 
 use opc_import::field::{read_digest, read_entry_id, read_name};
 use opc_names::auth::Auth;

@@ -1,7 +1,23 @@
 //! Operations of administration, as JSON objects.
 ghost use Rattle.std.specs.Prelude.{◌≡◌};
 ghost use Rattle.serde_json.specs.View.{view};
-ghost use Rattle.opc_http_bodies.specs.Operations.{add_group, add_user, alt_user, alter, class_active, connect, define, define_console, del_user, delete, operation_by, operation_of, permit, permit_delete, remove};
+ghost use Rattle.opc_http_bodies.specs.Operations.{
+  add_group,
+  add_user,
+  alt_user,
+  alter,
+  class_active,
+  connect,
+  define,
+  define_console,
+  del_user,
+  delete,
+  operation_by,
+  operation_of,
+  permit,
+  permit_delete,
+  remove,
+};
 
 use crate::keys::{
     auth_at, class_at, digest_at, entry_at, flag_at, has_keys, level_at, mode_at, name_at, text_at,

@@ -1,5 +1,31 @@
 -- The values of the fields with a name, field by field.
-use Rattle.std.proofs.Common.{◌≡◌, ◌∙◌, ◌<◌, ◌+◌, ◌++◌, ◌∷◌, [], ℕ, List, true, false, refl, sym, ap, Some, None, Ok, Err, inl, inr, get_or, take, drop, length, map}
+use Rattle.std.proofs.Common.{
+  ◌≡◌,
+  ◌∙◌,
+  ◌<◌,
+  ◌+◌,
+  ◌++◌,
+  ◌∷◌,
+  [],
+  ℕ,
+  List,
+  true,
+  false,
+  refl,
+  sym,
+  ap,
+  Some,
+  None,
+  Ok,
+  Err,
+  inl,
+  inr,
+  get_or,
+  take,
+  drop,
+  length,
+  map,
+}
 use Rattle.std.specs.Prelude.{Option, Result, is_some}
 use Rattle.std.specs.Option.{option_map, option_to_list}
 use Rattle.std.proofs.lemmas.Bool.{cases_Bool}
@@ -39,11 +65,13 @@ module _ {H : Type 0} (line : H → FieldLine) where
       ∙ ap (values_of name) (map-append line (take i hs) (get_or hs i d ∷ []))
       ∙ values-split name (map line (take i hs)) (line (get_or hs i d) ∷ [])
 
-  pub more-named : (name : List ℕ) (hs : List H) (i : ℕ) (d : H) → i < length hs → values_of name (map line (take i hs)) ≡ [] → has_name name (line (get_or hs i d)) ≡ true
+  pub more-named : (name : List ℕ) (hs : List H) (i : ℕ) (d : H) → i < length hs
+      → values_of name (map line (take i hs)) ≡ [] → has_name name (line (get_or hs i d)) ≡ true
       → values_of name (map line (take (i + 1) hs)) ≡ (line (get_or hs i d)).1 ∷ []
   more-named name hs i d low none named = more name hs i d low ∙ rw (none, values-named name (line (get_or hs i d)) [] named) refl
 
-  pub more-other : (name : List ℕ) (hs : List H) (i : ℕ) (d : H) (vs : List (List ℕ)) → i < length hs → values_of name (map line (take i hs)) ≡ vs → has_name name (line (get_or hs i d)) ≡ false
+  pub more-other : (name : List ℕ) (hs : List H) (i : ℕ) (d : H) (vs : List (List ℕ)) → i < length hs
+      → values_of name (map line (take i hs)) ≡ vs → has_name name (line (get_or hs i d)) ≡ false
       → values_of name (map line (take (i + 1) hs)) ≡ vs
   more-other name hs i d vs low same other = more name hs i d low ∙ rw (same, values-other name (line (get_or hs i d)) [] other) (nothing vs)
     where

@@ -1,5 +1,40 @@
 -- Numbers without a sign, as `parse` reads them.
-use Rattle.std.proofs.Common.{◌≡◌, ◌<◌, ◌≤◌, ◌==◌, ◌&&◌, ◌^◌, ℕ, zero, suc, Bool, not, if◌then◌else◌, None, inl, inr, lit<, true, false, List, [], ◌∷◌, Some, Result, Ok, Err, length, nat_le, refl, sym, ap, subst, ◌∙◌, rules, arith}
+use Rattle.std.proofs.Common.{
+  ◌≡◌,
+  ◌<◌,
+  ◌≤◌,
+  ◌==◌,
+  ◌&&◌,
+  ◌^◌,
+  ℕ,
+  zero,
+  suc,
+  Bool,
+  not,
+  if◌then◌else◌,
+  None,
+  inl,
+  inr,
+  lit<,
+  true,
+  false,
+  List,
+  [],
+  ◌∷◌,
+  Some,
+  Result,
+  Ok,
+  Err,
+  length,
+  nat_le,
+  refl,
+  sym,
+  ap,
+  subst,
+  ◌∙◌,
+  rules,
+  arith,
+}
 use Rattle.std.specs.Prelude.{IsUtf8}
 use Rattle.std.specs.Str.{IsAscii}
 use Rattle.std.proofs.lemmas.Bool.{cases_Bool}
@@ -22,7 +57,8 @@ digits_are : (text : List ℕ) → list_all is_ascii_digit text ≡ true → All
 digits_are [] h = tt
 digits_are (c ∷ text) h = go (is_ascii_digit c) refl h (digits_are text)
   where
-    go : (b : Bool) → is_ascii_digit c ≡ b → (b && list_all is_ascii_digit text) ≡ true → (list_all is_ascii_digit text ≡ true → AllDigits 10 text) → AllDigits 10 (c ∷ text)
+    go : (b : Bool) → is_ascii_digit c ≡ b → (b && list_all is_ascii_digit text) ≡ true
+        → (list_all is_ascii_digit text ≡ true → AllDigits 10 text) → AllDigits 10 (c ∷ text)
     go true e k next = (digit_is c e, next k)
     go false e k next = absurd (search (rules, k))
 

@@ -1,5 +1,35 @@
 -- Parts of a path, and what rows of routes take of them.
-use Rattle.std.proofs.Common.{◌≡◌, ◌≢◌, ◌∙◌, ◌<◌, ◌-◌, ◌+◌, ◌++◌, ◌∷◌, ◌⊎◌, [], ℕ, List, Bool, true, false, Some, None, refl, sym, ap, subst, cond, drop, length, arith, inl, inr, suc, zero}
+use Rattle.std.proofs.Common.{
+  ◌≡◌,
+  ◌≢◌,
+  ◌∙◌,
+  ◌<◌,
+  ◌-◌,
+  ◌+◌,
+  ◌++◌,
+  ◌∷◌,
+  ◌⊎◌,
+  [],
+  ℕ,
+  List,
+  Bool,
+  true,
+  false,
+  Some,
+  None,
+  refl,
+  sym,
+  ap,
+  subst,
+  cond,
+  drop,
+  length,
+  arith,
+  inl,
+  inr,
+  suc,
+  zero,
+}
 use Rattle.std.specs.Prelude.{Option, nat_eq, ◌==◌, ◌&&◌, ltb}
 use Rattle.std.specs.List.{ends_with, starts_with}
 use Rattle.std.specs.Str.{bytes_eq}
@@ -53,7 +83,15 @@ unfolding seek
 first-part rows s x a r byte h =
     let n1 : param_token ≢ x = λ e. omega arith in
     let n2 : param_token ≢ catch_all_token = λ e. omega arith in
-    simp (step-miss x param_token [] rows n1, step-miss catch_all_token param_token [] rows n2, step-hit param_token [] rows, prepend-nil rows, seek-empty 0 (a ++ 47 ∷ r), or_else-none, param-part rows s x a r h)
+    simp (
+      step-miss x param_token [] rows n1,
+      step-miss catch_all_token param_token [] rows n2,
+      step-hit param_token [] rows,
+      prepend-nil rows,
+      seek-empty 0 (a ++ 47 ∷ r),
+      or_else-none,
+      param-part rows s x a r h,
+    )
     (seek-after (length (x ∷ a)) rows x (a ++ 47 ∷ r) (omega arith) ∙ ap (λ (t : List ℕ). first rows t) (drop-append_seam (x ∷ a) (47 ∷ r)))
 
 -- ---- the cases of a parameter
@@ -90,7 +128,8 @@ unfolding seek
 lit rows y p none none_all = simp (none, none_all, param_step-empty (y ∷ p), seek-empty ((param_step {K = ℕ} [] (y ∷ p)).0 - 1) p, or_else-none)
 
 -- a literal text to the end
-pub literal-end : (w : List ℕ) (n : ℕ) (p : List ℕ) → cond (starts_with nat_eq p w) (first (([], n) ∷ []) (drop (length w) p)) None ≡ cond (bytes_eq p w) (Some n) None
+pub literal-end : (w : List ℕ) (n : ℕ) (p : List ℕ)
+    → cond (starts_with nat_eq p w) (first (([], n) ∷ []) (drop (length w) p)) None ≡ cond (bytes_eq p w) (Some n) None
 unfolding seek
 literal-end [] n [] = refl
 literal-end [] n (b ∷ p) = end-row n b p
@@ -180,13 +219,20 @@ first-empty-part rows s r =
     let n1 : param_token ≢ 47 = λ e. omega arith in
     let n2 : param_token ≢ catch_all_token = λ e. omega arith in
     let taken : param_step rows (47 ∷ r) ≡ (0, []) = rw (s.longest (47 ∷ [])) refl in
-    rw (step-miss 47 param_token [] rows n1, step-miss catch_all_token param_token [] rows n2, step-hit param_token [] rows, prepend-nil rows, taken) (simp (seek-empty 0 r) refl)
+    rw (
+      step-miss 47 param_token [] rows n1,
+      step-miss catch_all_token param_token [] rows n2,
+      step-hit param_token [] rows,
+      prepend-nil rows,
+      taken,
+    ) (simp (seek-empty 0 r) refl)
 
 and-false : (u : Bool) → (u && false) ≡ false
 and-false true = refl
 and-false false = refl
 
-first-no-slash : (rows : Rows) → Slashed rows → first rows [] ≡ None → (x : ℕ) (a : List ℕ) → x < 256 → has_slash (x ∷ a) ≡ false → first (prepend (param_token ∷ []) rows) (x ∷ a) ≡ None
+first-no-slash : (rows : Rows) → Slashed rows → first rows [] ≡ None → (x : ℕ) (a : List ℕ) → x < 256
+    → has_slash (x ∷ a) ≡ false → first (prepend (param_token ∷ []) rows) (x ∷ a) ≡ None
 unfolding seek param_step
 first-no-slash rows s ends x a byte h =
     let n1 : param_token ≢ x = λ e. omega arith in
@@ -228,7 +274,8 @@ pub middle-first : (rows : Rows) → Slashed rows → first rows [] ≡ None →
 middle-first rows s ends [] text = middle-nil rows s
 middle-first rows s ends (x ∷ q) text = elim (cut (x ∷ q)) [
   | inl none ↦ middle-whole rows s ends x q text.0 none
-  | inr found ↦ subst (λ (t : List ℕ). first (prepend (param_token ∷ []) rows) t ≡ part_then rows t) (sym found.2) (middle-cut rows s found.0 found.1 (subst IsText found.2 text) found.3)
+  | inr found ↦ subst (λ (t : List ℕ). first (prepend (param_token ∷ []) rows) t ≡ part_then rows t) (sym found.2)
+      (middle-cut rows s found.0 found.1 (subst IsText found.2 text) found.3)
 ]
 
 pub under : (u : Bool) (a b : Option ℕ) → a ≡ b → cond u a None ≡ cond u b None

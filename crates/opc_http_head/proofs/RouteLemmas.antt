@@ -1,5 +1,32 @@
 -- Which route a path takes.
-use Rattle.std.proofs.Common.{◌≡◌, ◌∙◌, ◌<◌, ◌++◌, ◌∷◌, [], ℕ, List, Bool, true, false, Some, None, refl, sym, ap, subst, codes, cond, drop, arith, inl, inr, lit<, suc, get_or}
+use Rattle.std.proofs.Common.{
+  ◌≡◌,
+  ◌∙◌,
+  ◌<◌,
+  ◌++◌,
+  ◌∷◌,
+  [],
+  ℕ,
+  List,
+  Bool,
+  true,
+  false,
+  Some,
+  None,
+  refl,
+  sym,
+  ap,
+  subst,
+  codes,
+  cond,
+  drop,
+  arith,
+  inl,
+  inr,
+  lit<,
+  suc,
+  get_or,
+}
 use Rattle.std.specs.Prelude.{Option, nat_eq, if◌then◌else◌}
 use Rattle.std.specs.List.{starts_with}
 use Rattle.std.specs.Str.{bytes_eq}
@@ -12,7 +39,21 @@ use Rattle.matchit.specs.Seek.{first, seek, step}
 use Rattle.matchit.proofs.SeekLemmas.{first-prefix, seek-empty}
 use Rattle.matchit.proofs.LongestLemmas.{better-again}
 use Rattle.matchit.proofs.RenameLemmas.{seek-rename}
-use Rattle.opc_http_head.specs.Routes.{account_tail, after_part, at_console, if_none, import_tail, kept, last_part, part, profiles_tail, route_of, tail_route, the_routes, two_parts}
+use Rattle.opc_http_head.specs.Routes.{
+  account_tail,
+  after_part,
+  at_console,
+  if_none,
+  import_tail,
+  kept,
+  last_part,
+  part,
+  profiles_tail,
+  route_of,
+  tail_route,
+  the_routes,
+  two_parts,
+}
 use Rattle.opc_http_head.specs.declared.routes.Route.{Route}
 use Rattle.opc_http_head.specs.declared.routes.Route.TheVariants.{Command, Admin, Import, ListProfiles, ListAccount}
 use Rattle.opc_http_head.proofs.PartLemmas.{Slashed, lit, literal-end, part-whole, part-cut, cut, last-route, middle-first, under, IsText-drop, IsText-after}
@@ -37,8 +78,11 @@ route_at n =
 routes-renamed : the_routes ≡ rename route_at (prepend (codes "/consoles/") (prepend (param_token ∷ []) after_console))
 routes-renamed = refl
 
-pub first-consoles : (rows : Rows) (path : List ℕ) → first (prepend (codes "/consoles/") rows) path ≡ cond (starts_with nat_eq path (codes "/consoles/")) (first rows (drop 10 path)) None
-first-consoles rows path = first-prefix (codes "/consoles/") rows path (lit< tt, (lit< tt, (lit< tt, (lit< tt, (lit< tt, (lit< tt, (lit< tt, (lit< tt, (lit< tt, (lit< tt, tt))))))))))
+pub first-consoles : (rows : Rows) (path : List ℕ)
+    → first (prepend (codes "/consoles/") rows) path ≡ cond (starts_with nat_eq path (codes "/consoles/"))
+    (first rows (drop 10 path)) None
+first-consoles rows path = first-prefix (codes "/consoles/") rows path
+    (lit< tt, (lit< tt, (lit< tt, (lit< tt, (lit< tt, (lit< tt, (lit< tt, (lit< tt, (lit< tt, (lit< tt, tt))))))))))
 
 slashed : Slashed after_console
 slashed = record {
@@ -249,7 +293,9 @@ named-tail r =
   where
     by : (c a i q n : Bool)
         → named (cond c (Some 1) (cond a (Some 2) (cond i (last_part 3 (drop 8 r)) (cond q (last_part 4 (drop 10 r)) (cond n (two_parts 5 (drop 9 r)) None)))))
-        ≡ cond c (Some Command) (cond a (Some Admin) (cond i (last_part Import (drop 8 r)) (cond q (last_part ListProfiles (drop 10 r)) (cond n (two_parts ListAccount (drop 9 r)) None))))
+        ≡ cond c (Some Command) (cond a (Some Admin)
+        (cond i (last_part Import (drop 8 r))
+        (cond q (last_part ListProfiles (drop 10 r)) (cond n (two_parts ListAccount (drop 9 r)) None))))
     by true a i q n = refl
     by false true i q n = refl
     by false false true q n = named-last 3 (drop 8 r)

@@ -1,5 +1,26 @@
 -- How long the body of a request is, by the fields of its head.
-use Rattle.std.specs.Prelude.{ℕ, Bool, not, List, [], ◌∷◌, codes, length, map, filter, nat_le, Option, Some, None, Result, Ok, Err, if◌then◌else◌, ◌==◌, ◌&&◌}
+use Rattle.std.specs.Prelude.{
+  ℕ,
+  Bool,
+  not,
+  List,
+  [],
+  ◌∷◌,
+  codes,
+  length,
+  map,
+  filter,
+  nat_le,
+  Option,
+  Some,
+  None,
+  Result,
+  Ok,
+  Err,
+  if◌then◌else◌,
+  ◌==◌,
+  ◌&&◌,
+}
 use Rattle.std.specs.Char.{is_ascii_digit, to_ascii_lowercase}
 use Rattle.std.specs.List.{list_all}
 use Rattle.std.specs.Str.{bytes_eq}
@@ -28,7 +49,8 @@ only (value ∷ other ∷ rest) = Err BadRequest
 -- decimal digits, one at least and so many at most
 abbrev pub number_in : ℕ → List ℕ → Option ℕ
 number_in most text =
-    if (not (length text == 0) && list_all is_ascii_digit text) && nat_le (length text) most then Some (digits_value 10 text) else None
+    if (not (length text == 0) && list_all is_ascii_digit text)
+    && nat_le (length text) most then Some (digits_value 10 text) else None
 
 -- the most bytes of a body
 abbrev pub body_limit : ℕ
@@ -52,4 +74,5 @@ length_with (coding ∷ rest) found = Err BadRequest
 
 -- the length of the body
 abbrev pub body_length : List FieldLine → Result ℕ Refusal
-body_length fields = length_with (values_of (codes "transfer-encoding") fields) (length_in (only (values_of (codes "content-length") fields)))
+body_length fields = length_with (values_of (codes "transfer-encoding") fields)
+    (length_in (only (values_of (codes "content-length") fields)))

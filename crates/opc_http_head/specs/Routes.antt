@@ -1,5 +1,21 @@
 -- The five routes: cut out of a path at its slashes, and as `matchit` keeps them.
-use Rattle.std.specs.Prelude.{ℕ, zero, suc, List, [], ◌∷◌, ◌++◌, codes, drop, nat_eq, ◌==◌, Option, Some, None, if◌then◌else◌}
+use Rattle.std.specs.Prelude.{
+  ℕ,
+  zero,
+  suc,
+  List,
+  [],
+  ◌∷◌,
+  ◌++◌,
+  codes,
+  drop,
+  nat_eq,
+  ◌==◌,
+  Option,
+  Some,
+  None,
+  if◌then◌else◌,
+}
 use Rattle.std.specs.List.{starts_with}
 use Rattle.std.specs.Str.{bytes_eq}
 use Rattle.matchit.specs.Rows.{RowsOf, param_token}
@@ -33,7 +49,8 @@ last_part route p = if_none p None (if_none (after_part p) (Some route) None)
 
 -- two such parts
 abbrev pub two_parts : {A : Type 0} → A → List ℕ → Option A
-two_parts route p = if_none (part p) None (if starts_with nat_eq (after_part p) (codes "/") then last_part route (drop 1 (after_part p)) else None)
+two_parts route p = if_none (part p) None
+    (if starts_with nat_eq (after_part p) (codes "/") then last_part route (drop 1 (after_part p)) else None)
 
 -- what stands after a console
 abbrev pub tail_route : List ℕ → Option Route
@@ -73,9 +90,11 @@ at_console tail = codes "/consoles/" ++ param_token ∷ tail
 -- in the order of their tokens
 abbrev pub the_routes : RowsOf (RouteOf Route)
 the_routes =
-    kept (at_console account_tail) (codes "/consoles/{console}/account/{from}/{count}") ((11, 18) ∷ (29, 33) ∷ (36, 41) ∷ []) ListAccount
+    kept (at_console account_tail) (codes "/consoles/{console}/account/{from}/{count}")
+    ((11, 18) ∷ (29, 33) ∷ (36, 41) ∷ []) ListAccount
     ∷ kept (at_console (codes "/admin")) (codes "/consoles/{console}/admin") ((11, 18) ∷ []) Admin
     ∷ kept (at_console (codes "/command")) (codes "/consoles/{console}/command") ((11, 18) ∷ []) Command
     ∷ kept (at_console import_tail) (codes "/consoles/{console}/import/{batch}") ((11, 18) ∷ (28, 33) ∷ []) Import
-    ∷ kept (at_console profiles_tail) (codes "/consoles/{console}/profiles/{class}") ((11, 18) ∷ (30, 35) ∷ []) ListProfiles
+    ∷ kept (at_console profiles_tail) (codes "/consoles/{console}/profiles/{class}") ((11, 18) ∷ (30, 35) ∷ [])
+    ListProfiles
     ∷ []

@@ -27,7 +27,8 @@ fn is_named(found: &[u8], name: &[u8]) -> bool
 // Where the only field of a name has its value, if there is one.
 fn only_value(buf: &[u8], headers: &[HeaderSpan], name: &[u8]) -> Result<Option<Span>, Refusal>
     requires { All (IsHeaderWithin (length buf.now)) headers.now }
-    ensures ok { IfOk result (λ value. only (values_of name.now (map (header_bytes buf.now) headers.now)) ≡ Ok (option_map (span_bytes buf.now) value)) }
+    ensures ok { IfOk result (λ value. only (values_of name.now (map (header_bytes buf.now) headers.now)) ≡ Ok
+        (option_map (span_bytes buf.now) value)) }
     ensures err { IfErr result (λ e. only (values_of name.now (map (header_bytes buf.now) headers.now)) ≡ Err e) }
     ensures within { IfOk result (λ value. IfSome value (IsWithin (length buf.now))) }
 {

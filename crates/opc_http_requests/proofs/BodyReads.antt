@@ -1,5 +1,33 @@
 -- A body, read after what is already in the buffer.
-use Rattle.std.proofs.Common.{◌≡◌, ◌∙◌, ◌≤◌, ◌<◌, ◌+◌, ◌-◌, ◌++◌, [], ℕ, List, ◌∷◌, true, false, nat_le, refl, sym, ap, subst, arith, length, drop, length-append, append_assoc, Some, None, Ok, Err}
+use Rattle.std.proofs.Common.{
+  ◌≡◌,
+  ◌∙◌,
+  ◌≤◌,
+  ◌<◌,
+  ◌+◌,
+  ◌-◌,
+  ◌++◌,
+  [],
+  ℕ,
+  List,
+  ◌∷◌,
+  true,
+  false,
+  nat_le,
+  refl,
+  sym,
+  ap,
+  subst,
+  arith,
+  length,
+  drop,
+  length-append,
+  append_assoc,
+  Some,
+  None,
+  Ok,
+  Err,
+}
 use Rattle.std.specs.Prelude.{IfSome, Option, Result, slice_range}
 use Rattle.std.specs.Io.KnownBytes.{Consumes}
 use Rattle.std.proofs.lemmas.Bool.Decides.{nat_tests}
@@ -21,7 +49,8 @@ pub record SoFar (end : ℕ) (before after : Option (List ℕ)) (old new : List 
 pub nothing-read : (end : ℕ) (known : Option (List ℕ)) (old : List ℕ) → SoFar end known known old old
 nothing-read end known old = record { moved = []; consumes = consumes-none known; buffer = sym (append-nil old); few = omega arith }
 
-pub more-read : (end : ℕ) (before mid after : Option (List ℕ)) (old buf new : List ℕ) (n : ℕ) → SoFar end before mid old buf → ReadsMore mid after buf new end n → SoFar end before after old new
+pub more-read : (end : ℕ) (before mid after : Option (List ℕ)) (old buf new : List ℕ) (n : ℕ)
+    → SoFar end before mid old buf → ReadsMore mid after buf new end n → SoFar end before after old new
 more-read end before mid after old buf new n so more =
     let whole : new ≡ old ++ (so.moved ++ more.moved) = more.buffer ∙ ap (λ (t : List ℕ). t ++ more.moved) so.buffer ∙ append_assoc old so.moved more.moved in
     let long : length new ≡ length old + length (so.moved ++ more.moved) = ap length whole ∙ length-append old (so.moved ++ more.moved) in
@@ -33,24 +62,33 @@ more-read end before mid after old buf new n so more =
       few = omega (arith, long, fits);
     }
 
-pub whole-read : (end : ℕ) (before after : Option (List ℕ)) (old new : List ℕ) → SoFar end before after old new → end ≤ length new → ReadsTo end true before after old new
+pub whole-read : (end : ℕ) (before after : Option (List ℕ)) (old new : List ℕ) → SoFar end before after old new
+    → end ≤ length new → ReadsTo end true before after old new
 whole-read end before after old new so long = record { moved = so.moved; consumes = so.consumes; buffer = so.buffer; is = long }
 
 nil-of : (xs : List ℕ) → length xs ≡ 0 → xs ≡ []
 nil-of [] e = refl
 nil-of (x ∷ xs) e = absurd (omega (arith, e))
 
-pub part-read : (end : ℕ) (before mid after : Option (List ℕ)) (old buf new : List ℕ) (n : ℕ) → SoFar end before mid old buf → ReadsMore mid after buf new end n → n ≡ 0 → length buf < end → ReadsTo end false before after old new
+pub part-read : (end : ℕ) (before mid after : Option (List ℕ)) (old buf new : List ℕ) (n : ℕ)
+    → SoFar end before mid old buf → ReadsMore mid after buf new end n → n ≡ 0 → length buf < end
+    → ReadsTo end false before after old new
 part-read end before mid after old buf new n so more zero short =
     let now = more-read end before mid after old buf new n so more in
     let same : new ≡ buf = more.buffer ∙ ap (λ (t : List ℕ). buf ++ t) (nil-of more.moved (more.count ∙ zero)) ∙ append-nil buf in
-    record { moved = now.moved; consumes = now.consumes; buffer = now.buffer; is = (subst (λ (t : List ℕ). length t < end) (sym same) short, more.ends zero short) }
+    record {
+      moved = now.moved;
+      consumes = now.consumes;
+      buffer = now.buffer;
+      is = (subst (λ (t : List ℕ). length t < end) (sym same) short, more.ends zero short);
+    }
 
 pub takes-read : (end : ℕ) (before after : Option (List ℕ)) (old new : List ℕ) → SoFar end before after old new → TakesAtMost (end - length old) before after
 takes-read end before after old new so = record { taken = so.moved; consumes = so.consumes; few = so.few }
 
 -- a read that failed
-pub takes-failed : (end first filled : ℕ) (before mid after : Option (List ℕ)) (old buf : List ℕ) → length old ≡ first → length buf ≡ filled → SoFar end before mid old buf
+pub takes-failed : (end first filled : ℕ) (before mid after : Option (List ℕ)) (old buf : List ℕ) → length old ≡ first
+    → length buf ≡ filled → SoFar end before mid old buf
     → TakesAtMost (end - filled) mid after → TakesAtMost (end - first) before after
 takes-failed end first filled before mid after old buf was is so more =
     let long : length buf ≡ length old + length so.moved = ap length so.buffer ∙ length-append old so.moved in
@@ -59,7 +97,8 @@ takes-failed end first filled before mid after old buf was is so more =
     takes-after (end - first) (length so.moved) before mid after so.moved so.consumes few refl (rw left at more)
 
 -- one read more
-pub filled : {S : Type 0} (left : S → Option (List ℕ)) (gives : S → List ℕ → S → Type 0) (end : ℕ) (first mid last : S) (start buf new bytes : List ℕ) (most : ℕ) (result : Result ℕ SourceFault)
+pub filled : {S : Type 0} (left : S → Option (List ℕ)) (gives : S → List ℕ → S → Type 0) (end : ℕ) (first mid last : S)
+    (start buf new bytes : List ℕ) (most : ℕ) (result : Result ℕ SourceFault)
     → Reads left gives (MayFill end) first start mid buf → length buf < end → length buf + most ≤ end → most ≤ 1024
     → (once : ReadsOnce left gives most mid last buf new result) → bytes ≡ buf ++ once.given → Reads left gives (MayFill end) first start last bytes
 filled left gives end first mid last start buf new bytes most result reads short room block once is =

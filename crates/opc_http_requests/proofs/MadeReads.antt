@@ -1,5 +1,36 @@
 -- Which reads are made for a request, and how many bytes they give.
-use Rattle.std.proofs.Common.{◌≡◌, ◌∙◌, ◌≤◌, ◌<◌, ◌+◌, ◌-◌, ◌++◌, [], ℕ, zero, suc, List, refl, sym, ap, subst, arith, nat_le, nat_lt, length, length-append, take, drop, append_assoc, max, Some, None, Ok, inl, inr}
+use Rattle.std.proofs.Common.{
+  ◌≡◌,
+  ◌∙◌,
+  ◌≤◌,
+  ◌<◌,
+  ◌+◌,
+  ◌-◌,
+  ◌++◌,
+  [],
+  ℕ,
+  zero,
+  suc,
+  List,
+  refl,
+  sym,
+  ap,
+  subst,
+  arith,
+  nat_le,
+  nat_lt,
+  length,
+  length-append,
+  take,
+  drop,
+  append_assoc,
+  max,
+  Some,
+  None,
+  Ok,
+  inl,
+  inr,
+}
 use Rattle.std.specs.Prelude.{IfSome, Option, Result}
 use Rattle.std.specs.Io.KnownBytes.{Consumes}
 use Rattle.std.proofs.lemmas.Bool.{cases_Bool}
@@ -28,7 +59,8 @@ has-more bytes more head has = elim (cases_Bool (nat_le (length bytes) 8192)) [
       let all : take 8192 bytes ≡ bytes = take_all 8192 bytes low in
       record {
         rest = has.rest ++ take (8192 - length bytes) more;
-        reads = rw (first-bytes (bytes ++ more) bytes more refl low) (ReadsRequest-append bytes head has.rest (take (8192 - length bytes) more) (rw all at has.reads));
+        reads = rw (first-bytes (bytes ++ more) bytes more refl low)
+            (ReadsRequest-append bytes head has.rest (take (8192 - length bytes) more) (rw all at has.reads));
         few = has.few;
       })
   | inr many ↦ (
@@ -54,7 +86,8 @@ short-of-head all before rest head is has none low = elim (cases_Bool (nat_lt (l
 ]
 
 -- the rest of the body of a head may be read once the head is there
-body-may : (buf : List ℕ) (headers : List HeaderSpan) (spans : RequestSpans) (plan : Plan) → FoundHead buf buf headers spans → plan_in buf headers spans ≡ Ok plan
+body-may : (buf : List ℕ) (headers : List HeaderSpan) (spans : RequestSpans) (plan : Plan)
+    → FoundHead buf buf headers spans → plan_in buf headers spans ≡ Ok plan
     → (moved : List ℕ) (count : ℕ) → MayFill (spans.len + plan.length) (buf ++ moved) count → MayRead (buf ++ moved) count
 body-may buf headers spans plan found is moved count fill =
     let planned = sym (head-plan buf buf headers spans found) ∙ is in
@@ -64,9 +97,11 @@ body-may buf headers spans plan found is moved count fill =
 module _ {S : Type 0} (left : S → Option (List ℕ)) (gives : S → List ℕ → S → Type 0) where
   -- the reads that look for a head may be made for a request
   looked : (first last : S) (bytes : List ℕ) → Reads left gives MayLook first [] last bytes → Reads left gives MayRead first [] last bytes
-  looked first last bytes reads = more-reads left gives MayRead MayLook first first [] [] (no-reads left gives MayRead first []) (λ moved count may. inl may) reads.count last bytes reads.are
+  looked first last bytes reads = more-reads left gives MayRead MayLook first first [] []
+      (no-reads left gives MayRead first []) (λ moved count may. inl may) reads.count last bytes reads.are
 
-  pub looked-only : {A E : Type 0} (first last : S) (buf : List ℕ) (result : Result A E) → ReadsInto left gives MayLook first [] last buf result → ReadsOnly left gives MayRead first [] last
+  pub looked-only : {A E : Type 0} (first last : S) (buf : List ℕ) (result : Result A E)
+      → ReadsInto left gives MayLook first [] last buf result → ReadsOnly left gives MayRead first [] last
   looked-only first last buf result into = record { bytes = into.bytes; reads = looked first last into.bytes into.reads }
 
   -- and those for a body, once its head is there
@@ -74,22 +109,27 @@ module _ {S : Type 0} (left : S → Option (List ℕ)) (gives : S → List ℕ �
       → Reads left gives MayLook first [] mid bytes → buf ≡ bytes → FoundHead buf buf headers spans → plan_in buf headers spans ≡ Ok plan
       → ReadsOnly left gives (MayFill (spans.len + plan.length)) mid buf last → ReadsOnly left gives MayRead first [] last
   body-only first mid last buf bytes headers spans plan reads same found is body =
-      let head : Reads left gives MayRead first [] mid buf = looked first mid buf (subst (λ (t : List ℕ). Reads left gives MayLook first [] mid t) (sym same) reads) in
+      let head : Reads left gives MayRead first [] mid buf =
+      looked first mid buf (subst (λ (t : List ℕ). Reads left gives MayLook first [] mid t) (sym same) reads) in
       record {
         bytes = body.bytes;
-        reads = more-reads left gives MayRead (MayFill (spans.len + plan.length)) first mid [] buf head (body-may buf headers spans plan found is) body.reads.count last body.bytes body.reads.are;
+        reads = more-reads left gives MayRead (MayFill (spans.len + plan.length)) first mid [] buf head
+            (body-may buf headers spans plan found is) body.reads.count last body.bytes body.reads.are;
       }
 
   -- without a head no more is read than where a head may be
-  few-headless : (first last : S) (all rest bytes : List ℕ) (n : ℕ) → AreReads left gives MayRead first [] n last bytes → all ≡ bytes ++ rest → NoHead all → length bytes ≤ 8192
+  few-headless : (first last : S) (all rest bytes : List ℕ) (n : ℕ) → AreReads left gives MayRead first [] n last bytes
+      → all ≡ bytes ++ rest → NoHead all → length bytes ≤ 8192
   few-headless first last all rest bytes zero are is none = let empty : length bytes ≡ 0 = ap length are.1 in omega (arith, empty)
-  few-headless first last all rest bytes (suc n) (mid, before, given, are, inl look, gave, made) is none = let within = look.within in omega (arith, within, ap length made, length-append before given)
+  few-headless first last all rest bytes (suc n) (mid, before, given, are, inl look, gave, made) is none = let within =
+      look.within in omega (arith, within, ap length made, length-append before given)
   few-headless first last all rest bytes (suc n) (mid, before, given, are, inr body, gave, made) is none =
       let whole : all ≡ before ++ (given ++ rest) = is ∙ ap (λ (t : List ℕ). t ++ rest) made ∙ append_assoc before given rest in
       absurd (none body.head (subst (λ (t : List ℕ). HasHead t body.head) (sym whole) (has-more before (given ++ rest) body.head body.has)))
 
   -- with one, no more than finds it or has its body
-  few-headed : (first last : S) (all rest bytes : List ℕ) (head : RequestHead) (n : ℕ) → AreReads left gives MayRead first [] n last bytes → all ≡ bytes ++ rest → HasHead all head
+  few-headed : (first last : S) (all rest bytes : List ℕ) (head : RequestHead) (n : ℕ)
+      → AreReads left gives MayRead first [] n last bytes → all ≡ bytes ++ rest → HasHead all head
       → length bytes ≤ max (looked_through head) (request_length head)
   few-headed first last all rest bytes head zero are is has = let empty : length bytes ≡ 0 = ap length are.1 in omega (arith, empty)
   few-headed first last all rest bytes head (suc n) (mid, before, given, are, inl look, gave, made) is has =
@@ -106,7 +146,8 @@ module _ {S : Type 0} (left : S → Option (List ℕ)) (gives : S → List ℕ �
       let within = body.body.within in
       omega (arith, within, same, ap length made, length-append before given)
 
-  stops-known : (first last : S) (known after : Option (List ℕ)) (bytes : List ℕ) (n : ℕ) → AreReads left gives MayRead first [] n last bytes → Consumes known after bytes
+  stops-known : (first last : S) (known after : Option (List ℕ)) (bytes : List ℕ) (n : ℕ)
+      → AreReads left gives MayRead first [] n last bytes → Consumes known after bytes
       → IfSome known (λ all. StopsAtEnd all after)
   stops-known first last None after bytes n are c = tt
   stops-known first last (Some all) None bytes n are c = absurd c
@@ -119,4 +160,5 @@ module _ {S : Type 0} (left : S → Option (List ℕ)) (gives : S → List ℕ �
   pub stops : (first last : S) → ReadsOnly left gives MayRead first [] last → IfSome (left first) (λ all. StopsAtEnd all (left last))
   stops first last only =
       let made = begins left gives MayRead first [] only.reads.count last only.bytes only.reads.are in
-      stops-known first last (left first) (left last) only.bytes only.reads.count only.reads.are (subst (λ (t : List ℕ). Consumes (left first) (left last) t) (sym made.is) made.consumes)
+      stops-known first last (left first) (left last) only.bytes only.reads.count only.reads.are
+      (subst (λ (t : List ℕ). Consumes (left first) (left last) t) (sym made.is) made.consumes)

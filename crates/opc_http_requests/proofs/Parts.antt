@@ -30,12 +30,15 @@ pub part-split : (n : ℕ) (path : List ℕ) → unwrap_or (slice_get (slice_spl
 part-split zero path = rw (parts path) refl
 part-split (suc n) path = rw (parts path) (after (after_part path) (λ rest. part-split n rest))
   where
-    after : (left : List ℕ) → ((rest : List ℕ) → unwrap_or (slice_get (slice_split is_slash rest) n) [] ≡ part_at n rest) → unwrap_or (slice_get (later left) n) [] ≡ part_at n (drop 1 left)
+    after : (left : List ℕ) → ((rest : List ℕ)
+        → unwrap_or (slice_get (slice_split is_slash rest) n) [] ≡ part_at n rest)
+        → unwrap_or (slice_get (later left) n) [] ≡ part_at n (drop 1 left)
     after [] at = rw (part-none n) refl
     after (b ∷ rest) at = at rest
 
 -- the text after a reference, or an empty text
-pub shown : (found : Option (Bor (List ℕ))) (none : Bor (List ℕ)) (parts : List (List ℕ)) (n : ℕ) → none.now ≡ [] → option_map (λ (r : Bor (List ℕ)). r.now) found ≡ slice_get parts n
+pub shown : (found : Option (Bor (List ℕ))) (none : Bor (List ℕ)) (parts : List (List ℕ)) (n : ℕ) → none.now ≡ []
+    → option_map (λ (r : Bor (List ℕ)). r.now) found ≡ slice_get parts n
     → (unwrap_or found none).now ≡ unwrap_or (slice_get parts n) []
 shown None none parts n empty e = rw (← e) empty
 shown (Some r) none parts n empty e = rw (← e) refl

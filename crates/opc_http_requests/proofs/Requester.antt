@@ -1,5 +1,30 @@
 -- What the bytes of a connection ask for, step by step.
-use Rattle.std.proofs.Common.{◌≡◌, ◌∙◌, ◌≤◌, ◌+◌, ◌-◌, ◌++◌, ℕ, List, refl, sym, ap, arith, length, length-append, take, drop, map, max, Some, None, Ok, Err, inl, inr}
+use Rattle.std.proofs.Common.{
+  ◌≡◌,
+  ◌∙◌,
+  ◌≤◌,
+  ◌+◌,
+  ◌-◌,
+  ◌++◌,
+  ℕ,
+  List,
+  refl,
+  sym,
+  ap,
+  arith,
+  length,
+  length-append,
+  take,
+  drop,
+  map,
+  max,
+  Some,
+  None,
+  Ok,
+  Err,
+  inl,
+  inr,
+}
 use Rattle.std.specs.Prelude.{IfErr, IfSome, MatchOption, Option, Result}
 use Rattle.std.specs.Io.KnownBytes.{Consumes}
 use Rattle.httparse.specs.Grammar.{RequestHead, print_request}
@@ -74,7 +99,9 @@ takes-fewer : (few most : ℕ) (before after : Option (List ℕ)) → few ≤ mo
 takes-fewer few most before after low t = record { taken = t.taken; consumes = t.consumes; few = let h = t.few in omega (arith, h, low) }
 
 -- the bytes that were there, and then those of the body
-takes-both : (end filled : ℕ) (before mid after : Option (List ℕ)) (bytes : List ℕ) → Consumes before mid bytes → length bytes ≡ filled → filled ≤ 8192 → TakesAtMost (end - filled) mid after → TakesAtMost (max 8192 end) before after
+takes-both : (end filled : ℕ) (before mid after : Option (List ℕ)) (bytes : List ℕ) → Consumes before mid bytes
+    → length bytes ≡ filled → filled ≤ 8192 → TakesAtMost (end - filled) mid after
+    → TakesAtMost (max 8192 end) before after
 takes-both end filled before mid after bytes c is low t = record {
   taken = bytes ++ t.taken;
   consumes = consumes-more before mid after bytes t.taken c t.consumes;
@@ -82,14 +109,16 @@ takes-both end filled before mid after bytes c is low t = record {
 }
 
 -- in all
-pub takes-whole : (len n filled : ℕ) (before mid after : Option (List ℕ)) (bytes : List ℕ) → Consumes before mid bytes → length bytes ≡ filled → filled ≤ 8192 → len ≤ 8192 → n ≤ 65536 → TakesAtMost (len + n - filled) mid after
+pub takes-whole : (len n filled : ℕ) (before mid after : Option (List ℕ)) (bytes : List ℕ) → Consumes before mid bytes
+    → length bytes ≡ filled → filled ≤ 8192 → len ≤ 8192 → n ≤ 65536 → TakesAtMost (len + n - filled) mid after
     → TakesAtMost 73728 before after
 takes-whole len n filled before mid after bytes c is low head body t =
     takes-fewer (max 8192 (len + n)) 73728 before after (omega (arith, head, body)) (takes-both (len + n) filled before mid after bytes c is low t)
 
 -- a plan with its body and its path
 pub planned-request : (known : Option (List ℕ)) (old target path body used : List ℕ) (len : ℕ) (plan : Plan) (r : Result Request Refusal)
-    → IfSome known (λ left. body_in plan.length (drop len (old ++ left)) ≡ Ok body) → used ≡ body → path_in target ≡ Ok path → request_at plan.route path used ≡ r
+    → IfSome known (λ left. body_in plan.length (drop len (old ++ left)) ≡ Ok body) → used ≡ body
+    → path_in target ≡ Ok path → request_at plan.route path used ≡ r
     → IfSome known (λ left. planned target (drop len (old ++ left)) plan ≡ r)
 planned-request None old target path body used len plan r b same p e = tt
 planned-request (Some left) old target path body used len plan r b same p e = rw (b, p) (ap (λ (t : List ℕ). request_at plan.route path t) (sym same) ∙ e)
@@ -118,7 +147,8 @@ refused-weaker (reading.Refused why) P Q f h = f why h
 refused-weaker reading.Read P Q f h = tt
 refused-weaker reading.NoMemory P Q f h = tt
 
-pub fault-weaker : {A : Type 0} (r : Result A ReadingFault) (P Q : Refusal → Type 0) → ((why : Refusal) → P why → Q why) → IfErr r (λ fault. IfRefused fault P) → IfErr r (λ fault. IfRefused fault Q)
+pub fault-weaker : {A : Type 0} (r : Result A ReadingFault) (P Q : Refusal → Type 0) → ((why : Refusal) → P why → Q why)
+    → IfErr r (λ fault. IfRefused fault P) → IfErr r (λ fault. IfRefused fault Q)
 fault-weaker (Ok a) P Q f h = tt
 fault-weaker (Err fault) P Q f h = refused-weaker fault P Q f h
 

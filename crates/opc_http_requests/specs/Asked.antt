@@ -34,7 +34,8 @@ body_part (Err why) = 0
 
 -- how many bytes head and body have; of a head that is refused no body is read
 abbrev pub request_length : RequestHead → ℕ
-request_length head = length (print_request head) + body_part (plan_of head.method head.target (map name_and_value head.fields))
+request_length head = length (print_request head) + body_part
+    (plan_of head.method head.target (map name_and_value head.fields))
 
 -- A read of the body may be made where its head is there and it is not, and ends with it.
 pub record MayReadBody (before : List ℕ) (count : ℕ) : Type 0 where
@@ -54,4 +55,5 @@ looked_through head = min 8192 (length (print_request head) + 1023)
 -- No read goes past the end of the body, but for the last one of those that look for the head.
 pub record StopsAtEnd (all : List ℕ) (after : Option (List ℕ)) : Type 0 where
   pub headless : NoHead all → TakesAtMost 8192 (Some all) after
-  pub headed : (head : RequestHead) → HasHead all head → TakesAtMost (max (looked_through head) (request_length head)) (Some all) after
+  pub headed : (head : RequestHead) → HasHead all head
+      → TakesAtMost (max (looked_through head) (request_length head)) (Some all) after

@@ -1,5 +1,24 @@
 -- What the path of a request says: its route, and its values.
-use Rattle.std.specs.Prelude.{ℕ, Bool, not, ◌==◌, ◌&&◌, nat_le, List, [], ◌∷◌, codes, Option, Some, None, option_and_then, Result, Ok, Err, if◌then◌else◌}
+use Rattle.std.specs.Prelude.{
+  ℕ,
+  Bool,
+  not,
+  ◌==◌,
+  ◌&&◌,
+  nat_le,
+  List,
+  [],
+  ◌∷◌,
+  codes,
+  Option,
+  Some,
+  None,
+  option_and_then,
+  Result,
+  Ok,
+  Err,
+  if◌then◌else◌,
+}
 use Rattle.std.specs.List.{list_all}
 use Rattle.std.specs.Str.{bytes_eq}
 use Rattle.opc_names.specs.Names.{console_rule}

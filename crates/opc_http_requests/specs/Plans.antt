@@ -29,7 +29,8 @@ method_text Post = codes "POST"
 
 -- that a route is asked by its method
 abbrev pub has_method : List ℕ → Route → Result Unit Refusal
-has_method method route = if bytes_eq method (method_text (method_of route)) then Ok tt else Err (MethodNotAllowed (method_of route))
+has_method method route = if bytes_eq method (method_text (method_of route)) then Ok tt else Err
+    (MethodNotAllowed (method_of route))
 
 -- the route and the length of the body, or the first refusal
 abbrev pub plan_of : (method target : List ℕ) → (fields : List FieldLine) → Result Plan Refusal
@@ -42,4 +43,5 @@ plan_of method target fields = do
 
 -- the same of the head that these bytes begin with, where the spans find its parts
 abbrev pub plan_in : List ℕ → List HeaderSpan → RequestSpans → Result Plan Refusal
-plan_in buf headers spans = plan_of (span_bytes buf spans.method) (span_bytes buf spans.path) (map (header_bytes buf) (take spans.headers headers))
+plan_in buf headers spans = plan_of (span_bytes buf spans.method) (span_bytes buf spans.path)
+    (map (header_bytes buf) (take spans.headers headers))

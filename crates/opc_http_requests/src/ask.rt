@@ -1,5 +1,22 @@
 //! A whole request, read from a source.
-ghost use Rattle.std.specs.Prelude.{◌≡◌, ◌≤◌, ◌+◌, ◌-◌, ◌++◌, [], Err, IfErr, IfOk, IfSome, MatchResult, Ok, drop, if◌then◌else◌, true, vec_len};
+ghost use Rattle.std.specs.Prelude.{
+  ◌≡◌,
+  ◌≤◌,
+  ◌+◌,
+  ◌-◌,
+  ◌++◌,
+  [],
+  Err,
+  IfErr,
+  IfOk,
+  IfSome,
+  MatchResult,
+  Ok,
+  drop,
+  if◌then◌else◌,
+  true,
+  vec_len,
+};
 ghost use Rattle.httparse.specs.Spans.{IsWithin, span_bytes};
 ghost use Rattle.opc_io.specs.Reads.{ReadsOnly, TakesAtMost};
 ghost use Rattle.opc_http_head.specs.Refusals.{Refuses};
@@ -34,7 +51,8 @@ fn request_by(
     path: &str,
     body: &[u8],
 ) -> Result<Request, AskFault>
-    ensures { MatchResult result (λ request. request_by route console path.now body.now ≡ Ok request) (λ fault. Refuses fault (request_by route console path.now body.now)) }
+    ensures { MatchResult result (λ request. request_by route console path.now body.now ≡ Ok request)
+        (λ fault. Refuses fault (request_by route console path.now body.now)) }
 {
     match route {
         Route::Command => {
@@ -73,7 +91,8 @@ fn request_by(
 
 // The request of a route, by its path and its body.
 fn request_at(alloc: Global, route: Route, path: &str, body: &[u8]) -> Result<Request, AskFault>
-    ensures { MatchResult result (λ request. request_at route path.now body.now ≡ Ok request) (λ fault. Refuses fault (request_at route path.now body.now)) }
+    ensures { MatchResult result (λ request. request_at route path.now body.now ≡ Ok request)
+        (λ fault. Refuses fault (request_at route path.now body.now)) }
 {
     let console = console_in(alloc, path)?;
     request_by(alloc, route, console, path, body)
@@ -92,7 +111,8 @@ fn read_planned<S: Source>(
     requires few { plan.length ≤ 65536 }
     requires path { IsWithin spans.now.len spans.now.path }
     ensures asked { IfOk result (λ request. IfSome (S.left source.old) (λ left.
-        planned (span_bytes buf.old.items spans.now.path) (drop spans.now.len (buf.old.items ++ left)) plan ≡ Ok request)) }
+        planned (span_bytes buf.old.items spans.now.path) (drop spans.now.len (buf.old.items ++ left)) plan ≡ Ok
+        request)) }
     ensures refused { IfErr result (λ fault. IfRefused fault (λ why. IfSome (S.left source.old) (λ left.
         planned (span_bytes buf.old.items spans.now.path) (drop spans.now.len (buf.old.items ++ left)) plan ≡ Err why))) }
     ensures most { TakesAtMost (spans.now.len + plan.length - vec_len buf.old) (S.left source.old) (S.left source.new) }
@@ -108,11 +128,11 @@ fn read_planned<S: Source>(
     Ok(request)
 }
 
-/// Reads a request, or finds the first refusal. A request is answered by nothing but the bytes of its head and its body.
-/// It reads on only where what it read is no whole head and may become one, or has its head and not yet its body. Each
-/// read takes 1,024 bytes at most and none goes past the end of the body, but for the last that looks for the head.
-/// After a refusal by the head no more is read. Where memory is refused or a read fails, the source has given some of its
-/// bytes and no request is known.
+/// Reads a request, or finds the first refusal. A request is answered by nothing but the bytes of its head and its
+/// body. It reads on only where what it read is no whole head and may become one, or has its head and not yet its body.
+/// Each read takes 1,024 bytes at most and none goes past the end of the body, but for the last that looks for the
+/// head. After a refusal by the head no more is read. Where memory is refused or a read fails, the source has given
+/// some of its bytes and no request is known.
 pub fn read_request<S: Source>(
     alloc: Global,
     routes: &Routes,

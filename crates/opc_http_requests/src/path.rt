@@ -1,11 +1,35 @@
 //! What the path of a request says: its route, and its values.
-ghost use Rattle.std.specs.Prelude.{◌≡◌, ◌≤◌, ◌<◌, ◌∷◌, [], Err, IfOk, MatchOption, MatchResult, Ok, length, option_and_then};
+ghost use Rattle.std.specs.Prelude.{
+  ◌≡◌,
+  ◌≤◌,
+  ◌<◌,
+  ◌∷◌,
+  [],
+  Err,
+  IfOk,
+  MatchOption,
+  MatchResult,
+  Ok,
+  length,
+  option_and_then,
+};
 ghost use Rattle.std.specs.List.{list_all};
 ghost use Rattle.opc_names.specs.Names.{console_rule};
 ghost use Rattle.opc_import.specs.Fields.{name_of};
 ghost use Rattle.opc_http_head.specs.Refusals.{Refuses, required};
 ghost use Rattle.opc_http_head.specs.Routes.{part_at};
-ghost use Rattle.opc_http_requests.specs.Paths.{batch_in, class_in, console_in, count_in, from_in, is_path_byte, path_in, route_in, unescaped, within};
+ghost use Rattle.opc_http_requests.specs.Paths.{
+  batch_in,
+  class_in,
+  console_in,
+  count_in,
+  from_in,
+  is_path_byte,
+  path_in,
+  route_in,
+  unescaped,
+  within,
+};
 
 use opc_http_head::number::number_in;
 use opc_http_head::refusal::{AskFault, BAD_REQUEST, Refusal};
@@ -96,7 +120,8 @@ fn name_in(bytes: &[u8]) -> Option<ConsoleName>
 
 /// The console that a path names.
 pub(crate) fn console_in(alloc: Global, path: &str) -> Result<ConsoleName, AskFault>
-    ensures { MatchResult result (λ console. console_in path.now ≡ Ok console) (λ fault. Refuses fault (console_in path.now)) }
+    ensures { MatchResult result (λ console. console_in path.now ≡ Ok console)
+        (λ fault. Refuses fault (console_in path.now)) }
 {
     let bytes = unescaped(alloc, part_at(path, 2).as_bytes())?;
     match name_in(bytes.as_slice()) {

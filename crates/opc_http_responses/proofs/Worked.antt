@@ -21,7 +21,8 @@ use Rattle.opc_http_responses.specs.Statuses.{fault_status, phrase}
 abbrev pub denied_cancel : Answer
 denied_cancel = Refused DeniedProfile (Some (Profile Opercmds (codes "MVS.CANCEL.JOB.PAY*") level.None level.Update false))
 
-pub body_of_denied_cancel : answer_body denied_cancel ≡ codes "{\"code\":\"E20\",\"rule\":\"PROFILE OPERCMDS MVS.CANCEL.JOB.PAY* HELD NONE NEEDED UPDATE\",\"status\":\"refused\",\"text\":\"DeniedProfile\"}"
+pub body_of_denied_cancel : answer_body denied_cancel ≡ codes
+    "{\"code\":\"E20\",\"rule\":\"PROFILE OPERCMDS MVS.CANCEL.JOB.PAY* HELD NONE NEEDED UPDATE\",\"status\":\"refused\",\"text\":\"DeniedProfile\"}"
 unfolding serde_json_on_literals
 body_of_denied_cancel = refl
 
@@ -29,15 +30,20 @@ pub length_of_denied_cancel : length (answer_body denied_cancel) ≡ 126
 unfolding serde_json_on_literals
 length_of_denied_cancel = refl
 
-pub whole_denied_cancel : response_of denied_cancel ≡ codes "HTTP/1.1 403 Forbidden\r\nContent-Type: application/json\r\nContent-Length: 126\r\nConnection: close\r\n\r\n{\"code\":\"E20\",\"rule\":\"PROFILE OPERCMDS MVS.CANCEL.JOB.PAY* HELD NONE NEEDED UPDATE\",\"status\":\"refused\",\"text\":\"DeniedProfile\"}"
+pub whole_denied_cancel : response_of denied_cancel ≡ codes
+    "HTTP/1.1 403 Forbidden\r\nContent-Type: application/json\r\nContent-Length: 126\r\nConnection: close\r\n\r\n{\"code\":\"E20\",\"rule\":\"PROFILE OPERCMDS MVS.CANCEL.JOB.PAY* HELD NONE NEEDED UPDATE\",\"status\":\"refused\",\"text\":\"DeniedProfile\"}"
 unfolding serde_json_on_literals digits fault_status phrase
 whole_denied_cancel = refl
 
-pub body_of_display : answer_body (Done (record { item = Plain; text = codes "07 MOUNT PAY01" } ∷ []) None) ≡ codes "{\"lines\":[\"07 MOUNT PAY01\"],\"rule\":\"-\",\"status\":\"done\"}"
+pub body_of_display : answer_body (Done (record {
+  item = Plain;
+  text = codes "07 MOUNT PAY01";
+} ∷ []) None) ≡ codes "{\"lines\":[\"07 MOUNT PAY01\"],\"rule\":\"-\",\"status\":\"done\"}"
 unfolding serde_json_on_literals
 body_of_display = refl
 
-pub whole_other_method : refusal_response (MethodNotAllowed Post) ≡ codes "HTTP/1.1 405 Method Not Allowed\r\nContent-Type: application/json\r\nContent-Length: 73\r\nAllow: POST\r\nConnection: close\r\n\r\n{\"code\":\"H405\",\"rule\":\"-\",\"status\":\"refused\",\"text\":\"Method Not Allowed\"}"
+pub whole_other_method : refusal_response (MethodNotAllowed Post) ≡ codes
+    "HTTP/1.1 405 Method Not Allowed\r\nContent-Type: application/json\r\nContent-Length: 73\r\nAllow: POST\r\nConnection: close\r\n\r\n{\"code\":\"H405\",\"rule\":\"-\",\"status\":\"refused\",\"text\":\"Method Not Allowed\"}"
 unfolding serde_json_on_literals digits phrase
 whole_other_method = refl
 
@@ -45,6 +51,8 @@ pub body_of_bad_row : refusal_body (BadRow 3 why.Name) ≡ codes "{\"code\":\"E6
 unfolding serde_json_on_literals digits
 body_of_bad_row = refl
 
-pub phrases : map phrase (200 ∷ 400 ∷ 403 ∷ 404 ∷ 405 ∷ 409 ∷ 413 ∷ 500 ∷ []) ≡ codes "OK" ∷ codes "Bad Request" ∷ codes "Forbidden" ∷ codes "Not Found" ∷ codes "Method Not Allowed" ∷ codes "Conflict" ∷ codes "Payload Too Large" ∷ codes "Internal Server Error" ∷ []
+pub phrases : map phrase (200 ∷ 400 ∷ 403 ∷ 404 ∷ 405 ∷ 409 ∷ 413 ∷ 500 ∷ []) ≡ codes "OK" ∷ codes "Bad Request"
+    ∷ codes "Forbidden" ∷ codes "Not Found" ∷ codes "Method Not Allowed" ∷ codes "Conflict" ∷ codes "Payload Too Large"
+    ∷ codes "Internal Server Error" ∷ []
 unfolding phrase
 phrases = refl

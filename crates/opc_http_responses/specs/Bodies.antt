@@ -10,7 +10,13 @@ use Rattle.opc_terms.specs.declared.fault.Fault.TheVariants.{RowFault}
 use Rattle.opc_machine.specs.declared.request.Answer.{Answer}
 use Rattle.opc_machine.specs.declared.request.Answer.TheVariants.{Done, Refused}
 use Rattle.opc_http_head.specs.declared.refusal.Refusal.{Refusal}
-use Rattle.opc_http_head.specs.declared.refusal.Refusal.TheVariants.{BadRequest, NotFound, MethodNotAllowed, TooLarge, BadRow}
+use Rattle.opc_http_head.specs.declared.refusal.Refusal.TheVariants.{
+  BadRequest,
+  NotFound,
+  MethodNotAllowed,
+  TooLarge,
+  BadRow,
+}
 use Rattle.opc_http_responses.specs.Statuses.{phrase, refusal_status}
 
 -- the lines, as an array of texts
@@ -34,7 +40,8 @@ refused_value code rule text =
 
 abbrev pub answer_body : Answer → List ℕ
 answer_body (Done lines rule) = compact_text (done_value lines (rule_text_or_none rule))
-answer_body (Refused fault rule) = compact_text (refused_value (fault_code fault) (rule_text_or_none rule) (fault_text fault))
+answer_body (Refused fault rule) = compact_text
+    (refused_value (fault_code fault) (rule_text_or_none rule) (fault_text fault))
 
 -- a refusal by its status alone: `H` and the status, no rule, the phrase
 abbrev pub status_body : ℕ → List ℕ

@@ -4,7 +4,13 @@ use Rattle.opc_machine.specs.declared.request.Answer.{Answer}
 use Rattle.opc_http_head.specs.declared.refusal.Method.{Method}
 use Rattle.opc_http_head.specs.declared.refusal.Method.TheVariants.{Get, Post}
 use Rattle.opc_http_head.specs.declared.refusal.Refusal.{Refusal}
-use Rattle.opc_http_head.specs.declared.refusal.Refusal.TheVariants.{BadRequest, NotFound, MethodNotAllowed, TooLarge, BadRow}
+use Rattle.opc_http_head.specs.declared.refusal.Refusal.TheVariants.{
+  BadRequest,
+  NotFound,
+  MethodNotAllowed,
+  TooLarge,
+  BadRow,
+}
 use Rattle.opc_http_responses.specs.Bodies.{answer_body, refusal_body}
 use Rattle.opc_http_responses.specs.Statuses.{phrase, refusal_status, status_of}
 

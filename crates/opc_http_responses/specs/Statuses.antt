@@ -8,14 +8,20 @@ use Rattle.opc_terms.specs.declared.fault.Fault.TheVariants.{RowFault}
 use Rattle.opc_machine.specs.declared.request.Answer.{Answer}
 use Rattle.opc_machine.specs.declared.request.Answer.TheVariants.{Done, Refused}
 use Rattle.opc_http_head.specs.declared.refusal.Refusal.{Refusal}
-use Rattle.opc_http_head.specs.declared.refusal.Refusal.TheVariants.{BadRequest, NotFound, MethodNotAllowed, TooLarge, BadRow}
+use Rattle.opc_http_head.specs.declared.refusal.Refusal.TheVariants.{
+  BadRequest,
+  NotFound,
+  MethodNotAllowed,
+  TooLarge,
+  BadRow,
+}
 
 -- from the one code to the other, both included
 abbrev pub is_within : ℕ → ℕ → ℕ → Bool
 is_within first last code = nat_le first code && nat_le code last
 
--- What cannot be read is a bad request; who may not is forbidden; a console that is not there is not found; what the state
--- does not allow is in conflict with it; the rest are failures here.
+-- What cannot be read is a bad request; who may not is forbidden; a console that is not there is not found; what the
+-- state does not allow is in conflict with it; the rest are failures here.
 abbrev pub status_of_code : ℕ → ℕ
 status_of_code code =
     if is_within 1 6 code || (code == 60) then 400

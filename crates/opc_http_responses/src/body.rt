@@ -5,7 +5,14 @@ ghost use Rattle.serde_json.specs.Data.{array};
 ghost use Rattle.serde_json.specs.View.{view};
 ghost use Rattle.serde_json.specs.Written.{compact_text};
 ghost use Rattle.opc_machine.specs.declared.request.Answer.{Answer as TheAnswer};
-ghost use Rattle.opc_http_responses.specs.Bodies.{answer_body, done_value, line_items, refusal_body, refused_value, status_body};
+ghost use Rattle.opc_http_responses.specs.Bodies.{
+  answer_body,
+  done_value,
+  line_items,
+  refusal_body,
+  refused_value,
+  status_body,
+};
 
 use crate::status::{phrase, refusal_status};
 use http::StatusCode;
@@ -56,7 +63,8 @@ fn refused_text(alloc: Global, code: &str, rule: &str, text: &str) -> Result<Str
 }
 
 fn fault_body(alloc: Global, fault: &Fault, rule: Option<&Rule>) -> Result<String, AllocError>
-    ensures { IfOk result (λ body. string_bytes body ≡ answer_body (TheAnswer.Refused fault.now (option_copied rule.entry))) }
+    ensures { IfOk result (λ body. string_bytes body ≡ answer_body
+        (TheAnswer.Refused fault.now (option_copied rule.entry))) }
 {
     let rule = Rule::text_or_none(alloc, rule)?;
     let text = fault.text(alloc)?;

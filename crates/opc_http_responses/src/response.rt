@@ -1,7 +1,16 @@
 //! Responses, byte for byte.
 ghost use Rattle.std.specs.Prelude.{◌≡◌, ◌++◌, IfOk, codes, decimal, length, string_bytes};
 ghost use Rattle.opc_http_responses.specs.Bodies.{answer_body, refusal_body};
-ghost use Rattle.opc_http_responses.specs.Responses.{allow_field, allowed, head_of, line, refusal_response, response_of, response_text, status_line};
+ghost use Rattle.opc_http_responses.specs.Responses.{
+  allow_field,
+  allowed,
+  head_of,
+  line,
+  refusal_response,
+  response_of,
+  response_text,
+  status_line,
+};
 ghost use Rattle.opc_http_responses.specs.Statuses.{refusal_status, status_of};
 
 use crate::body::{answer_body, refusal_body};
@@ -109,7 +118,8 @@ fn allowed(refusal: &Refusal) -> Option<Method>
 }
 
 fn response_to_refusal(alloc: Global, refusal: &Refusal) -> Result<Response, AllocError>
-    ensures { IfOk result (λ made. (made.status ≡ refusal_status refusal.now) × (made.bytes.items ≡ refusal_response refusal.now)) }
+    ensures { IfOk result (λ made. (made.status ≡ refusal_status refusal.now)
+        × (made.bytes.items ≡ refusal_response refusal.now)) }
 {
     let body = refusal_body(alloc, refusal)?;
     response_with(
@@ -122,7 +132,8 @@ fn response_to_refusal(alloc: Global, refusal: &Refusal) -> Result<Response, All
 
 /// The response to what is no request.
 pub fn refused(alloc: Global, refusal: &Refusal) -> Result<Response, NoMemory>
-    ensures { IfOk result (λ made. (made.status ≡ refusal_status refusal.now) × (made.bytes.items ≡ refusal_response refusal.now)) }
+    ensures { IfOk result (λ made. (made.status ≡ refusal_status refusal.now)
+        × (made.bytes.items ≡ refusal_response refusal.now)) }
 {
     response_to_refusal(alloc, refusal).map_err(|_| NoMemory)
 }

@@ -1,5 +1,30 @@
 -- Clients that are served, one more after some.
-use Rattle.std.proofs.Common.{◌≡◌, inl, inr, ℕ, ◌+◌, ◌<◌, ◌≤◌, List, [], ◌∷◌, ◌++◌, length, take, get_or, Ok, Err, true, false, refl, subst, sym, ap, arith, length-append}
+use Rattle.std.proofs.Common.{
+  ◌≡◌,
+  inl,
+  inr,
+  ℕ,
+  ◌+◌,
+  ◌<◌,
+  ◌≤◌,
+  List,
+  [],
+  ◌∷◌,
+  ◌++◌,
+  length,
+  take,
+  get_or,
+  Ok,
+  Err,
+  true,
+  false,
+  refl,
+  subst,
+  sym,
+  ap,
+  arith,
+  length-append,
+}
 use Rattle.std.specs.Prelude.{Option, Result, IfErr, IfOk, OnOk, Bool, if◌then◌else◌, zero, suc, ⊤}
 use Rattle.std.specs.IoError.{error_kind}
 use Rattle.std.specs.declared.io.Error.{Error}
@@ -51,18 +76,31 @@ within reading moment e = IfOk-at_ok (λ m. m ≤ LAST_MOMENT) e (low reading)
 module _ {C G D : Type 0} (limits : C → Duration → Bool → Type 0) (remaining contents : C → Option (List ℕ))
     (made : G → Option (List ℕ) → ℕ → Option (List ℕ) → Option (List ℕ) → Result Served LinkFault → G → Type 0) (timeout : Option Duration)
     (accepts : D → Result (C × C) Error → D → Type 0) (clock_says : D → Result Duration Error → D → Type 0) (first : D) (old : G) where
-  pub one_served : (n : ℕ) (met last : D) (was new : G) (came gone : Arrival C) → AreServed limits remaining contents made timeout accepts clock_says first old n met was
+  pub one_served : (n : ℕ) (met last : D) (was new : G) (came gone : Arrival C)
+      → AreServed limits remaining contents made timeout accepts clock_says first old n met was
       → IsArrival accepts clock_says met came last → IsServed limits remaining contents made timeout came gone was new
       → AreServed limits remaining contents made timeout accepts clock_says first old (n + 1) last new
   one_served n met last was new came gone are arrival served =
-      subst (λ m. AreServed limits remaining contents made timeout accepts clock_says first old m last new) (sym (next n)) (met, was, came, gone, are, arrival, served)
+      subst (λ m. AreServed limits remaining contents made timeout accepts clock_says first old m last new)
+      (sym (next n)) (met, was, came, gone, are, arrival, served)
 
   -- wherever they came from
   anyhow : (n : ℕ) (last : D) (new : G) → AreServed limits remaining contents made timeout accepts clock_says first old n last new
       → ServesAll limits remaining contents made timeout old n new
   anyhow zero last new are = (refl, are.1)
-  anyhow (suc n) last new (met, was, came, gone, are, arrival, served) =
-      (tt, was, came, gone, anyhow n met was are, record { reading = arrival.reading; dated = record { mid = tt; accepted = tt; said = tt }; moment = arrival.moment }, served)
+  anyhow (suc n) last new (met, was, came, gone, are, arrival, served) = (
+    tt,
+    was,
+    came,
+    gone,
+    anyhow n met was are,
+    record {
+      reading = arrival.reading;
+      dated = record { mid = tt; accepted = tt; said = tt };
+      moment = arrival.moment;
+    },
+    served,
+  )
 
   none_came : (f : ServeFault) (met last : D) → Arrives accepts clock_says met (Err f) last → Arrives {D = ⊤} {C = C} (λ _ _ _. ⊤) (λ _ _ _. ⊤) tt (Err f) tt
   none_came (why.Accept error) met last h = tt
@@ -91,7 +129,13 @@ module _ {T : Type 0} (is_sure : T → Type 0) (represents may_leave : T → Sta
   begins : (now : T) → IsRunOf is_sure represents may_leave now now none_handled
   begins now = record {
     moments = All-nil (λ (r : ℕ × Request). r.0 ≤ LAST_MOMENT);
-    run = λ sure s represented. record { last = s; runs = refl; represented = represented; crash = λ left h. inl h; acknowledged = λ _. inr (refl, λ left h. h) };
+    run = λ sure s represented. record {
+      last = s;
+      runs = refl;
+      represented = represented;
+      crash = λ left h. inl h;
+      acknowledged = λ _. inr (refl, λ left h. h);
+    };
     idle = λ _. refl;
   }
 
@@ -106,7 +150,8 @@ module _ {T : Type 0} (is_sure : T → Type 0) (represents may_leave : T → Sta
       let whole : take (length rs + 1) all ≡ all = take_all (length rs + 1) all (omega (arith, long)) in
       let is : r ≡ get_or all (length rs) r = sym (get_or-append_seam rs r [] r) in
       let low : length rs < length all = omega (arith, long) in
-      let step : (first : IsRun represents may_leave old mid s (take (length rs) all) answers) → IsHandled represents may_leave mid new first.last r.0 (input_of r.1) answer
+      let step : (first : IsRun represents may_leave old mid s (take (length rs) all) answers)
+      → IsHandled represents may_leave mid new first.last r.0 (input_of r.1) answer
       → IsRun represents may_leave old new s (take (length rs + 1) all) (answers ++ answer ∷ []) =
       λ first step. run_more represents may_leave all (length rs) r old mid new s answers answer low is first step in
       let same : (first : IsRun represents may_leave old mid s rs answers) → IsHandled represents may_leave mid new first.last r.0 (input_of r.1) answer
@@ -115,7 +160,8 @@ module _ {T : Type 0} (is_sure : T → Type 0) (represents may_leave : T → Sta
       → IsRun represents may_leave old new s (take (length rs + 1) all) (answers ++ answer ∷ [])) seam step in
       subst (λ qs. IsRun represents may_leave old new s qs (answers ++ answer ∷ [])) whole (same run handled)
 
-  none_more : (old mid new : T) (handled : Handled) → new ≡ mid → IsRunOf is_sure represents may_leave old mid handled → IsRunOf is_sure represents may_leave old new handled
+  none_more : (old mid new : T) (handled : Handled) → new ≡ mid → IsRunOf is_sure represents may_leave old mid handled
+      → IsRunOf is_sure represents may_leave old new handled
   none_more old mid new handled same run = subst (λ t. IsRunOf is_sure represents may_leave old t handled) (sym same) run
 
   one_more : (old mid new : T) (handled : Handled) (moment : ℕ) (request : Request) (answer : Answer) → moment ≤ LAST_MOMENT → (is_sure new → is_sure mid)
@@ -134,8 +180,11 @@ module _ {T : Type 0} (is_sure : T → Type 0) (represents may_leave : T → Sta
       (run : IsRunOf is_sure represents may_leave old mid handled) where
     by_reply : (reply : Reply) → Replies is_sure represents may_leave left mid new moment reply
         → (more : Handled) × IsReplied left handled more moment reply × IsRunOf is_sure represents may_leave old new more
-    by_reply (Ok answer) one =
-        (handled_with handled moment one.request answer, (one.request, one.asked, refl), one_more old mid new handled moment one.request answer low sure one.handled run)
+    by_reply (Ok answer) one = (
+      handled_with handled moment one.request answer,
+      (one.request, one.asked, refl),
+      one_more old mid new handled moment one.request answer low sure one.handled run,
+    )
     by_reply (Err refusal) none = (handled, (none.0, refl), none_more old mid new handled none.1 run)
 
     module _ (before after : Option (List ℕ)) where
@@ -162,17 +211,28 @@ module _ {T : Type 0} (is_sure : T → Type 0) (represents may_leave : T → Sta
   -- what clients that came and were served make of the tables
   module _ {C : Type 0} (limits : C → Duration → Bool → Type 0) (remaining contents : C → Option (List ℕ)) (timeout : Option Duration) where
     served_one : (came gone : Arrival C) (old mid new : T) (handled : Handled) → came.moment ≤ LAST_MOMENT
-        → IsServed limits remaining contents (IsExchange is_sure represents may_leave) timeout came gone mid new → IsRunOf is_sure represents may_leave old mid handled
+        → IsServed limits remaining contents (IsExchange is_sure represents may_leave) timeout came gone mid new
+        → IsRunOf is_sure represents may_leave old mid handled
         → (more : Handled) × IsServed limits remaining contents IsConversation timeout came gone handled more
         × IsRunOf is_sure represents may_leave old new more × (is_sure new → is_sure mid)
     served_one came gone old mid new handled low (inl one) run =
         let r = exchanged old mid new handled _ came.moment low one.made.sure run _ _ one.ended one.made in
         (r.0, inl (record { limited = one.limited; ended = one.ended; made = r.1 }), r.2, one.made.sure)
-    served_one came gone old mid new handled low (inr none) run =
-        (handled, inr (record { failed = none.failed; same = none.same; idle = refl }), none_more old mid new handled none.idle run, λ sure. subst is_sure none.idle sure)
+    served_one came gone old mid new handled low (inr none) run = (
+      handled,
+      inr (record {
+        failed = none.failed;
+        same = none.same;
+        idle = refl;
+      }),
+      none_more old mid new handled none.idle run,
+      λ sure. subst is_sure none.idle sure,
+    )
 
     module _ {D : Type 0} (accepts : D → Result (C × C) Error → D → Type 0) (clock_says : D → Result Duration Error → D → Type 0) (first : D) (old : T) where
-      handled_for : (n : ℕ) (last : D) (new : T) → AreServed limits remaining contents (IsExchange is_sure represents may_leave) timeout accepts clock_says first old n last new
+      handled_for : (n : ℕ) (last : D) (new : T)
+          → AreServed limits remaining contents (IsExchange is_sure represents may_leave) timeout accepts clock_says
+          first old n last new
           → (handled : Handled) × AreServed limits remaining contents IsConversation timeout accepts clock_says first none_handled n last handled
           × IsRunOf is_sure represents may_leave old new handled × (is_sure new → is_sure old)
       handled_for zero last new are = (none_handled, (are.0, refl), none_more old old new none_handled are.1 (begins old), λ sure. subst is_sure are.1 sure)
@@ -184,7 +244,8 @@ module _ {T : Type 0} (is_sure : T → Type 0) (represents may_leave : T → Sta
       module _ {A : Type 0} (count : ℕ) (last : D) (new : T) where
         pub all_handled : (end : Result A ServeFault)
             → OnOk end (AreServed limits remaining contents (IsExchange is_sure represents may_leave) timeout accepts clock_says first old count last new)
-            → IfErr end (λ f. IsCutShort limits remaining contents (IsExchange is_sure represents may_leave) timeout accepts clock_says first old count f last new)
+            → IfErr end (λ f. IsCutShort limits remaining contents (IsExchange is_sure represents may_leave) timeout
+            accepts clock_says first old count f last new)
             → AreHandled is_sure represents may_leave limits remaining contents timeout old new count end
         all_handled (Ok a) are cut =
             let h = handled_for count last new are in record {
@@ -207,7 +268,8 @@ module _ {T : Type 0} (is_sure : T → Type 0) (represents may_leave : T → Sta
 
         pub sure : (end : Result A ServeFault)
             → OnOk end (AreServed limits remaining contents (IsExchange is_sure represents may_leave) timeout accepts clock_says first old count last new)
-            → IfErr end (λ f. IsCutShort limits remaining contents (IsExchange is_sure represents may_leave) timeout accepts clock_says first old count f last new)
+            → IfErr end (λ f. IsCutShort limits remaining contents (IsExchange is_sure represents may_leave) timeout
+            accepts clock_says first old count f last new)
             → is_sure new → is_sure old
         sure (Ok a) are cut = (handled_for count last new are).3
         sure (Err f) are cut = (handled_for cut.done cut.met new cut.served).3

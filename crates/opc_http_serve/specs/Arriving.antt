@@ -7,7 +7,8 @@ use Rattle.opc_http_serve.specs.declared.arrival.ServeFault.{ServeFault}
 use Rattle.opc_http_serve.specs.declared.arrival.ServeFault.TheVariants as fault
 use Rattle.opc_http_serve.specs.Moments.{moment_of}
 
-module _ {D C : Type 0} (accepts : D → Result (C × C) Error → D → Type 0) (clock_says : D → Result Duration Error → D → Type 0) where
+module _ {D C : Type 0} (accepts : D → Result (C × C) Error → D → Type 0)
+    (clock_says : D → Result Duration Error → D → Type 0) where
   -- A client was accepted, by a handle to read and one to write, and then the clock was read.
   pub record IsDated (before : D) (reader writer : C) (reading : Result Duration Error) (after : D) : Type 0 where
     pub mid : D

@@ -24,12 +24,16 @@ none_handled = record { requests = []; answers = [] }
 
 -- and one more
 abbrev pub handled_with : Handled → ℕ → Request → Answer → Handled
-handled_with handled moment request answer = record { requests = handled.requests ++ (moment, request) ∷ []; answers = handled.answers ++ answer ∷ [] }
+handled_with handled moment request answer = record {
+  requests = handled.requests ++ (moment, request) ∷ [];
+  answers = handled.answers ++ answer ∷ [];
+}
 
--- The reply is the answer to the request that is asked for, which is the one more that was handled. Or it refuses what is
--- asked, and there is no more.
+-- The reply is the answer to the request that is asked for, which is the one more that was handled. Or it refuses what
+-- is asked, and there is no more.
 abbrev pub IsReplied : (left : Option (List ℕ)) → (old new : Handled) → ℕ → Reply → Type 0
-IsReplied left old new moment (Ok answer) = (request : Request) × IsAsked left (Ok request) × (new ≡ handled_with old moment request answer)
+IsReplied left old new moment (Ok answer) =
+    (request : Request) × IsAsked left (Ok request) × (new ≡ handled_with old moment request answer)
 IsReplied left old new moment (Err refusal) = IsAsked left (Err refusal) × (new ≡ old)
 
 -- What is written more is the response of a reply, or a part of it.
@@ -38,24 +42,29 @@ IsWritten reply before after (Ok served) = IsReported (λ held. held) reply befo
 IsWritten reply before after (Err fault) = IsCutOff (λ held. held) reply before after fault
 
 -- A reply was come to, and its response written, or a part of it.
-pub record RepliesOnce (old : Handled) (left : Option (List ℕ)) (moment : ℕ) (before after : Option (List ℕ)) (ended : Result Served LinkFault) (new : Handled) : Type 0 where
+pub record RepliesOnce (old : Handled) (left : Option (List ℕ)) (moment : ℕ) (before after : Option (List ℕ))
+    (ended : Result Served LinkFault) (new : Handled) : Type 0 where
   pub reply : Reply
   pub replied : IsReplied left old new moment reply
   pub written : IsWritten reply before after ended
 
 -- An exchange, by what was handled in it: a reply was come to; or the reader failed or there was no memory, nothing was
 -- handled, and nothing written.
-abbrev pub IsConversation : (old : Handled) → (left : Option (List ℕ)) → ℕ → (before after : Option (List ℕ)) → Result Served LinkFault → (new : Handled) → Type 0
+abbrev pub IsConversation : (old : Handled) → (left : Option (List ℕ)) → ℕ → (before after : Option (List ℕ))
+    → Result Served LinkFault → (new : Handled) → Type 0
 IsConversation old left moment before after (Err fault.Read) new = (after ≡ before) × (new ≡ old)
 IsConversation old left moment before after (Err (fault.NoMemory false)) new = (after ≡ before) × (new ≡ old)
-IsConversation old left moment before after (Err (fault.NoMemory true)) new = RepliesOnce old left moment before after (Err (fault.NoMemory true)) new
-IsConversation old left moment before after (Err (fault.Write handled)) new = RepliesOnce old left moment before after (Err (fault.Write handled)) new
+IsConversation old left moment before after (Err (fault.NoMemory true)) new =
+    RepliesOnce old left moment before after (Err (fault.NoMemory true)) new
+IsConversation old left moment before after (Err (fault.Write handled)) new =
+    RepliesOnce old left moment before after (Err (fault.Write handled)) new
 IsConversation old left moment before after (Ok served) new = RepliesOnce old left moment before after (Ok served) new
 
 module _ {T : Type 0} (is_sure : T → Type 0) (represents may_leave : T → State → Type 0) where
-  -- An exchange over tables: what was left of the reader's bytes was asked for and handled, and what the writer holds more
-  -- is the reply, or a part of it.
-  pub record IsExchange (old : T) (left : Option (List ℕ)) (moment : ℕ) (before after : Option (List ℕ)) (ended : Result Served LinkFault) (new : T) : Type 0 where
+  -- An exchange over tables: what was left of the reader's bytes was asked for and handled, and what the writer holds
+  -- more is the reply, or a part of it.
+  pub record IsExchange (old : T) (left : Option (List ℕ)) (moment : ℕ) (before after : Option (List ℕ))
+      (ended : Result Served LinkFault) (new : T) : Type 0 where
     pub served : IfOk ended (IsServed is_sure represents may_leave (λ held. held) left before after old new moment)
     pub fault : IfErr ended (IsFaulty is_sure represents may_leave (λ held. held) left before after old new moment)
     pub sure : is_sure new → is_sure old
@@ -63,13 +72,15 @@ module _ {T : Type 0} (is_sure : T → Type 0) (represents may_leave : T → Sta
   -- What was handled is a run of the machine, at moments that may be ones. Where nothing was, nothing changed.
   pub record IsRunOf (old new : T) (handled : Handled) : Type 0 where
     pub moments : All (λ (r : ℕ × Request). r.0 ≤ LAST_MOMENT) handled.requests
-    pub run : is_sure new → (s : State) → represents old s → IsRun represents may_leave old new s handled.requests handled.answers
+    pub run : is_sure new → (s : State) → represents old s
+        → IsRun represents may_leave old new s handled.requests handled.answers
     pub idle : handled.requests ≡ [] → new ≡ old
 
-  module _ {C : Type 0} (limits : C → Duration → Bool → Type 0) (remaining contents : C → Option (List ℕ)) (timeout : Option Duration) where
+  module _ {C : Type 0} (limits : C → Duration → Bool → Type 0) (remaining contents : C → Option (List ℕ))
+      (timeout : Option Duration) where
     -- What so many clients make of the tables. Each had one exchange at most, over its connection and at its moment; or
-    -- fewer had, and then none could be taken. The requests that were handled are those that they asked, their answers those
-    -- that they were replied, and both are a run of the machine.
+    -- fewer had, and then none could be taken. The requests that were handled are those that they asked, their answers
+    -- those that they were replied, and both are a run of the machine.
     pub record AreHandled {A : Type 0} (old new : T) (count : ℕ) (end : Result A ServeFault) : Type 0 where
       pub handled : Handled
       pub served : ServesClients limits remaining contents IsConversation timeout none_handled count end handled

@@ -1,5 +1,23 @@
 -- Clients, served one after another.
-use Rattle.std.specs.Prelude.{◌≡◌, ◌<◌, ◌⊎◌, ℕ, zero, suc, Bool, true, false, List, Option, Result, Ok, Err, IfSome, IsSomeAnd, ⊤}
+use Rattle.std.specs.Prelude.{
+  ◌≡◌,
+  ◌<◌,
+  ◌⊎◌,
+  ℕ,
+  zero,
+  suc,
+  Bool,
+  true,
+  false,
+  List,
+  Option,
+  Result,
+  Ok,
+  Err,
+  IfSome,
+  IsSomeAnd,
+  ⊤,
+}
 use Rattle.std.specs.declared.io.Error.{Error}
 use Rattle.std.specs.declared.time.Duration.{Duration}
 use Rattle.opc_http.specs.declared.exchange.LinkFault.{LinkFault}
@@ -9,13 +27,15 @@ use Rattle.opc_http_serve.specs.declared.arrival.ServeFault.{ServeFault}
 use Rattle.opc_http_serve.specs.Arriving.{Arrives, IsArrival}
 
 module _ {C G : Type 0} (limits : C → Duration → Bool → Type 0) (remaining contents : C → Option (List ℕ))
-    (exchanged : G → Option (List ℕ) → ℕ → Option (List ℕ) → Option (List ℕ) → Result Served LinkFault → G → Type 0) (timeout : Option Duration) where
-  -- One exchange was made over the client's connection, at its moment, and nothing else was written to it. Where a timeout
-  -- is given, waits were limited to it.
+    (exchanged : G → Option (List ℕ) → ℕ → Option (List ℕ) → Option (List ℕ) → Result Served LinkFault → G → Type 0)
+    (timeout : Option Duration) where
+  -- One exchange was made over the client's connection, at its moment, and nothing else was written to it. Where a
+  -- timeout is given, waits were limited to it.
   pub record IsExchanged (came gone : Arrival C) (old new : G) : Type 0 where
     pub limited : IfSome timeout (λ longest. limits came.reader.inner longest true)
     pub ended : Result Served LinkFault
-    pub made : exchanged old (remaining came.reader.inner) came.moment (contents came.writer.inner) (contents gone.writer.inner) ended new
+    pub made : exchanged old (remaining came.reader.inner) came.moment (contents came.writer.inner)
+        (contents gone.writer.inner) ended new
 
   -- Waits were to be limited and could not be. Nothing was done.
   pub record IsUnlimited (came gone : Arrival C) (old new : G) : Type 0 where
@@ -27,7 +47,8 @@ module _ {C G : Type 0} (limits : C → Duration → Bool → Type 0) (remaining
   abbrev pub IsServed : (came gone : Arrival C) → (old new : G) → Type 0
   IsServed came gone old new = IsExchanged came gone old new ⊎ IsUnlimited came gone old new
 
-  module _ {D : Type 0} (accepts : D → Result (C × C) Error → D → Type 0) (clock_says : D → Result Duration Error → D → Type 0) (first : D) (old : G) where
+  module _ {D : Type 0} (accepts : D → Result (C × C) Error → D → Type 0)
+      (clock_says : D → Result Duration Error → D → Type 0) (first : D) (old : G) where
     -- So many clients came and were served, in the order in which they came.
     abbrev pub AreServed : ℕ → D → G → Type 0
     AreServed zero last new = (last ≡ first) × (new ≡ old)

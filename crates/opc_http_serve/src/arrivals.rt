@@ -16,8 +16,8 @@ pub trait Arrivals {
 
     type Connection: Connection;
 
-    /// That a client came, with a handle to read its connection and one to write it, or why none did. What a function over
-    /// any arrivals says by it can only be shown by the calls that the function makes.
+    /// That a client came, with a handle to read its connection and one to write it, or why none did. What a function
+    /// over any arrivals says by it can only be shown by the calls that the function makes.
     ghost accepts: { Self → Result (Self.Connection × Self.Connection) Error → Self → Type 0 };
 
     /// That the clock was read, and what it said.

@@ -11,8 +11,8 @@ pub trait Connection: Read + Write + OpenStream + Drop {
     ghost use Rattle.std.specs.Prelude.{Bool};
     ghost use Rattle.std.specs.declared.time.Duration.{Duration};
 
-    /// That waits for its peer were to be limited to so long, and whether they are. What a function over any connection says
-    /// by it can only be shown by such a call.
+    /// That waits for its peer were to be limited to so long, and whether they are. What a function over any connection
+    /// says by it can only be shown by such a call.
     ghost limits: { Self → Duration → Bool → Type 0 };
 
     /// Limits how long each read and each write waits for the peer, by this handle and by others.

@@ -42,8 +42,8 @@ fn drain_more<S: Source>(source: &mut S)
     }
 }
 
-/// The same from the first read on. Most peers send nothing more, so room for a large read is made only where a small one
-/// was filled in part.
+/// The same from the first read on. Most peers send nothing more, so room for a large read is made only where a small
+/// one was filled in part.
 fn drain_rest<S: Source>(source: &mut S)
     ensures { TakesAtMost (CHUNK + MORE_READS * CHUNK) (S.left source.old) (S.left source.new) }
 {

@@ -15,9 +15,11 @@ pub trait Exchanges {
     ghost use Rattle.opc_http.specs.declared.exchange.LinkFault.{LinkFault};
     ghost use Rattle.opc_http.specs.declared.exchange.Served.{Served};
 
-    /// That an exchange was made: with what the reader had left, at this moment, with what the writer held before it and
-    /// after it, and how it ended. What a function over any of these says by it can only be shown by such an exchange.
-    ghost exchanged: { Self → Option (List ℕ) → ℕ → Option (List ℕ) → Option (List ℕ) → Result Served LinkFault → Self → Type 0 };
+    /// That an exchange was made: with what the reader had left, at this moment, with what the writer held before it
+    /// and after it, and how it ended. What a function over any of these says by it can only be shown by such an
+    /// exchange.
+    ghost exchanged: { Self → Option (List ℕ) → ℕ → Option (List ℕ) → Option (List ℕ) → Result Served LinkFault → Self
+        → Type 0 };
 
     fn serve_one<S: Source, K: Sink>(
         &mut self,
@@ -31,7 +33,8 @@ pub trait Exchanges {
 }
 
 impl<T: Tables> Exchanges for Gate<T> {
-    ghost exchanged = { λ old left moment before after result new. IsExchange T.is_sure T.represents T.may_leave old left moment before after result new };
+    ghost exchanged = { λ old left moment before after result new. IsExchange T.is_sure T.represents T.may_leave old left moment
+        before after result new };
 
     fn serve_one<S: Source, K: Sink>(
         &mut self,

@@ -28,8 +28,8 @@ fn limit<C: Connection>(client: &C, timeout: Option<Duration>) -> bool
     }
 }
 
-/// One exchange with a client, and the end of its connection. A peer whose silence was to be limited and can't be is not
-/// waited for.
+/// One exchange with a client, and the end of its connection. A peer whose silence was to be limited and can't be is
+/// not waited for.
 fn serve_client<C: Connection, X: Exchanges>(
     alloc: Global,
     client: &mut Arrival<C>,
@@ -55,8 +55,8 @@ fn serve_client<C: Connection, X: Exchanges>(
     }
 }
 
-/// Serves so many clients, one after another. A fault of a link ends that client's exchange alone. Where a client can't be
-/// taken, serving ends.
+/// Serves so many clients, one after another. A fault of a link ends that client's exchange alone. Where a client can't
+/// be taken, serving ends.
 pub fn serve<A: Arrivals, X: Exchanges>(
     alloc: Global,
     arrivals: &mut A,
@@ -65,8 +65,10 @@ pub fn serve<A: Arrivals, X: Exchanges>(
     routes: &Routes,
     gate: &mut X,
 ) -> Result<(), ServeFault>
-    ensures done { OnOk result (AreServed A.Connection.limits A.Connection.remaining A.Connection.contents X.exchanged timeout A.accepts A.clock_says arrivals.old gate.old count arrivals.new gate.new) }
-    ensures ended { IfErr result (λ fault. IsCutShort A.Connection.limits A.Connection.remaining A.Connection.contents X.exchanged timeout A.accepts A.clock_says arrivals.old gate.old count fault arrivals.new gate.new) }
+    ensures done { OnOk result (AreServed A.Connection.limits A.Connection.remaining A.Connection.contents X.exchanged
+        timeout A.accepts A.clock_says arrivals.old gate.old count arrivals.new gate.new) }
+    ensures ended { IfErr result (λ fault. IsCutShort A.Connection.limits A.Connection.remaining A.Connection.contents X.exchanged
+        timeout A.accepts A.clock_says arrivals.old gate.old count fault arrivals.new gate.new) }
 {
     for _client in 0..count {
         let mut client = next(arrivals)?;
@@ -87,8 +89,10 @@ pub fn serve_on<H: AllocGlobal + Clock, L: OpenListener, T: Tables>(
 where
     L::Stream: Connection,
     ensures sure { T.is_sure gate.new → T.is_sure gate.old }
-    ensures handled { AreHandled T.is_sure T.represents T.may_leave L.Stream.limits L.Stream.remaining L.Stream.contents timeout gate.old gate.new count result }
-    ensures served { ServesClients L.Stream.limits L.Stream.remaining L.Stream.contents (IsExchange T.is_sure T.represents T.may_leave) timeout gate.old count result gate.new }
+    ensures handled { AreHandled T.is_sure T.represents T.may_leave L.Stream.limits L.Stream.remaining L.Stream.contents
+        timeout gate.old gate.new count result }
+    ensures served { ServesClients L.Stream.limits L.Stream.remaining L.Stream.contents
+        (IsExchange T.is_sure T.represents T.may_leave) timeout gate.old count result gate.new }
 {
     let mut door = Acceptor::new(rt, listener);
     serve(rt.alloc(), &mut door, count, timeout, routes, gate)

@@ -4,14 +4,15 @@
 //!
 //! - `row RECORD`: one more row of the first policy, written as in a policy file.
 //! - `begin LINE`: one more line of the script of the beginning.
-//! - `script LINE`: a line of a script. `many FROM TO LINE`: one for each number from FROM up to TO, for which `#` stands.
+//! - `script LINE`: a line of a script. `many FROM TO LINE`: one for each number from FROM up to TO, for which `#`
+//!   stands.
 //! - `cached`: for how many names the gate has cached which profile decides.
 //! - `rows`: how many rows the account has.
 //! - MOMENT REQUEST: one exchange. Status, whether a request was handled, and the response; `\r` stands for a carriage
 //!   return.
 //! - MOMENT DRIP REQUEST: the same, with one byte a read and one byte a write.
-//! - MOMENT CUT REQUEST: an exchange for each number of bytes after which the request may end too early. The response to
-//!   no byte, and what comes of each of the others.
+//! - MOMENT CUT REQUEST: an exchange for each number of bytes after which the request may end too early. The response
+//!   to no byte, and what comes of each of the others.
 //! - MOMENT READS REQUEST: an exchange for each number of reads, of one byte, before a read fails.
 //! - MOMENT WRITES REQUEST: an exchange, one more for each number of writes, of one byte, before a write fails, and one
 //!   whose writer takes nothing. Then how many rows of the account come of each.

@@ -74,7 +74,14 @@ mode-ascii mode.Optional = ascii (codes "OPTIONAL") refl
 mode-ascii mode.Required = ascii (codes "REQUIRED") refl
 mode-ascii mode.Auto = ascii (codes "AUTO") refl
 
-flags-ascii : (id : List ℕ) (s a r : Bool) (d : Option (List ℕ)) (x : Bool) → IsAscii (flags_text (record { id = id; special = s; auditor = a; revoked = r; digest = d; restricted = x }))
+flags-ascii : (id : List ℕ) (s a r : Bool) (d : Option (List ℕ)) (x : Bool) → IsAscii (flags_text (record {
+  id = id;
+  special = s;
+  auditor = a;
+  revoked = r;
+  digest = d;
+  restricted = x;
+}))
 flags-ascii id true true true d x = ascii (codes "SAR") refl
 flags-ascii id true true false d x = ascii (codes "SA") refl
 flags-ascii id true false true d x = ascii (codes "SR") refl
@@ -98,17 +105,40 @@ empty-ascii (c ∷ text) h = absurd (grind (arith, nat_tests, h))
 digest-ascii : (text : List ℕ) (d : Option (List ℕ)) → digest_of text ≡ Some d → IsAscii text
 digest-ascii text d h = go (length text == 0) (list_all is_lower_digit text) refl refl h
   where
-    go : (empty lower : Bool) → (length text == 0) ≡ empty → list_all is_lower_digit text ≡ lower → cond empty (Some None) (cond lower (decoded (decode_sized text 32)) None) ≡ Some d → IsAscii text
+    go : (empty lower : Bool) → (length text == 0) ≡ empty → list_all is_lower_digit text ≡ lower
+        → cond empty (Some None) (cond lower (decoded (decode_sized text 32)) None) ≡ Some d → IsAscii text
     go true lower e l k = empty-ascii text e
     go false true e l k = lower-ascii text l
     go false false e l k = cc
 
 -- each field of a row's record
 record-ascii : (r : Row) → IsValid r → AllByRecursion IsAscii (record_of r)
-record-ascii (row.Class c active) valid =
-    (ascii (codes "class") refl, (class-ascii c, (IsAscii-nil, (IsAscii-nil, (activity-ascii active, (IsAscii-nil, (IsAscii-nil, (IsAscii-nil, (IsAscii-nil, (IsAscii-nil, tt))))))))))
-record-ascii (row.Group n) valid =
-    (ascii (codes "group") refl, (IsAscii-nil, (name_ascii group_rule n (valid column.Name), (IsAscii-nil, (IsAscii-nil, (IsAscii-nil, (IsAscii-nil, (IsAscii-nil, (IsAscii-nil, (IsAscii-nil, tt))))))))))
+record-ascii (row.Class c active) valid = (
+  ascii (codes "class") refl,
+  (
+    class-ascii c,
+    (
+      IsAscii-nil,
+      (
+        IsAscii-nil,
+        (
+          activity-ascii active,
+          (IsAscii-nil, (IsAscii-nil, (IsAscii-nil, (IsAscii-nil, (IsAscii-nil, tt))))),
+        ),
+      ),
+    ),
+  ),
+)
+record-ascii (row.Group n) valid = (
+  ascii (codes "group") refl,
+  (
+    IsAscii-nil,
+    (
+      name_ascii group_rule n (valid column.Name),
+      (IsAscii-nil, (IsAscii-nil, (IsAscii-nil, (IsAscii-nil, (IsAscii-nil, (IsAscii-nil, (IsAscii-nil, tt))))))),
+    ),
+  ),
+)
 record-ascii (row.User u) valid = (
   ascii (codes "user") refl,
   (
@@ -121,21 +151,77 @@ record-ascii (row.User u) valid = (
           IsAscii-nil,
           (
             IsAscii-nil,
-            (flags-ascii u.id u.special u.auditor u.revoked u.digest u.restricted, (digest-ascii (digest_text u.digest) u.digest (valid column.Digest), (IsAscii-nil, (restriction-ascii u.restricted, tt)))),
+            (
+              flags-ascii u.id u.special u.auditor u.revoked u.digest u.restricted,
+              (
+                digest-ascii (digest_text u.digest) u.digest (valid column.Digest),
+                (IsAscii-nil, (restriction-ascii u.restricted, tt)),
+              ),
+            ),
           ),
         ),
       ),
     ),
   ),
 )
-record-ascii (row.Connect u g) valid =
-    (ascii (codes "connect") refl, (IsAscii-nil, (name_ascii user_rule u (valid column.Name), (name_ascii group_rule g (valid column.Id), (IsAscii-nil, (IsAscii-nil, (IsAscii-nil, (IsAscii-nil, (IsAscii-nil, (IsAscii-nil, tt))))))))))
-record-ascii (row.Console n a m) valid =
-    (ascii (codes "console") refl, (IsAscii-nil, (name_ascii console_rule n (valid column.Name), (IsAscii-nil, (auth-ascii a, (IsAscii-nil, (mode-ascii m, (IsAscii-nil, (IsAscii-nil, (IsAscii-nil, tt))))))))))
-record-ascii (row.Profile c p l o w) valid =
-    (ascii (codes "profile") refl, (class-ascii c, (name_ascii pattern_rule p (valid column.Name), (IsAscii-nil, (level-ascii l, (name_ascii user_rule o (valid column.Owner), (warning-ascii w, (IsAscii-nil, (IsAscii-nil, (IsAscii-nil, tt))))))))))
-record-ascii (row.Permit c p i l w) valid =
-    (ascii (codes "permit") refl, (class-ascii c, (name_ascii pattern_rule p (valid column.Name), (entry_id-ascii i (valid column.Id), (level-ascii l, (IsAscii-nil, (IsAscii-nil, (IsAscii-nil, (when-ascii w (valid column.When), (IsAscii-nil, tt))))))))))
+record-ascii (row.Connect u g) valid = (
+  ascii (codes "connect") refl,
+  (
+    IsAscii-nil,
+    (
+      name_ascii user_rule u (valid column.Name),
+      (
+        name_ascii group_rule g (valid column.Id),
+        (IsAscii-nil, (IsAscii-nil, (IsAscii-nil, (IsAscii-nil, (IsAscii-nil, (IsAscii-nil, tt)))))),
+      ),
+    ),
+  ),
+)
+record-ascii (row.Console n a m) valid = (
+  ascii (codes "console") refl,
+  (
+    IsAscii-nil,
+    (
+      name_ascii console_rule n (valid column.Name),
+      (IsAscii-nil, (auth-ascii a, (IsAscii-nil, (mode-ascii m, (IsAscii-nil, (IsAscii-nil, (IsAscii-nil, tt))))))),
+    ),
+  ),
+)
+record-ascii (row.Profile c p l o w) valid = (
+  ascii (codes "profile") refl,
+  (
+    class-ascii c,
+    (
+      name_ascii pattern_rule p (valid column.Name),
+      (
+        IsAscii-nil,
+        (
+          level-ascii l,
+          (
+            name_ascii user_rule o (valid column.Owner),
+            (warning-ascii w, (IsAscii-nil, (IsAscii-nil, (IsAscii-nil, tt)))),
+          ),
+        ),
+      ),
+    ),
+  ),
+)
+record-ascii (row.Permit c p i l w) valid = (
+  ascii (codes "permit") refl,
+  (
+    class-ascii c,
+    (
+      name_ascii pattern_rule p (valid column.Name),
+      (
+        entry_id-ascii i (valid column.Id),
+        (
+          level-ascii l,
+          (IsAscii-nil, (IsAscii-nil, (IsAscii-nil, (when-ascii w (valid column.When), (IsAscii-nil, tt))))),
+        ),
+      ),
+    ),
+  ),
+)
 
 -- the text of ASCII fields
 escaped-ascii : (field : List ℕ) → IsAscii field → IsAscii (escaped default_writer field)
@@ -202,4 +288,5 @@ names-ascii (column ∷ columns) = (column_name-ascii column, names-ascii column
 
 pub csv_text-ascii : (rows : List Row) → All IsValid rows → IsAscii (csv_text rows)
 csv_text-ascii rows h =
-    IsAscii-append (row_text default_writer header) (flat_map (row_text default_writer) (map record_of rows)) (row-ascii header (names-ascii columns)) (lines-ascii rows h)
+    IsAscii-append (row_text default_writer header) (flat_map (row_text default_writer) (map record_of rows))
+    (row-ascii header (names-ascii columns)) (lines-ascii rows h)

@@ -16,12 +16,14 @@ after_rows-nil : (r : Result (List Row) ImportFault) → r ≡ after_rows [] r
 after_rows-nil (Ok rows) = refl
 after_rows-nil (Err e) = refl
 
-after_rows-cons : (rows : List Row) (row : Row) (number : ℕ) (r : Result (List Row) ImportFault) → after_rows rows (with_row number (Ok row) r) ≡ after_rows (rows ++ row ∷ []) r
+after_rows-cons : (rows : List Row) (row : Row) (number : ℕ) (r : Result (List Row) ImportFault)
+    → after_rows rows (with_row number (Ok row) r) ≡ after_rows (rows ++ row ∷ []) r
 after_rows-cons rows row number (Ok more) = ap (λ (xs : List Row). Ok xs) (sym (append_assoc rows (row ∷ []) more))
 after_rows-cons rows row number (Err e) = refl
 
 -- past the header
-pub header-first : (all rest : List Record) (first : Record) (width : ℕ) → all ≡ first ∷ rest → width_of first ≡ Some width → rows_of all ≡ after_rows [] (rows_from width 1 rest)
+pub header-first : (all rest : List Record) (first : Record) (width : ℕ) → all ≡ first ∷ rest
+    → width_of first ≡ Some width → rows_of all ≡ after_rows [] (rows_from width 1 rest)
 header-first all rest first width e h = rw (e, h) (after_rows-nil (rows_from width 1 rest))
 
 -- no record is left
@@ -30,13 +32,15 @@ unfolding rows_from
 at-end rows width number left e = rw (e, append-nil rows) refl
 
 -- a bad record
-pub at-fault : (rows : List Row) (width number : ℕ) (left rest : List Record) (first : Record) (reason : Why) → left ≡ first ∷ rest → row_of width number first ≡ Err reason
+pub at-fault : (rows : List Row) (width number : ℕ) (left rest : List Record) (first : Record) (reason : Why)
+    → left ≡ first ∷ rest → row_of width number first ≡ Err reason
     → after_rows rows (rows_from width number left) ≡ Err (fault.Row number reason)
 unfolding rows_from
 at-fault rows width number left rest first reason e bad = rw (e, bad) refl
 
 -- a good record
-pub goes-on : (rows : List Row) (width number : ℕ) (left rest : List Record) (first : Record) (row : Row) → left ≡ first ∷ rest → row_of width number first ≡ Ok row
+pub goes-on : (rows : List Row) (width number : ℕ) (left rest : List Record) (first : Record) (row : Row) → left ≡ first
+    ∷ rest → row_of width number first ≡ Ok row
     → after_rows rows (rows_from width number left) ≡ after_rows (rows ++ row ∷ []) (rows_from width (number + 1) rest)
 unfolding rows_from
 goes-on rows width number left rest first row e good = rw (e, good) (after_rows-cons rows row number (rows_from width (number + 1) rest))

@@ -61,7 +61,8 @@ follow-plain alphabet.Hexadecimal c h = plain-by (may_follow alphabet.Hexadecima
 follow-plain alphabet.Qualified c h = plain-by (may_follow alphabet.Qualified) refl refl refl c h
 follow-plain alphabet.Generic c h = plain-by (may_follow alphabet.Generic) refl refl refl c h
 
-all-plain : (p : ℕ → Bool) (cs : List ℕ) → ((c : ℕ) → p c ≡ true → is_plain c ≡ true) → length cs ≤ position_or_len (λ d. not (p d)) cs → is_plain_text cs ≡ true
+all-plain : (p : ℕ → Bool) (cs : List ℕ) → ((c : ℕ) → p c ≡ true → is_plain c ≡ true)
+    → length cs ≤ position_or_len (λ d. not (p d)) cs → is_plain_text cs ≡ true
 all-plain p [] good h = refl
 all-plain p (c ∷ cs) good h =
     elim (p c) as (λ b. p c ≡ b → suc (length cs) ≤ cond (not (not b)) (1 + position_or_len (λ d. not (p d)) cs) 0 → is_plain_text (c ∷ cs) ≡ true) [
@@ -72,7 +73,9 @@ all-plain p (c ∷ cs) good h =
 characters-plain : (a : Alphabet) (text : List ℕ) → bad_character a text ≡ None → is_plain_text text ≡ true
 characters-plain a [] h = refl
 characters-plain a (c ∷ cs) h =
-    elim (may_begin a c) as (λ b. may_begin a c ≡ b → cond b (option_map (λ i. i + 1) (position (λ d. not (may_follow a d)) cs)) (Some 0) ≡ None → is_plain_text (c ∷ cs) ≡ true) [
+    elim (may_begin a c) as (λ b. may_begin a c ≡ b
+    → cond b (option_map (λ i. i + 1) (position (λ d. not (may_follow a d)) cs)) (Some 0) ≡ None
+    → is_plain_text (c ∷ cs) ≡ true) [
       | true ↦ (λ e k.
           let none = none_of_map (λ i. i + 1) (position (λ d. not (may_follow a d)) cs) k in
           rw (follow-plain a c (begin_follows a c e)) (all-plain (may_follow a) cs (follow-plain a) (grind (arith, nat_tests, none))))
@@ -133,7 +136,14 @@ mode-plain mode.Optional = refl
 mode-plain mode.Required = refl
 mode-plain mode.Auto = refl
 
-flags-plain : (id : List ℕ) (s a r : Bool) (d : Option (List ℕ)) (x : Bool) → is_plain_text (flags_text (record { id = id; special = s; auditor = a; revoked = r; digest = d; restricted = x })) ≡ true
+flags-plain : (id : List ℕ) (s a r : Bool) (d : Option (List ℕ)) (x : Bool) → is_plain_text (flags_text (record {
+  id = id;
+  special = s;
+  auditor = a;
+  revoked = r;
+  digest = d;
+  restricted = x;
+})) ≡ true
 flags-plain id true true true d x = refl
 flags-plain id true true false d x = refl
 flags-plain id true false true d x = refl
@@ -156,7 +166,8 @@ empty-plain (c ∷ text) h = absurd (grind (arith, nat_tests, h))
 digest-plain : (text : List ℕ) (d : Option (List ℕ)) → digest_of text ≡ Some d → is_plain_text text ≡ true
 digest-plain text d h = go (length text == 0) (list_all is_lower_digit text) refl refl h
   where
-    go : (empty lower : Bool) → (length text == 0) ≡ empty → list_all is_lower_digit text ≡ lower → cond empty (Some None) (cond lower (decoded (decode_sized text 32)) None) ≡ Some d → is_plain_text text ≡ true
+    go : (empty lower : Bool) → (length text == 0) ≡ empty → list_all is_lower_digit text ≡ lower
+        → cond empty (Some None) (cond lower (decoded (decode_sized text 32)) None) ≡ Some d → is_plain_text text ≡ true
     go true lower e l k = empty-plain text e
     go false true e l k = lower-plain text l
     go false false e l k = cc
@@ -168,16 +179,75 @@ ArePlain fields = AllByRecursion (λ field. is_plain_text field ≡ true) fields
 record-plain : (r : Row) → IsValid r → ArePlain (record_of r)
 record-plain (row.Class c active) valid = (refl, (class-plain c, (refl, (refl, (activity-plain active, (refl, (refl, (refl, (refl, (refl, tt))))))))))
 record-plain (row.Group n) valid = (refl, (refl, (name-plain group_rule n (valid column.Name), (refl, (refl, (refl, (refl, (refl, (refl, (refl, tt))))))))))
-record-plain (row.User u) valid =
-    (refl, (refl, (name-plain user_rule u.id (valid column.Name), (refl, (refl, (refl, (flags-plain u.id u.special u.auditor u.revoked u.digest u.restricted, (digest-plain (digest_text u.digest) u.digest (valid column.Digest), (refl, (restriction-plain u.restricted, tt))))))))))
-record-plain (row.Connect u g) valid =
-    (refl, (refl, (name-plain user_rule u (valid column.Name), (name-plain group_rule g (valid column.Id), (refl, (refl, (refl, (refl, (refl, (refl, tt))))))))))
+record-plain (row.User u) valid = (
+  refl,
+  (
+    refl,
+    (
+      name-plain user_rule u.id (valid column.Name),
+      (
+        refl,
+        (
+          refl,
+          (
+            refl,
+            (
+              flags-plain u.id u.special u.auditor u.revoked u.digest u.restricted,
+              (
+                digest-plain (digest_text u.digest) u.digest (valid column.Digest),
+                (refl, (restriction-plain u.restricted, tt)),
+              ),
+            ),
+          ),
+        ),
+      ),
+    ),
+  ),
+)
+record-plain (row.Connect u g) valid = (
+  refl,
+  (
+    refl,
+    (
+      name-plain user_rule u (valid column.Name),
+      (name-plain group_rule g (valid column.Id), (refl, (refl, (refl, (refl, (refl, (refl, tt))))))),
+    ),
+  ),
+)
 record-plain (row.Console n a m) valid =
     (refl, (refl, (name-plain console_rule n (valid column.Name), (refl, (auth-plain a, (refl, (mode-plain m, (refl, (refl, (refl, tt))))))))))
-record-plain (row.Profile c p l o w) valid =
-    (refl, (class-plain c, (name-plain pattern_rule p (valid column.Name), (refl, (level-plain l, (name-plain user_rule o (valid column.Owner), (warning-plain w, (refl, (refl, (refl, tt))))))))))
-record-plain (row.Permit c p i l w) valid =
-    (refl, (class-plain c, (name-plain pattern_rule p (valid column.Name), (entry_id-plain i (valid column.Id), (level-plain l, (refl, (refl, (refl, (when-plain w (valid column.When), (refl, tt))))))))))
+record-plain (row.Profile c p l o w) valid = (
+  refl,
+  (
+    class-plain c,
+    (
+      name-plain pattern_rule p (valid column.Name),
+      (
+        refl,
+        (
+          level-plain l,
+          (
+            name-plain user_rule o (valid column.Owner),
+            (warning-plain w, (refl, (refl, (refl, tt)))),
+          ),
+        ),
+      ),
+    ),
+  ),
+)
+record-plain (row.Permit c p i l w) valid = (
+  refl,
+  (
+    class-plain c,
+    (
+      name-plain pattern_rule p (valid column.Name),
+      (
+        entry_id-plain i (valid column.Id),
+        (level-plain l, (refl, (refl, (refl, (when-plain w (valid column.When), (refl, tt)))))),
+      ),
+    ),
+  ),
+)
 
 -- of the bytes that call for quotes only the comma is plain
 needs-comma : (c : ℕ) → is_plain c ≡ true → needs_byte default_writer c ≡ (c == 44)
@@ -217,13 +287,16 @@ fields-written first [] h k = append-nil (field_text default_writer first) ∙ f
 fields-written first (next ∷ rest) h k =
     rw (field-written first h) (ap (λ (cs : List ℕ). written_field first ++ 44 ∷ cs) (fields-written next rest k.0 k.1))
 
-line-written : (first next : List ℕ) (rest : Record) → ArePlain (first ∷ next ∷ rest) → row_text default_writer (first ∷ next ∷ rest) ≡ line_text (first ∷ next ∷ rest)
+line-written : (first next : List ℕ) (rest : Record) → ArePlain (first ∷ next ∷ rest)
+    → row_text default_writer (first ∷ next ∷ rest) ≡ line_text (first ∷ next ∷ rest)
 unfolding is_blank
 line-written first next rest h = ap (λ (cs : List ℕ). cs ++ (10 ∷ [])) (fields-written first (next ∷ rest) h.0 h.1)
 
 row-written : (r : Row) → IsValid r → row_text default_writer (record_of r) ≡ line_text (record_of r)
 row-written r valid =
-    let rest : Record = map (λ column. text_in column r) (column.Name ∷ column.Id ∷ column.Value ∷ column.Owner ∷ column.Flags ∷ column.Digest ∷ column.When ∷ column.Restricted ∷ []) in
+    let rest : Record = map (λ column. text_in column r)
+    (column.Name ∷ column.Id ∷ column.Value ∷ column.Owner ∷ column.Flags ∷ column.Digest ∷ column.When
+    ∷ column.Restricted ∷ []) in
     line-written (text_in column.Kind r) (text_in column.Class r) rest (record-plain r valid)
 
 rows-written : (rows : List Row) → All IsValid rows → flat_map (row_text default_writer) (map record_of rows) ≡ flat_map line_text (map record_of rows)
@@ -235,7 +308,8 @@ rows-written (row ∷ rows) h =
 header-written : row_text default_writer header ≡ line_text header
 header-written =
     let plain : ArePlain header = (refl, (refl, (refl, (refl, (refl, (refl, (refl, (refl, (refl, (refl, tt)))))))))) in
-    let rest : Record = map column_name (column.Name ∷ column.Id ∷ column.Value ∷ column.Owner ∷ column.Flags ∷ column.Digest ∷ column.When ∷ column.Restricted ∷ []) in
+    let rest : Record = map column_name (column.Name ∷ column.Id ∷ column.Value ∷ column.Owner ∷ column.Flags
+    ∷ column.Digest ∷ column.When ∷ column.Restricted ∷ []) in
     line-written (codes "kind") (codes "class") rest plain
 
 -- what `csv` writes is the file

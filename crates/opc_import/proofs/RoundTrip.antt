@@ -1,5 +1,37 @@
 -- What is written reads back.
-use Rattle.std.proofs.Common.{◌≡◌, ◌∙◌, ◌≤◌, ◌<◌, ◌+◌, ◌*◌, ◌/◌, ◌%◌, ◌++◌, ◌∷◌, [], ℕ, suc, List, Bool, true, false, sym, refl, ap, arith, inl, inr, length, slice_index, take, get_or, add-one, append-nil, append_assoc, zero}
+use Rattle.std.proofs.Common.{
+  ◌≡◌,
+  ◌∙◌,
+  ◌≤◌,
+  ◌<◌,
+  ◌+◌,
+  ◌*◌,
+  ◌/◌,
+  ◌%◌,
+  ◌++◌,
+  ◌∷◌,
+  [],
+  ℕ,
+  suc,
+  List,
+  Bool,
+  true,
+  false,
+  sym,
+  refl,
+  ap,
+  arith,
+  inl,
+  inr,
+  length,
+  slice_index,
+  take,
+  get_or,
+  add-one,
+  append-nil,
+  append_assoc,
+  zero,
+}
 use Rattle.std.specs.Prelude.{OnOk, Result, Ok, Err, Option, Some, None, nat_lt, map, ◌==◌}
 use Rattle.std.specs.Io.KnownBytes.{Appends}
 use Rattle.std.specs.List.{All, flat_map, list_all}
@@ -94,7 +126,14 @@ modes-back mode.Optional = refl
 modes-back mode.Required = refl
 modes-back mode.Auto = refl
 
-flags-back : (id : List ℕ) (s a r : Bool) (d : Option (List ℕ)) (x : Bool) → lookup user_flags (flags_text (record { id = id; special = s; auditor = a; revoked = r; digest = d; restricted = x })) ≡ Some (flags_of s a r)
+flags-back : (id : List ℕ) (s a r : Bool) (d : Option (List ℕ)) (x : Bool) → lookup user_flags (flags_text (record {
+  id = id;
+  special = s;
+  auditor = a;
+  revoked = r;
+  digest = d;
+  restricted = x;
+})) ≡ Some (flags_of s a r)
 flags-back id true true true d x = refl
 flags-back id true true false d x = refl
 flags-back id true false true d x = refl
@@ -129,7 +168,8 @@ digest-back bytes sized h =
     rw (twice, digits-lower bytes h) (ap decoded (decode_pairs-encode_with lower_digits IsDigits-lower_digits 0 bytes h))
 
 -- a row that is valid in each column that has names or a digest
-pub valid-in-all : (r : Row) → IsValidIn column.Name r → IsValidIn column.Id r → IsValidIn column.Owner r → IsValidIn column.Digest r → IsValidIn column.When r → IsValid r
+pub valid-in-all : (r : Row) → IsValidIn column.Name r → IsValidIn column.Id r → IsValidIn column.Owner r
+    → IsValidIn column.Digest r → IsValidIn column.When r → IsValid r
 valid-in-all r name id owner digest when column.Kind = tt
 valid-in-all r name id owner digest when column.Class = tt
 valid-in-all r name id owner digest when column.Name = name
@@ -147,12 +187,26 @@ unfolding field_at
 row-back (row.Class c active) valid number h = rw (within number h, classes-back c, activities-back active) refl
 row-back (row.Group n) valid number h = rw (within number h, valid column.Name) refl
 row-back (row.User u) valid number h =
-    rw (within number h, valid column.Name, flags-back u.id u.special u.auditor u.revoked u.digest u.restricted, valid column.Digest, restrictions-back u.restricted) refl
+    rw (
+      within number h,
+      valid column.Name,
+      flags-back u.id u.special u.auditor u.revoked u.digest u.restricted,
+      valid column.Digest,
+      restrictions-back u.restricted,
+    ) refl
 row-back (row.Connect u g) valid number h = rw (within number h, valid column.Name, valid column.Id) refl
 row-back (row.Console n a m) valid number h = rw (within number h, valid column.Name, auths-back a, modes-back m) refl
 row-back (row.Profile c p l o w) valid number h =
     rw (within number h, classes-back c, valid column.Name, levels-back l, valid column.Owner, warnings-back w) refl
-row-back (row.Permit c p i l w) valid number h = rw (within number h, classes-back c, valid column.Name, valid column.Id, levels-back l, when-back w (valid column.When)) refl
+row-back (row.Permit c p i l w) valid number h =
+    rw (
+      within number h,
+      classes-back c,
+      valid column.Name,
+      valid column.Id,
+      levels-back l,
+      when-back w (valid column.When),
+    ) refl
 
 -- the lines of some records, read back
 lines-back : (fs : List Record) → records_of_source st.StartRecord (Some (flat_map (row_text default_writer) fs)) ≡ map read_back fs
@@ -164,12 +218,14 @@ lines-back (f ∷ fs) =
     ∙ ap (λ (t : List Record). read_back f ∷ t) (lines-back fs)
 
 -- the rows of those records
-rows-back : (number : ℕ) (rows : List Row) → number + length rows ≤ 10001 → All IsValid rows → rows_from 10 number (map read_back (map record_of rows)) ≡ Ok rows
+rows-back : (number : ℕ) (rows : List Row) → number + length rows ≤ 10001 → All IsValid rows
+    → rows_from 10 number (map read_back (map record_of rows)) ≡ Ok rows
 unfolding rows_from
 rows-back number [] fits h = refl
 rows-back number (row ∷ rows) fits h =
     let first : row_of 10 number (record_of row) ≡ Ok row = row-back row (h 0 row (omega arith)) number (omega arith) in
-    let rest : rows_from 10 (number + 1) (map read_back (map record_of rows)) ≡ Ok rows = rows-back (number + 1) rows (omega arith) (λ k d lt. h (suc k) d (omega arith)) in
+    let rest : rows_from 10 (number + 1) (map read_back (map record_of rows)) ≡ Ok rows =
+    rows-back (number + 1) rows (omega arith) (λ k d lt. h (suc k) d (omega arith)) in
     rw (first, rest) refl
 
 no-mark : (rows : List Row) → strip_bom (csv_text rows) ≡ csv_text rows
@@ -190,22 +246,30 @@ single row one zero d h = one
 single row one (suc k) d h = absurd (omega arith)
 
 -- one row more
-pub all-more : (rows : List Row) (i : ℕ) (row : Row) → i < length rows → get_or rows i row ≡ row → All IsValid (take i rows) → IsValid row → All IsValid (take (i + 1) rows)
+pub all-more : (rows : List Row) (i : ℕ) (row : Row) → i < length rows → get_or rows i row ≡ row
+    → All IsValid (take i rows) → IsValid row → All IsValid (take (i + 1) rows)
 all-more rows i row h e all one = rw (add-one i, take-suc rows i row h, e) (All-append IsValid (take i rows) (row ∷ []) all (single row one))
 
 -- one line more
-lines-more : (rows : List Row) (row : Row) → flat_map (row_text default_writer) (map record_of (rows ++ row ∷ [])) ≡ flat_map (row_text default_writer) (map record_of rows) ++ row_text default_writer (record_of row)
+lines-more : (rows : List Row) (row : Row)
+    → flat_map (row_text default_writer) (map record_of (rows ++ row ∷ [])) ≡ flat_map (row_text default_writer)
+    (map record_of rows) ++ row_text default_writer (record_of row)
 lines-more [] row = append-nil (row_text default_writer (record_of row))
 lines-more (r ∷ rows) row =
     let first = row_text default_writer (record_of r) in
-    ap (λ (cs : List ℕ). first ++ cs) (lines-more rows row) ∙ sym (append_assoc first (flat_map (row_text default_writer) (map record_of rows)) (row_text default_writer (record_of row)))
+    ap (λ (cs : List ℕ). first ++ cs) (lines-more rows row)
+    ∙ sym (append_assoc first (flat_map (row_text default_writer) (map record_of rows))
+    (row_text default_writer (record_of row)))
 
 text-more : (rows : List Row) (row : Row) → csv_text (rows ++ row ∷ []) ≡ csv_text rows ++ row_text default_writer (record_of row)
 text-more rows row =
     let first = row_text default_writer header in
-    ap (λ (cs : List ℕ). first ++ cs) (lines-more rows row) ∙ sym (append_assoc first (flat_map (row_text default_writer) (map record_of rows)) (row_text default_writer (record_of row)))
+    ap (λ (cs : List ℕ). first ++ cs) (lines-more rows row)
+    ∙ sym (append_assoc first (flat_map (row_text default_writer) (map record_of rows))
+    (row_text default_writer (record_of row)))
 
-pub line-added : (old new : Option (List ℕ)) (rows : List Row) (i : ℕ) (row : Row) (fields : Record) → i < length rows → get_or rows i row ≡ row → fields ≡ record_of row
+pub line-added : (old new : Option (List ℕ)) (rows : List Row) (i : ℕ) (row : Row) (fields : Record) → i < length rows
+    → get_or rows i row ≡ row → fields ≡ record_of row
     → Appends old new (row_text default_writer fields) → old ≡ Some (csv_text (take i rows)) → new ≡ Some (csv_text (take (i + 1) rows))
 line-added old new rows i row fields h e is adds was = go new (rw (was, is) at adds)
   where

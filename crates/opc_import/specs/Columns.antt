@@ -1,5 +1,25 @@
 -- The columns of a policy file, and the fields of a record that stand in them.
-use Rattle.std.specs.Prelude.{ℕ, Bool, List, [], ◌∷◌, length, codes, Result, Ok, Err, if◌then◌else◌, ◌==◌, ◌&&◌, ◌++◌, Option, Some, None, map, unwrap_or}
+use Rattle.std.specs.Prelude.{
+  ℕ,
+  Bool,
+  List,
+  [],
+  ◌∷◌,
+  length,
+  codes,
+  Result,
+  Ok,
+  Err,
+  if◌then◌else◌,
+  ◌==◌,
+  ◌&&◌,
+  ◌++◌,
+  Option,
+  Some,
+  None,
+  map,
+  unwrap_or,
+}
 use Rattle.std.specs.List.{list_all}
 use Rattle.std.specs.Str.{bytes_eq}
 use Rattle.csv.specs.Records.{field_at}
@@ -14,7 +34,8 @@ Record = List (List ℕ)
 
 -- the columns that every file has, from left to right
 abbrev pub first_columns : List Column
-first_columns = column.Kind ∷ column.Class ∷ column.Name ∷ column.Id ∷ column.Value ∷ column.Owner ∷ column.Flags ∷ column.Digest ∷ []
+first_columns = column.Kind ∷ column.Class ∷ column.Name ∷ column.Id ∷ column.Value ∷ column.Owner ∷ column.Flags
+    ∷ column.Digest ∷ []
 
 -- all columns
 abbrev pub columns : List Column

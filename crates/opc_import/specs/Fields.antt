@@ -1,5 +1,27 @@
 -- What the fields of a record say, each by itself.
-use Rattle.std.specs.Prelude.{ℕ, Bool, true, false, List, [], ◌∷◌, length, codes, Option, Some, None, is_none, Result, Ok, Err, if◌then◌else◌, nat_le, ◌==◌, ◌&&◌, ◌||◌}
+use Rattle.std.specs.Prelude.{
+  ℕ,
+  Bool,
+  true,
+  false,
+  List,
+  [],
+  ◌∷◌,
+  length,
+  codes,
+  Option,
+  Some,
+  None,
+  is_none,
+  Result,
+  Ok,
+  Err,
+  if◌then◌else◌,
+  nat_le,
+  ◌==◌,
+  ◌&&◌,
+  ◌||◌,
+}
 use Rattle.std.specs.List.{list_all}
 use Rattle.std.specs.Option.{option_map}
 use Rattle.hex.specs.Hex.{decode_sized}
@@ -27,8 +49,10 @@ restrictions = (codes "", false) ∷ (codes "Y", true) ∷ []
 -- a user's flags: `S` for SPECIAL, `A` for AUDITOR, `R` for revoked, in this order
 abbrev pub user_flags : List (List ℕ × UserFlags)
 user_flags =
-    (codes "", flags_of false false false) ∷ (codes "S", flags_of true false false) ∷ (codes "A", flags_of false true false)
-    ∷ (codes "R", flags_of false false true) ∷ (codes "SA", flags_of true true false) ∷ (codes "SR", flags_of true false true)
+    (codes "", flags_of false false false) ∷ (codes "S", flags_of true false false)
+    ∷ (codes "A", flags_of false true false)
+    ∷ (codes "R", flags_of false false true) ∷ (codes "SA", flags_of true true false)
+    ∷ (codes "SR", flags_of true false true)
     ∷ (codes "AR", flags_of false true true) ∷ (codes "SAR", flags_of true true true) ∷ []
 
 -- the name of a kind that a text is

@@ -18,7 +18,8 @@ with_row number (Ok row) (Err e) = Err e
 -- the rows of the data records of so many fields from this number on, or the first fault
 unfoldable pub rows_from : ℕ → ℕ → List Record → Result (List Row) ImportFault
 rows_from width number [] = Ok []
-rows_from width number (fields ∷ rest) = with_row number (row_of width number fields) (rows_from width (number + 1) rest)
+rows_from width number (fields ∷ rest) =
+    with_row number (row_of width number fields) (rows_from width (number + 1) rest)
 
 -- the rows below a header
 abbrev pub rows_below : Option ℕ → List Record → Result (List Row) ImportFault
@@ -30,7 +31,8 @@ abbrev pub rows_of : List Record → Result (List Row) ImportFault
 rows_of [] = Err (fault.Row 0 why.Header)
 rows_of (fields ∷ rest) = rows_below (width_of fields) rest
 
--- The rows of a text, or its first fault. Its records are those that `csv` reads with its defaults, after one byte order mark.
+-- The rows of a text, or its first fault. Its records are those that `csv` reads with its defaults, after one byte
+-- order mark.
 abbrev pub policy_of : List ℕ → Result (List Row) ImportFault
 policy_of text = rows_of (records default_config (strip_bom text))
 

@@ -7,7 +7,16 @@ use Rattle.opc_terms.specs.Modes.{modes}
 use Rattle.opc_policy_members.specs.declared.row.Row.{Row}
 use Rattle.opc_policy_members.specs.declared.row.Row.TheVariants as row
 use Rattle.opc_import.specs.Columns.{Record, field_in, reason, unused}
-use Rattle.opc_import.specs.Fields.{activities, digest_of, entry_id_of, name_of, restrictions, user_flags, warnings, when_of}
+use Rattle.opc_import.specs.Fields.{
+  activities,
+  digest_of,
+  entry_id_of,
+  name_of,
+  restrictions,
+  user_flags,
+  warnings,
+  when_of,
+}
 use Rattle.opc_import.specs.declared.kind.Kind.{Kind}
 use Rattle.opc_import.specs.declared.kind.Kind.TheVariants as kind
 use Rattle.opc_import.specs.declared.column.Column.{Column}
@@ -63,7 +72,14 @@ user_row fields = do
   digest ← read_in column.Digest digest_of fields
   _ ← unused column.When fields
   restricted ← read_in column.Restricted (lookup restrictions) fields
-  Ok (row.User (record { id = name; special = flags.special; auditor = flags.auditor; revoked = flags.revoked; digest = digest; restricted = restricted }))
+  Ok (row.User (record {
+    id = name;
+    special = flags.special;
+    auditor = flags.auditor;
+    revoked = flags.revoked;
+    digest = digest;
+    restricted = restricted;
+  }))
 
 abbrev pub connect_row : Record → Result Row Why
 connect_row fields = do
@@ -128,7 +144,8 @@ kind_text kind.Permit = codes "permit"
 
 abbrev pub kinds : List (List ℕ × Kind)
 kinds =
-    (codes "class", kind.Class) ∷ (codes "group", kind.Group) ∷ (codes "user", kind.User) ∷ (codes "connect", kind.Connect)
+    (codes "class", kind.Class) ∷ (codes "group", kind.Group) ∷ (codes "user", kind.User)
+    ∷ (codes "connect", kind.Connect)
     ∷ (codes "console", kind.Console) ∷ (codes "profile", kind.Profile) ∷ (codes "permit", kind.Permit) ∷ []
 
 abbrev pub row_of_kind : Kind → Record → Result Row Why
@@ -150,7 +167,8 @@ row_by_kind fields = do
 abbrev pub most_rows : ℕ
 most_rows = 10000
 
--- the row that a record is, as the data record of this number in a file of so many columns, or what is wrong with it first
+-- the row that a record is, as the data record of this number in a file of so many columns, or what is wrong with it
+-- first
 abbrev pub row_of : ℕ → ℕ → Record → Result Row Why
 row_of width number fields =
     if length fields == width then (if nat_lt most_rows number then Err why.Many else row_by_kind fields)

@@ -1,5 +1,24 @@
 -- What is wrong with a record, column by column.
-use Rattle.std.specs.Prelude.{◌≡◌, ℕ, Bool, true, List, [], ◌∷◌, length, Option, Some, None, is_some, Result, Ok, Err, if◌then◌else◌, nat_lt, ◌==◌}
+use Rattle.std.specs.Prelude.{
+  ◌≡◌,
+  ℕ,
+  Bool,
+  true,
+  List,
+  [],
+  ◌∷◌,
+  length,
+  Option,
+  Some,
+  None,
+  is_some,
+  Result,
+  Ok,
+  Err,
+  if◌then◌else◌,
+  nat_lt,
+  ◌==◌,
+}
 use Rattle.std.specs.Option.{option_or}
 use Rattle.opc_names.specs.Names.{console_rule, group_rule, pattern_rule, user_rule}
 use Rattle.opc_names.specs.Spellings.{auths, classes, levels, lookup}
@@ -7,7 +26,16 @@ use Rattle.opc_terms.specs.Modes.{modes}
 use Rattle.opc_terms.specs.declared.fault.Why.{Why}
 use Rattle.opc_terms.specs.declared.fault.Why.TheVariants as why
 use Rattle.opc_import.specs.Columns.{Record, columns, field_in, reason}
-use Rattle.opc_import.specs.Fields.{activities, digest_of, entry_id_of, name_of, restrictions, user_flags, warnings, when_of}
+use Rattle.opc_import.specs.Fields.{
+  activities,
+  digest_of,
+  entry_id_of,
+  name_of,
+  restrictions,
+  user_flags,
+  warnings,
+  when_of,
+}
 use Rattle.opc_import.specs.Kinds.{kinds, most_rows, row_of}
 use Rattle.opc_import.specs.declared.column.Column.{Column}
 use Rattle.opc_import.specs.declared.column.Column.TheVariants as column
@@ -57,7 +85,8 @@ fault_by_kind (Some kind) fields = first_fault kind fields columns
 abbrev pub record_fault : ℕ → ℕ → Record → Option Why
 record_fault width number fields =
     if length fields == width then
-    (if nat_lt most_rows number then Some why.Many else fault_by_kind (lookup kinds (field_in column.Kind fields)) fields)
+    (if nat_lt most_rows number then Some why.Many else fault_by_kind (lookup kinds (field_in column.Kind fields))
+    fields)
     else Some why.Columns
 
 -- the fault of an answer
@@ -67,4 +96,5 @@ fault_of (Err reason) = Some reason
 
 -- A record is a row exactly where nothing is wrong with it, and else has its first fault.
 abbrev pub FirstFaultIsNamed : Type 0
-FirstFaultIsNamed = (width number : ℕ) (fields : Record) → fault_of (row_of width number fields) ≡ record_fault width number fields
+FirstFaultIsNamed = (width number : ℕ) (fields : Record)
+    → fault_of (row_of width number fields) ≡ record_fault width number fields

@@ -2,7 +2,18 @@
 ghost use Rattle.std.specs.Prelude.{◌≡◌};
 ghost use Rattle.std.specs.List.{list_all};
 ghost use Rattle.opc_names.specs.Spellings.{lookup};
-ghost use Rattle.opc_import.specs.Fields.{activities, digest_of, entry_id_of, flags_of, is_lower_digit, name_of, restrictions, user_flags, warnings, when_of};
+ghost use Rattle.opc_import.specs.Fields.{
+  activities,
+  digest_of,
+  entry_id_of,
+  flags_of,
+  is_lower_digit,
+  name_of,
+  restrictions,
+  user_flags,
+  warnings,
+  when_of,
+};
 
 use opc_names::name::{ConsoleName, Name, NameKind};
 use opc_terms::entry_id::EntryId;

@@ -2,7 +2,19 @@
 ghost use Rattle.std.specs.Prelude.{◌≡◌};
 ghost use Rattle.csv.specs.Records.{fields_of};
 ghost use Rattle.opc_names.specs.Spellings.{lookup};
-ghost use Rattle.opc_import.specs.Kinds.{class_row, connect_row, console_row, group_row, kind_text, kinds, permit_row, profile_row, row_of, row_of_kind, user_row};
+ghost use Rattle.opc_import.specs.Kinds.{
+  class_row,
+  connect_row,
+  console_row,
+  group_row,
+  kind_text,
+  kinds,
+  permit_row,
+  profile_row,
+  row_of,
+  row_of_kind,
+  user_row,
+};
 
 use crate::column::{Column, field_in, unused};
 use crate::field::{

@@ -5,7 +5,17 @@ ghost use Rattle.hex.specs.Hex.{encode_lower};
 ghost use Rattle.opc_import.specs.Columns.{header};
 ghost use Rattle.opc_import.specs.Fields.{digest_of};
 ghost use Rattle.opc_import.specs.Lines.{AddsField};
-ghost use Rattle.opc_import.specs.Rows.{IsValid, IsValidIn, activity_text, flags_text, kind_of, record_of, restriction_text, text_in, warning_text};
+ghost use Rattle.opc_import.specs.Rows.{
+  IsValid,
+  IsValidIn,
+  activity_text,
+  flags_text,
+  kind_of,
+  record_of,
+  restriction_text,
+  text_in,
+  warning_text,
+};
 ghost use Rattle.opc_import.specs.declared.column.Column.TheVariants as column;
 
 use crate::column::COLUMNS;

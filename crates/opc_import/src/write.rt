@@ -42,7 +42,8 @@ fn lines_of(alloc: Global, rows: &[Row]) -> Result<Vec<u8>, AllocError>
 /// The policy file that has these rows. One of at most 10,000 rows reads back as they are.
 pub fn write_policy(alloc: Global, rows: &[Row]) -> Result<String, AllocError>
     ensures text { IfOk result (λ text. string_bytes text ≡ policy_text rows.now) }
-    ensures reads_back { length rows.now ≤ most_rows → IfOk result (λ text. policy_of (string_bytes text) ≡ Ok rows.now) }
+    ensures reads_back { length rows.now ≤ most_rows
+        → IfOk result (λ text. policy_of (string_bytes text) ≡ Ok rows.now) }
 {
     let bytes = lines_of(alloc, rows)?;
     let Ok(text) = String::from_utf8(bytes) else {

@@ -1,5 +1,27 @@
 -- What was taken, one read after another.
-use Rattle.std.proofs.Common.{◌≡◌, ◌∙◌, ◌≤◌, ◌-◌, ◌+◌, ◌++◌, [], ℕ, zero, suc, List, sym, refl, ap, subst, arith, length, length-append, append_assoc, Some, None}
+use Rattle.std.proofs.Common.{
+  ◌≡◌,
+  ◌∙◌,
+  ◌≤◌,
+  ◌-◌,
+  ◌+◌,
+  ◌++◌,
+  [],
+  ℕ,
+  zero,
+  suc,
+  List,
+  sym,
+  refl,
+  ap,
+  subst,
+  arith,
+  length,
+  length-append,
+  append_assoc,
+  Some,
+  None,
+}
 use Rattle.std.specs.Prelude.{Option}
 use Rattle.std.specs.Io.KnownBytes.{Consumes, Keeps}
 use Rattle.std.proofs.lemmas.List.{append-nil}
@@ -30,7 +52,8 @@ pub takes-same : (most : ℕ) (known : Option (List ℕ)) → TakesAtMost most k
 takes-same most known = record { taken = []; consumes = consumes-none known; few = omega arith }
 
 -- a read, and then another
-pub takes-more : (first more : ℕ) (before mid after : Option (List ℕ)) → TakesAtMost first before mid → TakesAtMost more mid after → TakesAtMost (first + more) before after
+pub takes-more : (first more : ℕ) (before mid after : Option (List ℕ)) → TakesAtMost first before mid
+    → TakesAtMost more mid after → TakesAtMost (first + more) before after
 takes-more first more before mid after a b = record {
   taken = a.taken ++ b.taken;
   consumes = consumes-more before mid after a.taken b.taken a.consumes b.consumes;
@@ -38,7 +61,8 @@ takes-more first more before mid after a b = record {
 }
 
 -- some bytes, and then a read of no more than is left of a limit
-pub takes-after : (most len : ℕ) (before mid after : Option (List ℕ)) (bytes : List ℕ) → Consumes before mid bytes → length bytes ≤ most → length bytes ≡ len → TakesAtMost (most - len) mid after → TakesAtMost most before after
+pub takes-after : (most len : ℕ) (before mid after : Option (List ℕ)) (bytes : List ℕ) → Consumes before mid bytes
+    → length bytes ≤ most → length bytes ≡ len → TakesAtMost (most - len) mid after → TakesAtMost most before after
 takes-after most len before mid after bytes first fits same more = record {
   taken = bytes ++ more.taken;
   consumes = consumes-more before mid after bytes more.taken first more.consumes;
@@ -53,7 +77,8 @@ module _ {S : Type 0} (left : S → Option (List ℕ)) (gives : S → List ℕ �
     pub is : bytes ≡ start ++ moved
     pub consumes : Consumes (left first) (left last) moved
 
-  pub begins : (may : List ℕ → ℕ → Type 0) (first : S) (start : List ℕ) (n : ℕ) (last : S) (bytes : List ℕ) → AreReads left gives may first start n last bytes → Begins first last start bytes
+  pub begins : (may : List ℕ → ℕ → Type 0) (first : S) (start : List ℕ) (n : ℕ) (last : S) (bytes : List ℕ)
+      → AreReads left gives may first start n last bytes → Begins first last start bytes
   begins may first start zero last bytes are = record {
     moved = [];
     is = are.1 ∙ sym (append-nil start);
@@ -73,7 +98,10 @@ module _ {S : Type 0} (left : S → Option (List ℕ)) (gives : S → List ℕ �
   pub one-read-more : (may : List ℕ → ℕ → Type 0) (first mid last : S) (start before given bytes : List ℕ)
       → Reads left gives may first start mid before → may before (length given) → Gives left gives mid given last → bytes ≡ before ++ given
       → Reads left gives may first start last bytes
-  one-read-more may first mid last start before given bytes reads may_be gave is = record { count = suc reads.count; are = (mid, before, given, reads.are, may_be, gave, is) }
+  one-read-more may first mid last start before given bytes reads may_be gave is = record {
+    count = suc reads.count;
+    are = (mid, before, given, reads.are, may_be, gave, is);
+  }
 
   -- more reads after some, each of which might be made
   pub more-reads : (may more : List ℕ → ℕ → Type 0) (first mid : S) (start bytes : List ℕ) → Reads left gives may first start mid bytes
@@ -84,5 +112,6 @@ module _ {S : Type 0} (left : S → Option (List ℕ)) (gives : S → List ℕ �
   more-reads may more first mid start bytes reads wider (suc n) last all (near, before, given, are, may_be, gave, is) =
       let so_far = more-reads may more first mid start bytes reads wider n near before are in
       let was = begins more mid bytes n near before are in
-      let widened = subst (λ (t : List ℕ). may t (length given)) (sym was.is) (wider was.moved (length given) (subst (λ (t : List ℕ). more t (length given)) was.is may_be)) in
+      let widened = subst (λ (t : List ℕ). may t (length given)) (sym was.is)
+      (wider was.moved (length given) (subst (λ (t : List ℕ). more t (length given)) was.is may_be)) in
       one-read-more may first near last start before given all so_far widened gave is

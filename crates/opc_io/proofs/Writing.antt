@@ -42,5 +42,9 @@ module _ (bytes : List ℕ) (done count : ℕ) (low : done ≤ length bytes) (bo
       let short : count ≤ length (drop done bytes) = subst (λ xs. count ≤ length xs) rest-is bound in
       omega (arith, short, length-drop done bytes, low)
 
-  pub next-written : (a b c : Option (List ℕ)) → Appends a b (take done bytes) → Appends b c (take count (take (length bytes - done) (drop done bytes))) → Appends a c (take (done + count) bytes)
-  next-written a b c h k = subst (Appends a c) (sym (take-add done count bytes)) (appends-more a b c (take done bytes) (take count (drop done bytes)) h (subst (λ xs. Appends b c (take count xs)) rest-is k))
+  pub next-written : (a b c : Option (List ℕ)) → Appends a b (take done bytes)
+      → Appends b c (take count (take (length bytes - done) (drop done bytes)))
+      → Appends a c (take (done + count) bytes)
+  next-written a b c h k = subst (Appends a c) (sym (take-add done count bytes))
+      (appends-more a b c (take done bytes) (take count (drop done bytes)) h
+      (subst (λ xs. Appends b c (take count xs)) rest-is k))

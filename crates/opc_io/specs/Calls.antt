@@ -7,7 +7,8 @@ abbrev pub IsToldAs : List ℕ → (answer told : Result ℕ Error) → Type 0
 IsToldAs bytes answer told = (told ≡ answer) ⊎ ((answer ≡ Ok 0) × (0 < length bytes) × IsErr told)
 
 -- One write was made, and it is told so.
-pub record Writes {W : Type 0} (writes : W → List ℕ → Result ℕ Error → W → Type 0) (before : W) (bytes : List ℕ) (told : Result ℕ Error) (after : W) : Type 0 where
+pub record Writes {W : Type 0} (writes : W → List ℕ → Result ℕ Error → W → Type 0) (before : W) (bytes : List ℕ)
+    (told : Result ℕ Error) (after : W) : Type 0 where
   pub answer : Result ℕ Error
   pub made : writes before bytes answer after
   pub is : IsToldAs bytes answer told

@@ -1,5 +1,25 @@
 -- What one read does, and what several do.
-use Rattle.std.specs.Prelude.{◌≡◌, ◌≤◌, ◌<◌, ◌++◌, ℕ, zero, suc, Bool, true, false, List, [], length, take, OnOk, Option, Result, Ok, Err}
+use Rattle.std.specs.Prelude.{
+  ◌≡◌,
+  ◌≤◌,
+  ◌<◌,
+  ◌++◌,
+  ℕ,
+  zero,
+  suc,
+  Bool,
+  true,
+  false,
+  List,
+  [],
+  length,
+  take,
+  OnOk,
+  Option,
+  Result,
+  Ok,
+  Err,
+}
 use Rattle.std.specs.Io.KnownBytes.{Consumes, IsAtEnd}
 use Rattle.opc_io.specs.declared.source.SourceFault.{SourceFault}
 use Rattle.opc_io.specs.declared.source.SourceFault.TheVariants as fault

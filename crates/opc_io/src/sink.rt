@@ -1,5 +1,19 @@
 //! Where bytes go.
-ghost use Rattle.std.specs.Prelude.{◌≡◌, ◌<◌, ℕ, List, Bool, Option, IfOk, OnErr, OnOk, is_err, if◌then◌else◌, length, true};
+ghost use Rattle.std.specs.Prelude.{
+  ◌≡◌,
+  ◌<◌,
+  ℕ,
+  List,
+  Bool,
+  Option,
+  IfOk,
+  OnErr,
+  OnOk,
+  is_err,
+  if◌then◌else◌,
+  length,
+  true,
+};
 ghost use Rattle.std.specs.Io.{WritesAtMost};
 ghost use Rattle.std.specs.Io.KnownBytes.{Appends, WriteAppends};
 ghost use Rattle.opc_io.specs.Writes.{AppendsPrefix};

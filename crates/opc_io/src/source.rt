@@ -1,5 +1,19 @@
 //! Where bytes come from.
-ghost use Rattle.std.specs.Prelude.{◌≡◌, ◌≤◌, ◌-◌, List, Bool, Option, IfOk, is_err, if◌then◌else◌, min, true, vec_len, ℕ};
+ghost use Rattle.std.specs.Prelude.{
+  ◌≡◌,
+  ◌≤◌,
+  ◌-◌,
+  List,
+  Bool,
+  Option,
+  IfOk,
+  is_err,
+  if◌then◌else◌,
+  min,
+  true,
+  vec_len,
+  ℕ,
+};
 ghost use Rattle.std.specs.Io.{ReadsAtMost};
 ghost use Rattle.std.specs.Io.KnownBytes.{ReadConsumes};
 ghost use Rattle.opc_io.specs.Reads.{ReadsMore, ReadsOnce, TakesAtMost, given_by, is_read};
@@ -11,8 +25,8 @@ const BLOCK: usize = 1024;
 
 /// A reader that keeps whether a read of it failed.
 pub trait Source {
-    /// That a read of the one source gave these bytes and left the other; none where it failed. What a function over any
-    /// source says in terms of it can only be shown by the reads that the function makes.
+    /// That a read of the one source gave these bytes and left the other; none where it failed. What a function over
+    /// any source says in terms of it can only be shown by the reads that the function makes.
     ghost gives: { Self → List ℕ → Self → Type 0 };
 
     /// The bytes that reads will give from here on, where they are known.
@@ -42,8 +56,10 @@ pub fn read_more<S: Source>(
     most: usize,
 ) -> Result<usize, SourceFault>
     requires { vec_len buf.old ≤ most }
-    ensures more { IfOk result (λ n. ReadsMore (S.left source.old) (S.left source.new) buf.old.items buf.new.items most n) }
-    ensures once { ReadsOnce S.left S.gives (min 1024 (most - vec_len buf.old)) source.old source.new buf.old.items buf.new.items result }
+    ensures more { IfOk result (λ n. ReadsMore (S.left source.old) (S.left source.new) buf.old.items buf.new.items most
+        n) }
+    ensures once { ReadsOnce S.left S.gives (min 1024 (most - vec_len buf.old)) source.old source.new buf.old.items
+        buf.new.items result }
     ensures most { TakesAtMost (most - vec_len buf.old) (S.left source.old) (S.left source.new) }
     ensures failed { S.has_failed source.new ≡ (if is_read result then true else S.has_failed source.old) }
 {

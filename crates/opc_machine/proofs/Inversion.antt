@@ -33,7 +33,8 @@ pub acted_ok : (rule : Option Rule) (r : BoardOutcome) (a : BoardDone) → acted
 acted_ok rule (Ok b) a h = search (rules, h)
 acted_ok rule (Err f) a h = absurd (search (rules, h))
 
-pub done_is : (o : Outcome) (lines : List Line) (why : Option Rule) → Done lines why ≡ answer_of o → (deed : Deed) × (o ≡ Ok deed) × (lines ≡ deed.lines) × (why ≡ deed.rule)
+pub done_is : (o : Outcome) (lines : List Line) (why : Option Rule) → Done lines why ≡ answer_of o → (deed : Deed)
+    × (o ≡ Ok deed) × (lines ≡ deed.lines) × (why ≡ deed.rule)
 done_is (Ok deed) lines why h = (deed, refl, search (rules, h), search (rules, h))
 done_is (Err denial) lines why h = absurd (search (rules, h))
 
@@ -63,13 +64,16 @@ not_aborted lines why (inr h) = search (rules, h)
 pub console_is : (s : State) (name : List ℕ) (c : ConsoleRow) → console_for s name ≡ Ok c → (console_at s.board name ≡ Some c) × (c.online ≡ true)
 console_is s name c h = go (console_at s.board name) h
   where
-    online : (d : ConsoleRow) → (refuse_if fault.ConsoleOffline None (not d.online) >>= λ _. Ok d) ≡ Ok c → (let o : Option ConsoleRow = Some d in o ≡ Some c) × (c.online ≡ true)
+    online : (d : ConsoleRow) → (refuse_if fault.ConsoleOffline None (not d.online) >>= λ _. Ok d) ≡ Ok c
+        → (let o : Option ConsoleRow = Some d in o ≡ Some c) × (c.online ≡ true)
     online d k =
         let u = bind_ok (refuse_if fault.ConsoleOffline None (not d.online)) (λ _. Ok d) c k in
         let same : d ≡ c = ok_is d c u.2 in
         (ap Some same, subst (λ x. x.online ≡ true) same (is_on d.online (refuse_if_ok _ _ _ _ u.1)))
 
-    go : (o : Option ConsoleRow) → (found fault.NoConsole o >>= λ d. refuse_if fault.ConsoleOffline None (not d.online) >>= λ _. Ok d) ≡ Ok c → (o ≡ Some c) × (c.online ≡ true)
+    go : (o : Option ConsoleRow)
+        → (found fault.NoConsole o >>= λ d. refuse_if fault.ConsoleOffline None (not d.online) >>= λ _. Ok d) ≡ Ok c
+        → (o ≡ Some c) × (c.online ≡ true)
     go (Some d) k = online d k
     go None k = absurd (search (rules, k))
 

@@ -113,7 +113,9 @@ user_is u v h =
     λ i. record { id = id i; special = special i; auditor = auditor i; revoked = revoked i; digest = digest i; restricted = restricted i }
 
 user_itself : (u : User) → same_user u u ≡ true
-user_itself u = both _ _ (name_itself u.id) (both _ _ (flag_itself u.special) (both _ _ (flag_itself u.auditor) (both _ _ (flag_itself u.revoked) (both _ _ (digest_itself u.digest) (flag_itself u.restricted)))))
+user_itself u = both _ _ (name_itself u.id)
+    (both _ _ (flag_itself u.special) (both _ _ (flag_itself u.auditor)
+    (both _ _ (flag_itself u.revoked) (both _ _ (digest_itself u.digest) (flag_itself u.restricted)))))
 
 pub row_is : (r q : Row) → same_row r q ≡ true → r ≡ q
 row_is (rows.Class c a) (rows.Class d b) h =
@@ -160,8 +162,10 @@ row_itself (rows.Group n) = name_itself n
 row_itself (rows.User u) = user_itself u
 row_itself (rows.Connect u g) = both _ _ (name_itself u) (name_itself g)
 row_itself (rows.Console n a m) = both _ _ (name_itself n) (both _ _ (name_itself (auth_text a)) (name_itself (mode_text m)))
-row_itself (rows.Profile c p u o w) = both _ _ (class_itself c) (both _ _ (name_itself p) (both _ _ (name_itself (level_text u)) (both _ _ (name_itself o) (flag_itself w))))
-row_itself (rows.Permit c p e l w) = both _ _ (class_itself c) (both _ _ (name_itself p) (both _ _ (name_itself e) (both _ _ (name_itself (level_text l)) (digest_itself w))))
+row_itself (rows.Profile c p u o w) = both _ _ (class_itself c)
+    (both _ _ (name_itself p) (both _ _ (name_itself (level_text u)) (both _ _ (name_itself o) (flag_itself w))))
+row_itself (rows.Permit c p e l w) = both _ _ (class_itself c)
+    (both _ _ (name_itself p) (both _ _ (name_itself e) (both _ _ (name_itself (level_text l)) (digest_itself w))))
 
 rows_are : (one other : List Row) → same_rows one other ≡ true → one ≡ other
 rows_are [] [] h = refl

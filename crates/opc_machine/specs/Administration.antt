@@ -1,5 +1,20 @@
 -- What an operation of administration makes of policy and consoles, or what is in its way.
-use Rattle.std.specs.Prelude.{ℕ, Bool, false, not, ◌||◌, if◌then◌else◌, List, [], Option, None, Result, Ok, Err, is_some}
+use Rattle.std.specs.Prelude.{
+  ℕ,
+  Bool,
+  false,
+  not,
+  ◌||◌,
+  if◌then◌else◌,
+  List,
+  [],
+  Option,
+  None,
+  Result,
+  Ok,
+  Err,
+  is_some,
+}
 use Rattle.std.specs.List.{list_any}
 use Rattle.std.specs.Option.{option_map_or}
 use Rattle.opc_names.specs.declared.class.Class.{Class}
@@ -11,7 +26,15 @@ use Rattle.opc_policy_members.specs.declared.profile.Profile.{Profile}
 use Rattle.opc_policy_members.specs.Access.{is_for}
 use Rattle.opc_policy_members.specs.Members.{with_user, with_group, with_connect}
 use Rattle.opc_policy_members.specs.Profiles.{profile_of, with_permission}
-use Rattle.opc_policy_members.specs.Taken.{has_user, has_group, has_holder, unless, needing, with_active, after_definition}
+use Rattle.opc_policy_members.specs.Taken.{
+  has_user,
+  has_group,
+  has_holder,
+  unless,
+  needing,
+  with_active,
+  after_definition,
+}
 use Rattle.opc_board.specs.declared.board.BoardRows.{BoardRows}
 use Rattle.opc_board.specs.Consoles.{console_defined}
 use Rattle.opc_board.specs.Replies.{is_on}
@@ -44,23 +67,49 @@ unless_in_use used id made = if used then Err (InUse id) else made
 
 -- a profile as it is defined, without its access list
 abbrev pub definition : Class → List ℕ → List ℕ → Level → Bool → Profile
-definition class pattern owner uacc warning = record { class = class; pattern = pattern; owner = owner; uacc = uacc; warning = warning; entries = [] }
+definition class pattern owner uacc warning = record {
+  class = class;
+  pattern = pattern;
+  owner = owner;
+  uacc = uacc;
+  warning = warning;
+  entries = [];
+}
 
 -- The policy after an operation, or the fault of the first thing in the way, in the order in which the operation lists
--- its fields (RACF guide: the commands of these names). A profile that is altered keeps its access list, and one that is
--- deleted takes it along. Consoles are no part of a policy.
+-- its fields (RACF guide: the commands of these names). A profile that is altered keeps its access list, and one that
+-- is deleted takes it along. Consoles are no part of a policy.
 abbrev pub policy_changed : BoardRows → Operation → Policy → Result Policy Fault
 policy_changed b (operation.AddUser id special auditor digest restricted) p =
     unless (has_name p id) id
-    (Ok (record p { users = with_user (record { id = id; special = special; auditor = auditor; revoked = false; digest = digest; restricted = restricted }) p.users }))
+    (Ok (record p {
+      users = with_user (record {
+        id = id;
+        special = special;
+        auditor = auditor;
+        revoked = false;
+        digest = digest;
+        restricted = restricted;
+      }) p.users;
+    }))
 policy_changed b (operation.AltUser id special auditor revoked digest restricted) p =
     needing (has_user p id) id
-    (Ok (record p { users = with_user (record { id = id; special = special; auditor = auditor; revoked = revoked; digest = digest; restricted = restricted }) p.users }))
+    (Ok (record p {
+      users = with_user (record {
+        id = id;
+        special = special;
+        auditor = auditor;
+        revoked = revoked;
+        digest = digest;
+        restricted = restricted;
+      }) p.users;
+    }))
 policy_changed b (operation.DelUser id) p =
     needing (has_user p id) id
     (unless_in_use (is_in_use p b id) id
     (Ok (record p { users = without_user id p.users })))
-policy_changed b (operation.AddGroup name) p = unless (has_name p name) name (Ok (record p { groups = with_group name p.groups }))
+policy_changed b (operation.AddGroup name) p =
+    unless (has_name p name) name (Ok (record p { groups = with_group name p.groups }))
 policy_changed b (operation.Connect user group) p =
     needing (has_user p user) user
     (needing (has_group p group) group
@@ -72,15 +121,24 @@ policy_changed b (operation.Remove user group) p =
     (needing (is_connected p user group) group
     (Ok (record p { connects = without_connect (record { user = user; group = group }) p.connects }))))
 policy_changed b (operation.RDefine class pattern owner uacc warning) p =
-    unless (is_some (profile_of p.profiles class pattern)) pattern (after_definition (definition class pattern owner uacc warning) p)
+    unless (is_some (profile_of p.profiles class pattern)) pattern
+    (after_definition (definition class pattern owner uacc warning) p)
 policy_changed b (operation.RAlter class pattern owner uacc warning) p =
-    needing (is_some (profile_of p.profiles class pattern)) pattern (after_definition (definition class pattern owner uacc warning) p)
+    needing (is_some (profile_of p.profiles class pattern)) pattern
+    (after_definition (definition class pattern owner uacc warning) p)
 policy_changed b (operation.RDelete class pattern) p =
-    needing (is_some (profile_of p.profiles class pattern)) pattern (Ok (record p { profiles = without_profile class pattern p.profiles }))
+    needing (is_some (profile_of p.profiles class pattern)) pattern
+    (Ok (record p { profiles = without_profile class pattern p.profiles }))
 policy_changed b (operation.Permit class pattern id level when) p =
     needing (is_some (profile_of p.profiles class pattern)) pattern
     (needing (has_holder p id) id
-    (Ok (record p { profiles = with_permission class pattern (record { id = id; when = when; level = level }) p.profiles })))
+    (Ok (record p {
+      profiles = with_permission class pattern (record {
+        id = id;
+        when = when;
+        level = level;
+      }) p.profiles;
+    })))
 policy_changed b (operation.PermitDelete class pattern id when) p =
     needing (is_some (profile_of p.profiles class pattern)) pattern
     (needing (is_permitted p class pattern id when) id

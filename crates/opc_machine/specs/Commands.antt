@@ -1,5 +1,21 @@
 -- What a command comes to, and what an event.
-use Rattle.std.specs.Prelude.{Bool, true, false, not, ℕ, List, [], Option, Some, None, Result, Ok, Err, filter, if◌then◌else◌}
+use Rattle.std.specs.Prelude.{
+  Bool,
+  true,
+  false,
+  not,
+  ℕ,
+  List,
+  [],
+  Option,
+  Some,
+  None,
+  Result,
+  Ok,
+  Err,
+  filter,
+  if◌then◌else◌,
+}
 use Rattle.std.specs.Option.{is_none, option_and_then}
 use Rattle.std.specs.Str.{bytes_eq}
 use Rattle.sha2.specs.Sha256.{sha256}
@@ -102,7 +118,8 @@ is_password password (Some digest) = bytes_eq digest (sha256 password)
 
 -- the user of a logon, if the password is the user's
 abbrev pub known_by : State → List ℕ → List ℕ → Option User
-known_by s id password = option_and_then (λ (u : User). if is_password password u.digest then Some u else None) (user_of s.policy.users id)
+known_by s id password = option_and_then (λ (u : User). if is_password password u.digest then Some u else None)
+    (user_of s.policy.users id)
 
 abbrev pub logon_fault : Rule → Fault
 logon_fault rule.Revoked = fault.Revoked

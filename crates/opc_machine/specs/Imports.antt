@@ -1,5 +1,23 @@
 -- Imports of a written policy in numbered batches.
-use Rattle.std.specs.Prelude.{ℕ, Bool, true, false, not, ◌&&◌, ◌==◌, List, [], ◌∷◌, ◌++◌, Option, Some, None, codes, find, if◌then◌else◌}
+use Rattle.std.specs.Prelude.{
+  ℕ,
+  Bool,
+  true,
+  false,
+  not,
+  ◌&&◌,
+  ◌==◌,
+  List,
+  [],
+  ◌∷◌,
+  ◌++◌,
+  Option,
+  Some,
+  None,
+  codes,
+  find,
+  if◌then◌else◌,
+}
 use Rattle.std.specs.Fmt.{decimal}
 use Rattle.std.specs.Str.{bytes_eq}
 use Rattle.opc_names.specs.Authority.{same_class}
@@ -23,7 +41,9 @@ use Rattle.opc_machine.specs.Rulings.{acting}
 -- which rows are the same
 abbrev pub same_user : User → User → Bool
 same_user u v =
-    bytes_eq u.id v.id && (same_flag u.special v.special && (same_flag u.auditor v.auditor && (same_flag u.revoked v.revoked && (same_text u.digest v.digest && same_flag u.restricted v.restricted))))
+    bytes_eq u.id v.id && (same_flag u.special v.special
+    && (same_flag u.auditor v.auditor
+    && (same_flag u.revoked v.revoked && (same_text u.digest v.digest && same_flag u.restricted v.restricted))))
 
 abbrev pub same_row : Row → Row → Bool
 same_row (rows.Class class active) (rows.Class class' active') = same_class class class' && same_flag active active'
@@ -33,9 +53,11 @@ same_row (rows.Connect user group) (rows.Connect user' group') = bytes_eq user u
 same_row (rows.Console name auth mode) (rows.Console name' auth' mode') =
     bytes_eq name name' && (bytes_eq (auth_text auth) (auth_text auth') && bytes_eq (mode_text mode) (mode_text mode'))
 same_row (rows.Profile class pattern uacc owner warning) (rows.Profile class' pattern' uacc' owner' warning') =
-    same_class class class' && (bytes_eq pattern pattern' && (bytes_eq (level_text uacc) (level_text uacc') && (bytes_eq owner owner' && same_flag warning warning')))
+    same_class class class' && (bytes_eq pattern pattern'
+    && (bytes_eq (level_text uacc) (level_text uacc') && (bytes_eq owner owner' && same_flag warning warning')))
 same_row (rows.Permit class pattern id level when) (rows.Permit class' pattern' id' level' when') =
-    same_class class class' && (bytes_eq pattern pattern' && (bytes_eq id id' && (bytes_eq (level_text level) (level_text level') && same_text when when')))
+    same_class class class' && (bytes_eq pattern pattern'
+    && (bytes_eq id id' && (bytes_eq (level_text level) (level_text level') && same_text when when')))
 same_row row other = false
 
 abbrev pub same_rows : List Row → List Row → Bool
@@ -54,11 +76,17 @@ batch_line number what = plain (codes "BATCH " ++ decimal number ++ codes " " ++
 abbrev pub new_batch : State → ℕ → List Row → Outcome
 new_batch s number all = do
   new ← or_refused (with_rows all s)
-  does (record new { batches = with_batch (record { number = number; rows = all }) new.batches }) (batch_line number (codes "KEPT") ∷ []) None
+  does (record new {
+    batches = with_batch (record {
+      number = number;
+      rows = all;
+    }) new.batches;
+  }) (batch_line number (codes "KEPT") ∷ []) None
 
 -- a number that is kept: nothing is done, where its rows are these
 abbrev pub same_batch : State → ℕ → List Row → Batch → Outcome
-same_batch s number all kept = if same_rows kept.rows all then does s (batch_line number (codes "AGAIN") ∷ []) None else refused BatchChanged None
+same_batch s number all kept = if same_rows kept.rows all then does s (batch_line number (codes "AGAIN") ∷ []) None else
+    refused BatchChanged None
 
 abbrev pub batch_outcome : State → ℕ → List Row → Option Batch → Outcome
 batch_outcome s number all None = new_batch s number all

@@ -20,7 +20,8 @@ warning_columns false = []
 
 -- a profile's line: its pattern, universal access, owner, and whether it only warns
 abbrev pub profile_line : Profile → Line
-profile_line p = plain (columns (p.pattern ∷ codes "UACC" ∷ level_text p.uacc ∷ codes "OWNER" ∷ p.owner ∷ warning_columns p.warning))
+profile_line p =
+    plain (columns (p.pattern ∷ codes "UACC" ∷ level_text p.uacc ∷ codes "OWNER" ∷ p.owner ∷ warning_columns p.warning))
 
 -- The profiles of a class, in their order, those that may be shown at the console.
 abbrev pub profiles_outcome : State → List ℕ → Class → Outcome
@@ -29,7 +30,8 @@ profiles_outcome s name class = do
   does s (map profile_line (filter (profile_shown s c) (of_class class s.policy.profiles))) None
 
 abbrev pub account_line : ℕ × AccountRow → Line
-account_line (number, row) = plain (columns (decimal number ∷ decimal row.moment ∷ row.console ∷ row.user ∷ row.code ∷ row.rule ∷ []))
+account_line (number, row) =
+    plain (columns (decimal number ∷ decimal row.moment ∷ row.console ∷ row.user ∷ row.code ∷ row.rule ∷ []))
 
 -- Rows of the account, where it may be shown at the console.
 abbrev pub account_outcome : State → List ℕ → ℕ → ℕ → Outcome

@@ -1,5 +1,22 @@
 -- The access machine: one step for each request, of whatever kind.
-use Rattle.std.specs.Prelude.{◌≡◌, ◌⊎◌, ℕ, Bool, false, if◌then◌else◌, List, [], ◌∷◌, ◌++◌, Option, Some, None, Ok, Err, codes}
+use Rattle.std.specs.Prelude.{
+  ◌≡◌,
+  ◌⊎◌,
+  ℕ,
+  Bool,
+  false,
+  if◌then◌else◌,
+  List,
+  [],
+  ◌∷◌,
+  ◌++◌,
+  Option,
+  Some,
+  None,
+  Ok,
+  Err,
+  codes,
+}
 use Rattle.std.specs.Option.{option_and_then}
 use Rattle.opc_terms.specs.declared.fault.Fault.TheVariants as fault
 use Rattle.opc_terms.specs.declared.rule.Rule.{Rule}
@@ -65,7 +82,8 @@ is_warned None = false
 -- The state after a request: a refusal changes nothing but the account, and what a warning alone let pass is
 -- accounted too.
 abbrev pub after : State → ℕ → Input → Outcome → State
-after s moment r (Ok deed) = if is_warned deed.rule then accounted (account_row s moment r (codes "WARN") deed.rule) deed.state else deed.state
+after s moment r (Ok deed) = if is_warned deed.rule then accounted (account_row s moment r (codes "WARN") deed.rule)
+    deed.state else deed.state
 after s moment r (Err denial) = accounted (account_row s moment r (fault_code denial.fault) denial.rule) s
 
 abbrev pub answer_of : Outcome → Answer
@@ -99,6 +117,7 @@ Step s moment r answer new = IsLeft s answer new ⊎ (IsFull s moment r answer n
 -- Each request is a step from where the one before it led.
 abbrev pub Runs : State → List (ℕ × Input) → List Answer → State → Type 0
 Runs s [] [] new = new ≡ s
-Runs s (r ∷ requests) (answer ∷ answers) new = (next : State) × Step s r.0 r.1 answer next × Runs next requests answers new
+Runs s (r ∷ requests) (answer ∷ answers) new =
+    (next : State) × Step s r.0 r.1 answer next × Runs next requests answers new
 Runs s [] (answer ∷ answers) new = ⊥
 Runs s (r ∷ requests) [] new = ⊥

@@ -48,7 +48,8 @@ is_owner (Some u) (Some p) = bytes_eq p.owner u.id
 
 -- whether somebody owns the profile that an operation changes, where its owner may do so
 abbrev pub owns_changed : Policy → Option User → Operation → Bool
-owns_changed p user (operation.RAlter class pattern owner uacc warning) = is_owner user (profile_of p.profiles class pattern)
+owns_changed p user (operation.RAlter class pattern owner uacc warning) =
+    is_owner user (profile_of p.profiles class pattern)
 owns_changed p user (operation.RDelete class pattern) = is_owner user (profile_of p.profiles class pattern)
 owns_changed p user (operation.Permit class pattern id level when) = is_owner user (profile_of p.profiles class pattern)
 owns_changed p user (operation.PermitDelete class pattern id when) = is_owner user (profile_of p.profiles class pattern)

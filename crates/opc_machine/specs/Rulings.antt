@@ -62,7 +62,8 @@ logon_denial s c =
 
 -- by the profile that decides in class OPERCMDS, or, where nobody acts or none decides, by the console's AUTH
 abbrev pub access_ruling : State → ConsoleRow → Option User → Need → Ruling
-access_ruling s c user need = policy_ruling (is_active s.policy.active Opercmds) (deciding_in s.policy Opercmds need.resource) user (Some c.name) (groups_acting s user) c.auth need
+access_ruling s c user need = policy_ruling (is_active s.policy.active Opercmds)
+    (deciding_in s.policy Opercmds need.resource) user (Some c.name) (groups_acting s user) c.auth need
 
 abbrev pub denied_or : Option Rule → Ruling → Ruling
 denied_or (Some rule) ruling = Denied rule
@@ -77,8 +78,10 @@ ruling s c need = denied_or (logon_denial s c) (access_ruling s c (acting s c) n
 -- CONSOLE. Where that is undecided the user is admitted.
 abbrev pub console_access : State → ConsoleRow → User → Ruling
 console_access s c user =
-    by_verdict (verdict (is_active s.policy.active Console) (deciding_in s.policy Console c.name) user (Some c.name) (groups_of s.policy.connects user.id) Read)
-    (verdict_rule (is_active s.policy.active Console) (deciding_in s.policy Console c.name) user (Some c.name) (groups_of s.policy.connects user.id) Read)
+    by_verdict (verdict (is_active s.policy.active Console) (deciding_in s.policy Console c.name) user (Some c.name)
+    (groups_of s.policy.connects user.id) Read)
+    (verdict_rule (is_active s.policy.active Console) (deciding_in s.policy Console c.name) user (Some c.name)
+    (groups_of s.policy.connects user.id) Read)
     (Allowed rule.NoProfile)
 
 abbrev pub logon_ruling : State → ConsoleRow → User → Ruling

@@ -17,7 +17,8 @@ in_middle P [] y ys all = all.0
 in_middle P (x ∷ xs) y ys all = in_middle P xs y ys all.1
 
 -- those before one in a list that ascends are before it
-pub all_before : {X : Type 0} (before : X → X → Bool) (xs : List X) (y : X) (ys : List X) → Ascends before (xs ++ y ∷ ys) → AllByRecursion (λ x. before x y ≡ true) xs
+pub all_before : {X : Type 0} (before : X → X → Bool) (xs : List X) (y : X) (ys : List X)
+    → Ascends before (xs ++ y ∷ ys) → AllByRecursion (λ x. before x y ≡ true) xs
 all_before before [] y ys order = tt
 all_before before (x ∷ xs) y ys order = (in_middle (λ z. before x z ≡ true) xs y ys order.0, all_before before xs y ys order.1)
 
@@ -27,14 +28,17 @@ module _ {X : Type 0} (cmp : X → X → Ordering) (total : IsTotalOrder cmp) wh
 
   pub insert_last : (xs : List X) (y : X) → AllByRecursion (λ x. is_lt (cmp x y) ≡ true) xs → insert_key cmp xs y ≡ xs ++ y ∷ []
   insert_last [] y all = refl
-  insert_last (x ∷ xs) y all = ap (λ o. match_ordering o (y ∷ x ∷ xs) (x ∷ xs) (x ∷ insert_key cmp xs y)) (greater x y all.0) ∙ ap (λ zs. x ∷ zs) (insert_last xs y all.1)
+  insert_last (x ∷ xs) y all = ap (λ o. match_ordering o (y ∷ x ∷ xs) (x ∷ xs) (x ∷ insert_key cmp xs y))
+      (greater x y all.0) ∙ ap (λ zs. x ∷ zs) (insert_last xs y all.1)
 
   pub replace_last : (xs : List X) (y : X) → AllByRecursion (λ x. is_lt (cmp x y) ≡ true) xs → replace_key cmp xs y ≡ xs ++ y ∷ []
   replace_last [] y all = refl
-  replace_last (x ∷ xs) y all = ap (λ o. match_ordering o (y ∷ x ∷ xs) (y ∷ xs) (x ∷ replace_key cmp xs y)) (greater x y all.0) ∙ ap (λ zs. x ∷ zs) (replace_last xs y all.1)
+  replace_last (x ∷ xs) y all = ap (λ o. match_ordering o (y ∷ x ∷ xs) (y ∷ xs) (x ∷ replace_key cmp xs y))
+      (greater x y all.0) ∙ ap (λ zs. x ∷ zs) (replace_last xs y all.1)
 
   -- and where one of its key is in the middle, it takes its place
-  pub replace_middle : (xs : List X) (y z : X) (ys : List X) → AllByRecursion (λ x. is_lt (cmp x y) ≡ true) xs → cmp y z ≡ Equal → replace_key cmp (xs ++ z ∷ ys) y ≡ xs ++ y ∷ ys
+  pub replace_middle : (xs : List X) (y z : X) (ys : List X) → AllByRecursion (λ x. is_lt (cmp x y) ≡ true) xs
+      → cmp y z ≡ Equal → replace_key cmp (xs ++ z ∷ ys) y ≡ xs ++ y ∷ ys
   replace_middle [] y z ys all same = ap (λ o. match_ordering o (y ∷ z ∷ ys) (y ∷ ys) (z ∷ replace_key cmp ys y)) same
   replace_middle (x ∷ xs) y z ys all same =
       ap (λ o. match_ordering o (y ∷ x ∷ xs ++ z ∷ ys) (y ∷ xs ++ z ∷ ys) (x ∷ replace_key cmp (xs ++ z ∷ ys) y)) (greater x y all.0)

@@ -20,15 +20,93 @@ use Rattle.opc_board.specs.declared.rows.DeviceRow.{DeviceRow}
 use Rattle.opc_board.specs.declared.rows.UnitKind.{UnitKind}
 use Rattle.opc_board.specs.declared.rows.UnitKind.TheVariants.{Stc}
 use Rattle.opc_board.specs.declared.rows.UnitRow.{UnitRow}
-use Rattle.opc_board.specs.Consoles.{at_console, console_defined, defined, new_console, put_offline, reset_console, vary_console_auth, vary_console_offline, vary_console_online, varied, vary_faults, with_console}
-use Rattle.opc_board.specs.Devices.{allocate, allocate_faults, attach, attach_faults, emptied, free, free_faults, loaded, mount, mount_faults, new_device, offline_faults, online_faults, swap, swap_faults, unload, unload_faults, vary_offline, vary_online, with_device}
+use Rattle.opc_board.specs.Consoles.{
+  at_console,
+  console_defined,
+  defined,
+  new_console,
+  put_offline,
+  reset_console,
+  vary_console_auth,
+  vary_console_offline,
+  vary_console_online,
+  varied,
+  vary_faults,
+  with_console,
+}
+use Rattle.opc_board.specs.Devices.{
+  allocate,
+  allocate_faults,
+  attach,
+  attach_faults,
+  emptied,
+  free,
+  free_faults,
+  loaded,
+  mount,
+  mount_faults,
+  new_device,
+  offline_faults,
+  online_faults,
+  swap,
+  swap_faults,
+  unload,
+  unload_faults,
+  vary_offline,
+  vary_online,
+  with_device,
+}
 use Rattle.opc_board.specs.Effect.{effect, event_effect}
-use Rattle.opc_board.specs.Invariants.{Name, IsBoard, IsHeldRightly, console_at, console_before, device_at, device_before, is, reply_at, reply_before, unit_at, unit_before}
+use Rattle.opc_board.specs.Invariants.{
+  Name,
+  IsBoard,
+  IsHeldRightly,
+  console_at,
+  console_before,
+  device_at,
+  device_before,
+  is,
+  reply_at,
+  reply_before,
+  unit_at,
+  unit_before,
+}
 use Rattle.opc_board.specs.Outcome.{Outcome, ◌>>=◌, done, done_with, faults_or, found}
 use Rattle.opc_board.specs.Replies.{answered, ask, ask_faults, halt, halt_faults, reply, send, send_faults, without_reply}
 use Rattle.opc_board.specs.Texts.{reply_line}
-use Rattle.opc_board.specs.Units.{at_unit, cancel, cancel_faults, cancel_user, cancel_user_faults, come_faults, force, force_faults, job_end, job_in, kind_faults, modify, new_unit, stop, without_unit}
-use Rattle.opc_board.proofs.Kept.{at_console_kept, at_unit_kept, device_held, fewer_replies_kept, held_by_none, held_online, holder_moves, new_console_kept, new_device_kept, new_reply_kept, new_unit_kept, with_console_kept, with_device_kept, without_unit_kept}
+use Rattle.opc_board.specs.Units.{
+  at_unit,
+  cancel,
+  cancel_faults,
+  cancel_user,
+  cancel_user_faults,
+  come_faults,
+  force,
+  force_faults,
+  job_end,
+  job_in,
+  kind_faults,
+  modify,
+  new_unit,
+  stop,
+  without_unit,
+}
+use Rattle.opc_board.proofs.Kept.{
+  at_console_kept,
+  at_unit_kept,
+  device_held,
+  fewer_replies_kept,
+  held_by_none,
+  held_online,
+  holder_moves,
+  new_console_kept,
+  new_device_kept,
+  new_reply_kept,
+  new_unit_kept,
+  with_console_kept,
+  with_device_kept,
+  without_unit_kept,
+}
 use Rattle.opc_state.specs.Invariants.{IsConsoleOfStored}
 use Rattle.opc_machine.proofs.Inversion.{is_on}
 
@@ -87,12 +165,21 @@ module _ (p : Policy) where
   stop_kept : (name : Name) (b : BoardRows) → IsKeptBoard b → IfDone (stop name b)
   stop_kept name b invariants =
       found_then NoUnit (unit_at b name) (λ unit. faults_or (kind_faults unit) (done (at_unit name (λ u. record u { stopping = true }) b)))
-      (λ unit at. faults_then (kind_faults unit) (done (at_unit name (λ u. record u { stopping = true }) b)) (λ absent. (at_unit_kept name (λ (u : UnitRow). record u { stopping = true }) b (λ u. refl) invariants.0, invariants.1)))
+      (λ unit at. faults_then (kind_faults unit) (done (at_unit name (λ u. record u { stopping = true }) b))
+      (λ absent. (
+        at_unit_kept name (λ (u : UnitRow). record u { stopping = true }) b (λ u. refl) invariants.0,
+        invariants.1,
+      )))
 
   modify_kept : (name text : Name) (b : BoardRows) → IsKeptBoard b → IfDone (modify name text b)
   modify_kept name text b invariants =
       found_then NoUnit (unit_at b name) (λ unit. faults_or (kind_faults unit) (done (at_unit name (λ u. record u { last_text = Some text }) b)))
-      (λ unit at. faults_then (kind_faults unit) (done (at_unit name (λ u. record u { last_text = Some text }) b)) (λ absent. (at_unit_kept name (λ (u : UnitRow). record u { last_text = Some text }) b (λ u. refl) invariants.0, invariants.1)))
+      (λ unit at. faults_then (kind_faults unit) (done (at_unit name (λ u. record u { last_text = Some text }) b))
+      (λ absent. (
+        at_unit_kept name (λ (u : UnitRow). record u { last_text = Some text }) b (λ u. refl)
+            invariants.0,
+        invariants.1,
+      )))
 
   -- devices
 
@@ -125,8 +212,12 @@ module _ (p : Policy) where
 
   swap_kept : (from to : Name) (b : BoardRows) → IsKeptBoard b → IfDone (swap from to b)
   swap_kept from to b invariants =
-      found_then NoDevice (device_at b from) (λ source. found NoDevice (device_at b to) >>= λ target. faults_or (swap_faults source target) (done (with_device (loaded source target) (with_device (emptied source) b))))
-      (λ source there. found_then NoDevice (device_at b to) (λ target. faults_or (swap_faults source target) (done (with_device (loaded source target) (with_device (emptied source) b))))
+      found_then NoDevice (device_at b from)
+      (λ source. found NoDevice (device_at b to) >>= λ target. faults_or (swap_faults source target)
+      (done (with_device (loaded source target) (with_device (emptied source) b))))
+      (λ source there. found_then NoDevice (device_at b to)
+      (λ target. faults_or (swap_faults source target)
+      (done (with_device (loaded source target) (with_device (emptied source) b))))
       (λ target at. faults_then (swap_faults source target) (done (with_device (loaded source target) (with_device (emptied source) b)))
       (λ absent. device_kept (loaded source target) (with_device (emptied source) b) (device_kept (emptied source) b invariants tt)
       (holder_moves b.units source.online target.online source.unit (is_on target.online absent.1.0) (device_held b from source there invariants.0)))))
@@ -138,7 +229,9 @@ module _ (p : Policy) where
 
   allocate_kept : (number name : Name) (b : BoardRows) → IsKeptBoard b → IfDone (allocate number name b)
   allocate_kept number name b invariants =
-      found_then NoDevice (device_at b number) (λ d. found NoUnit (unit_at b name) >>= λ unit. faults_or (allocate_faults d) (done (with_device (record d { unit = Some name }) b)))
+      found_then NoDevice (device_at b number)
+      (λ d. found NoUnit (unit_at b name) >>= λ unit. faults_or (allocate_faults d)
+      (done (with_device (record d { unit = Some name }) b)))
       (λ d there. found_then NoUnit (unit_at b name) (λ unit. faults_or (allocate_faults d) (done (with_device (record d { unit = Some name }) b)))
       (λ unit at. faults_then (allocate_faults d) (done (with_device (record d { unit = Some name }) b))
       (λ absent. device_kept (record d { unit = Some name }) b invariants (is_on d.online absent.0, ap is_some at))))
@@ -151,7 +244,11 @@ module _ (p : Policy) where
   -- consoles
 
   pub console_kept : (row : ConsoleRow) (b : BoardRows) → IsKeptBoard b → IsConsoleOfStored p row → IsKeptBoard (with_console row b)
-  console_kept row b invariants stored = (with_console_kept row b invariants.0, all_changed (IsConsoleOfStored p) (λ c. is c.name row.name) (λ c. row) (λ c here was. stored) b.consoles invariants.1)
+  console_kept row b invariants stored = (
+    with_console_kept row b invariants.0,
+    all_changed (IsConsoleOfStored p) (λ c. is c.name row.name) (λ c. row) (λ c here was. stored) b.consoles
+        invariants.1,
+  )
 
   pub console_stored : (name : Name) (c : ConsoleRow) (b : BoardRows) → console_at b name ≡ Some c → IsKeptBoard b → IsConsoleOfStored p c
   console_stored name c b at invariants = all_found (IsConsoleOfStored p) (λ d. is d.name name) c b.consoles at invariants.1
@@ -161,7 +258,8 @@ module _ (p : Policy) where
 
   console_online_kept : (name : Name) (b : BoardRows) → IsKeptBoard b → IfDone (vary_console_online name b)
   console_online_kept name b invariants =
-      found_then NoTarget (console_at b name) (λ c. varied (record c { online = true }) b) (λ c at. varied_kept (record c { online = true }) b invariants (console_stored name c b at invariants))
+      found_then NoTarget (console_at b name) (λ c. varied (record c { online = true }) b)
+      (λ c at. varied_kept (record c { online = true }) b invariants (console_stored name c b at invariants))
 
   offline_stored : (c : ConsoleRow) → IsConsoleOfStored p c → IsConsoleOfStored p (put_offline c)
   offline_stored c stored = go c.online
@@ -172,35 +270,48 @@ module _ (p : Policy) where
 
   console_offline_kept : (name : Name) (b : BoardRows) → IsKeptBoard b → IfDone (vary_console_offline name b)
   console_offline_kept name b invariants =
-      found_then NoTarget (console_at b name) (λ c. varied (put_offline c) b) (λ c at. varied_kept (put_offline c) b invariants (offline_stored c (console_stored name c b at invariants)))
+      found_then NoTarget (console_at b name) (λ c. varied (put_offline c) b)
+      (λ c at. varied_kept (put_offline c) b invariants (offline_stored c (console_stored name c b at invariants)))
 
   console_auth_kept : (name : Name) (auth : Auth) (b : BoardRows) → IsKeptBoard b → IfDone (vary_console_auth name auth b)
   console_auth_kept name auth b invariants =
-      found_then NoTarget (console_at b name) (λ c. varied (record c { auth = auth }) b) (λ c at. varied_kept (record c { auth = auth }) b invariants (console_stored name c b at invariants))
+      found_then NoTarget (console_at b name) (λ c. varied (record c { auth = auth }) b)
+      (λ c at. varied_kept (record c { auth = auth }) b invariants (console_stored name c b at invariants))
 
   reset_kept : (name : Name) (b : BoardRows) → IsKeptBoard b → IfDone (reset_console name b)
   reset_kept name b invariants =
-      found_then NoTarget (console_at b name) (λ c. done (with_console (record c { user = None }) b)) (λ c at. console_kept (record c { user = None }) b invariants tt)
+      found_then NoTarget (console_at b name) (λ c. done (with_console (record c { user = None }) b))
+      (λ c at. console_kept (record c { user = None }) b invariants tt)
 
   -- a change at one console, which leaves its name
-  pub changed_kept : (name : Name) (change : ConsoleRow → ConsoleRow) (b : BoardRows) → ((c : ConsoleRow) → (change c).name ≡ c.name) → ((c : ConsoleRow) → IsConsoleOfStored p c → IsConsoleOfStored p (change c))
+  pub changed_kept : (name : Name) (change : ConsoleRow → ConsoleRow) (b : BoardRows)
+      → ((c : ConsoleRow) → (change c).name ≡ c.name)
+      → ((c : ConsoleRow) → IsConsoleOfStored p c → IsConsoleOfStored p (change c))
       → IsKeptBoard b → IsKeptBoard (at_console name change b)
-  changed_kept name change b same stored invariants =
-      (at_console_kept name change b same invariants.0, all_changed (IsConsoleOfStored p) (λ c. is c.name name) change (λ c here was. stored c was) b.consoles invariants.1)
+  changed_kept name change b same stored invariants = (
+    at_console_kept name change b same invariants.0,
+    all_changed (IsConsoleOfStored p) (λ c. is c.name name) change (λ c here was. stored c was) b.consoles
+        invariants.1,
+  )
 
   -- a console is defined
   pub defined_kept : (name : Name) (auth : Auth) (mode : Mode) (b : BoardRows) → IsKeptBoard b → IsKeptBoard (console_defined name auth mode b)
   defined_kept name auth mode b invariants = go (console_at b name) refl
     where
       go : (o : Option ConsoleRow) → console_at b name ≡ o → IsKeptBoard (defined name auth mode o b)
-      go None at = (new_console_kept (new_console name auth mode) b at invariants.0, all_put (IsConsoleOfStored p) console_before (new_console name auth mode) tt b.consoles invariants.1)
+      go None at = (
+        new_console_kept (new_console name auth mode) b at invariants.0,
+        all_put (IsConsoleOfStored p) console_before (new_console name auth mode) tt b.consoles invariants.1,
+      )
       go (Some c) at = console_kept (record c { auth = auth; mode = mode }) b invariants (console_stored name c b at invariants)
 
   -- replies, messages and the day
 
   reply_kept : (id : ℕ) (text : Name) (b : BoardRows) → IsKeptBoard b → IfDone (reply id text b)
   reply_kept id text b invariants =
-      found_then NoReply (reply_at b id) (λ r. done_with (answered id text (without_reply id b)) (reply_line id text ∷ [])) (λ r at. (fewer_replies_kept b (λ q. not (q.id == id)) invariants.0, invariants.1))
+      found_then NoReply (reply_at b id)
+      (λ r. done_with (answered id text (without_reply id b)) (reply_line id text ∷ []))
+      (λ r at. (fewer_replies_kept b (λ q. not (q.id == id)) invariants.0, invariants.1))
 
   ask_kept : (id : ℕ) (text : Name) (b : BoardRows) → IsKeptBoard b → IfDone (ask id text b)
   ask_kept id text b invariants =
@@ -208,7 +319,12 @@ module _ (p : Policy) where
       (λ absent. (new_reply_kept (record { id = id; text = text }) b absent.0 invariants.0, invariants.1))
 
   send_kept : (user text : Name) (b : BoardRows) → IsKeptBoard b → IfDone (send user text b)
-  send_kept user text b invariants = faults_then (send_faults user b) (done (record b { messages = b.messages ++ record { user = user; text = text } ∷ [] })) (λ absent. invariants)
+  send_kept user text b invariants = faults_then (send_faults user b) (done (record b {
+    messages = b.messages ++ record {
+      user = user;
+      text = text;
+    } ∷ [];
+  })) (λ absent. invariants)
 
   halt_kept : (b : BoardRows) → IsKeptBoard b → IfDone (halt b)
   halt_kept b invariants = faults_then (halt_faults b) (done (record b { halted = true })) (λ absent. invariants)
@@ -238,8 +354,12 @@ module _ (p : Policy) where
   effect_kept b (command.ResetConsole name) console invariants = reset_kept name.value b invariants
   effect_kept b (command.Send text user) console invariants = send_kept user.value (text_value text.typed.text) b invariants
   effect_kept b (command.Log text) console invariants = invariants
-  effect_kept b command.Monitor console invariants = changed_kept console (λ (c : ConsoleRow). record c { monitor = true }) b (λ c. refl) (λ c stored. stored) invariants
-  effect_kept b command.StopMonitor console invariants = changed_kept console (λ (c : ConsoleRow). record c { monitor = false }) b (λ c. refl) (λ c stored. stored) invariants
+  effect_kept b command.Monitor console invariants =
+      changed_kept console (λ (c : ConsoleRow). record c { monitor = true }) b (λ c. refl) (λ c stored. stored)
+      invariants
+  effect_kept b command.StopMonitor console invariants =
+      changed_kept console (λ (c : ConsoleRow). record c { monitor = false }) b (λ c. refl) (λ c stored. stored)
+      invariants
   effect_kept b command.Halt console invariants = halt_kept b invariants
   effect_kept b (command.Logon user password) console invariants = invariants
   effect_kept b command.Logoff console invariants = invariants

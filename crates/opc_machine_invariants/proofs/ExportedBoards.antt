@@ -1,5 +1,30 @@
 -- The rows that a policy is written as make consoles as they are defined.
-use Rattle.std.proofs.Common.{◌≡◌, ◌++◌, ℕ, Bool, true, false, cond, List, [], ◌∷◌, Option, None, Ordering, Less, Equal, Greater, map, refl, sym, ap, subst, ◌∙◌, append_assoc, append-nil}
+use Rattle.std.proofs.Common.{
+  ◌≡◌,
+  ◌++◌,
+  ℕ,
+  Bool,
+  true,
+  false,
+  cond,
+  List,
+  [],
+  ◌∷◌,
+  Option,
+  None,
+  Ordering,
+  Less,
+  Equal,
+  Greater,
+  map,
+  refl,
+  sym,
+  ap,
+  subst,
+  ◌∙◌,
+  append_assoc,
+  append-nil,
+}
 use Rattle.std.specs.Cmp.Lexicographic.{slice_cmp}
 use Rattle.std.specs.List.{AllByRecursion, flat_map}
 use Rattle.std.specs.Ordering.{is_lt, nat_cmp, ordering_reverse}
@@ -14,7 +39,17 @@ use Rattle.opc_board.specs.declared.board.BoardRows.{BoardRows}
 use Rattle.opc_board.specs.declared.rows.ConsoleRow.{ConsoleRow}
 use Rattle.opc_board.specs.Consoles.{defined}
 use Rattle.opc_board.specs.Invariants.{console_at, console_before, earlier, is}
-use Rattle.opc_state.specs.PolicyFile.{permits_of, row_of_connect, row_of_console, row_of_entry, row_of_group, row_of_profile, row_of_user, rows_of, rows_of_classes}
+use Rattle.opc_state.specs.PolicyFile.{
+  permits_of,
+  row_of_connect,
+  row_of_console,
+  row_of_entry,
+  row_of_group,
+  row_of_profile,
+  row_of_user,
+  rows_of,
+  rows_of_classes,
+}
 use Rattle.opc_state.specs.State.{empty}
 use Rattle.opc_machine.specs.Bootstrap.{console_after, consoles_after}
 use Rattle.opc_machine_invariants.specs.ComeBack.{as_defined}
@@ -26,7 +61,8 @@ rows_then [] more b = refl
 rows_then (row ∷ rows) more b = rows_then rows more (console_after row b)
 
 -- rows of another kind leave a board
-past : {X : Type 0} (row_of : X → Row) → ((x : X) (b : BoardRows) → console_after (row_of x) b ≡ b) → (xs : List X) (b : BoardRows) → consoles_after (map row_of xs) b ≡ b
+past : {X : Type 0} (row_of : X → Row) → ((x : X) (b : BoardRows) → console_after (row_of x) b ≡ b)
+    → (xs : List X) (b : BoardRows) → consoles_after (map row_of xs) b ≡ b
 past row_of leaves [] b = refl
 past row_of leaves (x ∷ xs) b = ap (consoles_after (map row_of xs)) (leaves x b) ∙ past row_of leaves xs b
 
@@ -53,7 +89,8 @@ put_last before (x ∷ xs) y all = ap (λ b. cond b (y ∷ x ∷ xs) (x ∷ put 
 abbrev of_consoles : List ConsoleRow → BoardRows
 of_consoles consoles = record empty.board { consoles = map as_defined consoles }
 
-console_taken : (done : List ConsoleRow) (c : ConsoleRow) → AllByRecursion (λ d. console_before d c ≡ true) done → console_after (row_of_console c) (of_consoles done) ≡ of_consoles (done ++ c ∷ [])
+console_taken : (done : List ConsoleRow) (c : ConsoleRow) → AllByRecursion (λ d. console_before d c ≡ true) done
+    → console_after (row_of_console c) (of_consoles done) ≡ of_consoles (done ++ c ∷ [])
 console_taken done c all =
     ap (λ (o : Option ConsoleRow). defined c.name c.auth c.mode o (of_consoles done)) unknown
     ∙ ap (λ cs. record empty.board { consoles = cs }) (put_last console_before (map as_defined done) (as_defined c) last ∙ sym (map_last as_defined done c))
@@ -62,14 +99,16 @@ console_taken done c all =
     unknown =
         none_found (λ d. is d.name c.name) (map as_defined done)
         (all_map as_defined (λ d. is d.name c.name ≡ false) done
-        (all_of (λ d. console_before d c ≡ true) (λ d. is (as_defined d).name c.name ≡ false) (λ d less. is_mirrored c.name d.name (apart_names d.name c.name d.name (is_itself d.name) less)) done all))
+        (all_of (λ d. console_before d c ≡ true) (λ d. is (as_defined d).name c.name ≡ false)
+        (λ d less. is_mirrored c.name d.name (apart_names d.name c.name d.name (is_itself d.name) less)) done all))
 
     last : AllByRecursion (λ d. console_before (as_defined c) d ≡ false) (map as_defined done)
     last =
         all_map as_defined (λ d. console_before (as_defined c) d ≡ false) done
         (all_of (λ d. console_before d c ≡ true) (λ d. console_before (as_defined c) (as_defined d) ≡ false) (λ d less. once d.name c.name less) done all)
 
-consoles_from : (done todo : List ConsoleRow) → Ascends console_before (done ++ todo) → consoles_after (map row_of_console todo) (of_consoles done) ≡ of_consoles (done ++ todo)
+consoles_from : (done todo : List ConsoleRow) → Ascends console_before (done ++ todo)
+    → consoles_after (map row_of_console todo) (of_consoles done) ≡ of_consoles (done ++ todo)
 consoles_from done [] order = ap of_consoles (sym (append-nil done))
 consoles_from done (c ∷ todo) order =
     let same : (done ++ c ∷ []) ++ todo ≡ done ++ c ∷ todo = append_assoc done (c ∷ []) todo in
@@ -77,7 +116,8 @@ consoles_from done (c ∷ todo) order =
     ∙ consoles_from (done ++ c ∷ []) todo (subst (Ascends console_before) (sym same) order)
     ∙ ap of_consoles same
 
-pub consoles_come_back : (p : Policy) (consoles : List ConsoleRow) → Ascends console_before consoles → consoles_after (rows_of p consoles) empty.board ≡ of_consoles consoles
+pub consoles_come_back : (p : Policy) (consoles : List ConsoleRow) → Ascends console_before consoles
+    → consoles_after (rows_of p consoles) empty.board ≡ of_consoles consoles
 consoles_come_back p consoles order =
     let some = rows_of_classes p.active ++ map row_of_group p.groups in
     let more = some ++ map row_of_user p.users in

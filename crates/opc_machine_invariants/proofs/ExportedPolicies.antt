@@ -1,5 +1,33 @@
 -- The rows that a policy is written as make that policy.
-use Rattle.std.proofs.Common.{◌≡◌, ◌++◌, ◌&&◌, ◌||◌, ℕ, Bool, true, false, cond, List, [], ◌∷◌, Option, Some, None, Ok, Equal, find, is_some, map, refl, sym, ap, ap₂, subst, ◌∙◌, append_assoc}
+use Rattle.std.proofs.Common.{
+  ◌≡◌,
+  ◌++◌,
+  ◌&&◌,
+  ◌||◌,
+  ℕ,
+  Bool,
+  true,
+  false,
+  cond,
+  List,
+  [],
+  ◌∷◌,
+  Option,
+  Some,
+  None,
+  Ok,
+  Equal,
+  find,
+  is_some,
+  map,
+  refl,
+  sym,
+  ap,
+  ap₂,
+  subst,
+  ◌∙◌,
+  append_assoc,
+}
 use Rattle.std.specs.Cmp.{IsTotalOrder, tied_itself}
 use Rattle.std.specs.Cmp.Lexicographic.{options_total}
 use Rattle.std.specs.List.{AllByRecursion, flat_map}
@@ -26,7 +54,17 @@ use Rattle.opc_rows.specs.Ordered.{Ascends}
 use Rattle.opc_board.specs.declared.rows.ConsoleRow.{ConsoleRow}
 use Rattle.opc_state.specs.Invariants.{IsConnectOfStored, IsEntryOfStored, IsPolicy, IsProfileOfStored}
 use Rattle.opc_state.specs.Loads.{bare}
-use Rattle.opc_state.specs.PolicyFile.{permits_of, row_of_connect, row_of_console, row_of_entry, row_of_group, row_of_profile, row_of_user, rows_of, rows_of_classes}
+use Rattle.opc_state.specs.PolicyFile.{
+  permits_of,
+  row_of_connect,
+  row_of_console,
+  row_of_entry,
+  row_of_group,
+  row_of_profile,
+  row_of_user,
+  rows_of,
+  rows_of_classes,
+}
 use Rattle.opc_state.specs.State.{empty}
 use Rattle.opc_machine.specs.Bootstrap.{policy_after}
 use Rattle.opc_machine_invariants.specs.KeptInvariants.{IsOrdered}
@@ -74,12 +112,14 @@ all_found : (prefix back : List User) → AllByRecursion (λ (u : User). is_some
 all_found prefix [] = tt
 all_found prefix (u ∷ back) = (
   found_in prefix u back,
-  subst (λ (us : List User). AllByRecursion (λ (v : User). is_some (user_of us v.id) ≡ true) back) (append_assoc prefix (u ∷ []) back) (all_found (prefix ++ u ∷ []) back),
+  subst (λ (us : List User). AllByRecursion (λ (v : User). is_some (user_of us v.id) ≡ true) back)
+      (append_assoc prefix (u ∷ []) back) (all_found (prefix ++ u ∷ []) back),
 )
 
 compares_equal : (x q : Profile) → same_class x.class q.class ≡ true → bytes_eq x.pattern q.pattern ≡ true → profile_cmp x q ≡ Equal
 compares_equal x q one other =
-    ap₂ (λ c t. ordering_then (class_cmp c q.class) (name_cmp (sort_key t) (sort_key q.pattern))) (same_class_is x.class q.class one) ((bytes_eq-Decides x.pattern q.pattern).0 other)
+    ap₂ (λ c t. ordering_then (class_cmp c q.class) (name_cmp (sort_key t) (sort_key q.pattern)))
+    (same_class_is x.class q.class one) ((bytes_eq-Decides x.pattern q.pattern).0 other)
     ∙ tied_itself profile_total q
 
 -- a profile that comes before another is not the one of its class and pattern
@@ -111,7 +151,8 @@ none_found p [] none = refl
 none_found p (x ∷ xs) none = ap (λ b. cond b (Some x) (find p xs)) none.0 ∙ none_found p xs none.1
 
 -- a name of a user is no group's, where no group's name is a user's
-no_group : (p : Policy) (id : List ℕ) → has_user p id ≡ true → (groups : List (List ℕ)) → AllByRecursion (λ (g : List ℕ). has_user p g ≡ false) groups → is_group groups id ≡ false
+no_group : (p : Policy) (id : List ℕ) → has_user p id ≡ true → (groups : List (List ℕ))
+    → AllByRecursion (λ (g : List ℕ). has_user p g ≡ false) groups → is_group groups id ≡ false
 no_group p id there [] apart = refl
 no_group p id there (g ∷ groups) apart = go (bytes_eq id g) refl (no_group p id there groups apart.1)
   where
@@ -149,7 +190,8 @@ module _ (p : Policy) (invariants : IsPolicy p) (order : IsOrdered p) where
       ap (λ b. unless b u.id (Ok (of_users (with_user u done)))) free
       ∙ ap (λ us. Ok (of_users us)) (replace_last user_cmp user_total done u all))
       p.users order.users
-      (all_of (λ (u : User). has_user p u.id ≡ true) (λ (u : User). has_group p u.id ≡ false) (λ u there. no_group p u.id there p.groups invariants.apart) p.users (all_found [] p.users))
+      (all_of (λ (u : User). has_user p u.id ≡ true) (λ (u : User). has_group p u.id ≡ false)
+      (λ u there. no_group p u.id there p.groups invariants.apart) p.users (all_found [] p.users))
 
   connects : policy_after (map row_of_connect p.connects) (of_connects []) ≡ Ok (of_connects p.connects)
   connects =
@@ -163,14 +205,18 @@ module _ (p : Policy) (invariants : IsPolicy p) (order : IsOrdered p) where
       → after_row (row_of_profile q) (of_profiles (map bare done)) ≡ Ok (of_profiles (map bare (done ++ q ∷ [])))
   profile_taken done q all stored =
       ap (λ b. needing b q.owner (Ok (of_profiles (with_definition (bare q) (map bare done))))) stored.0
-      ∙ ap (λ (o : Option Profile). Ok (of_profiles (with_profile (record q { entries = option_map_or (λ (r : Profile). r.entries) o [] }) (map bare done)))) unknown
-      ∙ ap (λ qs. Ok (of_profiles qs)) (replace_last profile_cmp profile_total (map bare done) (bare q) (all_map bare (λ (r : Profile). is_lt (profile_cmp r (bare q)) ≡ true) done all) ∙ sym (map_last bare done q))
+      ∙ ap (λ (o : Option Profile). Ok (of_profiles
+      (with_profile (record q { entries = option_map_or (λ (r : Profile). r.entries) o [] }) (map bare done))))
+      unknown
+      ∙ ap (λ qs. Ok (of_profiles qs)) (replace_last profile_cmp profile_total (map bare done) (bare q)
+      (all_map bare (λ (r : Profile). is_lt (profile_cmp r (bare q)) ≡ true) done all) ∙ sym (map_last bare done q))
     where
       unknown : profile_of (map bare done) q.class q.pattern ≡ None
       unknown =
           none_found (is_of q.class q.pattern) (map bare done)
           (all_map bare (λ (r : Profile). is_of q.class q.pattern r ≡ false) done
-          (all_of (λ (r : Profile). is_lt (profile_cmp r q) ≡ true) (λ (r : Profile). is_of q.class q.pattern (bare r) ≡ false) (λ r less. not_of r q less) done all))
+          (all_of (λ (r : Profile). is_lt (profile_cmp r q) ≡ true)
+          (λ (r : Profile). is_of q.class q.pattern (bare r) ≡ false) (λ r less. not_of r q less) done all))
 
   profiles : policy_after (map row_of_profile p.profiles) (of_profiles []) ≡ Ok (of_profiles (map bare p.profiles))
   profiles =
@@ -185,21 +231,29 @@ module _ (p : Policy) (invariants : IsPolicy p) (order : IsOrdered p) where
     entry_taken : (done : List Entry) (e : Entry) → AllByRecursion (λ (f : Entry). is_lt (entry_cmp f e) ≡ true) done → IsEntryOfStored p e
         → after_row (row_of_entry q.class q.pattern e) (of_profiles (listing done)) ≡ Ok (of_profiles (listing (done ++ e ∷ [])))
     entry_taken done e all stored =
-        ap (λ (o : Option Profile). needing (is_some o) q.pattern (needing (has_holder p e.id) e.id (Ok (of_profiles (option_map_or (λ (r : Profile). with_profile (record r { entries = with_entry e r.entries }) (listing done)) o (listing done)))))) known
+        ap (λ (o : Option Profile). needing (is_some o) q.pattern
+        (needing (has_holder p e.id) e.id
+        (Ok (of_profiles (option_map_or
+        (λ (r : Profile). with_profile (record r { entries = with_entry e r.entries }) (listing done)) o
+        (listing done)))))) known
         ∙ ap (λ b. needing b e.id (Ok (of_profiles (with_profile (record q { entries = with_entry e done }) (listing done))))) stored
-        ∙ ap (λ qs. Ok (of_profiles qs)) (replace_middle profile_cmp profile_total prefix (record q { entries = with_entry e done }) (record q { entries = done }) back after (tied_itself profile_total q))
+        ∙ ap (λ qs. Ok (of_profiles qs))
+        (replace_middle profile_cmp profile_total prefix (record q { entries = with_entry e done })
+        (record q { entries = done }) back after (tied_itself profile_total q))
         ∙ ap (λ es. Ok (of_profiles (listing es))) (replace_last entry_cmp entry_total done e all)
       where
         known : profile_of (listing done) q.class q.pattern ≡ Some (record q { entries = done })
         known =
             find_past (is_of q.class q.pattern) prefix (record q { entries = done } ∷ back)
-            (all_of (λ (r : Profile). is_lt (profile_cmp r q) ≡ true) (λ (r : Profile). is_of q.class q.pattern r ≡ false) (λ r less. not_of r q less) prefix after)
+            (all_of (λ (r : Profile). is_lt (profile_cmp r q) ≡ true)
+            (λ (r : Profile). is_of q.class q.pattern r ≡ false) (λ r less. not_of r q less) prefix after)
             ∙ ap (λ b. cond b (Some (record q { entries = done })) (find (is_of q.class q.pattern) back)) (is_its_own q)
 
     list_taken : Ascends (λ (e f : Entry). is_lt (entry_cmp e f)) q.entries → AllByRecursion (IsEntryOfStored p) q.entries
         → policy_after (permits_of q) (of_profiles (listing [])) ≡ Ok (of_profiles (prefix ++ q ∷ back))
     list_taken ascends stored =
-        all_taken (row_of_entry q.class q.pattern) (λ es. of_profiles (listing es)) (λ (e f : Entry). is_lt (entry_cmp e f)) (IsEntryOfStored p) entry_taken q.entries ascends stored
+        all_taken (row_of_entry q.class q.pattern) (λ es. of_profiles (listing es))
+        (λ (e f : Entry). is_lt (entry_cmp e f)) (IsEntryOfStored p) entry_taken q.entries ascends stored
 
   lists_from : (prefix back : List Profile) → Ascends (λ (q r : Profile). is_lt (profile_cmp q r)) (prefix ++ back)
       → AllByRecursion (λ (q : Profile). Ascends (λ (e f : Entry). is_lt (entry_cmp e f)) q.entries) back → AllByRecursion (IsProfileOfStored p) back
@@ -207,7 +261,8 @@ module _ (p : Policy) (invariants : IsPolicy p) (order : IsOrdered p) where
   lists_from prefix [] ascends entries stored = refl
   lists_from prefix (q ∷ back) ascends entries stored =
       let same : (prefix ++ q ∷ []) ++ back ≡ prefix ++ q ∷ back = append_assoc prefix (q ∷ []) back in
-      then_rows (permits_of q) (flat_map permits_of back) (of_profiles (prefix ++ bare q ∷ map bare back)) (of_profiles (prefix ++ q ∷ map bare back)) (of_profiles (prefix ++ q ∷ back))
+      then_rows (permits_of q) (flat_map permits_of back) (of_profiles (prefix ++ bare q ∷ map bare back))
+      (of_profiles (prefix ++ q ∷ map bare back)) (of_profiles (prefix ++ q ∷ back))
       (list_taken prefix q (map bare back) (all_before (λ (r s : Profile). is_lt (profile_cmp r s)) prefix q back ascends) entries.0 stored.0.1)
       (ap (λ qs. policy_after (flat_map permits_of back) (of_profiles qs)) (sym (append_assoc prefix (q ∷ []) (map bare back)))
       ∙ lists_from (prefix ++ q ∷ []) back (subst (Ascends (λ (r s : Profile). is_lt (profile_cmp r s))) (sym same) ascends) entries.1 stored.1

@@ -1,5 +1,31 @@
 -- Each step of the machine keeps the invariants of a state.
-use Rattle.std.proofs.Common.{◌≡◌, inl, inr, ℕ, Bool, true, false, not, if◌then◌else◌, List, [], ◌∷◌, Option, Some, None, Result, Ok, Err, filter, map, refl, sym, subst, codes, rules}
+use Rattle.std.proofs.Common.{
+  ◌≡◌,
+  inl,
+  inr,
+  ℕ,
+  Bool,
+  true,
+  false,
+  not,
+  if◌then◌else◌,
+  List,
+  [],
+  ◌∷◌,
+  Option,
+  Some,
+  None,
+  Result,
+  Ok,
+  Err,
+  filter,
+  map,
+  refl,
+  sym,
+  subst,
+  codes,
+  rules,
+}
 use Rattle.std.specs.Option.{is_none, is_some, option_and_then}
 use Rattle.opc_names.specs.declared.class.Class.{Class}
 use Rattle.opc_terms.specs.declared.fault.Fault.{Fault}
@@ -29,11 +55,36 @@ use Rattle.opc_state.specs.State.{State, has_users}
 use Rattle.opc_state.specs.Loads.{asked_for}
 use Rattle.opc_machine.specs.Administration.{admin_outcome, board_changed, changed, policy_changed}
 use Rattle.opc_machine.specs.Bootstrap.{console_after, consoles_after, with_rows_of, with_rows, loses_master, mastered, policy_after}
-use Rattle.opc_machine.specs.Commands.{acted, allowed, board_command, command_in, command_outcome, console_for, event_outcome, is_password, known_by, admit, logoff, logon, need_of, without_need, nobody_on, typed}
+use Rattle.opc_machine.specs.Commands.{
+  acted,
+  allowed,
+  board_command,
+  command_in,
+  command_outcome,
+  console_for,
+  event_outcome,
+  is_password,
+  known_by,
+  admit,
+  logoff,
+  logon,
+  need_of,
+  without_need,
+  nobody_on,
+  typed,
+}
 use Rattle.opc_machine.specs.Imports.{batch_line, batch_of, batch_outcome, import_outcome, same_rows}
 use Rattle.opc_machine.specs.Inputs.{Input}
 use Rattle.opc_machine.specs.Inputs as input
-use Rattle.opc_machine_invariants.specs.KeptInvariants.{BootstrapsKeepInvariants, EmptyHasInvariants, InvariantsGiveKeys, HasInvariants, IsOrdered, RunsKeepInvariants, StepsKeepInvariants}
+use Rattle.opc_machine_invariants.specs.KeptInvariants.{
+  BootstrapsKeepInvariants,
+  EmptyHasInvariants,
+  InvariantsGiveKeys,
+  HasInvariants,
+  IsOrdered,
+  RunsKeepInvariants,
+  StepsKeepInvariants,
+}
 use Rattle.opc_machine.specs.Listings.{account_line, account_outcome, profile_line, profiles_outcome}
 use Rattle.opc_machine.specs.Machine.{account_row, accounted, after, is_warned, outcome}
 use Rattle.opc_machine.specs.declared.operation.Operation.{Operation}
@@ -59,14 +110,18 @@ with_board_kept s b invariants kept = record { state = record { board = kept.0; 
 
 -- commands and events
 
-acted_kept : (s : State) (why : Option Rule) (o : BoardOutcome) (lines : BoardDone → List Line) → HasInvariants s → IfDone s.policy o → IfDoes (acted why o >>= λ act. does (record s { board = act.board }) (lines act) why)
+acted_kept : (s : State) (why : Option Rule) (o : BoardOutcome) (lines : BoardDone → List Line) → HasInvariants s
+    → IfDone s.policy o → IfDoes (acted why o >>= λ act. does (record s { board = act.board }) (lines act) why)
 acted_kept s why (Ok d) lines invariants kept = with_board_kept s d.board invariants kept
 acted_kept s why (Err f) lines invariants kept = tt
 
 board_command_kept : (s : State) (c : ConsoleRow) (k : Command) (need : Need) → HasInvariants s → IfDoes (board_command s c k need)
 board_command_kept s c k need invariants =
-    then_kept (allowed (ruling s c need)) (λ why. acted (Some why) (effect s.board k c.name) >>= λ act. does (record s { board = act.board }) (filter (shown s c) act.lines) (Some why))
-    (λ why is. acted_kept s (Some why) (effect s.board k c.name) (λ act. filter (shown s c) act.lines) invariants (effect_kept s.policy s.board k c.name (invariants.state.board, invariants.state.logons)))
+    then_kept (allowed (ruling s c need))
+    (λ why. acted (Some why) (effect s.board k c.name) >>= λ act. does (record s { board = act.board })
+    (filter (shown s c) act.lines) (Some why))
+    (λ why is. acted_kept s (Some why) (effect s.board k c.name) (λ act. filter (shown s c) act.lines) invariants
+    (effect_kept s.policy s.board k c.name (invariants.state.board, invariants.state.logons)))
 
 -- the user of a logon is stored
 known_stored : (s : State) (id password : List ℕ) (u : User) → known_by s id password ≡ Some u → has_user s.policy id ≡ true
@@ -78,16 +133,23 @@ known_stored s id password u h = go (user_of s.policy.users id) h
 
 logon_kept : (s : State) (c : ConsoleRow) (id password : List ℕ) → HasInvariants s → IfDoes (logon s c id password)
 logon_kept s c id password invariants =
-    then_kept (nobody_on c.user) (λ _. found fault.BadLogon (known_by s id password) >>= λ user. admit (logon_ruling s c user) >>= λ why. does (record s { board = logged_on c.name id s.board }) [] (Some why))
-    (λ _ _. then_kept (found fault.BadLogon (known_by s id password)) (λ user. admit (logon_ruling s c user) >>= λ why. does (record s { board = logged_on c.name id s.board }) [] (Some why))
+    then_kept (nobody_on c.user) (λ _. found fault.BadLogon (known_by s id password) >>= λ user. admit
+    (logon_ruling s c user) >>= λ why. does (record s { board = logged_on c.name id s.board }) [] (Some why))
+    (λ _ _. then_kept (found fault.BadLogon (known_by s id password))
+    (λ user. admit (logon_ruling s c user) >>= λ why. does (record s { board = logged_on c.name id s.board }) []
+    (Some why))
     (λ user is. then_kept (admit (logon_ruling s c user)) (λ why. does (record s { board = logged_on c.name id s.board }) [] (Some why))
     (λ why _. with_board_kept s (logged_on c.name id s.board) invariants
-    (changed_kept s.policy c.name (λ (d : ConsoleRow). record d { user = Some id }) s.board (λ d. refl) (λ d was. known_stored s id password user (found_ok fault.BadLogon (known_by s id password) user is)) (invariants.state.board, invariants.state.logons)))))
+    (changed_kept s.policy c.name (λ (d : ConsoleRow). record d { user = Some id }) s.board (λ d. refl)
+    (λ d was. known_stored s id password user (found_ok fault.BadLogon (known_by s id password) user is))
+    (invariants.state.board, invariants.state.logons)))))
 
 logoff_kept : (s : State) (c : ConsoleRow) → HasInvariants s → IfDoes (logoff s c)
 logoff_kept s c invariants =
     then_kept (refuse_if fault.NotOn None (is_none c.user)) (λ _. does (record s { board = logged_off c.name s.board }) [] None)
-    (λ _ _. with_board_kept s (logged_off c.name s.board) invariants (changed_kept s.policy c.name (λ (d : ConsoleRow). record d { user = None }) s.board (λ d. refl) (λ d was. tt) (invariants.state.board, invariants.state.logons)))
+    (λ _ _. with_board_kept s (logged_off c.name s.board) invariants
+    (changed_kept s.policy c.name (λ (d : ConsoleRow). record d { user = None }) s.board (λ d. refl) (λ d was. tt)
+    (invariants.state.board, invariants.state.logons)))
 
 no_need_kept : (s : State) (c : ConsoleRow) (k : Command) → HasInvariants s → IfDoes (without_need s c k)
 no_need_kept s c (command.Logon id password) invariants = logon_kept s c id.value password.value invariants
@@ -104,7 +166,8 @@ command_kept s name text invariants =
     (λ c _. then_kept (command_in text) (λ k. typed s c k (need_of s.board k)) (λ k _. typed_kept s c k (need_of s.board k) invariants))
 
 event_kept_in : (s : State) (e : Event) → HasInvariants s → IfDoes (event_outcome s e)
-event_kept_in s e invariants = acted_kept s None (event_effect s.board e) (λ act. []) invariants (event_kept s.policy s.board e (invariants.state.board, invariants.state.logons))
+event_kept_in s e invariants = acted_kept s None (event_effect s.board e) (λ act. []) invariants
+    (event_kept s.policy s.board e (invariants.state.board, invariants.state.logons))
 
 -- administration and imports
 
@@ -112,7 +175,8 @@ abbrev IfTaken : Result State Fault → Type 0
 IfTaken (Ok s) = HasInvariants s
 IfTaken (Err f) = Unit {0}
 
-with_rows_kept : (s : State) (b : BoardRows) (r : Result Policy Fault) → IfMade (λ q. IsPolicy q × IsKeptBoard q b) r → IfMade IsOrdered r → IfTaken (with_rows_of s b r)
+with_rows_kept : (s : State) (b : BoardRows) (r : Result Policy Fault) → IfMade (λ q. IsPolicy q × IsKeptBoard q b) r
+    → IfMade IsOrdered r → IfTaken (with_rows_of s b r)
 with_rows_kept s b (Ok p) kept order = go (loses_master s.board b)
   where
     go : (lost : Bool) → IfTaken (mastered lost (record s { policy = p; board = b }))
@@ -126,9 +190,13 @@ or_kept (Err fault) f kept h = tt
 
 admin_kept : (s : State) (name : List ℕ) (o : Operation) → HasInvariants s → IfDoes (admin_outcome s name o)
 admin_kept s name o invariants =
-    then_kept (console_asking s name) (λ c. refuse_if (right_fault o) None (not (may_change s c o)) >>= λ _. or_refused (changed s o) >>= λ new. does new [] None)
+    then_kept (console_asking s name) (λ c. refuse_if (right_fault o) None (not (may_change s c o)) >>= λ _. or_refused
+    (changed s o) >>= λ new. does new [] None)
     (λ c _. then_kept (refuse_if (right_fault o) None (not (may_change s c o))) (λ _. or_refused (changed s o) >>= λ new. does new [] None)
-    (λ _ _. or_kept (changed s o) (λ new. does new [] None) (with_rows_kept s (board_changed o s.board) (policy_changed s.board o s.policy) (policy_kept s.board o s.policy invariants.state.policy (invariants.state.board, invariants.state.logons)) (policy_ordered s.board o s.policy invariants.order)) (λ t kept. kept)))
+    (λ _ _. or_kept (changed s o) (λ new. does new [] None)
+    (with_rows_kept s (board_changed o s.board) (policy_changed s.board o s.policy)
+    (policy_kept s.board o s.policy invariants.state.policy (invariants.state.board, invariants.state.logons))
+    (policy_ordered s.board o s.policy invariants.order)) (λ t kept. kept)))
 
 consoles_kept : (p : Policy) (all : List Row) (b : BoardRows) → IsKeptBoard p b → IsKeptBoard p (consoles_after all b)
 consoles_kept p [] b kept = kept
@@ -139,15 +207,26 @@ consoles_kept p (row ∷ more) b kept = consoles_kept p more (console_after row 
     one other = kept
 
 with_all_rows_kept : (all : List Row) (s : State) → HasInvariants s → IfTaken (with_rows all s)
-with_all_rows_kept all s invariants = with_rows_kept s (consoles_after all s.board) (policy_after all s.policy) (go (policy_after all s.policy) (rows_kept all s.policy invariants.state.policy)) (rows_ordered all s.policy invariants.order)
+with_all_rows_kept all s invariants = with_rows_kept s (consoles_after all s.board) (policy_after all s.policy)
+    (go (policy_after all s.policy) (rows_kept all s.policy invariants.state.policy))
+    (rows_ordered all s.policy invariants.order)
   where
     go : (r : Result Policy Fault) → IfMade (λ q. IsPolicy q × Extends s.policy q) r → IfMade (λ q. IsPolicy q × IsKeptBoard q (consoles_after all s.board)) r
-    go (Ok q) h = (h.0, board_on s.policy q h.1 (consoles_after all s.board) (consoles_kept s.policy all s.board (invariants.state.board, invariants.state.logons)))
+    go (Ok q) h = (
+      h.0,
+      board_on s.policy q h.1 (consoles_after all s.board)
+          (consoles_kept s.policy all s.board (invariants.state.board, invariants.state.logons)),
+    )
     go (Err f) h = tt
 
 batch_kept : (s : State) (number : ℕ) (all : List Row) (kept : Option Batch) → HasInvariants s → IfDoes (batch_outcome s number all kept)
 batch_kept s number all None invariants =
-    or_kept (with_rows all s) (λ new. does (record new { batches = with_batch (record { number = number; rows = all }) new.batches }) (batch_line number (codes "KEPT") ∷ []) None) (with_all_rows_kept all s invariants)
+    or_kept (with_rows all s) (λ new. does (record new {
+      batches = with_batch (record {
+        number = number;
+        rows = all;
+      }) new.batches;
+    }) (batch_line number (codes "KEPT") ∷ []) None) (with_all_rows_kept all s invariants)
     (λ t held. record { state = record { board = held.state.board; policy = held.state.policy; logons = held.state.logons }; order = held.order })
 batch_kept s number all (Some kept) invariants = go (same_rows kept.rows all)
   where
@@ -157,19 +236,24 @@ batch_kept s number all (Some kept) invariants = go (same_rows kept.rows all)
 
 import_kept : (s : State) (name : List ℕ) (number : ℕ) (all : List Row) → HasInvariants s → IfDoes (import_outcome s name number all)
 import_kept s name number all invariants =
-    then_kept (console_asking s name) (λ c. refuse_if fault.NotSpecial None (not (is_special (acting s c))) >>= λ _. batch_outcome s number all (batch_of s.batches number))
+    then_kept (console_asking s name) (λ c. refuse_if fault.NotSpecial None (not (is_special (acting s c))) >>= λ _.
+    batch_outcome s number all (batch_of s.batches number))
     (λ c _. then_kept (refuse_if fault.NotSpecial None (not (is_special (acting s c)))) (λ _. batch_outcome s number all (batch_of s.batches number))
     (λ _ _. batch_kept s number all (batch_of s.batches number) invariants))
 
 -- listings
 
 profiles_kept : (s : State) (name : List ℕ) (class : Class) → HasInvariants s → IfDoes (profiles_outcome s name class)
-profiles_kept s name class invariants = then_kept (console_asking s name) (λ c. does s (map profile_line (filter (profile_shown s c) (of_class class s.policy.profiles))) None) (λ c _. invariants)
+profiles_kept s name class invariants = then_kept (console_asking s name)
+    (λ c. does s (map profile_line (filter (profile_shown s c) (of_class class s.policy.profiles))) None)
+    (λ c _. invariants)
 
 account_kept : (s : State) (name : List ℕ) (from count : ℕ) → HasInvariants s → IfDoes (account_outcome s name from count)
 account_kept s name from count invariants =
-    then_kept (console_asking s name) (λ c. refuse_if fault.NotSpecial None (not (account_shown s c)) >>= λ _. does s (map account_line (asked_for from count s.account)) None)
-    (λ c _. then_kept (refuse_if fault.NotSpecial None (not (account_shown s c))) (λ _. does s (map account_line (asked_for from count s.account)) None) (λ _ _. invariants))
+    then_kept (console_asking s name) (λ c. refuse_if fault.NotSpecial None (not (account_shown s c)) >>= λ _. does s
+    (map account_line (asked_for from count s.account)) None)
+    (λ c _. then_kept (refuse_if fault.NotSpecial None (not (account_shown s c)))
+    (λ _. does s (map account_line (asked_for from count s.account)) None) (λ _ _. invariants))
 
 outcome_kept : (s : State) (r : Input) → HasInvariants s → IfDoes (outcome s r)
 outcome_kept s (input.Command name text) invariants = command_kept s name text invariants
@@ -185,18 +269,24 @@ after_kept s moment r (Ok deed) invariants kept = go (is_warned deed.rule)
     go : (b : Bool) → HasInvariants (if b then accounted (account_row s moment r (codes "WARN") deed.rule) deed.state else deed.state)
     go true = record { state = record { board = kept.state.board; policy = kept.state.policy; logons = kept.state.logons }; order = kept.order }
     go false = kept
-after_kept s moment r (Err denial) invariants kept = record { state = record { board = invariants.state.board; policy = invariants.state.policy; logons = invariants.state.logons }; order = invariants.order }
+after_kept s moment r (Err denial) invariants kept = record {
+  state = record { board = invariants.state.board; policy = invariants.state.policy; logons = invariants.state.logons };
+  order = invariants.order;
+}
 
 pub steps_keep : StepsKeepInvariants
 steps_keep s moment r answer new invariants (inl left) = subst HasInvariants (sym left.same) invariants
 steps_keep s moment r answer new invariants (inr (inl full)) = subst HasInvariants (sym full.same) invariants
-steps_keep s moment r answer new invariants (inr (inr done)) = subst HasInvariants (sym done.becomes) (after_kept s moment r (outcome s r) invariants (outcome_kept s r invariants))
+steps_keep s moment r answer new invariants (inr (inr done)) =
+    subst HasInvariants (sym done.becomes)
+    (after_kept s moment r (outcome s r) invariants (outcome_kept s r invariants))
 
 pub runs_keep : RunsKeepInvariants
 runs_keep s [] [] new invariants same = subst HasInvariants (sym same) invariants
 runs_keep s [] (answer ∷ answers) new invariants runs = absurd runs
 runs_keep s (r ∷ requests) [] new invariants runs = absurd runs
-runs_keep s (r ∷ requests) (answer ∷ answers) new invariants runs = runs_keep runs.0 requests answers new (steps_keep s r.0 r.1 answer runs.0 invariants runs.1) runs.2
+runs_keep s (r ∷ requests) (answer ∷ answers) new invariants runs =
+    runs_keep runs.0 requests answers new (steps_keep s r.0 r.1 answer runs.0 invariants runs.1) runs.2
 
 ok_state : (s t : State) → (let r : Result State Fault = Ok s in r) ≡ Ok t → s ≡ t
 ok_state s t h = search (rules, h)
@@ -214,13 +304,22 @@ bootstraps_keep more s new invariants made = go (has_users s.policy) (with_rows 
 
 pub empty_has : EmptyHasInvariants
 empty_has = record {
-  state = record { board = record { units_rise = tt; devices_rise = tt; consoles_rise = tt; replies_rise = tt; held = tt }; policy = record { apart = tt; connects = tt; profiles = tt }; logons = tt };
+  state = record {
+    board = record { units_rise = tt; devices_rise = tt; consoles_rise = tt; replies_rise = tt; held = tt };
+    policy = record { apart = tt; connects = tt; profiles = tt };
+    logons = tt;
+  };
   order = record { users = tt; groups = tt; connects = tt; profiles = tt; entries = tt };
 }
 
 pub give_keys : InvariantsGiveKeys
 give_keys s invariants = record {
-  board = record { units = invariants.state.board.units_rise; devices = invariants.state.board.devices_rise; consoles = invariants.state.board.consoles_rise; replies = invariants.state.board.replies_rise };
+  board = record {
+    units = invariants.state.board.units_rise;
+    devices = invariants.state.board.devices_rise;
+    consoles = invariants.state.board.consoles_rise;
+    replies = invariants.state.board.replies_rise;
+  };
   users = invariants.order.users;
   profiles = invariants.order.profiles;
   entries = invariants.order.entries;

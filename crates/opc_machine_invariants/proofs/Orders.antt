@@ -63,7 +63,8 @@ module _ {X : Type 0} (cmp : X → X → Ordering) (total : IsTotalOrder cmp) wh
   replaced k [] up = (tt, tt)
   replaced k (x ∷ xs) up = go (cmp k x) refl (replaced k xs up.1)
     where
-      go : (o : Ordering) → cmp k x ≡ o → Ascends before (replace_key cmp xs k) → Ascends before (match_ordering o (k ∷ x ∷ xs) (k ∷ xs) (x ∷ replace_key cmp xs k))
+      go : (o : Ordering) → cmp k x ≡ o → Ascends before (replace_key cmp xs k)
+          → Ascends before (match_ordering o (k ∷ x ∷ xs) (k ∷ xs) (x ∷ replace_key cmp xs k))
       go Less e later = ((ap is_lt e, above k x xs e up.0), up)
       go Equal e later = (level k x xs e up.0, up.1)
       go Greater e later = (all_replaced (λ y. before x y ≡ true) cmp k xs (below k x e) up.0, later)
@@ -81,7 +82,8 @@ module _ {X : Type 0} (cmp : X → X → Ordering) (total : IsTotalOrder cmp) wh
   inserted k [] up = (tt, tt)
   inserted k (x ∷ xs) up = go (cmp k x) refl (inserted k xs up.1)
     where
-      go : (o : Ordering) → cmp k x ≡ o → Ascends before (insert_key cmp xs k) → Ascends before (match_ordering o (k ∷ x ∷ xs) (x ∷ xs) (x ∷ insert_key cmp xs k))
+      go : (o : Ordering) → cmp k x ≡ o → Ascends before (insert_key cmp xs k)
+          → Ascends before (match_ordering o (k ∷ x ∷ xs) (x ∷ xs) (x ∷ insert_key cmp xs k))
       go Less e later = ((ap is_lt e, above k x xs e up.0), up)
       go Equal e later = up
       go Greater e later = (all_inserted (λ y. before x y ≡ true) k xs (below k x e) up.0, later)
@@ -114,19 +116,49 @@ profile_total = then_total (on_total (λ (p : Profile). p.class) class_total) (o
 
 module _ (p : Policy) (o : IsOrdered p) where
   with_users : (u : User) → IsOrdered (record p { users = with_user u p.users })
-  with_users u = record { users = replaced user_cmp user_total u p.users o.users; groups = o.groups; connects = o.connects; profiles = o.profiles; entries = o.entries }
+  with_users u = record {
+    users = replaced user_cmp user_total u p.users o.users;
+    groups = o.groups;
+    connects = o.connects;
+    profiles = o.profiles;
+    entries = o.entries;
+  }
 
   less_users : (id : List ℕ) → IsOrdered (record p { users = without_user id p.users })
-  less_users id = record { users = ascends_filter _ (λ (u : User). not (bytes_eq u.id id)) p.users o.users; groups = o.groups; connects = o.connects; profiles = o.profiles; entries = o.entries }
+  less_users id = record {
+    users = ascends_filter _ (λ (u : User). not (bytes_eq u.id id)) p.users o.users;
+    groups = o.groups;
+    connects = o.connects;
+    profiles = o.profiles;
+    entries = o.entries;
+  }
 
   with_groups : (name : List ℕ) → IsOrdered (record p { groups = with_group name p.groups })
-  with_groups name = record { users = o.users; groups = inserted name_cmp nat_list_cmp_total name p.groups o.groups; connects = o.connects; profiles = o.profiles; entries = o.entries }
+  with_groups name = record {
+    users = o.users;
+    groups = inserted name_cmp nat_list_cmp_total name p.groups o.groups;
+    connects = o.connects;
+    profiles = o.profiles;
+    entries = o.entries;
+  }
 
   with_connects : (c : Connect) → IsOrdered (record p { connects = with_connect c p.connects })
-  with_connects c = record { users = o.users; groups = o.groups; connects = inserted connect_cmp connect_total c p.connects o.connects; profiles = o.profiles; entries = o.entries }
+  with_connects c = record {
+    users = o.users;
+    groups = o.groups;
+    connects = inserted connect_cmp connect_total c p.connects o.connects;
+    profiles = o.profiles;
+    entries = o.entries;
+  }
 
   less_connects : (c : Connect) → IsOrdered (record p { connects = without_connect c p.connects })
-  less_connects c = record { users = o.users; groups = o.groups; connects = ascends_filter _ (λ (d : Connect). not (bytes_eq d.user c.user && bytes_eq d.group c.group)) p.connects o.connects; profiles = o.profiles; entries = o.entries }
+  less_connects c = record {
+    users = o.users;
+    groups = o.groups;
+    connects = ascends_filter _ (λ (d : Connect). not (bytes_eq d.user c.user && bytes_eq d.group c.group)) p.connects o.connects;
+    profiles = o.profiles;
+    entries = o.entries;
+  }
 
   abbrev IsListed : Profile → Type 0
   IsListed q = Ascends (λ (e f : Entry). is_lt (entry_cmp e f)) q.entries
@@ -153,9 +185,15 @@ module _ (p : Policy) (o : IsOrdered p) where
   listed_at class pattern q at = all_found IsListed (is_of class pattern) q p.profiles at o.entries
 
   with_definitions : (d : Profile) → IsListed d → IsOrdered (record p { profiles = with_definition d p.profiles })
-  with_definitions d listed = with_profile (record d { entries = option_map_or (λ (q : Profile). q.entries) (profile_of p.profiles d.class d.pattern) d.entries }) (go (profile_of p.profiles d.class d.pattern) refl)
+  with_definitions d listed = with_profile
+      (record d {
+        entries = option_map_or (λ (q : Profile). q.entries) (profile_of p.profiles d.class d.pattern)
+            d.entries;
+      }) (go (profile_of p.profiles d.class d.pattern) refl)
     where
-      go : (found : Option Profile) → profile_of p.profiles d.class d.pattern ≡ found → Ascends (λ (e f : Entry). is_lt (entry_cmp e f)) (option_map_or (λ (q : Profile). q.entries) found d.entries)
+      go : (found : Option Profile) → profile_of p.profiles d.class d.pattern ≡ found
+          → Ascends (λ (e f : Entry). is_lt (entry_cmp e f))
+          (option_map_or (λ (q : Profile). q.entries) found d.entries)
       go None at = listed
       go (Some q) at = listed_at d.class d.pattern q at
 
@@ -163,38 +201,94 @@ module _ (p : Policy) (o : IsOrdered p) where
   with_permissions class pattern e = go (profile_of p.profiles class pattern) refl
     where
       go : (found : Option Profile) → profile_of p.profiles class pattern ≡ found
-          → IsOrdered (record p { profiles = option_map_or (λ (q : Profile). replace_key profile_cmp p.profiles (record q { entries = with_entry e q.entries })) found p.profiles })
+          → IsOrdered (record p {
+            profiles = option_map_or
+                (λ (q : Profile). replace_key profile_cmp p.profiles (record q { entries = with_entry e q.entries }))
+                found p.profiles;
+          })
       go None at = record { users = o.users; groups = o.groups; connects = o.connects; profiles = o.profiles; entries = o.entries }
       go (Some q) at = with_profile (record q { entries = with_entry e q.entries }) (replaced entry_cmp order e q.entries (listed_at class pattern q at))
 
-  less_permissions : (class : Class) (pattern id : List ℕ) (when : Option (List ℕ)) → IsOrdered (record p { profiles = without_permission class pattern id when p.profiles })
+  less_permissions : (class : Class) (pattern id : List ℕ) (when : Option (List ℕ))
+      → IsOrdered (record p { profiles = without_permission class pattern id when p.profiles })
   less_permissions class pattern id when = go (profile_of p.profiles class pattern) refl
     where
       go : (found : Option Profile) → profile_of p.profiles class pattern ≡ found
-          → IsOrdered (record p { profiles = option_map_or (λ (q : Profile). replace_key profile_cmp p.profiles (record q { entries = without_entry id when q.entries })) found p.profiles })
+          → IsOrdered (record p {
+            profiles = option_map_or
+                (λ (q : Profile). replace_key profile_cmp p.profiles
+                (record q { entries = without_entry id when q.entries })) found p.profiles;
+          })
       go None at = record { users = o.users; groups = o.groups; connects = o.connects; profiles = o.profiles; entries = o.entries }
-      go (Some q) at = with_profile (record q { entries = without_entry id when q.entries }) (ascends_filter _ (λ (e : Entry). not (is_for when id e)) q.entries (listed_at class pattern q at))
+      go (Some q) at = with_profile (record q { entries = without_entry id when q.entries })
+          (ascends_filter _ (λ (e : Entry). not (is_for when id e)) q.entries (listed_at class pattern q at))
 
 -- Each operation keeps the order,
 pub policy_ordered : (b : BoardRows) (op : Operation) (p : Policy) → IsOrdered p → IfMade IsOrdered (policy_changed b op p)
-policy_ordered b (operation.AddUser id special auditor digest restricted) p o = unless_made IsOrdered (has_name p id) id _ (λ _. with_users p o (record { id = id; special = special; auditor = auditor; revoked = false; digest = digest; restricted = restricted }))
-policy_ordered b (operation.AltUser id special auditor revoked digest restricted) p o = needing_made IsOrdered (has_user p id) id _ (λ _. with_users p o (record { id = id; special = special; auditor = auditor; revoked = revoked; digest = digest; restricted = restricted }))
-policy_ordered b (operation.DelUser id) p o = needing_made IsOrdered (has_user p id) id _ (λ _. in_use_made IsOrdered (is_in_use p b id) id _ (λ _. less_users p o id))
+policy_ordered b (operation.AddUser id special auditor digest restricted) p o = unless_made IsOrdered (has_name p id) id _ (λ _. with_users p o (record {
+  id = id;
+  special = special;
+  auditor = auditor;
+  revoked = false;
+  digest = digest;
+  restricted = restricted;
+}))
+policy_ordered b (operation.AltUser id special auditor revoked digest restricted) p o =
+    needing_made IsOrdered (has_user p id) id _ (λ _. with_users p o (record {
+      id = id;
+      special = special;
+      auditor = auditor;
+      revoked = revoked;
+      digest = digest;
+      restricted = restricted;
+    }))
+policy_ordered b (operation.DelUser id) p o =
+    needing_made IsOrdered (has_user p id) id _
+    (λ _. in_use_made IsOrdered (is_in_use p b id) id _ (λ _. less_users p o id))
 policy_ordered b (operation.AddGroup name) p o = unless_made IsOrdered (has_name p name) name _ (λ _. with_groups p o name)
 policy_ordered b (operation.Connect user group) p o =
-    needing_made IsOrdered (has_user p user) user _ (λ _. needing_made IsOrdered (has_group p group) group _ (λ _. unless_made IsOrdered (is_connected p user group) group _ (λ _. with_connects p o (record { user = user; group = group }))))
+    needing_made IsOrdered (has_user p user) user _
+    (λ _. needing_made IsOrdered (has_group p group) group _
+    (λ _. unless_made IsOrdered (is_connected p user group) group _ (λ _. with_connects p o (record {
+      user = user;
+      group = group;
+    }))))
 policy_ordered b (operation.Remove user group) p o =
-    needing_made IsOrdered (has_user p user) user _ (λ _. needing_made IsOrdered (has_group p group) group _ (λ _. needing_made IsOrdered (is_connected p user group) group _ (λ _. less_connects p o (record { user = user; group = group }))))
+    needing_made IsOrdered (has_user p user) user _
+    (λ _. needing_made IsOrdered (has_group p group) group _
+    (λ _. needing_made IsOrdered (is_connected p user group) group _ (λ _. less_connects p o (record {
+      user = user;
+      group = group;
+    }))))
 policy_ordered b (operation.RDefine class pattern owner uacc warning) p o =
-    unless_made IsOrdered (is_some (profile_of p.profiles class pattern)) pattern _ (λ _. needing_made IsOrdered (has_user p owner) owner _ (λ _. with_definitions p o (definition class pattern owner uacc warning) tt))
+    unless_made IsOrdered (is_some (profile_of p.profiles class pattern)) pattern _
+    (λ _. needing_made IsOrdered (has_user p owner) owner _
+    (λ _. with_definitions p o (definition class pattern owner uacc warning) tt))
 policy_ordered b (operation.RAlter class pattern owner uacc warning) p o =
-    needing_made IsOrdered (is_some (profile_of p.profiles class pattern)) pattern _ (λ _. needing_made IsOrdered (has_user p owner) owner _ (λ _. with_definitions p o (definition class pattern owner uacc warning) tt))
-policy_ordered b (operation.RDelete class pattern) p o = needing_made IsOrdered (is_some (profile_of p.profiles class pattern)) pattern _ (λ _. less_profiles p o class pattern)
+    needing_made IsOrdered (is_some (profile_of p.profiles class pattern)) pattern _
+    (λ _. needing_made IsOrdered (has_user p owner) owner _
+    (λ _. with_definitions p o (definition class pattern owner uacc warning) tt))
+policy_ordered b (operation.RDelete class pattern) p o =
+    needing_made IsOrdered (is_some (profile_of p.profiles class pattern)) pattern _
+    (λ _. less_profiles p o class pattern)
 policy_ordered b (operation.Permit class pattern id level when) p o =
-    needing_made IsOrdered (is_some (profile_of p.profiles class pattern)) pattern _ (λ _. needing_made IsOrdered (has_holder p id) id _ (λ _. with_permissions p o class pattern (record { id = id; when = when; level = level })))
+    needing_made IsOrdered (is_some (profile_of p.profiles class pattern)) pattern _
+    (λ _. needing_made IsOrdered (has_holder p id) id _ (λ _. with_permissions p o class pattern (record {
+      id = id;
+      when = when;
+      level = level;
+    })))
 policy_ordered b (operation.PermitDelete class pattern id when) p o =
-    needing_made IsOrdered (is_some (profile_of p.profiles class pattern)) pattern _ (λ _. needing_made IsOrdered (is_permitted p class pattern id when) id _ (λ _. less_permissions p o class pattern id when))
-policy_ordered b (operation.ClassActive class active) p o = record { users = o.users; groups = o.groups; connects = o.connects; profiles = o.profiles; entries = o.entries }
+    needing_made IsOrdered (is_some (profile_of p.profiles class pattern)) pattern _
+    (λ _. needing_made IsOrdered (is_permitted p class pattern id when) id _
+    (λ _. less_permissions p o class pattern id when))
+policy_ordered b (operation.ClassActive class active) p o = record {
+  users = o.users;
+  groups = o.groups;
+  connects = o.connects;
+  profiles = o.profiles;
+  entries = o.entries;
+}
 policy_ordered b (operation.DefineConsole name auth mode) p o = o
 
 -- so does each row,
@@ -202,18 +296,37 @@ row_ordered : (row : Row) (p : Policy) → IsOrdered p → IfMade IsOrdered (aft
 row_ordered (rows.Class class active) p o = record { users = o.users; groups = o.groups; connects = o.connects; profiles = o.profiles; entries = o.entries }
 row_ordered (rows.Group name) p o = unless_made IsOrdered (has_user p name) name _ (λ _. with_groups p o name)
 row_ordered (rows.User user) p o = unless_made IsOrdered (has_group p user.id) user.id _ (λ _. with_users p o user)
-row_ordered (rows.Connect user group) p o = needing_made IsOrdered (has_user p user) user _ (λ _. needing_made IsOrdered (has_group p group) group _ (λ _. with_connects p o (record { user = user; group = group })))
+row_ordered (rows.Connect user group) p o =
+    needing_made IsOrdered (has_user p user) user _
+    (λ _. needing_made IsOrdered (has_group p group) group _ (λ _. with_connects p o (record {
+      user = user;
+      group = group;
+    })))
 row_ordered (rows.Console name auth mode) p o = o
 row_ordered (rows.Profile class pattern uacc owner warning) p o =
-    needing_made IsOrdered (has_user p owner) owner _ (λ _. with_definitions p o (record { class = class; pattern = pattern; owner = owner; uacc = uacc; warning = warning; entries = [] }) tt)
+    needing_made IsOrdered (has_user p owner) owner _ (λ _. with_definitions p o (record {
+      class = class;
+      pattern = pattern;
+      owner = owner;
+      uacc = uacc;
+      warning = warning;
+      entries = [];
+    }) tt)
 row_ordered (rows.Permit class pattern id level when) p o =
-    needing_made IsOrdered (is_some (profile_of p.profiles class pattern)) pattern _ (λ _. needing_made IsOrdered (has_holder p id) id _ (λ _. with_permissions p o class pattern (record { id = id; when = when; level = level })))
+    needing_made IsOrdered (is_some (profile_of p.profiles class pattern)) pattern _
+    (λ _. needing_made IsOrdered (has_holder p id) id _ (λ _. with_permissions p o class pattern (record {
+      id = id;
+      when = when;
+      level = level;
+    })))
 
 -- and so do rows one after another
 pub rows_ordered : (all : List Row) (p : Policy) → IsOrdered p → IfMade IsOrdered (policy_after all p)
 rows_ordered [] p o = o
 rows_ordered (row ∷ more) p o = go (after_row row p) (row_ordered row p o) (λ q h. rows_ordered more q h)
   where
-    go : (r : Result Policy Fault) → IfMade IsOrdered r → ((q : Policy) → IsOrdered q → IfMade IsOrdered (policy_after more q)) → IfMade IsOrdered (then_policy r (λ q. policy_after more q))
+    go : (r : Result Policy Fault) → IfMade IsOrdered r
+        → ((q : Policy) → IsOrdered q → IfMade IsOrdered (policy_after more q))
+        → IfMade IsOrdered (then_policy r (λ q. policy_after more q))
     go (Ok q) h later = later q h
     go (Err f) h later = tt

@@ -1,5 +1,33 @@
 -- A policy that comes of an operation or a row names users and groups that it has, where the one before did.
-use Rattle.std.proofs.Common.{◌≡◌, ℕ, Bool, true, false, not, ◌||◌, ◌&&◌, if◌then◌else◌, List, [], ◌∷◌, Option, Some, None, Result, Ok, Err, refl, sym, ap, ◌∙◌, codes, filter, rules, IfSome, is_eq}
+use Rattle.std.proofs.Common.{
+  ◌≡◌,
+  ℕ,
+  Bool,
+  true,
+  false,
+  not,
+  ◌||◌,
+  ◌&&◌,
+  if◌then◌else◌,
+  List,
+  [],
+  ◌∷◌,
+  Option,
+  Some,
+  None,
+  Result,
+  Ok,
+  Err,
+  refl,
+  sym,
+  ap,
+  ◌∙◌,
+  codes,
+  filter,
+  rules,
+  IfSome,
+  is_eq,
+}
 use Rattle.std.specs.BTreeSet.{insert_key, replace_key}
 use Rattle.std.specs.List.{AllByRecursion, find, list_any}
 use Rattle.std.specs.Option.{is_some, option_map_or}
@@ -48,7 +76,8 @@ all_inserted {K} P cmp k (x ∷ xs) here all = go (cmp k x) (all_inserted P cmp 
     go Equal later = all
     go Greater later = (all.0, later)
 
-pub all_replaced : {K : Type 0} (P : K → Type 0) (cmp : K → K → Ordering) (k : K) (xs : List K) → P k → AllByRecursion P xs → AllByRecursion P (replace_key cmp xs k)
+pub all_replaced : {K : Type 0} (P : K → Type 0) (cmp : K → K → Ordering) (k : K) (xs : List K) → P k
+    → AllByRecursion P xs → AllByRecursion P (replace_key cmp xs k)
 all_replaced P cmp k [] here all = (here, tt)
 all_replaced {K} P cmp k (x ∷ xs) here all = go (cmp k x) (all_replaced P cmp k xs here all.1)
   where
@@ -74,7 +103,9 @@ or_right true b h = absurd (search (rules, h))
 or_right false b h = h
 
 -- a user that is put is found by its name, and else the others are
-some_replaced : {K : Type 0} (cmp : K → K → Ordering) (test : K → Bool) (k : K) (xs : List K) → ((x : K) → cmp k x ≡ Equal → test x ≡ test k) → is_some (find test (replace_key cmp xs k)) ≡ (test k || is_some (find test xs))
+some_replaced : {K : Type 0} (cmp : K → K → Ordering) (test : K → Bool) (k : K) (xs : List K)
+    → ((x : K) → cmp k x ≡ Equal → test x ≡ test k)
+    → is_some (find test (replace_key cmp xs k)) ≡ (test k || is_some (find test xs))
 some_replaced {K} cmp test k [] ties = go (test k)
   where
     go : (a : Bool) → is_some (let o : Option K = if a then Some k else None in o) ≡ (a || false)
@@ -90,26 +121,32 @@ some_replaced {K} cmp test k (x ∷ xs) ties = go (cmp k x) refl (some_replaced 
     compares_equal true b same = refl
     compares_equal false b same = sym (ap (λ (t : Bool). is_some (if t then Some x else find test xs)) same)
 
-    after : (a : Bool) → is_some (find test (replace_key cmp xs k)) ≡ (test k || is_some (find test xs)) → is_some (if a then Some x else find test (replace_key cmp xs k)) ≡ (test k || is_some (if a then Some x else find test xs))
+    after : (a : Bool) → is_some (find test (replace_key cmp xs k)) ≡ (test k || is_some (find test xs))
+        → is_some (if a then Some x else find test (replace_key cmp xs k)) ≡ (test k
+        || is_some (if a then Some x else find test xs))
     after true later = sym (or_true (test k))
     after false later = later
 
     go : (o : Ordering) → cmp k x ≡ o → is_some (find test (replace_key cmp xs k)) ≡ (test k || is_some (find test xs))
-        → is_some (find test (match_ordering o (k ∷ x ∷ xs) (k ∷ xs) (x ∷ replace_key cmp xs k))) ≡ (test k || is_some (if test x then Some x else find test xs))
+        → is_some (find test (match_ordering o (k ∷ x ∷ xs) (k ∷ xs) (x ∷ replace_key cmp xs k))) ≡ (test k
+        || is_some (if test x then Some x else find test xs))
     go Less same later = first (test k) (if test x then Some x else find test xs)
     go Equal same later = compares_equal (test k) (test x) (ties x same)
     go Greater same later = after (test x) later
 
 -- one that is inserted leaves the others
-any_inserted : {K : Type 0} (cmp : K → K → Ordering) (test : K → Bool) (k : K) (xs : List K) → list_any test xs ≡ true → list_any test (insert_key cmp xs k) ≡ true
+any_inserted : {K : Type 0} (cmp : K → K → Ordering) (test : K → Bool) (k : K) (xs : List K) → list_any test xs ≡ true
+    → list_any test (insert_key cmp xs k) ≡ true
 any_inserted cmp test k [] there = absurd (search (rules, there))
 any_inserted {K} cmp test k (x ∷ xs) there = go (cmp k x) (any_inserted cmp test k xs)
   where
-    after : (a : Bool) → (list_any test xs ≡ true → list_any test (insert_key cmp xs k) ≡ true) → (a || list_any test xs) ≡ true → (a || list_any test (insert_key cmp xs k)) ≡ true
+    after : (a : Bool) → (list_any test xs ≡ true → list_any test (insert_key cmp xs k) ≡ true)
+        → (a || list_any test xs) ≡ true → (a || list_any test (insert_key cmp xs k)) ≡ true
     after true later h = refl
     after false later h = later h
 
-    go : (o : Ordering) → (list_any test xs ≡ true → list_any test (insert_key cmp xs k) ≡ true) → list_any test (match_ordering o (k ∷ x ∷ xs) (x ∷ xs) (x ∷ insert_key cmp xs k)) ≡ true
+    go : (o : Ordering) → (list_any test xs ≡ true → list_any test (insert_key cmp xs k) ≡ true)
+        → list_any test (match_ordering o (k ∷ x ∷ xs) (x ∷ xs) (x ∷ insert_key cmp xs k)) ≡ true
     go Less later = ap (λ b. test k || b) there ∙ or_true (test k)
     go Equal later = there
     go Greater later = after (test x) later there
@@ -119,15 +156,21 @@ fewer_found : {K : Type 0} (test keep : K → Bool) (xs : List K) → is_some (f
 fewer_found test keep [] none = refl
 fewer_found {K} test keep (x ∷ xs) none = go (keep x) (test x) refl none (fewer_found test keep xs)
   where
-    go : (b a : Bool) → test x ≡ a → is_some (if a then Some x else find test xs) ≡ false → (is_some (find test xs) ≡ false → is_some (find test (filter keep xs)) ≡ false) → is_some (find test (if b then x ∷ filter keep xs else filter keep xs)) ≡ false
+    go : (b a : Bool) → test x ≡ a → is_some (if a then Some x else find test xs) ≡ false
+        → (is_some (find test xs) ≡ false → is_some (find test (filter keep xs)) ≡ false)
+        → is_some (find test (if b then x ∷ filter keep xs else filter keep xs)) ≡ false
     go b true so h later = absurd (search (rules, h))
     go true false so h later = ap (λ (t : Bool). is_some (if t then Some x else find test (filter keep xs))) so ∙ later h
     go false false so h later = later h
 
 -- where no element passes a test, what holds of those that don't holds of all
-all_unless : {K : Type 0} (test : K → Bool) (P Q : K → Type 0) → ((x : K) → test x ≡ false → P x → Q x) → (xs : List K) → list_any test xs ≡ false → AllByRecursion P xs → AllByRecursion Q xs
+all_unless : {K : Type 0} (test : K → Bool) (P Q : K → Type 0) → ((x : K) → test x ≡ false → P x → Q x) → (xs : List K)
+    → list_any test xs ≡ false → AllByRecursion P xs → AllByRecursion Q xs
 all_unless test P Q turns [] none all = tt
-all_unless test P Q turns (x ∷ xs) none all = (turns x (or_left (test x) (list_any test xs) none) all.0, all_unless test P Q turns xs (or_right (test x) (list_any test xs) none) all.1)
+all_unless test P Q turns (x ∷ xs) none all = (
+  turns x (or_left (test x) (list_any test xs) none) all.0,
+  all_unless test P Q turns xs (or_right (test x) (list_any test xs) none) all.1,
+)
 
 -- names
 
@@ -140,7 +183,10 @@ tied_names a b h = same_name a b (texts_ties a b ∙ ap is_eq h)
 -- a name that is not among some is none of them
 none_named : (name : List ℕ) (names : List (List ℕ)) → list_any (bytes_eq name) names ≡ false → AllByRecursion (λ (g : List ℕ). bytes_eq g name ≡ false) names
 none_named name [] none = tt
-none_named name (g ∷ names) none = (is_mirrored name g (or_left (bytes_eq name g) (list_any (bytes_eq name) names) none), none_named name names (or_right (bytes_eq name g) (list_any (bytes_eq name) names) none))
+none_named name (g ∷ names) none = (
+  is_mirrored name g (or_left (bytes_eq name g) (list_any (bytes_eq name) names) none),
+  none_named name names (or_right (bytes_eq name g) (list_any (bytes_eq name) names) none),
+)
 
 either_on : (a b c b' c' : Bool) → (b ≡ true → b' ≡ true) → (c ≡ true → c' ≡ true) → (a || b || c) ≡ true → (a || b' || c') ≡ true
 either_on true b c b' c' one other h = refl
@@ -158,14 +204,21 @@ extends_itself p = record { users = λ id h. h; groups = λ name h. h }
 extends_on : (p q r : Policy) → Extends p q → Extends q r → Extends p r
 extends_on p q r one other = record { users = λ id h. other.users id (one.users id h); groups = λ name h. other.groups name (one.groups name h) }
 
-connects_on : (p q : Policy) → Extends p q → (connects : List Connect) → AllByRecursion (IsConnectOfStored p) connects → AllByRecursion (IsConnectOfStored q) connects
+connects_on : (p q : Policy) → Extends p q → (connects : List Connect) → AllByRecursion (IsConnectOfStored p) connects
+    → AllByRecursion (IsConnectOfStored q) connects
 connects_on p q e connects all = all_weaker (IsConnectOfStored p) (IsConnectOfStored q) (λ c h. (e.users c.user h.0, e.groups c.group h.1)) connects all
 
 holder_on : (p q : Policy) → Extends p q → (id : List ℕ) → has_holder p id ≡ true → has_holder q id ≡ true
 holder_on p q e id h = either_on (bytes_eq id (codes "*")) (has_user p id) (has_group p id) (has_user q id) (has_group q id) (e.users id) (e.groups id) h
 
-profiles_on : (p q : Policy) → Extends p q → (profiles : List Profile) → AllByRecursion (IsProfileOfStored p) profiles → AllByRecursion (IsProfileOfStored q) profiles
-profiles_on p q e profiles all = all_weaker (IsProfileOfStored p) (IsProfileOfStored q) (λ x h. (e.users x.owner h.0, all_weaker (IsEntryOfStored p) (IsEntryOfStored q) (λ entry k. holder_on p q e entry.id k) x.entries h.1)) profiles all
+profiles_on : (p q : Policy) → Extends p q → (profiles : List Profile) → AllByRecursion (IsProfileOfStored p) profiles
+    → AllByRecursion (IsProfileOfStored q) profiles
+profiles_on p q e profiles all = all_weaker (IsProfileOfStored p) (IsProfileOfStored q)
+    (λ x h. (
+      e.users x.owner h.0,
+      all_weaker (IsEntryOfStored p) (IsEntryOfStored q)
+          (λ entry k. holder_on p q e entry.id k) x.entries h.1,
+    )) profiles all
 
 user_on : (p q : Policy) → Extends p q → (user : Option (List ℕ)) → IfSome user (λ id. has_user p id ≡ true) → IfSome user (λ id. has_user q id ≡ true)
 user_on p q e None h = tt
@@ -187,15 +240,20 @@ user_extends p u = record { users = λ id h. user_found p u id ∙ ap (λ b. byt
 
 user_kept : (p : Policy) (u : User) → IsPolicy p → AllByRecursion (λ (g : List ℕ). bytes_eq g u.id ≡ false) p.groups → IsPolicy (with_this p u)
 user_kept p u invariants others = record {
-  apart = all_weaker (λ (g : List ℕ). (has_user p g ≡ false) × (bytes_eq g u.id ≡ false)) (λ (g : List ℕ). has_user (with_this p u) g ≡ false) (λ g h. user_found p u g ∙ ap (λ b. b || has_user p g) h.1 ∙ h.0) p.groups
+  apart = all_weaker (λ (g : List ℕ). (has_user p g ≡ false) × (bytes_eq g u.id ≡ false))
+      (λ (g : List ℕ). has_user (with_this p u) g ≡ false)
+      (λ g h. user_found p u g ∙ ap (λ b. b || has_user p g) h.1 ∙ h.0) p.groups
       (all_both (λ (g : List ℕ). has_user p g ≡ false) (λ (g : List ℕ). bytes_eq g u.id ≡ false) p.groups invariants.apart others);
   connects = connects_on p (with_this p u) (user_extends p u) p.connects invariants.connects;
   profiles = profiles_on p (with_this p u) (user_extends p u) p.profiles invariants.profiles;
 }
 
 -- a stored user has no group's name
-stored_apart : (p : Policy) (id : List ℕ) → has_user p id ≡ true → AllByRecursion (λ (g : List ℕ). has_user p g ≡ false) p.groups → AllByRecursion (λ (g : List ℕ). bytes_eq g id ≡ false) p.groups
-stored_apart p id stored apart = all_weaker (λ (g : List ℕ). has_user p g ≡ false) (λ (g : List ℕ). bytes_eq g id ≡ false) (λ g none. go g none (bytes_eq g id) refl) p.groups apart
+stored_apart : (p : Policy) (id : List ℕ) → has_user p id ≡ true
+    → AllByRecursion (λ (g : List ℕ). has_user p g ≡ false) p.groups
+    → AllByRecursion (λ (g : List ℕ). bytes_eq g id ≡ false) p.groups
+stored_apart p id stored apart = all_weaker (λ (g : List ℕ). has_user p g ≡ false)
+    (λ (g : List ℕ). bytes_eq g id ≡ false) (λ g none. go g none (bytes_eq g id) refl) p.groups apart
   where
     go : (g : List ℕ) → has_user p g ≡ false → (b : Bool) → bytes_eq g id ≡ b → b ≡ false
     go g none false so = refl
@@ -214,41 +272,63 @@ group_kept p name invariants free = record {
 }
 
 connect_kept : (p : Policy) (c : Connect) → IsPolicy p → IsConnectOfStored p c → IsPolicy (record p { connects = with_connect c p.connects })
-connect_kept p c invariants stored = record { apart = invariants.apart; connects = all_inserted (IsConnectOfStored p) connect_cmp c p.connects stored invariants.connects; profiles = invariants.profiles }
+connect_kept p c invariants stored = record {
+  apart = invariants.apart;
+  connects = all_inserted (IsConnectOfStored p) connect_cmp c p.connects stored invariants.connects;
+  profiles = invariants.profiles;
+}
 
 -- profiles
 
-with_profiles_kept : (p : Policy) (profiles : List Profile) → IsPolicy p → AllByRecursion (IsProfileOfStored p) profiles → IsPolicy (record p { profiles = profiles })
+with_profiles_kept : (p : Policy) (profiles : List Profile) → IsPolicy p → AllByRecursion (IsProfileOfStored p) profiles
+    → IsPolicy (record p { profiles = profiles })
 with_profiles_kept p profiles invariants all = record { apart = invariants.apart; connects = invariants.connects; profiles = all }
 
 found_stored : (p : Policy) (class : Class) (pattern : List ℕ) (q : Profile) → IsPolicy p → profile_of p.profiles class pattern ≡ Some q → IsProfileOfStored p q
 found_stored p class pattern q invariants at = all_found (IsProfileOfStored p) (is_of class pattern) q p.profiles at invariants.profiles
 
-defined_stored : (p : Policy) (d : Profile) → IsPolicy p → has_user p d.owner ≡ true → AllByRecursion (IsEntryOfStored p) d.entries → IsPolicy (record p { profiles = with_definition d p.profiles })
+defined_stored : (p : Policy) (d : Profile) → IsPolicy p → has_user p d.owner ≡ true
+    → AllByRecursion (IsEntryOfStored p) d.entries → IsPolicy (record p { profiles = with_definition d p.profiles })
 defined_stored p d invariants owner entries =
     with_profiles_kept p (with_definition d p.profiles) invariants
-    (all_replaced (IsProfileOfStored p) profile_cmp (record d { entries = option_map_or (λ (q : Profile). q.entries) (profile_of p.profiles d.class d.pattern) d.entries }) p.profiles
+    (all_replaced (IsProfileOfStored p) profile_cmp
+    (record d {
+      entries = option_map_or (λ (q : Profile). q.entries) (profile_of p.profiles d.class d.pattern)
+          d.entries;
+    }) p.profiles
     (owner, go (profile_of p.profiles d.class d.pattern) refl) invariants.profiles)
   where
-    go : (o : Option Profile) → profile_of p.profiles d.class d.pattern ≡ o → AllByRecursion (IsEntryOfStored p) (option_map_or (λ (q : Profile). q.entries) o d.entries)
+    go : (o : Option Profile) → profile_of p.profiles d.class d.pattern ≡ o
+        → AllByRecursion (IsEntryOfStored p) (option_map_or (λ (q : Profile). q.entries) o d.entries)
     go None at = entries
     go (Some q) at = (found_stored p d.class d.pattern q invariants at).1
 
-permission_kept : (p : Policy) (class : Class) (pattern : List ℕ) (e : Entry) → IsPolicy p → IsEntryOfStored p e → IsPolicy (record p { profiles = with_permission class pattern e p.profiles })
-permission_kept p class pattern e invariants stored = with_profiles_kept p (with_permission class pattern e p.profiles) invariants (go (profile_of p.profiles class pattern) refl)
+permission_kept : (p : Policy) (class : Class) (pattern : List ℕ) (e : Entry) → IsPolicy p → IsEntryOfStored p e
+    → IsPolicy (record p { profiles = with_permission class pattern e p.profiles })
+permission_kept p class pattern e invariants stored =
+    with_profiles_kept p (with_permission class pattern e p.profiles) invariants
+    (go (profile_of p.profiles class pattern) refl)
   where
     go : (o : Option Profile) → profile_of p.profiles class pattern ≡ o
-        → AllByRecursion (IsProfileOfStored p) (option_map_or (λ (q : Profile). replace_key profile_cmp p.profiles (record q { entries = with_entry e q.entries })) o p.profiles)
+        → AllByRecursion (IsProfileOfStored p)
+        (option_map_or (λ (q : Profile). replace_key profile_cmp p.profiles
+        (record q { entries = with_entry e q.entries })) o p.profiles)
     go None at = invariants.profiles
     go (Some q) at =
         let was = found_stored p class pattern q invariants at in
-        all_replaced (IsProfileOfStored p) profile_cmp (record q { entries = with_entry e q.entries }) p.profiles (was.0, all_replaced (IsEntryOfStored p) entry_cmp e q.entries stored was.1) invariants.profiles
+        all_replaced (IsProfileOfStored p) profile_cmp (record q { entries = with_entry e q.entries }) p.profiles
+        (was.0, all_replaced (IsEntryOfStored p) entry_cmp e q.entries stored was.1) invariants.profiles
 
-less_permission_kept : (p : Policy) (class : Class) (pattern id : List ℕ) (when : Option (List ℕ)) → IsPolicy p → IsPolicy (record p { profiles = without_permission class pattern id when p.profiles })
-less_permission_kept p class pattern id when invariants = with_profiles_kept p (without_permission class pattern id when p.profiles) invariants (go (profile_of p.profiles class pattern) refl)
+less_permission_kept : (p : Policy) (class : Class) (pattern id : List ℕ) (when : Option (List ℕ)) → IsPolicy p
+    → IsPolicy (record p { profiles = without_permission class pattern id when p.profiles })
+less_permission_kept p class pattern id when invariants =
+    with_profiles_kept p (without_permission class pattern id when p.profiles) invariants
+    (go (profile_of p.profiles class pattern) refl)
   where
     go : (o : Option Profile) → profile_of p.profiles class pattern ≡ o
-        → AllByRecursion (IsProfileOfStored p) (option_map_or (λ (q : Profile). replace_key profile_cmp p.profiles (record q { entries = without_entry id when q.entries })) o p.profiles)
+        → AllByRecursion (IsProfileOfStored p)
+        (option_map_or (λ (q : Profile). replace_key profile_cmp p.profiles
+        (record q { entries = without_entry id when q.entries })) o p.profiles)
     go None at = invariants.profiles
     go (Some q) at =
         let was = found_stored p class pattern q invariants at in
@@ -262,31 +342,45 @@ module _ (p : Policy) (b : BoardRows) (id : List ℕ) (unused : is_in_use p b id
   gone = record p { users = without_user id p.users }
 
   unconnected : list_any (λ (c : Connect). bytes_eq c.user id) p.connects ≡ false
-  unconnected = or_left (list_any (λ (c : Connect). bytes_eq c.user id) p.connects) (list_any (λ (q : Profile). bytes_eq q.owner id || has_entry id q) p.profiles) (or_left ((list_any (λ (c : Connect). bytes_eq c.user id) p.connects) || (list_any (λ (q : Profile). bytes_eq q.owner id || has_entry id q) p.profiles)) (is_on id b) unused)
+  unconnected = or_left (list_any (λ (c : Connect). bytes_eq c.user id) p.connects)
+      (list_any (λ (q : Profile). bytes_eq q.owner id || has_entry id q) p.profiles)
+      (or_left ((list_any (λ (c : Connect). bytes_eq c.user id) p.connects)
+      || (list_any (λ (q : Profile). bytes_eq q.owner id || has_entry id q) p.profiles)) (is_on id b) unused)
 
   unowning : list_any (λ (q : Profile). bytes_eq q.owner id || has_entry id q) p.profiles ≡ false
-  unowning = or_right (list_any (λ (c : Connect). bytes_eq c.user id) p.connects) (list_any (λ (q : Profile). bytes_eq q.owner id || has_entry id q) p.profiles) (or_left ((list_any (λ (c : Connect). bytes_eq c.user id) p.connects) || (list_any (λ (q : Profile). bytes_eq q.owner id || has_entry id q) p.profiles)) (is_on id b) unused)
+  unowning = or_right (list_any (λ (c : Connect). bytes_eq c.user id) p.connects)
+      (list_any (λ (q : Profile). bytes_eq q.owner id || has_entry id q) p.profiles)
+      (or_left ((list_any (λ (c : Connect). bytes_eq c.user id) p.connects)
+      || (list_any (λ (q : Profile). bytes_eq q.owner id || has_entry id q) p.profiles)) (is_on id b) unused)
 
   off : is_on id b ≡ false
-  off = or_right ((list_any (λ (c : Connect). bytes_eq c.user id) p.connects) || (list_any (λ (q : Profile). bytes_eq q.owner id || has_entry id q) p.profiles)) (is_on id b) unused
+  off = or_right ((list_any (λ (c : Connect). bytes_eq c.user id) p.connects)
+      || (list_any (λ (q : Profile). bytes_eq q.owner id || has_entry id q) p.profiles)) (is_on id b) unused
 
   stays : (x : List ℕ) → bytes_eq x id ≡ false → has_user p x ≡ true → has_user gone x ≡ true
-  stays x differs there = find_filter (λ (u : User). bytes_eq x u.id) (λ (u : User). not (bytes_eq u.id id)) (λ u same. ap not (ap (λ n. bytes_eq n id) (sym (same_name x u.id same)) ∙ differs)) p.users there
+  stays x differs there = find_filter (λ (u : User). bytes_eq x u.id) (λ (u : User). not (bytes_eq u.id id))
+      (λ u same. ap not (ap (λ n. bytes_eq n id) (sym (same_name x u.id same)) ∙ differs)) p.users there
 
   entry_stays : (e : Entry) → bytes_eq e.id id ≡ false → IsEntryOfStored p e → IsEntryOfStored gone e
-  entry_stays e differs stored = either_on (bytes_eq e.id (codes "*")) (has_user p e.id) (has_group p e.id) (has_user gone e.id) (has_group p e.id) (stays e.id differs) (λ h. h) stored
+  entry_stays e differs stored = either_on (bytes_eq e.id (codes "*")) (has_user p e.id) (has_group p e.id)
+      (has_user gone e.id) (has_group p e.id) (stays e.id differs) (λ h. h) stored
 
   profile_stays : (q : Profile) → (bytes_eq q.owner id || has_entry id q) ≡ false → IsProfileOfStored p q → IsProfileOfStored gone q
   profile_stays q free stored = (
     stays q.owner (or_left (bytes_eq q.owner id) (has_entry id q) free) stored.0,
-    all_unless (λ (e : Entry). bytes_eq e.id id) (IsEntryOfStored p) (IsEntryOfStored gone) entry_stays q.entries (or_right (bytes_eq q.owner id) (has_entry id q) free) stored.1,
+    all_unless (λ (e : Entry). bytes_eq e.id id) (IsEntryOfStored p) (IsEntryOfStored gone) entry_stays q.entries
+        (or_right (bytes_eq q.owner id) (has_entry id q) free) stored.1,
   )
 
   gone_kept : IsPolicy p → IsPolicy gone
   gone_kept invariants = record {
-    apart = all_weaker (λ (g : List ℕ). has_user p g ≡ false) (λ (g : List ℕ). has_user gone g ≡ false) (λ g none. fewer_found (λ (u : User). bytes_eq g u.id) (λ (u : User). not (bytes_eq u.id id)) p.users none) p.groups invariants.apart;
-    connects = all_unless (λ (c : Connect). bytes_eq c.user id) (IsConnectOfStored p) (IsConnectOfStored gone) (λ c differs stored. (stays c.user differs stored.0, stored.1)) p.connects unconnected invariants.connects;
-    profiles = all_unless (λ (q : Profile). bytes_eq q.owner id || has_entry id q) (IsProfileOfStored p) (IsProfileOfStored gone) profile_stays p.profiles unowning invariants.profiles;
+    apart = all_weaker (λ (g : List ℕ). has_user p g ≡ false) (λ (g : List ℕ). has_user gone g ≡ false)
+        (λ g none. fewer_found (λ (u : User). bytes_eq g u.id) (λ (u : User). not (bytes_eq u.id id)) p.users none)
+        p.groups invariants.apart;
+    connects = all_unless (λ (c : Connect). bytes_eq c.user id) (IsConnectOfStored p) (IsConnectOfStored gone)
+        (λ c differs stored. (stays c.user differs stored.0, stored.1)) p.connects unconnected invariants.connects;
+    profiles = all_unless (λ (q : Profile). bytes_eq q.owner id || has_entry id q) (IsProfileOfStored p)
+        (IsProfileOfStored gone) profile_stays p.profiles unowning invariants.profiles;
   }
 
   holder_stays : (user : Option (List ℕ)) → is_holder id user ≡ false → IfSome user (λ x. has_user p x ≡ true) → IfSome user (λ x. has_user gone x ≡ true)
@@ -294,7 +388,11 @@ module _ (p : Policy) (b : BoardRows) (id : List ℕ) (unused : is_in_use p b id
   holder_stays (Some x) differs stored = stays x differs stored
 
   gone_board : IsKeptBoard p b → IsKeptBoard gone b
-  gone_board kept = (kept.0, all_unless (λ (c : ConsoleRow). is_holder id c.user) (IsConsoleOfStored p) (IsConsoleOfStored gone) (λ c differs stored. holder_stays c.user differs stored) b.consoles off kept.1)
+  gone_board kept = (
+    kept.0,
+    all_unless (λ (c : ConsoleRow). is_holder id c.user) (IsConsoleOfStored p) (IsConsoleOfStored gone)
+        (λ c differs stored. holder_stays c.user differs stored) b.consoles off kept.1,
+  )
 
 -- what is made of a policy, if it is
 abbrev pub IfMade : (Policy → Type 0) → Result Policy Fault → Type 0
@@ -309,51 +407,250 @@ pub needing_made : (P : Policy → Type 0) (b : Bool) (name : List ℕ) (made : 
 needing_made P true name made h = h refl
 needing_made P false name made h = tt
 
-pub in_use_made : (P : Policy → Type 0) (b : Bool) (name : List ℕ) (made : Result Policy Fault) → (b ≡ false → IfMade P made) → IfMade P (unless_in_use b name made)
+pub in_use_made : (P : Policy → Type 0) (b : Bool) (name : List ℕ) (made : Result Policy Fault)
+    → (b ≡ false → IfMade P made) → IfMade P (unless_in_use b name made)
 in_use_made P true name made h = tt
 in_use_made P false name made h = h refl
 
 -- Each operation keeps policy and board.
-pub policy_kept : (b : BoardRows) (o : Operation) (p : Policy) → IsPolicy p → IsKeptBoard p b → IfMade (λ q. IsPolicy q × IsKeptBoard q (board_changed o b)) (policy_changed b o p)
+pub policy_kept : (b : BoardRows) (o : Operation) (p : Policy) → IsPolicy p → IsKeptBoard p b
+    → IfMade (λ q. IsPolicy q × IsKeptBoard q (board_changed o b)) (policy_changed b o p)
 policy_kept b (operation.AddUser id special auditor digest restricted) p invariants kept =
-    unless_made (λ q. IsPolicy q × IsKeptBoard q b) (has_name p id) id (Ok (record p { users = with_user (record { id = id; special = special; auditor = auditor; revoked = false; digest = digest; restricted = restricted }) p.users })) (λ h0. (user_kept p (record { id = id; special = special; auditor = auditor; revoked = false; digest = digest; restricted = restricted }) invariants (none_named id p.groups (or_right (has_user p id) (has_group p id) h0)), board_on p (with_this p (record { id = id; special = special; auditor = auditor; revoked = false; digest = digest; restricted = restricted })) (user_extends p (record { id = id; special = special; auditor = auditor; revoked = false; digest = digest; restricted = restricted })) b kept))
+    unless_made (λ q. IsPolicy q × IsKeptBoard q b) (has_name p id) id
+    (Ok (record p {
+      users = with_user
+          (record {
+            id = id;
+            special = special;
+            auditor = auditor;
+            revoked = false;
+            digest = digest;
+            restricted = restricted;
+          }) p.users;
+    })) (λ h0. (
+      user_kept p (record {
+        id = id;
+        special = special;
+        auditor = auditor;
+        revoked = false;
+        digest = digest;
+        restricted = restricted;
+      }) invariants (none_named id p.groups (or_right (has_user p id) (has_group p id) h0)),
+      board_on p (with_this p (record {
+        id = id;
+        special = special;
+        auditor = auditor;
+        revoked = false;
+        digest = digest;
+        restricted = restricted;
+      })) (user_extends p
+          (record {
+            id = id;
+            special = special;
+            auditor = auditor;
+            revoked = false;
+            digest = digest;
+            restricted = restricted;
+          })) b kept,
+    ))
 policy_kept b (operation.AltUser id special auditor revoked digest restricted) p invariants kept =
-    needing_made (λ q. IsPolicy q × IsKeptBoard q b) (has_user p id) id (Ok (record p { users = with_user (record { id = id; special = special; auditor = auditor; revoked = revoked; digest = digest; restricted = restricted }) p.users })) (λ h0. (user_kept p (record { id = id; special = special; auditor = auditor; revoked = revoked; digest = digest; restricted = restricted }) invariants (stored_apart p id h0 invariants.apart), board_on p (with_this p (record { id = id; special = special; auditor = auditor; revoked = revoked; digest = digest; restricted = restricted })) (user_extends p (record { id = id; special = special; auditor = auditor; revoked = revoked; digest = digest; restricted = restricted })) b kept))
+    needing_made (λ q. IsPolicy q × IsKeptBoard q b) (has_user p id) id
+    (Ok (record p {
+      users = with_user
+          (record {
+            id = id;
+            special = special;
+            auditor = auditor;
+            revoked = revoked;
+            digest = digest;
+            restricted = restricted;
+          }) p.users;
+    })) (λ h0. (
+      user_kept p (record {
+        id = id;
+        special = special;
+        auditor = auditor;
+        revoked = revoked;
+        digest = digest;
+        restricted = restricted;
+      }) invariants (stored_apart p id h0 invariants.apart),
+      board_on p (with_this p (record {
+        id = id;
+        special = special;
+        auditor = auditor;
+        revoked = revoked;
+        digest = digest;
+        restricted = restricted;
+      }))
+          (user_extends p (record {
+            id = id;
+            special = special;
+            auditor = auditor;
+            revoked = revoked;
+            digest = digest;
+            restricted = restricted;
+          })) b kept,
+    ))
 policy_kept b (operation.DelUser id) p invariants kept =
-    needing_made (λ q. IsPolicy q × IsKeptBoard q b) (has_user p id) id (unless_in_use (is_in_use p b id) id (Ok (record p { users = without_user id p.users }))) (λ h0. in_use_made (λ q. IsPolicy q × IsKeptBoard q b) (is_in_use p b id) id (Ok (record p { users = without_user id p.users })) (λ h1. (gone_kept p b id h1 invariants, gone_board p b id h1 kept)))
+    needing_made (λ q. IsPolicy q × IsKeptBoard q b) (has_user p id) id
+    (unless_in_use (is_in_use p b id) id (Ok (record p { users = without_user id p.users })))
+    (λ h0. in_use_made (λ q. IsPolicy q × IsKeptBoard q b) (is_in_use p b id) id
+    (Ok (record p { users = without_user id p.users }))
+    (λ h1. (gone_kept p b id h1 invariants, gone_board p b id h1 kept)))
 policy_kept b (operation.AddGroup name) p invariants kept =
-    unless_made (λ q. IsPolicy q × IsKeptBoard q b) (has_name p name) name (Ok (record p { groups = with_group name p.groups })) (λ h0. (group_kept p name invariants (or_left (has_user p name) (has_group p name) h0), kept))
+    unless_made (λ q. IsPolicy q × IsKeptBoard q b) (has_name p name) name
+    (Ok (record p { groups = with_group name p.groups }))
+    (λ h0. (group_kept p name invariants (or_left (has_user p name) (has_group p name) h0), kept))
 policy_kept b (operation.Connect user group) p invariants kept =
-    needing_made (λ q. IsPolicy q × IsKeptBoard q b) (has_user p user) user (needing (has_group p group) group (unless (is_connected p user group) group (Ok (record p { connects = with_connect (record { user = user; group = group }) p.connects })))) (λ h0. needing_made (λ q. IsPolicy q × IsKeptBoard q b) (has_group p group) group (unless (is_connected p user group) group (Ok (record p { connects = with_connect (record { user = user; group = group }) p.connects }))) (λ h1. unless_made (λ q. IsPolicy q × IsKeptBoard q b) (is_connected p user group) group (Ok (record p { connects = with_connect (record { user = user; group = group }) p.connects })) (λ h2. (connect_kept p (record { user = user; group = group }) invariants (h0, h1), kept))))
+    needing_made (λ q. IsPolicy q × IsKeptBoard q b) (has_user p user) user
+    (needing (has_group p group) group
+    (unless (is_connected p user group) group
+    (Ok (record p { connects = with_connect (record { user = user; group = group }) p.connects }))))
+    (λ h0. needing_made (λ q. IsPolicy q × IsKeptBoard q b) (has_group p group) group
+    (unless (is_connected p user group) group
+    (Ok (record p { connects = with_connect (record { user = user; group = group }) p.connects })))
+    (λ h1. unless_made (λ q. IsPolicy q × IsKeptBoard q b) (is_connected p user group) group
+    (Ok (record p { connects = with_connect (record { user = user; group = group }) p.connects })) (λ h2. (
+      connect_kept p (record {
+        user = user;
+        group = group;
+      }) invariants (h0, h1),
+      kept,
+    ))))
 policy_kept b (operation.Remove user group) p invariants kept =
-    needing_made (λ q. IsPolicy q × IsKeptBoard q b) (has_user p user) user (needing (has_group p group) group (needing (is_connected p user group) group (Ok (record p { connects = without_connect (record { user = user; group = group }) p.connects })))) (λ h0. needing_made (λ q. IsPolicy q × IsKeptBoard q b) (has_group p group) group (needing (is_connected p user group) group (Ok (record p { connects = without_connect (record { user = user; group = group }) p.connects }))) (λ h1. needing_made (λ q. IsPolicy q × IsKeptBoard q b) (is_connected p user group) group (Ok (record p { connects = without_connect (record { user = user; group = group }) p.connects })) (λ h2. (record { apart = invariants.apart; connects = all_filter (IsConnectOfStored p) (λ (c : Connect). not (bytes_eq c.user user && bytes_eq c.group group)) p.connects invariants.connects; profiles = invariants.profiles }, kept))))
+    needing_made (λ q. IsPolicy q × IsKeptBoard q b) (has_user p user) user
+    (needing (has_group p group) group
+    (needing (is_connected p user group) group
+    (Ok (record p { connects = without_connect (record { user = user; group = group }) p.connects }))))
+    (λ h0. needing_made (λ q. IsPolicy q × IsKeptBoard q b) (has_group p group) group
+    (needing (is_connected p user group) group
+    (Ok (record p { connects = without_connect (record { user = user; group = group }) p.connects })))
+    (λ h1. needing_made (λ q. IsPolicy q × IsKeptBoard q b) (is_connected p user group) group
+    (Ok (record p { connects = without_connect (record { user = user; group = group }) p.connects })) (λ h2. (
+      record {
+        apart = invariants.apart;
+        connects = all_filter (IsConnectOfStored p) (λ (c : Connect). not (bytes_eq c.user user && bytes_eq c.group group)) p.connects invariants.connects;
+        profiles = invariants.profiles;
+      },
+      kept,
+    ))))
 policy_kept b (operation.RDefine class pattern owner uacc warning) p invariants kept =
-    unless_made (λ q. IsPolicy q × IsKeptBoard q b) (is_some (profile_of p.profiles class pattern)) pattern (needing (has_user p owner) owner (Ok (record p { profiles = with_definition (definition class pattern owner uacc warning) p.profiles }))) (λ h0. needing_made (λ q. IsPolicy q × IsKeptBoard q b) (has_user p owner) owner (Ok (record p { profiles = with_definition (definition class pattern owner uacc warning) p.profiles })) (λ h1. (defined_stored p (definition class pattern owner uacc warning) invariants h1 tt, kept)))
+    unless_made (λ q. IsPolicy q × IsKeptBoard q b) (is_some (profile_of p.profiles class pattern)) pattern
+    (needing (has_user p owner) owner
+    (Ok (record p { profiles = with_definition (definition class pattern owner uacc warning) p.profiles })))
+    (λ h0. needing_made (λ q. IsPolicy q × IsKeptBoard q b) (has_user p owner) owner
+    (Ok (record p { profiles = with_definition (definition class pattern owner uacc warning) p.profiles }))
+    (λ h1. (defined_stored p (definition class pattern owner uacc warning) invariants h1 tt, kept)))
 policy_kept b (operation.RAlter class pattern owner uacc warning) p invariants kept =
-    needing_made (λ q. IsPolicy q × IsKeptBoard q b) (is_some (profile_of p.profiles class pattern)) pattern (needing (has_user p owner) owner (Ok (record p { profiles = with_definition (definition class pattern owner uacc warning) p.profiles }))) (λ h0. needing_made (λ q. IsPolicy q × IsKeptBoard q b) (has_user p owner) owner (Ok (record p { profiles = with_definition (definition class pattern owner uacc warning) p.profiles })) (λ h1. (defined_stored p (definition class pattern owner uacc warning) invariants h1 tt, kept)))
+    needing_made (λ q. IsPolicy q × IsKeptBoard q b) (is_some (profile_of p.profiles class pattern)) pattern
+    (needing (has_user p owner) owner
+    (Ok (record p { profiles = with_definition (definition class pattern owner uacc warning) p.profiles })))
+    (λ h0. needing_made (λ q. IsPolicy q × IsKeptBoard q b) (has_user p owner) owner
+    (Ok (record p { profiles = with_definition (definition class pattern owner uacc warning) p.profiles }))
+    (λ h1. (defined_stored p (definition class pattern owner uacc warning) invariants h1 tt, kept)))
 policy_kept b (operation.RDelete class pattern) p invariants kept =
-    needing_made (λ q. IsPolicy q × IsKeptBoard q b) (is_some (profile_of p.profiles class pattern)) pattern (Ok (record p { profiles = without_profile class pattern p.profiles })) (λ h0. (with_profiles_kept p (without_profile class pattern p.profiles) invariants (all_filter (IsProfileOfStored p) (λ (q : Profile). not (is_of class pattern q)) p.profiles invariants.profiles), kept))
+    needing_made (λ q. IsPolicy q × IsKeptBoard q b) (is_some (profile_of p.profiles class pattern)) pattern
+    (Ok (record p { profiles = without_profile class pattern p.profiles }))
+    (λ h0. (
+      with_profiles_kept p (without_profile class pattern p.profiles) invariants
+          (all_filter (IsProfileOfStored p) (λ (q : Profile). not (is_of class pattern q)) p.profiles
+          invariants.profiles),
+      kept,
+    ))
 policy_kept b (operation.Permit class pattern id level when) p invariants kept =
-    needing_made (λ q. IsPolicy q × IsKeptBoard q b) (is_some (profile_of p.profiles class pattern)) pattern (needing (has_holder p id) id (Ok (record p { profiles = with_permission class pattern (record { id = id; when = when; level = level }) p.profiles }))) (λ h0. needing_made (λ q. IsPolicy q × IsKeptBoard q b) (has_holder p id) id (Ok (record p { profiles = with_permission class pattern (record { id = id; when = when; level = level }) p.profiles })) (λ h1. (permission_kept p class pattern (record { id = id; when = when; level = level }) invariants h1, kept)))
+    needing_made (λ q. IsPolicy q × IsKeptBoard q b) (is_some (profile_of p.profiles class pattern)) pattern
+    (needing (has_holder p id) id (Ok
+    (record p {
+      profiles = with_permission class pattern (record { id = id; when = when; level = level }) p.profiles;
+    }))) (λ h0. needing_made (λ q. IsPolicy q × IsKeptBoard q b) (has_holder p id) id
+    (Ok (record p {
+      profiles = with_permission class pattern (record { id = id; when = when; level = level })
+          p.profiles;
+    })) (λ h1. (
+      permission_kept p class pattern (record {
+        id = id;
+        when = when;
+        level = level;
+      }) invariants h1,
+      kept,
+    )))
 policy_kept b (operation.PermitDelete class pattern id when) p invariants kept =
-    needing_made (λ q. IsPolicy q × IsKeptBoard q b) (is_some (profile_of p.profiles class pattern)) pattern (needing (is_permitted p class pattern id when) id (Ok (record p { profiles = without_permission class pattern id when p.profiles }))) (λ h0. needing_made (λ q. IsPolicy q × IsKeptBoard q b) (is_permitted p class pattern id when) id (Ok (record p { profiles = without_permission class pattern id when p.profiles })) (λ h1. (less_permission_kept p class pattern id when invariants, kept)))
-policy_kept b (operation.ClassActive class active) p invariants kept = (record { apart = invariants.apart; connects = invariants.connects; profiles = invariants.profiles }, kept)
+    needing_made (λ q. IsPolicy q × IsKeptBoard q b) (is_some (profile_of p.profiles class pattern)) pattern
+    (needing (is_permitted p class pattern id when) id
+    (Ok (record p { profiles = without_permission class pattern id when p.profiles })))
+    (λ h0. needing_made (λ q. IsPolicy q × IsKeptBoard q b) (is_permitted p class pattern id when) id
+    (Ok (record p { profiles = without_permission class pattern id when p.profiles }))
+    (λ h1. (less_permission_kept p class pattern id when invariants, kept)))
+policy_kept b (operation.ClassActive class active) p invariants kept = (
+  record {
+    apart = invariants.apart;
+    connects = invariants.connects;
+    profiles = invariants.profiles;
+  },
+  kept,
+)
 policy_kept b (operation.DefineConsole name auth mode) p invariants kept = (invariants, defined_kept p name auth mode b kept)
 
 -- Each row keeps a policy, and takes no user or group from it.
 row_kept : (row : Row) (p : Policy) → IsPolicy p → IfMade (λ q. IsPolicy q × Extends p q) (after_row row p)
-row_kept (rows.Class class active) p invariants = (record { apart = invariants.apart; connects = invariants.connects; profiles = invariants.profiles }, record { users = λ id h. h; groups = λ name h. h })
+row_kept (rows.Class class active) p invariants = (
+  record {
+    apart = invariants.apart;
+    connects = invariants.connects;
+    profiles = invariants.profiles;
+  },
+  record { users = λ id h. h; groups = λ name h. h },
+)
 row_kept (rows.Group name) p invariants =
-    unless_made (λ q. IsPolicy q × Extends p q) (has_user p name) name (Ok (record p { groups = with_group name p.groups })) (λ h0. (group_kept p name invariants h0, group_extends p name))
+    unless_made (λ q. IsPolicy q × Extends p q) (has_user p name) name
+    (Ok (record p { groups = with_group name p.groups }))
+    (λ h0. (group_kept p name invariants h0, group_extends p name))
 row_kept (rows.User user) p invariants =
-    unless_made (λ q. IsPolicy q × Extends p q) (has_group p user.id) user.id (Ok (record p { users = with_user user p.users })) (λ h0. (user_kept p user invariants (none_named user.id p.groups h0), user_extends p user))
+    unless_made (λ q. IsPolicy q × Extends p q) (has_group p user.id) user.id
+    (Ok (record p { users = with_user user p.users }))
+    (λ h0. (user_kept p user invariants (none_named user.id p.groups h0), user_extends p user))
 row_kept (rows.Connect user group) p invariants =
-    needing_made (λ q. IsPolicy q × Extends p q) (has_user p user) user (needing (has_group p group) group (Ok (record p { connects = with_connect (record { user = user; group = group }) p.connects }))) (λ h0. needing_made (λ q. IsPolicy q × Extends p q) (has_group p group) group (Ok (record p { connects = with_connect (record { user = user; group = group }) p.connects })) (λ h1. (connect_kept p (record { user = user; group = group }) invariants (h0, h1), record { users = λ id h. h; groups = λ name h. h })))
+    needing_made (λ q. IsPolicy q × Extends p q) (has_user p user) user
+    (needing (has_group p group) group
+    (Ok (record p { connects = with_connect (record { user = user; group = group }) p.connects })))
+    (λ h0. needing_made (λ q. IsPolicy q × Extends p q) (has_group p group) group
+    (Ok (record p { connects = with_connect (record { user = user; group = group }) p.connects })) (λ h1. (
+      connect_kept p (record { user = user; group = group }) invariants (h0, h1),
+      record {
+        users = λ id h. h;
+        groups = λ name h. h;
+      },
+    )))
 row_kept (rows.Console name auth mode) p invariants = (invariants, extends_itself p)
 row_kept (rows.Profile class pattern uacc owner warning) p invariants =
-    needing_made (λ q. IsPolicy q × Extends p q) (has_user p owner) owner (Ok (record p { profiles = with_definition (record { class = class; pattern = pattern; owner = owner; uacc = uacc; warning = warning; entries = [] }) p.profiles })) (λ h0. (defined_stored p (record { class = class; pattern = pattern; owner = owner; uacc = uacc; warning = warning; entries = [] }) invariants h0 tt, record { users = λ id h. h; groups = λ name h. h }))
+    needing_made (λ q. IsPolicy q × Extends p q) (has_user p owner) owner
+    (Ok (record p {
+      profiles = with_definition
+          (record { class = class; pattern = pattern; owner = owner; uacc = uacc; warning = warning; entries = [] })
+          p.profiles;
+    })) (λ h0. (
+      defined_stored p (record { class = class; pattern = pattern; owner = owner; uacc = uacc; warning = warning; entries = [] }) invariants h0 tt,
+      record {
+        users = λ id h. h;
+        groups = λ name h. h;
+      },
+    ))
 row_kept (rows.Permit class pattern id level when) p invariants =
-    needing_made (λ q. IsPolicy q × Extends p q) (is_some (profile_of p.profiles class pattern)) pattern (needing (has_holder p id) id (Ok (record p { profiles = with_permission class pattern (record { id = id; when = when; level = level }) p.profiles }))) (λ h0. needing_made (λ q. IsPolicy q × Extends p q) (has_holder p id) id (Ok (record p { profiles = with_permission class pattern (record { id = id; when = when; level = level }) p.profiles })) (λ h1. (permission_kept p class pattern (record { id = id; when = when; level = level }) invariants h1, record { users = λ id h. h; groups = λ name h. h })))
+    needing_made (λ q. IsPolicy q × Extends p q) (is_some (profile_of p.profiles class pattern)) pattern
+    (needing (has_holder p id) id (Ok
+    (record p {
+      profiles = with_permission class pattern (record { id = id; when = when; level = level }) p.profiles;
+    }))) (λ h0. needing_made (λ q. IsPolicy q × Extends p q) (has_holder p id) id
+    (Ok (record p {
+      profiles = with_permission class pattern (record { id = id; when = when; level = level })
+          p.profiles;
+    })) (λ h1. (
+      permission_kept p class pattern (record { id = id; when = when; level = level }) invariants h1,
+      record {
+        users = λ id h. h;
+        groups = λ name h. h;
+      },
+    )))
 
 -- and so do rows one after another
 pub rows_kept : (all : List Row) (p : Policy) → IsPolicy p → IfMade (λ q. IsPolicy q × Extends p q) (policy_after all p)
@@ -364,6 +661,8 @@ rows_kept (row ∷ more) p invariants = go (after_row row p) (row_kept row p inv
     further q e (Ok t) h = (h.0, extends_on p q t e h.1)
     further q e (Err f) h = tt
 
-    go : (r : Result Policy Fault) → IfMade (λ q. IsPolicy q × Extends p q) r → ((q : Policy) → IsPolicy q → IfMade (λ t. IsPolicy t × Extends q t) (policy_after more q)) → IfMade (λ q. IsPolicy q × Extends p q) (then_policy r (λ q. policy_after more q))
+    go : (r : Result Policy Fault) → IfMade (λ q. IsPolicy q × Extends p q) r
+        → ((q : Policy) → IsPolicy q → IfMade (λ t. IsPolicy t × Extends q t) (policy_after more q))
+        → IfMade (λ q. IsPolicy q × Extends p q) (then_policy r (λ q. policy_after more q))
     go (Ok q) h later = further q h.1 (policy_after more q) (later q h.0)
     go (Err f) h later = tt

@@ -23,7 +23,8 @@ pub then_rows : (rows more : List Row) (p q r : Policy) → policy_after rows p 
 then_rows rows more p q r first last = rows_then rows more p ∙ ap (λ o. then_policy o (λ x. policy_after more x)) first ∙ last
 
 module _ {X : Type 0} (row_of : X → Row) (made : List X → Policy) (before : X → X → Bool) (Fits : X → Type 0)
-    (step : (done : List X) (x : X) → AllByRecursion (λ y. before y x ≡ true) done → Fits x → after_row (row_of x) (made done) ≡ Ok (made (done ++ x ∷ []))) where
+    (step : (done : List X) (x : X) → AllByRecursion (λ y. before y x ≡ true) done → Fits x
+    → after_row (row_of x) (made done) ≡ Ok (made (done ++ x ∷ []))) where
   from : (done todo : List X) → Ascends before (done ++ todo) → AllByRecursion Fits todo → policy_after (map row_of todo) (made done) ≡ Ok (made (done ++ todo))
   from done [] order fit = ap (λ xs. Ok (made xs)) (sym (append-nil done))
   from done (x ∷ todo) order fit =

@@ -18,4 +18,5 @@ written p consoles = record empty { policy = p; board = record empty.board { con
 
 -- What is exported of a state that meets its invariants comes back.
 abbrev pub ExportsComeBack : Type 0
-ExportsComeBack = (s : State) → HasInvariants s → bootstrapped (rows_of s.policy s.board.consoles) empty ≡ Ok (written s.policy s.board.consoles)
+ExportsComeBack = (s : State) → HasInvariants s
+    → bootstrapped (rows_of s.policy s.board.consoles) empty ≡ Ok (written s.policy s.board.consoles)

@@ -19,8 +19,8 @@ use Rattle.opc_machine.specs.Bootstrap.{bootstrapped}
 use Rattle.opc_machine.specs.Inputs.{Input}
 use Rattle.opc_machine.specs.Machine.{Runs, Step}
 
--- What a policy has is in the order of the keys, and no key comes twice: users, groups, connects, profiles, and the entries
--- of each access list.
+-- What a policy has is in the order of the keys, and no key comes twice: users, groups, connects, profiles, and the
+-- entries of each access list.
 pub record IsOrdered (p : Policy) : Type 0 where
   pub users : Ascends (λ (u v : User). is_lt (user_cmp u v)) p.users
   pub groups : Ascends (λ (g h : List ℕ). is_lt (name_cmp g h)) p.groups
@@ -42,12 +42,15 @@ InvariantsGiveKeys = (s : State) → HasInvariants s → IsKeyed s
 
 -- Each step keeps them, whatever is asked,
 abbrev pub StepsKeepInvariants : Type 0
-StepsKeepInvariants = (s : State) (moment : ℕ) (r : Input) (answer : Answer) (new : State) → HasInvariants s → Step s moment r answer new → HasInvariants new
+StepsKeepInvariants = (s : State) (moment : ℕ) (r : Input) (answer : Answer) (new : State) → HasInvariants s
+    → Step s moment r answer new → HasInvariants new
 
 -- so does each run,
 abbrev pub RunsKeepInvariants : Type 0
-RunsKeepInvariants = (s : State) (requests : List (ℕ × Input)) (answers : List Answer) (new : State) → HasInvariants s → Runs s requests answers new → HasInvariants new
+RunsKeepInvariants = (s : State) (requests : List (ℕ × Input)) (answers : List Answer) (new : State) → HasInvariants s
+    → Runs s requests answers new → HasInvariants new
 
 -- and a first policy.
 abbrev pub BootstrapsKeepInvariants : Type 0
-BootstrapsKeepInvariants = (more : List Row) (s new : State) → HasInvariants s → bootstrapped more s ≡ Ok new → HasInvariants new
+BootstrapsKeepInvariants = (more : List Row) (s new : State) → HasInvariants s → bootstrapped more s ≡ Ok new
+    → HasInvariants new

@@ -1,5 +1,11 @@
 //! What holds of every state stays so, each as what a call without a body ensures.
-ghost use Rattle.opc_machine_invariants.specs.KeptInvariants.{BootstrapsKeepInvariants, EmptyHasInvariants, InvariantsGiveKeys, RunsKeepInvariants, StepsKeepInvariants};
+ghost use Rattle.opc_machine_invariants.specs.KeptInvariants.{
+  BootstrapsKeepInvariants,
+  EmptyHasInvariants,
+  InvariantsGiveKeys,
+  RunsKeepInvariants,
+  StepsKeepInvariants,
+};
 
 /// The empty state has the invariants of a state.
 pub fn empty_state_has_invariants()
@@ -11,9 +17,9 @@ pub fn invariants_give_keys()
     ensures { InvariantsGiveKeys }
 {}
 
-/// A step keeps the invariants of a state: those of the board, that no user and group have one name, that whoever is on at a
-/// console and whatever a connect, an owner or an access list names is stored, and that users, groups, connects, profiles
-/// and access lists are in the order of their keys, of which none comes twice.
+/// A step keeps the invariants of a state: those of the board, that no user and group have one name, that whoever is on
+/// at a console and whatever a connect, an owner or an access list names is stored, and that users, groups, connects,
+/// profiles and access lists are in the order of their keys, of which none comes twice.
 pub fn steps_keep_invariants()
     ensures { StepsKeepInvariants }
 {}

@@ -21,7 +21,8 @@ at name id level = record { id = id; when = Some name; level = level }
 -- operations
 
 permits_user : profiles_after (operation.Permit Opercmds (codes "A.B") (codes "ANNA") level.Update None)
-    ≡ Some (profile (codes "A.B") (codes "CARL") level.None false (entry (codes "ANNA") level.Update ∷ entry (codes "EMIL") level.Read ∷ []) ∷ of_fred ∷ of_all ∷ [])
+    ≡ Some (profile (codes "A.B") (codes "CARL") level.None false
+    (entry (codes "ANNA") level.Update ∷ entry (codes "EMIL") level.Read ∷ []) ∷ of_fred ∷ of_all ∷ [])
 permits_user = refl
 
 permits_everyone : refusal (operation.Permit Opercmds (codes "A.B") (codes "*") level.Update None) ≡ None
@@ -48,7 +49,8 @@ no_permission_to_delete = refl
 
 -- beside the entry for every console, and after it
 permits_at_console : profiles_after (operation.Permit Opercmds (codes "A.B") (codes "EMIL") level.Update (Some (codes "C1")))
-    ≡ Some (profile (codes "A.B") (codes "CARL") level.None false (entry (codes "EMIL") level.Read ∷ at (codes "C1") (codes "EMIL") level.Update ∷ []) ∷ of_fred ∷ of_all ∷ [])
+    ≡ Some (profile (codes "A.B") (codes "CARL") level.None false
+    (entry (codes "EMIL") level.Read ∷ at (codes "C1") (codes "EMIL") level.Update ∷ []) ∷ of_fred ∷ of_all ∷ [])
 permits_at_console = refl
 
 -- whether the console is there or not
@@ -59,15 +61,21 @@ no_permission_at_console : refusal (operation.PermitDelete Opercmds (codes "A.B"
 no_permission_at_console = refl
 
 abbrev with_entries : List Entry → State
-with_entries entries = record base { policy = record base.policy { profiles = profile (codes "A.B") (codes "CARL") level.None false entries ∷ of_fred ∷ of_all ∷ [] } }
+with_entries entries =
+    record base {
+      policy = record base.policy
+          { profiles = profile (codes "A.B") (codes "CARL") level.None false entries ∷ of_fred ∷ of_all ∷ [] };
+    }
 
 abbrev refusal_with : List Entry → Operation → Option Denial
 refusal_with entries o = first_refusal (with_entries entries) (input.Admin (codes "C2") o)
 
-no_permission_elsewhere : refusal_with (at (codes "C1") (codes "EMIL") level.Read ∷ []) (operation.PermitDelete Opercmds (codes "A.B") (codes "EMIL") None) ≡ plainly (fault.Missing (codes "EMIL"))
+no_permission_elsewhere : refusal_with (at (codes "C1") (codes "EMIL") level.Read ∷ [])
+    (operation.PermitDelete Opercmds (codes "A.B") (codes "EMIL") None) ≡ plainly (fault.Missing (codes "EMIL"))
 no_permission_elsewhere = refl
 
-permission_at_console : refusal_with (at (codes "C1") (codes "EMIL") level.Read ∷ []) (operation.PermitDelete Opercmds (codes "A.B") (codes "EMIL") (Some (codes "C1"))) ≡ None
+permission_at_console : refusal_with (at (codes "C1") (codes "EMIL") level.Read ∷ [])
+    (operation.PermitDelete Opercmds (codes "A.B") (codes "EMIL") (Some (codes "C1"))) ≡ None
 permission_at_console = refl
 
 -- a user with an entry for a console alone is in use
@@ -86,7 +94,10 @@ abbrev carl : Bool → User
 carl restricted = record { id = codes "CARL"; special = false; auditor = false; revoked = false; digest = None; restricted = restricted }
 
 abbrev level_at : User → Option (List ℕ) → Level
-level_at u console = held (profile (codes "A.B") (codes "CARL") level.Read false (at (codes "C2") (codes "*") level.Control ∷ at (codes "C3") (codes "EMIL") level.None ∷ entry (codes "EMIL") level.Read ∷ at (codes "C1") (codes "EMIL") level.Update ∷ [])) u console []
+level_at u console =
+    held (profile (codes "A.B") (codes "CARL") level.Read false
+    (at (codes "C2") (codes "*") level.Control ∷ at (codes "C3") (codes "EMIL") level.None
+    ∷ entry (codes "EMIL") level.Read ∷ at (codes "C1") (codes "EMIL") level.Update ∷ [])) u console []
 
 nowhere : level_at (emil false) None ≡ level.Read
 unfolding held

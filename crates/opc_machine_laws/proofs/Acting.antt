@@ -30,10 +30,14 @@ only_where s moment name text command need lines why new it_reads needs (inr (in
     let console : ConsoleRow = a.0 in
     let at = console_is s name console a.1 in
     let was_read : command_in text ≡ Ok command = ap command_or (reads_so text command it_reads) in
-    let t : typed s console command (need_of s.board command) ≡ Ok d.0 = subst (λ x. (x >>= λ k. typed s console k (need_of s.board k)) ≡ Ok d.0) was_read a.2 in
+    let t : typed s console command (need_of s.board command) ≡ Ok d.0 =
+    subst (λ x. (x >>= λ k. typed s console k (need_of s.board k)) ≡ Ok d.0) was_read a.2 in
     let b : board_command s console command need ≡ Ok d.0 = subst (λ x. typed s console command x ≡ Ok d.0) needs t in
-    let r = bind_ok (allowed (ruling s console need)) (λ rule. acted (Some rule) (effect s.board command console.name) >>= λ act. does (record s { board = act.board }) (filter (shown s console) act.lines) (Some rule)) d.0 b in
-    let m = bind_ok (acted (Some r.0) (effect s.board command console.name)) (λ act. does (record s { board = act.board }) (filter (shown s console) act.lines) (Some r.0)) d.0 r.2 in
+    let r = bind_ok (allowed (ruling s console need))
+    (λ rule. acted (Some rule) (effect s.board command console.name) >>= λ act. does
+    (record s { board = act.board }) (filter (shown s console) act.lines) (Some rule)) d.0 b in
+    let m = bind_ok (acted (Some r.0) (effect s.board command console.name))
+    (λ act. does (record s { board = act.board }) (filter (shown s console) act.lines) (Some r.0)) d.0 r.2 in
     let deed : Deed = record { state = record s { board = m.0.board }; lines = filter (shown s console) m.0.lines; rule = Some r.0 } in
     let comes : command_outcome s name text ≡ Ok deed = d.1 ∙ sym m.2 in
     let ends : new ≡ after s moment (input.Command name text) (Ok deed) = done.becomes ∙ ap (after s moment (input.Command name text)) comes in
@@ -63,8 +67,11 @@ lists_exactly s console command why lines rule new acts line =
     )
 
 -- the console that is named, where it is there and online
-pub console_back : (o : Option ConsoleRow) (c : ConsoleRow) → o ≡ Some c → c.online ≡ true → (found fault.NoConsole o >>= λ d. refuse_if fault.ConsoleOffline None (not d.online) >>= λ _. Ok d) ≡ Ok c
-console_back o c there online = ap (λ x. found fault.NoConsole x >>= λ d. refuse_if fault.ConsoleOffline None (not d.online) >>= λ _. Ok d) there ∙ ap (λ b. refuse_if fault.ConsoleOffline None (not b) >>= λ _. Ok c) online
+pub console_back : (o : Option ConsoleRow) (c : ConsoleRow) → o ≡ Some c → c.online ≡ true
+    → (found fault.NoConsole o >>= λ d. refuse_if fault.ConsoleOffline None (not d.online) >>= λ _. Ok d) ≡ Ok c
+console_back o c there online =
+    ap (λ x. found fault.NoConsole x >>= λ d. refuse_if fault.ConsoleOffline None (not d.online) >>= λ _. Ok d) there
+    ∙ ap (λ b. refuse_if fault.ConsoleOffline None (not b) >>= λ _. Ok c) online
 
 pub wherever : ActsWhereverAllowed
 wherever s moment name text console command why act answer new allows makes (inl left) = inl left.aborts
@@ -77,9 +84,13 @@ wherever s moment name text console command why act answer new allows makes (inr
     let of_line : (command_in text >>= λ k. typed s console k (need_of s.board k)) ≡ typed s console command (need_of s.board command) =
     ap (λ x. command_or x >>= λ k. typed s console k (need_of s.board k)) (reads_so text command heard.reads) in
     let of_need : typed s console command (need_of s.board command) ≡ board_command s console command allows.need = ap (typed s console command) allows.needs in
-    let of_ruling : board_command s console command allows.need ≡ (acted (Some why) (effect s.board command console.name) >>= λ a. does (record s { board = a.board }) (filter (shown s console) a.lines) (Some why)) =
-    ap (λ x. allowed x >>= λ rule. acted (Some rule) (effect s.board command console.name) >>= λ a. does (record s { board = a.board }) (filter (shown s console) a.lines) (Some rule)) allows.allowed in
-    let of_board : (acted (Some why) (effect s.board command console.name) >>= λ a. does (record s { board = a.board }) (filter (shown s console) a.lines) (Some why)) ≡ Ok deed =
+    let of_ruling : board_command s console command
+    allows.need ≡ (acted (Some why) (effect s.board command console.name) >>= λ a. does
+    (record s { board = a.board }) (filter (shown s console) a.lines) (Some why)) =
+    ap (λ x. allowed x >>= λ rule. acted (Some rule) (effect s.board command console.name) >>= λ a. does
+    (record s { board = a.board }) (filter (shown s console) a.lines) (Some rule)) allows.allowed in
+    let of_board : (acted (Some why) (effect s.board command console.name) >>= λ a. does (record s { board = a.board })
+    (filter (shown s console) a.lines) (Some why)) ≡ Ok deed =
     ap (λ x. acted (Some why) x >>= λ a. does (record s { board = a.board }) (filter (shown s console) a.lines) (Some why)) makes in
     let comes : command_outcome s name text ≡ Ok deed = of_console ∙ of_line ∙ of_need ∙ of_ruling ∙ of_board in
     let ends : new ≡ after s moment (input.Command name text) (Ok deed) = done.becomes ∙ ap (after s moment (input.Command name text)) comes in

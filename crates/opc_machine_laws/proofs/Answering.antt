@@ -15,7 +15,20 @@ use Rattle.opc_state.specs.Loads.{asked_for}
 use Rattle.opc_state.specs.State.{State}
 use Rattle.opc_machine.specs.declared.request.Answer.TheVariants.{Refused}
 use Rattle.opc_machine.specs.Administration.{changed}
-use Rattle.opc_machine.specs.Commands.{acted, allowed, command_in, command_or, command_outcome, denial_fault, known_by, admit, logon_fault, need_of, nobody_on, typed}
+use Rattle.opc_machine.specs.Commands.{
+  acted,
+  allowed,
+  command_in,
+  command_or,
+  command_outcome,
+  denial_fault,
+  known_by,
+  admit,
+  logon_fault,
+  need_of,
+  nobody_on,
+  typed,
+}
 use Rattle.opc_machine.specs.Faults.{board_fault}
 use Rattle.opc_machine.specs.Imports.{batch_of, batch_outcome}
 use Rattle.opc_machine.specs.Inputs.{Input}
@@ -32,7 +45,8 @@ use Rattle.opc_machine_laws.proofs.Knowing.{known_back}
 use Rattle.opc_machine_laws.proofs.Naming.{IsProper, logon_proper, ruling_proper}
 
 -- what comes of a line that is heard is what comes of its command
-pub heard_so : (s : State) (name text : List ℕ) (c : ConsoleRow) (k : Command) → IsHeard s name text c k → command_outcome s name text ≡ typed s c k (need_of s.board k)
+pub heard_so : (s : State) (name text : List ℕ) (c : ConsoleRow) (k : Command) → IsHeard s name text c k
+    → command_outcome s name text ≡ typed s c k (need_of s.board k)
 heard_so s name text c k heard =
     ap (λ x. x >>= λ d. command_in text >>= λ l. typed s d l (need_of s.board l)) (console_back (console_at s.board name) c heard.there heard.online)
     ∙ ap (λ x. command_or x >>= λ l. typed s c l (need_of s.board l)) (reads_so text k heard.reads)
@@ -49,7 +63,8 @@ module _ (s : State) (name text : List ℕ) (why : Rule) where
     fault = denial_fault why;
     named = subst (IsProper denial_fault) out.denied (ruling_proper s out.console out.need);
     comes = heard_so s name text out.console out.command out.heard ∙ ap (typed s out.console out.command) out.needs
-        ∙ ap (λ x. allowed x >>= λ w. acted (Some w) (effect s.board out.command out.console.name) >>= λ act. does (record s { board = act.board }) (filter (shown s out.console) act.lines) (Some w)) out.denied;
+        ∙ ap (λ x. allowed x >>= λ w. acted (Some w) (effect s.board out.command out.console.name) >>= λ act. does
+        (record s { board = act.board }) (filter (shown s out.console) act.lines) (Some w)) out.denied;
   }
 
   kept_off : IsKeptOff s name text why → ComesTo (command_outcome s name text) why
@@ -57,8 +72,12 @@ module _ (s : State) (name text : List ℕ) (why : Rule) where
     fault = logon_fault why;
     named = subst (IsProper logon_fault) off.denied (logon_proper s off.console off.user);
     comes = heard_so s name text off.console (command.Logon off.id off.password) off.heard
-        ∙ ap (λ x. nobody_on x >>= λ _. found fault.BadLogon (known_by s off.id.value off.password.value) >>= λ user. admit (logon_ruling s off.console user) >>= λ w. does (record s { board = logged_on off.console.name off.id.value s.board }) [] (Some w)) off.nobody
-        ∙ ap (λ x. found fault.BadLogon x >>= λ user. admit (logon_ruling s off.console user) >>= λ w. does (record s { board = logged_on off.console.name off.id.value s.board }) [] (Some w)) (known_back s off.id.value off.password.value off.user off.known)
+        ∙ ap (λ x. nobody_on x >>= λ _. found fault.BadLogon (known_by s off.id.value off.password.value) >>= λ user.
+        admit (logon_ruling s off.console user) >>=
+        λ w. does (record s { board = logged_on off.console.name off.id.value s.board }) [] (Some w)) off.nobody
+        ∙ ap (λ x. found fault.BadLogon x >>= λ user. admit (logon_ruling s off.console user) >>= λ w. does
+        (record s { board = logged_on off.console.name off.id.value s.board }) [] (Some w))
+        (known_back s off.id.value off.password.value off.user off.known)
         ∙ ap (λ x. admit x >>= λ w. does (record s { board = logged_on off.console.name off.id.value s.board }) [] (Some w)) off.denied;
   }
 
@@ -78,7 +97,8 @@ comes_to s (input.Command name text) why (inr off) = kept_off s name text why of
 comes_to s (input.Admin name o) why out = record {
   fault = denial_fault why;
   named = named s name why out;
-  comes = ap (λ x. x >>= λ c. refuse_if (right_fault o) None (not (may_change s c o)) >>= λ _. or_refused (changed s o) >>= λ new. does new [] None) (refused_here s name why out);
+  comes = ap (λ x. x >>= λ c. refuse_if (right_fault o) None (not (may_change s c o)) >>= λ _. or_refused
+      (changed s o) >>= λ new. does new [] None) (refused_here s name why out);
 }
 comes_to s (input.ListProfiles name class) why out = record {
   fault = denial_fault why;
@@ -88,12 +108,14 @@ comes_to s (input.ListProfiles name class) why out = record {
 comes_to s (input.ListAccount name from count) why out = record {
   fault = denial_fault why;
   named = named s name why out;
-  comes = ap (λ x. x >>= λ c. refuse_if fault.NotSpecial None (not (account_shown s c)) >>= λ _. does s (map account_line (asked_for from count s.account)) None) (refused_here s name why out);
+  comes = ap (λ x. x >>= λ c. refuse_if fault.NotSpecial None (not (account_shown s c)) >>= λ _. does s
+      (map account_line (asked_for from count s.account)) None) (refused_here s name why out);
 }
 comes_to s (input.Import name number all) why out = record {
   fault = denial_fault why;
   named = named s name why out;
-  comes = ap (λ x. x >>= λ c. refuse_if fault.NotSpecial None (not (is_special (acting s c))) >>= λ _. batch_outcome s number all (batch_of s.batches number)) (refused_here s name why out);
+  comes = ap (λ x. x >>= λ c. refuse_if fault.NotSpecial None (not (is_special (acting s c))) >>= λ _. batch_outcome s
+      number all (batch_of s.batches number)) (refused_here s name why out);
 }
 comes_to s (input.Event e) why out = absurd out
 
@@ -111,6 +133,7 @@ faults_answered s moment name text f why answer new way (inr (inr done)) =
     let may = way.allowed in
     let comes : command_outcome s name text ≡ refused (board_fault way.refused) (Some why) =
     heard_so s name text way.console way.command may.heard ∙ ap (typed s way.console way.command) may.needs
-    ∙ ap (λ x. allowed x >>= λ w. acted (Some w) (effect s.board way.command way.console.name) >>= λ act. does (record s { board = act.board }) (filter (shown s way.console) act.lines) (Some w)) may.allowed
+    ∙ ap (λ x. allowed x >>= λ w. acted (Some w) (effect s.board way.command way.console.name) >>= λ act. does
+    (record s { board = act.board }) (filter (shown s way.console) act.lines) (Some w)) may.allowed
     ∙ ap (λ x. acted (Some why) x >>= λ act. does (record s { board = act.board }) (filter (shown s way.console) act.lines) (Some why)) way.refuses in
     inr (done.answers ∙ ap answer_of comes ∙ ap (λ x. Refused x (Some why)) (sym way.returned))

@@ -17,7 +17,19 @@ use Rattle.opc_board.specs.Invariants.{Name, console_at, device_at, is, unit_at,
 use Rattle.opc_board.specs.Units.{at_unit, freed, is_holder, is_tsu, without_unit}
 use Rattle.opc_board.proofs.Agreeing.{found_named}
 use Rattle.opc_board.proofs.Names.{is_itself, is_same_name}
-use Rattle.opc_machine_laws.specs.EffectLaws.{AreGivenBack, Becomes, Comes, ConsoleBecomes, DeviceBecomes, DevicesSwap, GoesOffline, Leaves, UnitBecomes, UnitComes, UnitLeaves}
+use Rattle.opc_machine_laws.specs.EffectLaws.{
+  AreGivenBack,
+  Becomes,
+  Comes,
+  ConsoleBecomes,
+  DeviceBecomes,
+  DevicesSwap,
+  GoesOffline,
+  Leaves,
+  UnitBecomes,
+  UnitComes,
+  UnitLeaves,
+}
 use Rattle.opc_machine_laws.proofs.Finding.{find_each, find_here, find_left_out, find_others, find_put, find_put_others}
 
 -- names that differ
@@ -56,7 +68,9 @@ module _ {R : Type 0} (key : R → Name) where
   pub named : (rows : List R) (name : Name) (row : R) → at rows name ≡ Some row → key row ≡ name
   named rows name row there = is_same_name (key row) name (found_named key name row rows there)
 
-  becomes : (rows : List R) (name : Name) (row : R) (f : R → R) (change : R → R → Type 0) → at rows name ≡ Some row → key (f row) ≡ key row → change row (f row) → Becomes (at rows) (at (changed (λ r. is (key r) name) f rows)) name change
+  becomes : (rows : List R) (name : Name) (row : R) (f : R → R) (change : R → R → Type 0) → at rows name ≡ Some row
+      → key (f row) ≡ key row → change row (f row)
+      → Becomes (at rows) (at (changed (λ r. is (key r) name) f rows)) name change
   becomes rows name row f change there same so =
       let before : key row ≡ name = named rows name row there in
       let after : key (f row) ≡ name = same ∙ before in
@@ -71,10 +85,13 @@ module _ {R : Type 0} (key : R → Name) where
       }
 
   -- the same of a row that is put in the place of the one of its name
-  replaced_becomes : (rows : List R) (name : Name) (row new : R) (change : R → R → Type 0) → at rows name ≡ Some row → key new ≡ key row → change row new → Becomes (at rows) (at (changed (λ r. is (key r) (key new)) (λ r. new) rows)) name change
+  replaced_becomes : (rows : List R) (name : Name) (row new : R) (change : R → R → Type 0) → at rows name ≡ Some row
+      → key new ≡ key row → change row new
+      → Becomes (at rows) (at (changed (λ r. is (key r) (key new)) (λ r. new) rows)) name change
   replaced_becomes rows name row new change there same so =
       let after : key new ≡ name = same ∙ named rows name row there in
-      subst (λ n. Becomes (at rows) (at (changed (λ r. is (key r) n) (λ r. new) rows)) name change) (sym after) (becomes rows name row (λ r. new) change there same so)
+      subst (λ n. Becomes (at rows) (at (changed (λ r. is (key r) n) (λ r. new) rows)) name change) (sym after)
+      (becomes rows name row (λ r. new) change there same so)
 
   pub comes : (before : R → R → Bool) (rows : List R) (new : R) → is_some (at rows (key new)) ≡ false → Comes (at rows) (at (put before new rows)) (key new) new
   comes before rows new free =
@@ -85,13 +102,15 @@ module _ {R : Type 0} (key : R → Name) where
         others = λ other apart. find_put_others before new (λ r. is (key r) other) (apart_names (key new) other (λ e. apart (sym e))) rows;
       }
 
-  leaves : (rows : List R) (name : Name) (row : R) (kind : R → Type 0) → at rows name ≡ Some row → kind row → Leaves (at rows) (at (filter (λ r. not (is (key r) name)) rows)) name kind
+  leaves : (rows : List R) (name : Name) (row : R) (kind : R → Type 0) → at rows name ≡ Some row → kind row
+      → Leaves (at rows) (at (filter (λ r. not (is (key r) name)) rows)) name kind
   leaves rows name row kind there so = record {
     was = row;
     there = there;
     of_kind = so;
     gone = find_left_out (λ r. is (key r) name) rows;
-    others = λ other apart. find_seen (λ r. is (key r) other) (λ r. not (is (key r) name)) (λ r same. ap not (apart_names (key r) name (λ e. apart (sym (is_same_name (key r) other same) ∙ e)))) rows;
+    others = λ other apart. find_seen (λ r. is (key r) other) (λ r. not (is (key r) name))
+        (λ r same. ap not (apart_names (key r) name (λ e. apart (sym (is_same_name (key r) other same) ∙ e)))) rows;
   }
 
 -- units
@@ -135,24 +154,34 @@ module _ (unit : Name) where
       each : (number : Name) → device_at (without_unit unit b) number ≡ option_map (freed unit) (device_at b number)
       each number = find_each (λ d. is d.number number) (freed unit) (λ d. ap (λ n. is n number) (freed_number d)) b.devices
 
-pub unit_leaves : (name : Name) (kind : UnitRow → Type 0) (b : BoardRows) (u : UnitRow) → unit_at b name ≡ Some u → kind u → UnitLeaves name kind b (without_unit name b)
+pub unit_leaves : (name : Name) (kind : UnitRow → Type 0) (b : BoardRows) (u : UnitRow) → unit_at b name ≡ Some u
+    → kind u → UnitLeaves name kind b (without_unit name b)
 unit_leaves name kind b u there so = (leaves (λ (v : UnitRow). v.name) b.units name u kind there so, given_back name b, refl)
 
-pub unit_becomes : (name : Name) (f : UnitRow → UnitRow) (change : UnitRow → UnitRow → Type 0) (b : BoardRows) (u : UnitRow) → unit_at b name ≡ Some u → (f u).name ≡ u.name → change u (f u) → UnitBecomes name change b (at_unit name f b)
+pub unit_becomes : (name : Name) (f : UnitRow → UnitRow) (change : UnitRow → UnitRow → Type 0) (b : BoardRows)
+    (u : UnitRow) → unit_at b name ≡ Some u → (f u).name ≡ u.name → change u (f u)
+    → UnitBecomes name change b (at_unit name f b)
 unit_becomes name f change b u there same so = (becomes (λ (v : UnitRow). v.name) b.units name u f change there same so, refl)
 
-pub unit_comes : (unit : UnitRow) (b : BoardRows) → b.halted ≡ false → is_some (unit_at b unit.name) ≡ false → UnitComes unit b (record b { units = put unit_before unit b.units })
+pub unit_comes : (unit : UnitRow) (b : BoardRows) → b.halted ≡ false → is_some (unit_at b unit.name) ≡ false
+    → UnitComes unit b (record b { units = put unit_before unit b.units })
 unit_comes unit b day free = (day, comes (λ (v : UnitRow). v.name) unit_before b.units unit free, refl)
 
 -- devices and consoles
 
-pub device_becomes : (number : Name) (new : DeviceRow) (change : DeviceRow → DeviceRow → Type 0) (b : BoardRows) (d : DeviceRow) → device_at b number ≡ Some d → new.number ≡ d.number → change d new → DeviceBecomes number change b (with_device new b)
+pub device_becomes : (number : Name) (new : DeviceRow) (change : DeviceRow → DeviceRow → Type 0) (b : BoardRows)
+    (d : DeviceRow) → device_at b number ≡ Some d → new.number ≡ d.number → change d new
+    → DeviceBecomes number change b (with_device new b)
 device_becomes number new change b d there same so = (replaced_becomes (λ (e : DeviceRow). e.number) b.devices number d new change there same so, refl)
 
-pub console_becomes : (name : Name) (new : ConsoleRow) (change : ConsoleRow → ConsoleRow → Type 0) (b : BoardRows) (c : ConsoleRow) → console_at b name ≡ Some c → new.name ≡ c.name → change c new → ConsoleBecomes name change b (with_console new b)
+pub console_becomes : (name : Name) (new : ConsoleRow) (change : ConsoleRow → ConsoleRow → Type 0) (b : BoardRows)
+    (c : ConsoleRow) → console_at b name ≡ Some c → new.name ≡ c.name → change c new
+    → ConsoleBecomes name change b (with_console new b)
 console_becomes name new change b c there same so = (replaced_becomes (λ (d : ConsoleRow). d.name) b.consoles name c new change there same so, refl)
 
-pub at_becomes : (name : Name) (f : ConsoleRow → ConsoleRow) (change : ConsoleRow → ConsoleRow → Type 0) (b : BoardRows) (c : ConsoleRow) → console_at b name ≡ Some c → (f c).name ≡ c.name → change c (f c) → ConsoleBecomes name change b (at_console name f b)
+pub at_becomes : (name : Name) (f : ConsoleRow → ConsoleRow) (change : ConsoleRow → ConsoleRow → Type 0) (b : BoardRows)
+    (c : ConsoleRow) → console_at b name ≡ Some c → (f c).name ≡ c.name → change c (f c)
+    → ConsoleBecomes name change b (at_console name f b)
 at_becomes name f change b c there same so = (becomes (λ (d : ConsoleRow). d.name) b.consoles name c f change there same so, refl)
 
 pub offline_name : (c : ConsoleRow) → (put_offline c).name ≡ c.name
@@ -163,11 +192,19 @@ offline_name c = go c.online
     go false = refl
 
 pub goes_offline : (c : ConsoleRow) → GoesOffline c (put_offline c)
-goes_offline c = (λ on. ap (λ b. if b then record c { online = false; user = None } else c) on, λ off. ap (λ b. if b then record c { online = false; user = None } else c) off)
+goes_offline c = (
+  λ on. ap (λ b. if b then record c {
+    online = false;
+    user = None;
+  } else c) on,
+  λ off. ap (λ b. if b then record c { online = false; user = None } else c) off,
+)
 
 -- a swap
 
-pub swapped : (from to : Name) (b : BoardRows) (source target : DeviceRow) → device_at b from ≡ Some source → device_at b to ≡ Some target → source.online ≡ true → target.online ≡ true → is_some source.volume ≡ true → target.volume ≡ None → target.unit ≡ None
+pub swapped : (from to : Name) (b : BoardRows) (source target : DeviceRow) → device_at b from ≡ Some source
+    → device_at b to ≡ Some target → source.online ≡ true → target.online ≡ true → is_some source.volume ≡ true
+    → target.volume ≡ None → target.unit ≡ None
     → DevicesSwap from to b (with_device (loaded source target) (with_device (emptied source) b))
 swapped from to b source target at_from at_to on_from on_to full no_volume no_unit = record {
   source = source;

@@ -1,5 +1,5 @@
--- Worked cases of AUDITOR and of owners, computed: an auditor sees everything and changes nothing; an owner may change the
--- profile and nothing else; and listings do not ask whether the class is active.
+-- Worked cases of AUDITOR and of owners, computed: an auditor sees everything and changes nothing; an owner may change
+-- the profile and nothing else; and listings do not ask whether the class is active.
 use Rattle.std.proofs.Common.{◌≡◌, ℕ, Bool, true, false, List, [], ◌∷◌, Option, Some, None, refl, codes}
 use Rattle.std.specs.Fmt.{digits}
 use Rattle.opc_names.specs.declared.auth.Auth.TheVariants as auth
@@ -20,11 +20,15 @@ use Rattle.opc_machine_laws.proofs.Worked.{base, console, day, plain, plainly, p
 abbrev with_opercmds : Bool → State
 with_opercmds active = record base {
   policy = record policy {
-    users = plain (codes "ANNA") ∷ user (codes "AUDIT") false true false ∷ plain (codes "CARL") ∷ plain (codes "DORA") ∷ plain (codes "EMIL") ∷ plain (codes "FRED") ∷ plain (codes "GUS") ∷ user (codes "SECADM") true false false ∷ [];
+    users = plain (codes "ANNA") ∷ user (codes "AUDIT") false true false ∷ plain (codes "CARL") ∷ plain (codes "DORA")
+        ∷ plain (codes "EMIL") ∷ plain (codes "FRED") ∷ plain (codes "GUS") ∷ user (codes "SECADM") true false false
+        ∷ [];
     active = record { console = true; opercmds = active };
   };
   board = record empty.board {
-    consoles = console (codes "C1") auth.Sys Optional true (Some (codes "AUDIT")) ∷ console (codes "C2") auth.Master Optional true (Some (codes "SECADM")) ∷ console (codes "C5") auth.Sys Optional true (Some (codes "CARL")) ∷ [];
+    consoles = console (codes "C1") auth.Sys Optional true (Some (codes "AUDIT"))
+        ∷ console (codes "C2") auth.Master Optional true (Some (codes "SECADM"))
+        ∷ console (codes "C5") auth.Sys Optional true (Some (codes "CARL")) ∷ [];
   };
 }
 

@@ -55,7 +55,10 @@ abbrev console : Option (List ℕ) → ConsoleRow
 console on = record { name = codes "C4"; auth = auth.Info; mode = Auto; online = true; user = on; monitor = false }
 
 abbrev with_on : Bool → Option (List ℕ) → State
-with_on revoked on = record empty { policy = policy revoked; board = record empty.board { units = job (codes "BACKUP") ∷ job (codes "PAYROLL") ∷ []; consoles = console on ∷ [] } }
+with_on revoked on = record empty {
+  policy = policy revoked;
+  board = record empty.board { units = job (codes "BACKUP") ∷ job (codes "PAYROLL") ∷ []; consoles = console on ∷ [] };
+}
 
 abbrev nobody_on : State
 nobody_on = with_on false None
@@ -89,7 +92,10 @@ consoles_in (Ok deed) = deed.state.board.consoles
 consoles_in (Err denial) = []
 
 -- its own user is denied, and that is accounted to the user
-own_user_is_denied : (piece : Piece) → denial_in (comes_to nobody_on None (cancel (codes "PAYROLL") piece)) ≡ Some (record { fault = fault.DeniedProfile; rule = Some (held_of (codes "MVS.CANCEL.JOB.PAY*") level.None level.Update) })
+own_user_is_denied : (piece : Piece) → denial_in (comes_to nobody_on None (cancel (codes "PAYROLL") piece)) ≡ Some (record {
+  fault = fault.DeniedProfile;
+  rule = Some (held_of (codes "MVS.CANCEL.JOB.PAY*") level.None level.Update);
+})
 unfolding held
 own_user_is_denied piece = refl
 
@@ -101,7 +107,10 @@ nobody_logs_off : denial_in (comes_to nobody_on None command.Logoff) ≡ Some (r
 nobody_logs_off = refl
 
 -- once CARL is on, CARL acts
-carl_is_denied : (piece : Piece) → denial_in (comes_to carl_on (Some (codes "CARL")) (cancel (codes "BACKUP") piece)) ≡ Some (record { fault = fault.DeniedProfile; rule = Some (held_of (codes "MVS.CANCEL.JOB.*") level.None level.Update) })
+carl_is_denied : (piece : Piece) → denial_in (comes_to carl_on (Some (codes "CARL")) (cancel (codes "BACKUP") piece)) ≡ Some (record {
+  fault = fault.DeniedProfile;
+  rule = Some (held_of (codes "MVS.CANCEL.JOB.*") level.None level.Update);
+})
 unfolding held
 carl_is_denied piece = refl
 
@@ -112,7 +121,8 @@ carl_logs_off : consoles_in (comes_to carl_on (Some (codes "CARL")) command.Logo
 carl_logs_off = refl
 
 -- then the console acts for its own user again
-own_user_cancels : (piece : Piece) → rule_in (comes_to nobody_on None (cancel (codes "BACKUP") piece)) ≡ Some (held_of (codes "MVS.CANCEL.JOB.*") level.Update level.Update)
+own_user_cancels : (piece : Piece) → rule_in (comes_to nobody_on None (cancel (codes "BACKUP") piece)) ≡ Some
+    (held_of (codes "MVS.CANCEL.JOB.*") level.Update level.Update)
 unfolding held
 own_user_cancels piece = refl
 
@@ -131,7 +141,11 @@ own name auth on = worked_console name auth Auto true on
 
 abbrev with_auto : State
 with_auto = record base {
-  board = record empty.board { consoles = own (codes "FRED") auth.Info (Some (codes "ANNA")) ∷ own (codes "NOUSER") auth.Info None ∷ own (codes "OLD") auth.Master None ∷ own (codes "SECADM") auth.Info None ∷ [] };
+  board = record empty.board {
+    consoles = own (codes "FRED") auth.Info (Some (codes "ANNA"))
+        ∷ own (codes "NOUSER") auth.Info None ∷ own (codes "OLD") auth.Master None ∷ own (codes "SECADM") auth.Info None
+        ∷ [];
+  };
 }
 
 who_is_on_comes_first : user_acting with_auto (input.Command (codes "FRED") []) ≡ Some (codes "ANNA")
@@ -140,12 +154,20 @@ who_is_on_comes_first = refl
 nobody_is_stored : user_acting with_auto (input.Command (codes "NOUSER") []) ≡ None
 nobody_is_stored = refl
 
-revoked_changes_nothing : first_refusal with_auto (input.Admin (codes "OLD") (operation.AddGroup (codes "DAY"))) ≡ Some (record { fault = fault.Revoked; rule = Some rule.Revoked })
+revoked_changes_nothing : first_refusal with_auto (input.Admin (codes "OLD") (operation.AddGroup (codes "DAY"))) ≡ Some (record {
+  fault = fault.Revoked;
+  rule = Some rule.Revoked;
+})
 revoked_changes_nothing = refl
 
 special_administers : first_refusal with_auto (input.Admin (codes "SECADM") (operation.AddGroup (codes "DAY"))) ≡ None
 special_administers = refl
 
 -- its user is in use as any other: not by the console
-own_user_is_not_in_use : first_refusal (record with_auto { board = record with_auto.board { consoles = own (codes "GUS") auth.Info None ∷ own (codes "SECADM") auth.Info None ∷ [] } }) (input.Admin (codes "SECADM") (operation.DelUser (codes "GUS"))) ≡ None
+own_user_is_not_in_use : first_refusal (record with_auto {
+  board = record with_auto.board {
+    consoles = own (codes "GUS") auth.Info None ∷ own (codes "SECADM") auth.Info None
+        ∷ [];
+  };
+}) (input.Admin (codes "SECADM") (operation.DelUser (codes "GUS"))) ≡ None
 own_user_is_not_in_use = refl

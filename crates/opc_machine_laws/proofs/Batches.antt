@@ -34,7 +34,8 @@ tie m n same = go (nat_cmp m n) refl (ranks m n)
 same_number : (m n : ℕ) → (m == n) ≡ true → m ≡ n
 same_number m n h = grind (arith, nat_tests, h)
 
-found : (batch : Batch) (number : ℕ) (batches : List Batch) → batch_of (with_batch batch batches) number ≡ cond (batch.number == number) (Some batch) (batch_of batches number)
+found : (batch : Batch) (number : ℕ) (batches : List Batch)
+    → batch_of (with_batch batch batches) number ≡ cond (batch.number == number) (Some batch) (batch_of batches number)
 found batch number batches =
     find_replaced batch_cmp (λ (b : Batch). b.number == number) batch
     (λ b one other. tie batch.number b.number (same_number batch.number number one ∙ sym (same_number b.number number other))) batches
@@ -43,5 +44,6 @@ found batch number batches =
 pub batches_kept : BatchesAreKept
 batches_kept batch batches = record {
   here = found batch batch.number batches ∙ ap (λ t. cond t (Some batch) (batch_of batches batch.number)) (number_itself batch.number);
-  others = λ other apart. found batch other batches ∙ ap (λ t. cond t (Some batch) (batch_of batches other)) (apart_numbers batch.number other (λ e. apart (sym e)));
+  others = λ other apart. found batch other batches
+      ∙ ap (λ t. cond t (Some batch) (batch_of batches other)) (apart_numbers batch.number other (λ e. apart (sym e)));
 }

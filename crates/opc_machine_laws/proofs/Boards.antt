@@ -15,7 +15,8 @@ abbrev pub IsAbsent : Bool × BoardFault → Type 0
 IsAbsent fault = fault.0 ≡ false
 
 module _ (P : BoardRows → Type 0) where
-  pub found_acts : {A : Type 0} (f : BoardFault) (o : Option A) (next : A → Outcome) → ((x : A) → o ≡ Some x → IfActs P (next x)) → IfActs P (found f o >>= next)
+  pub found_acts : {A : Type 0} (f : BoardFault) (o : Option A) (next : A → Outcome)
+      → ((x : A) → o ≡ Some x → IfActs P (next x)) → IfActs P (found f o >>= next)
   found_acts f (Some x) next h = h x refl
   found_acts f None next h = tt
 

@@ -1,5 +1,34 @@
 -- Where administration, listings and imports are done.
-use Rattle.std.proofs.Common.{◌≡◌, ◌⊎◌, inl, inr, ℕ, Bool, true, false, not, if◌then◌else◌, List, [], ◌∷◌, Option, Some, None, Result, Ok, Err, filter, map, refl, sym, ap, subst, ◌∙◌, rules, codes}
+use Rattle.std.proofs.Common.{
+  ◌≡◌,
+  ◌⊎◌,
+  inl,
+  inr,
+  ℕ,
+  Bool,
+  true,
+  false,
+  not,
+  if◌then◌else◌,
+  List,
+  [],
+  ◌∷◌,
+  Option,
+  Some,
+  None,
+  Result,
+  Ok,
+  Err,
+  filter,
+  map,
+  refl,
+  sym,
+  ap,
+  subst,
+  ◌∙◌,
+  rules,
+  codes,
+}
 use Rattle.std.specs.List.{Contains}
 use Rattle.std.proofs.lemmas.List.{get_or-map, length-map}
 use Rattle.std.proofs.lemmas.List.Elements.{All-map, All-weaker, All-contains, All-contains_itself}
@@ -20,7 +49,21 @@ use Rattle.opc_state.specs.Loads.{asked_for}
 use Rattle.opc_machine.specs.declared.request.Answer.TheVariants.{Done}
 use Rattle.opc_machine.specs.Administration.{admin_outcome, changed}
 use Rattle.opc_machine.specs.Bootstrap.{with_rows}
-use Rattle.opc_machine_laws.specs.ChangingLaws.{MayAsk, AdministersOnlyWhereAllowed, AdministersWhereverAllowed, ListsProfiles, ListsExactlyProfilesShown, ListsProfilesWhereverAsked, ListsAccountOnlyWhereShown, ListsAccountWhereverShown, IsKeptAgain, IsTakenWhole, ImportsOnlyWhereAllowed, ImportsWhereverAllowed, RepeatsWhereverAllowed}
+use Rattle.opc_machine_laws.specs.ChangingLaws.{
+  MayAsk,
+  AdministersOnlyWhereAllowed,
+  AdministersWhereverAllowed,
+  ListsProfiles,
+  ListsExactlyProfilesShown,
+  ListsProfilesWhereverAsked,
+  ListsAccountOnlyWhereShown,
+  ListsAccountWhereverShown,
+  IsKeptAgain,
+  IsTakenWhole,
+  ImportsOnlyWhereAllowed,
+  ImportsWhereverAllowed,
+  RepeatsWhereverAllowed,
+}
 use Rattle.opc_machine.specs.Commands.{console_for}
 use Rattle.opc_machine.specs.Imports.{batch_line, batch_of, batch_outcome, import_outcome, same_rows}
 use Rattle.opc_machine.specs.Inputs.{Input}
@@ -61,7 +104,8 @@ asking_back s name c asks =
 
 -- lines that are made of rows, one of each
 pub made_of : {X Y : Type 0} (f : X → Y) (xs : List X) (y : Y) → Contains (map f xs) y → (x : X) × (y ≡ f x) × Contains xs x
-made_of {X} {Y} f xs y h = All-contains P (map f xs) y (All-map P f xs (All-weaker (Contains xs) (λ x. P (f x)) (λ x c. (x, refl, c)) xs (All-contains_itself xs))) h
+made_of {X} {Y} f xs y h = All-contains P (map f xs) y
+    (All-map P f xs (All-weaker (Contains xs) (λ x. P (f x)) (λ x c. (x, refl, c)) xs (All-contains_itself xs))) h
   where
     P : Y → Type 0
     P z = (x : X) × (z ≡ f x) × Contains xs x
@@ -74,30 +118,43 @@ administers_only s moment name o lines why new (inl left) = absurd (not_aborted 
 administers_only s moment name o lines why new (inr (inl full)) = absurd (not_aborted lines why (inr full.answers))
 administers_only s moment name o lines why new (inr (inr done)) =
     let d = done_is (admin_outcome s name o) lines why done.answers in
-    let a = bind_ok (console_asking s name) (λ c. refuse_if (right_fault o) None (not (may_change s c o)) >>= λ _. or_refused (changed s o) >>= λ next. does next [] None) d.0 d.1 in
+    let a = bind_ok (console_asking s name)
+    (λ c. refuse_if (right_fault o) None (not (may_change s c o)) >>= λ _. or_refused (changed s o) >>= λ next. does
+    next [] None) d.0 d.1 in
     let u = bind_ok (refuse_if (right_fault o) None (not (may_change s a.0 o))) (λ _. or_refused (changed s o) >>= λ next. does next [] None) d.0 a.2 in
     let m = bind_ok (or_refused (changed s o)) (λ next. does next [] None) d.0 u.2 in
     let deed : Deed = record { state = m.0; lines = []; rule = None } in
     let comes : admin_outcome s name o ≡ Ok deed = d.1 ∙ sym m.2 in
     let ends : new ≡ m.0 = done.becomes ∙ ap (after s moment (input.Admin name o)) comes in
-    let returned = lines_of_done lines [] why None (done.answers ∙ ap answer_of comes) in
-    (a.0, asking_is s name a.0 a.1, is_on (may_change s a.0 o) (refuse_if_ok _ _ _ _ u.1), or_refused_ok (changed s o) m.0 m.1 ∙ ap Ok (sym ends), returned.0, returned.1)
+    let returned = lines_of_done lines [] why None (done.answers ∙ ap answer_of comes) in (
+      a.0,
+      asking_is s name a.0 a.1,
+      is_on (may_change s a.0 o) (refuse_if_ok _ _ _ _ u.1),
+      or_refused_ok (changed s o) m.0 m.1 ∙ ap Ok (sym ends),
+      returned.0,
+      returned.1,
+    )
 
 pub administers_wherever : AdministersWhereverAllowed
 administers_wherever s moment name o c next answer new asks may makes_it (inl left) = inl left.aborts
 administers_wherever s moment name o c next answer new asks may makes_it (inr (inl full)) = inl (inr full.answers)
 administers_wherever s moment name o c next answer new asks may makes_it (inr (inr done)) =
     let deed : Deed = record { state = next; lines = []; rule = None } in
-    let of_console : admin_outcome s name o ≡ (refuse_if (right_fault o) None (not (may_change s c o)) >>= λ _. or_refused (changed s o) >>= λ t. does t [] None) =
-    ap (λ x. x >>= λ d. refuse_if (right_fault o) None (not (may_change s d o)) >>= λ _. or_refused (changed s o) >>= λ t. does t [] None) (asking_back s name c asks) in
-    let of_right : (refuse_if (right_fault o) None (not (may_change s c o)) >>= λ _. or_refused (changed s o) >>= λ t. does t [] None) ≡ (or_refused (changed s o) >>= λ t. does t [] None) =
+    let of_console : admin_outcome s name
+    o ≡ (refuse_if (right_fault o) None (not (may_change s c o)) >>= λ _. or_refused (changed s o) >>= λ t. does t
+    [] None) =
+    ap (λ x. x >>= λ d. refuse_if (right_fault o) None (not (may_change s d o)) >>= λ _. or_refused (changed s o) >>=
+    λ t. does t [] None) (asking_back s name c asks) in
+    let of_right : (refuse_if (right_fault o) None (not (may_change s c o)) >>= λ _. or_refused (changed s o) >>= λ t.
+    does t [] None) ≡ (or_refused (changed s o) >>= λ t. does t [] None) =
     ap (λ b. refuse_if (right_fault o) None (not b) >>= λ _. or_refused (changed s o) >>= λ t. does t [] None) may in
     let of_change : (or_refused (changed s o) >>= λ t. does t [] None) ≡ Ok deed = ap (λ x. or_refused x >>= λ t. does t [] None) makes_it in
     let comes : admin_outcome s name o ≡ Ok deed = of_console ∙ of_right ∙ of_change in
     inr (done.answers ∙ ap answer_of comes, done.becomes ∙ ap (after s moment (input.Admin name o)) comes)
 
 -- what is listed of the profiles of a class
-listed : (s : State) (c : ConsoleRow) (class : Class) (new : State) → new ≡ s → ListsProfiles s c class (map profile_line (filter (profile_shown s c) (of_class class s.policy.profiles))) new
+listed : (s : State) (c : ConsoleRow) (class : Class) (new : State) → new ≡ s
+    → ListsProfiles s c class (map profile_line (filter (profile_shown s c) (of_class class s.policy.profiles))) new
 listed s c class new same = record {
   each_once = refl;
   exactly = λ line. (
@@ -106,7 +163,8 @@ listed s c class new same = record {
         let shown = of_filter (profile_shown s c) (of_class class s.policy.profiles) found.0 found.2 in
         (found.0, found.1, shown.0, shown.1),
     λ h. subst (Contains (map profile_line (filter (profile_shown s c) (of_class class s.policy.profiles)))) (sym h.1)
-        (makes profile_line (filter (profile_shown s c) (of_class class s.policy.profiles)) h.0 (to_filter (profile_shown s c) (of_class class s.policy.profiles) h.0 h.2 h.3)),
+        (makes profile_line (filter (profile_shown s c) (of_class class s.policy.profiles)) h.0
+        (to_filter (profile_shown s c) (of_class class s.policy.profiles) h.0 h.2 h.3)),
   );
   same = same;
 }
@@ -139,7 +197,9 @@ account_only s moment name from count lines why new (inl left) = absurd (not_abo
 account_only s moment name from count lines why new (inr (inl full)) = absurd (not_aborted lines why (inr full.answers))
 account_only s moment name from count lines why new (inr (inr done)) =
     let d = done_is (account_outcome s name from count) lines why done.answers in
-    let a = bind_ok (console_asking s name) (λ c. refuse_if NotSpecial None (not (account_shown s c)) >>= λ _. does s (map account_line (asked_for from count s.account)) None) d.0 d.1 in
+    let a = bind_ok (console_asking s name)
+    (λ c. refuse_if NotSpecial None (not (account_shown s c)) >>= λ _. does s
+    (map account_line (asked_for from count s.account)) None) d.0 d.1 in
     let u = bind_ok (refuse_if NotSpecial None (not (account_shown s a.0))) (λ _. does s (map account_line (asked_for from count s.account)) None) d.0 a.2 in
     let shown : List Line = map account_line (asked_for from count s.account) in
     let deed : Deed = record { state = s; lines = shown; rule = None } in
@@ -160,7 +220,9 @@ account_wherever s moment name from count c answer new asks may (inr (inr done))
     inr (done.answers ∙ ap answer_of comes, done.becomes ∙ ap (after s moment (input.ListAccount name from count)) comes)
 
 -- what comes of a batch
-again_is : (s : State) (number : ℕ) (all : List Row) (kept : Batch) (deed : Deed) → (if same_rows kept.rows all then does s (batch_line number (codes "AGAIN") ∷ []) None else refused BatchChanged None) ≡ Ok deed
+again_is : (s : State) (number : ℕ) (all : List Row) (kept : Batch) (deed : Deed)
+    → (if same_rows kept.rows all then does s (batch_line number (codes "AGAIN") ∷ []) None else refused BatchChanged
+    None) ≡ Ok deed
     → (same_rows kept.rows all ≡ true) × (deed ≡ record { state = s; lines = batch_line number (codes "AGAIN") ∷ []; rule = None })
 again_is s number all kept deed h = go (same_rows kept.rows all) h
   where
@@ -171,13 +233,25 @@ again_is s number all kept deed h = go (same_rows kept.rows all) h
 
 module _ (s : State) (number : ℕ) (all : List Row) (lines : List Line) (new : State) where
   -- the deed, with the lines that were told and the state that was reached
-  batch_is : (kept : Option Batch) → batch_of s.batches number ≡ kept → (deed : Deed) → batch_outcome s number all kept ≡ Ok deed → lines ≡ deed.lines → (deed.rule ≡ None → new ≡ deed.state)
+  batch_is : (kept : Option Batch) → batch_of s.batches number ≡ kept → (deed : Deed)
+      → batch_outcome s number all kept ≡ Ok deed → lines ≡ deed.lines → (deed.rule ≡ None → new ≡ deed.state)
       → IsKeptAgain s number all lines new ⊎ IsTakenWhole s number all lines new
   batch_is (Some kept) at deed h returned ends =
       let is = again_is s number all kept deed h in
-      inl (record { kept = kept; found = at; matches = is.0; returned = returned ∙ ap (λ (d : Deed). d.lines) is.1; same = ends (ap (λ (d : Deed). d.rule) is.1) ∙ ap (λ (d : Deed). d.state) is.1 })
+      inl (record {
+        kept = kept;
+        found = at;
+        matches = is.0;
+        returned = returned ∙ ap (λ (d : Deed). d.lines) is.1;
+        same = ends (ap (λ (d : Deed). d.rule) is.1) ∙ ap (λ (d : Deed). d.state) is.1;
+      })
   batch_is None at deed h returned ends =
-      let m = bind_ok (or_refused (with_rows all s)) (λ next. does (record next { batches = with_batch (record { number = number; rows = all }) next.batches }) (batch_line number (codes "KEPT") ∷ []) None) deed h in
+      let m = bind_ok (or_refused (with_rows all s)) (λ next. does (record next {
+        batches = with_batch (record {
+          number = number;
+          rows = all;
+        }) next.batches;
+      }) (batch_line number (codes "KEPT") ∷ []) None) deed h in
       let is = ok_is _ deed m.2 in
       inr (record {
         unknown = at;
@@ -189,32 +263,54 @@ module _ (s : State) (number : ℕ) (all : List Row) (lines : List Line) (new : 
 
 -- without a rule nothing is accounted
 unwarned : (s : State) (moment : ℕ) (r : Input) (deed : Deed) → deed.rule ≡ None → after s moment r (Ok deed) ≡ deed.state
-unwarned s moment r deed none = ap (λ (w : Option Rule). if is_warned w then accounted (account_row s moment r (codes "WARN") w) deed.state else deed.state) none
+unwarned s moment r deed none =
+    ap (λ (w : Option Rule). if is_warned w then accounted (account_row s moment r (codes "WARN") w) deed.state else
+    deed.state) none
 
 pub imports_only : ImportsOnlyWhereAllowed
 imports_only s moment name number all lines why new (inl left) = absurd (not_aborted lines why left.aborts)
 imports_only s moment name number all lines why new (inr (inl full)) = absurd (not_aborted lines why (inr full.answers))
 imports_only s moment name number all lines why new (inr (inr done)) =
     let d = done_is (import_outcome s name number all) lines why done.answers in
-    let a = bind_ok (console_asking s name) (λ c. refuse_if NotSpecial None (not (is_special (acting s c))) >>= λ _. batch_outcome s number all (batch_of s.batches number)) d.0 d.1 in
+    let a = bind_ok (console_asking s name)
+    (λ c. refuse_if NotSpecial None (not (is_special (acting s c))) >>= λ _. batch_outcome s number all
+    (batch_of s.batches number)) d.0 d.1 in
     let u = bind_ok (refuse_if NotSpecial None (not (is_special (acting s a.0)))) (λ _. batch_outcome s number all (batch_of s.batches number)) d.0 a.2 in
-    let ends : d.0.rule ≡ None → new ≡ d.0.state = λ none. done.becomes ∙ ap (after s moment (input.Import name number all)) d.1 ∙ unwarned s moment (input.Import name number all) d.0 none in
-    (a.0, asking_is s name a.0 a.1, is_on (is_special (acting s a.0)) (refuse_if_ok _ _ _ _ u.1), batch_is s number all lines new (batch_of s.batches number) refl d.0 u.2 d.2 ends)
+    let ends : d.0.rule ≡ None → new ≡ d.0.state =
+    λ none. done.becomes ∙ ap (after s moment (input.Import name number all)) d.1
+    ∙ unwarned s moment (input.Import name number all) d.0 none in (
+      a.0,
+      asking_is s name a.0 a.1,
+      is_on (is_special (acting s a.0)) (refuse_if_ok _ _ _ _ u.1),
+      batch_is s number all lines new (batch_of s.batches number) refl d.0 u.2 d.2 ends,
+    )
 
 -- where SPECIAL imports, it comes to what comes of the batch
-pub import_right : (s : State) (name : List ℕ) (number : ℕ) (all : List Row) (c : ConsoleRow) → MayAsk s name c → is_special (acting s c) ≡ true → import_outcome s name number all ≡ batch_outcome s number all (batch_of s.batches number)
+pub import_right : (s : State) (name : List ℕ) (number : ℕ) (all : List Row) (c : ConsoleRow) → MayAsk s name c
+    → is_special (acting s c) ≡ true → import_outcome s name number all ≡ batch_outcome s number all
+    (batch_of s.batches number)
 import_right s name number all c asks may =
-    ap (λ x. x >>= λ d. refuse_if NotSpecial None (not (is_special (acting s d))) >>= λ _. batch_outcome s number all (batch_of s.batches number)) (asking_back s name c asks)
+    ap (λ x. x >>= λ d. refuse_if NotSpecial None (not (is_special (acting s d))) >>= λ _. batch_outcome s number all
+    (batch_of s.batches number)) (asking_back s name c asks)
     ∙ ap (λ b. refuse_if NotSpecial None (not b) >>= λ _. batch_outcome s number all (batch_of s.batches number)) may
 
 pub imports_wherever : ImportsWhereverAllowed
 imports_wherever s moment name number all c next answer new asks may unknown takes (inl left) = inl left.aborts
 imports_wherever s moment name number all c next answer new asks may unknown takes (inr (inl full)) = inl (inr full.answers)
 imports_wherever s moment name number all c next answer new asks may unknown takes (inr (inr done)) =
-    let deed : Deed = record { state = record next { batches = with_batch (record { number = number; rows = all }) next.batches }; lines = batch_line number (codes "KEPT") ∷ []; rule = None } in
+    let deed : Deed = record {
+      state = record next { batches = with_batch (record { number = number; rows = all }) next.batches };
+      lines = batch_line number (codes "KEPT") ∷ [];
+      rule = None;
+    } in
     let of_number : batch_outcome s number all (batch_of s.batches number) ≡ batch_outcome s number all None = ap (batch_outcome s number all) unknown in
     let of_rows : batch_outcome s number all None ≡ Ok deed =
-    ap (λ x. or_refused x >>= λ t. does (record t { batches = with_batch (record { number = number; rows = all }) t.batches }) (batch_line number (codes "KEPT") ∷ []) None) takes in
+    ap (λ x. or_refused x >>= λ t. does (record t {
+      batches = with_batch (record {
+        number = number;
+        rows = all;
+      }) t.batches;
+    }) (batch_line number (codes "KEPT") ∷ []) None) takes in
     let comes : import_outcome s name number all ≡ Ok deed = import_right s name number all c asks may ∙ of_number ∙ of_rows in
     inr (done.answers ∙ ap answer_of comes, done.becomes ∙ ap (after s moment (input.Import name number all)) comes)
 

@@ -17,8 +17,33 @@ use Rattle.opc_state.specs.State.{State}
 use Rattle.opc_machine.specs.declared.operation.Operation.{Operation}
 use Rattle.opc_machine.specs.declared.operation.Operation.TheVariants as operation
 use Rattle.opc_machine.specs.Rights.{holds_read, is_owner, is_special, owns_changed, sees_all}
-use Rattle.opc_machine.specs.Rulings.{access_ruling, acting, acting_user, denied_or, is_allowed, is_auto, is_required, is_revoked, logon_denial, need_to_show, own_user, passes, ruling}
-use Rattle.opc_machine_laws.specs.ActingLaws.{ActsAlone, ActsAs, ActsFor, AutoConsolesActForTheirOwn, IsAccountedTo, OptionalConsolesActAlone, OtherAutoConsolesActAlone, OthersAreAccountedToNobody, RequiredConsolesActForNobody, WhoIsOnComesFirst}
+use Rattle.opc_machine.specs.Rulings.{
+  access_ruling,
+  acting,
+  acting_user,
+  denied_or,
+  is_allowed,
+  is_auto,
+  is_required,
+  is_revoked,
+  logon_denial,
+  need_to_show,
+  own_user,
+  passes,
+  ruling,
+}
+use Rattle.opc_machine_laws.specs.ActingLaws.{
+  ActsAlone,
+  ActsAs,
+  ActsFor,
+  AutoConsolesActForTheirOwn,
+  IsAccountedTo,
+  OptionalConsolesActAlone,
+  OtherAutoConsolesActAlone,
+  OthersAreAccountedToNobody,
+  RequiredConsolesActForNobody,
+  WhoIsOnComesFirst,
+}
 
 -- whether the user who acts is revoked, where nobody has to be on
 abbrev revoked_only : Option User → Option Rule
@@ -28,7 +53,12 @@ denial_is : (s : State) (c : ConsoleRow) → (is_required c.mode && is_none c.us
 denial_is s c h = ap (λ b. if b then Some rule.LogonRequired else revoked_only (acting s c)) h
 
 -- two consoles that differ in mode and user alone, with the same user acting
-module _ (s : State) (c : ConsoleRow) (mode : Mode) (user : Option (List ℕ)) (here : (is_required c.mode && is_none c.user) ≡ false) (there : (is_required mode && is_none user) ≡ false) (who : acting s c ≡ acting s (record c { mode = mode; user = user })) where
+module _ (s : State) (c : ConsoleRow) (mode : Mode) (user : Option (List ℕ))
+    (here : (is_required c.mode && is_none c.user) ≡ false) (there : (is_required mode && is_none user) ≡ false)
+    (who : acting s c ≡ acting s (record c {
+      mode = mode;
+      user = user;
+    })) where
   other : ConsoleRow
   other = record c { mode = mode; user = user }
 
@@ -92,8 +122,11 @@ module _ (s : State) (c : ConsoleRow) (auto : c.mode ≡ Auto) (nobody : c.user 
 
 pub for_their_own : AutoConsolesActForTheirOwn
 for_their_own s c auto nobody stored =
-    let is : acting_user s c ≡ Some c.name = acting_is s c auto nobody ∙ ap (λ b. if b then Some c.name else None) stored in
-    (acts_for s c (Some c.name) is, acts_as s c c.mode (Some c.name) (not_required s c auto nobody) (and_right (is_required c.mode) false refl) (ap (option_and_then (user_of s.policy.users)) is))
+    let is : acting_user s c ≡ Some c.name = acting_is s c auto nobody ∙ ap (λ b. if b then Some c.name else None) stored in (
+      acts_for s c (Some c.name) is,
+      acts_as s c c.mode (Some c.name) (not_required s c auto nobody)
+          (and_right (is_required c.mode) false refl) (ap (option_and_then (user_of s.policy.users)) is),
+    )
 
 pub for_nobody : OtherAutoConsolesActAlone
 for_nobody s c auto nobody none = acts_alone s c (not_required s c auto nobody) (acting_is s c auto nobody ∙ ap (λ b. if b then Some c.name else None) none)
@@ -117,4 +150,5 @@ required_for_nobody s c required nobody =
 pub others_to_nobody : OthersAreAccountedToNobody
 others_to_nobody s moment r code why (inl none) = ap (λ o. text_or (codes "-") (option_and_then (acting_user s) (option_and_then (console_at s.board) o))) none
 others_to_nobody s moment r code why (inr h) =
-    ap (λ o. text_or (codes "-") (option_and_then (acting_user s) (option_and_then (console_at s.board) o))) h.1 ∙ ap (λ o. text_or (codes "-") (option_and_then (acting_user s) o)) h.2
+    ap (λ o. text_or (codes "-") (option_and_then (acting_user s) (option_and_then (console_at s.board) o))) h.1
+    ∙ ap (λ o. text_or (codes "-") (option_and_then (acting_user s) o)) h.2

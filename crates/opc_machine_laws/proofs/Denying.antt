@@ -1,5 +1,32 @@
 -- Refusals of authority name their rule, whatever is asked.
-use Rattle.std.proofs.Common.{◌≡◌, inl, inr, ℕ, Bool, true, false, not, ◌&&◌, if◌then◌else◌, is_some, List, [], ◌∷◌, Option, Some, None, Result, Ok, Err, filter, map, refl, rules, subst, codes}
+use Rattle.std.proofs.Common.{
+  ◌≡◌,
+  inl,
+  inr,
+  ℕ,
+  Bool,
+  true,
+  false,
+  not,
+  ◌&&◌,
+  if◌then◌else◌,
+  is_some,
+  List,
+  [],
+  ◌∷◌,
+  Option,
+  Some,
+  None,
+  Result,
+  Ok,
+  Err,
+  filter,
+  map,
+  refl,
+  rules,
+  subst,
+  codes,
+}
 use Rattle.std.specs.Option.{is_none}
 use Rattle.opc_names.specs.declared.class.Class.{Class}
 use Rattle.opc_terms.specs.declared.fault.Fault.{Fault}
@@ -22,13 +49,32 @@ use Rattle.opc_state.specs.declared.change.Batch.{Batch}
 use Rattle.opc_state.specs.Members.{with_batch, without_user, without_connect, without_profile, without_permission}
 use Rattle.opc_state.specs.State.{State}
 use Rattle.opc_state.specs.Loads.{asked_for, is_connected}
-use Rattle.opc_machine.specs.Administration.{admin_outcome, changed, policy_changed, board_changed, definition, has_name, is_in_use, is_permitted, unless_in_use}
+use Rattle.opc_machine.specs.Administration.{
+  admin_outcome,
+  changed,
+  policy_changed,
+  board_changed,
+  definition,
+  has_name,
+  is_in_use,
+  is_permitted,
+  unless_in_use,
+}
 use Rattle.opc_machine.specs.Bootstrap.{with_rows_of, with_rows, loses_master, mastered, policy_after, then_policy, consoles_after}
 use Rattle.opc_machine.specs.Commands.{acted, console_for, denial_fault, event_outcome}
 use Rattle.opc_machine.specs.Imports.{batch_line, batch_of, batch_outcome, import_outcome, same_rows}
 use Rattle.opc_machine.specs.Inputs.{Input}
 use Rattle.opc_machine.specs.Inputs as input
-use Rattle.opc_machine_laws.specs.Laws.{AbortsChangeNothing, IsDeniedBy, IsNamedBy, IsOfAuthority, IsRefusedByBoard, IsShutOut, RefusalsNameNoOtherRule, RefusalsOfAuthorityNameTheirRule}
+use Rattle.opc_machine_laws.specs.Laws.{
+  AbortsChangeNothing,
+  IsDeniedBy,
+  IsNamedBy,
+  IsOfAuthority,
+  IsRefusedByBoard,
+  IsShutOut,
+  RefusalsNameNoOtherRule,
+  RefusalsOfAuthorityNameTheirRule,
+}
 use Rattle.opc_machine.specs.Listings.{account_line, account_outcome, profile_line, profiles_outcome}
 use Rattle.opc_machine.specs.declared.request.Answer.TheVariants.{Refused}
 use Rattle.opc_machine.specs.Machine.{IsAborted, answer_of, outcome}
@@ -60,27 +106,87 @@ in_use_none false name made none = none
 
 policy_none : (b : BoardRows) (o : Operation) (p : Policy) → IfInTheWay (policy_changed b o p)
 policy_none b (operation.AddUser id special auditor digest restricted) p =
-    unless_none (has_name p id) id (Ok (record p { users = with_user (record { id = id; special = special; auditor = auditor; revoked = false; digest = digest; restricted = restricted }) p.users })) tt
+    unless_none (has_name p id) id (Ok (record p {
+      users = with_user (record {
+        id = id;
+        special = special;
+        auditor = auditor;
+        revoked = false;
+        digest = digest;
+        restricted = restricted;
+      }) p.users;
+    })) tt
 policy_none b (operation.AltUser id special auditor revoked digest restricted) p =
-    needing_none (has_user p id) id (Ok (record p { users = with_user (record { id = id; special = special; auditor = auditor; revoked = revoked; digest = digest; restricted = restricted }) p.users })) tt
+    needing_none (has_user p id) id (Ok (record p {
+      users = with_user (record {
+        id = id;
+        special = special;
+        auditor = auditor;
+        revoked = revoked;
+        digest = digest;
+        restricted = restricted;
+      }) p.users;
+    })) tt
 policy_none b (operation.DelUser id) p =
-    needing_none (has_user p id) id (unless_in_use (is_in_use p b id) id (Ok (record p { users = without_user id p.users }))) (in_use_none (is_in_use p b id) id (Ok (record p { users = without_user id p.users })) tt)
+    needing_none (has_user p id) id (unless_in_use (is_in_use p b id) id
+    (Ok (record p { users = without_user id p.users })))
+    (in_use_none (is_in_use p b id) id (Ok (record p { users = without_user id p.users })) tt)
 policy_none b (operation.AddGroup name) p =
     unless_none (has_name p name) name (Ok (record p { groups = with_group name p.groups })) tt
 policy_none b (operation.Connect user group) p =
-    needing_none (has_user p user) user (needing (has_group p group) group (unless (is_connected p user group) group (Ok (record p { connects = with_connect (record { user = user; group = group }) p.connects })))) (needing_none (has_group p group) group (unless (is_connected p user group) group (Ok (record p { connects = with_connect (record { user = user; group = group }) p.connects }))) (unless_none (is_connected p user group) group (Ok (record p { connects = with_connect (record { user = user; group = group }) p.connects })) tt))
+    needing_none (has_user p user) user (needing (has_group p group) group (unless (is_connected p user group) group (Ok (record p {
+      connects = with_connect (record {
+        user = user;
+        group = group;
+      }) p.connects;
+    })))) (needing_none (has_group p group) group
+    (unless (is_connected p user group) group
+    (Ok (record p { connects = with_connect (record { user = user; group = group }) p.connects })))
+    (unless_none (is_connected p user group) group
+    (Ok (record p { connects = with_connect (record { user = user; group = group }) p.connects })) tt))
 policy_none b (operation.Remove user group) p =
-    needing_none (has_user p user) user (needing (has_group p group) group (needing (is_connected p user group) group (Ok (record p { connects = without_connect (record { user = user; group = group }) p.connects })))) (needing_none (has_group p group) group (needing (is_connected p user group) group (Ok (record p { connects = without_connect (record { user = user; group = group }) p.connects }))) (needing_none (is_connected p user group) group (Ok (record p { connects = without_connect (record { user = user; group = group }) p.connects })) tt))
+    needing_none (has_user p user) user (needing (has_group p group) group (needing (is_connected p user group) group (Ok (record p {
+      connects = without_connect (record {
+        user = user;
+        group = group;
+      }) p.connects;
+    })))) (needing_none (has_group p group) group
+    (needing (is_connected p user group) group
+    (Ok (record p { connects = without_connect (record { user = user; group = group }) p.connects })))
+    (needing_none (is_connected p user group) group
+    (Ok (record p { connects = without_connect (record { user = user; group = group }) p.connects })) tt))
 policy_none b (operation.RDefine class pattern owner uacc warning) p =
-    unless_none (is_some (profile_of p.profiles class pattern)) pattern (needing (has_user p owner) owner (Ok (record p { profiles = with_definition (definition class pattern owner uacc warning) p.profiles }))) (needing_none (has_user p owner) owner (Ok (record p { profiles = with_definition (definition class pattern owner uacc warning) p.profiles })) tt)
+    unless_none (is_some (profile_of p.profiles class pattern)) pattern
+    (needing (has_user p owner) owner
+    (Ok (record p { profiles = with_definition (definition class pattern owner uacc warning) p.profiles })))
+    (needing_none (has_user p owner) owner
+    (Ok (record p { profiles = with_definition (definition class pattern owner uacc warning) p.profiles })) tt)
 policy_none b (operation.RAlter class pattern owner uacc warning) p =
-    needing_none (is_some (profile_of p.profiles class pattern)) pattern (needing (has_user p owner) owner (Ok (record p { profiles = with_definition (definition class pattern owner uacc warning) p.profiles }))) (needing_none (has_user p owner) owner (Ok (record p { profiles = with_definition (definition class pattern owner uacc warning) p.profiles })) tt)
+    needing_none (is_some (profile_of p.profiles class pattern)) pattern
+    (needing (has_user p owner) owner
+    (Ok (record p { profiles = with_definition (definition class pattern owner uacc warning) p.profiles })))
+    (needing_none (has_user p owner) owner
+    (Ok (record p { profiles = with_definition (definition class pattern owner uacc warning) p.profiles })) tt)
 policy_none b (operation.RDelete class pattern) p =
     needing_none (is_some (profile_of p.profiles class pattern)) pattern (Ok (record p { profiles = without_profile class pattern p.profiles })) tt
 policy_none b (operation.Permit class pattern id level when) p =
-    needing_none (is_some (profile_of p.profiles class pattern)) pattern (needing (has_holder p id) id (Ok (record p { profiles = with_permission class pattern (record { id = id; when = when; level = level }) p.profiles }))) (needing_none (has_holder p id) id (Ok (record p { profiles = with_permission class pattern (record { id = id; when = when; level = level }) p.profiles })) tt)
+    needing_none (is_some (profile_of p.profiles class pattern)) pattern (needing (has_holder p id) id (Ok (record p {
+      profiles = with_permission class pattern (record {
+        id = id;
+        when = when;
+        level = level;
+      }) p.profiles;
+    }))) (needing_none (has_holder p id) id
+    (Ok (record p {
+      profiles = with_permission class pattern (record { id = id; when = when; level = level })
+          p.profiles;
+    })) tt)
 policy_none b (operation.PermitDelete class pattern id when) p =
-    needing_none (is_some (profile_of p.profiles class pattern)) pattern (needing (is_permitted p class pattern id when) id (Ok (record p { profiles = without_permission class pattern id when p.profiles }))) (needing_none (is_permitted p class pattern id when) id (Ok (record p { profiles = without_permission class pattern id when p.profiles })) tt)
+    needing_none (is_some (profile_of p.profiles class pattern)) pattern
+    (needing (is_permitted p class pattern id when) id
+    (Ok (record p { profiles = without_permission class pattern id when p.profiles })))
+    (needing_none (is_permitted p class pattern id when) id
+    (Ok (record p { profiles = without_permission class pattern id when p.profiles })) tt)
 policy_none b (operation.ClassActive class active) p = tt
 policy_none b (operation.DefineConsole name auth mode) p = tt
 
@@ -91,14 +197,39 @@ row_none (rows.Group name) p =
 row_none (rows.User user) p =
     unless_none (has_group p user.id) user.id (Ok (record p { users = with_user user p.users })) tt
 row_none (rows.Connect user group) p =
-    needing_none (has_user p user) user (needing (has_group p group) group (Ok (record p { connects = with_connect (record { user = user; group = group }) p.connects }))) (needing_none (has_group p group) group (Ok (record p { connects = with_connect (record { user = user; group = group }) p.connects })) tt)
+    needing_none (has_user p user) user (needing (has_group p group) group (Ok (record p {
+      connects = with_connect (record {
+        user = user;
+        group = group;
+      }) p.connects;
+    }))) (needing_none (has_group p group) group (Ok (record p { connects = with_connect (record { user = user; group = group }) p.connects })) tt)
 row_none (rows.Console name auth mode) p = tt
 row_none (rows.Profile class pattern uacc owner warning) p =
-    needing_none (has_user p owner) owner (Ok (record p { profiles = with_definition (record { class = class; pattern = pattern; owner = owner; uacc = uacc; warning = warning; entries = [] }) p.profiles })) tt
+    needing_none (has_user p owner) owner (Ok (record p {
+      profiles = with_definition (record {
+        class = class;
+        pattern = pattern;
+        owner = owner;
+        uacc = uacc;
+        warning = warning;
+        entries = [];
+      }) p.profiles;
+    })) tt
 row_none (rows.Permit class pattern id level when) p =
-    needing_none (is_some (profile_of p.profiles class pattern)) pattern (needing (has_holder p id) id (Ok (record p { profiles = with_permission class pattern (record { id = id; when = when; level = level }) p.profiles }))) (needing_none (has_holder p id) id (Ok (record p { profiles = with_permission class pattern (record { id = id; when = when; level = level }) p.profiles })) tt)
+    needing_none (is_some (profile_of p.profiles class pattern)) pattern (needing (has_holder p id) id (Ok (record p {
+      profiles = with_permission class pattern (record {
+        id = id;
+        when = when;
+        level = level;
+      }) p.profiles;
+    }))) (needing_none (has_holder p id) id
+    (Ok (record p {
+      profiles = with_permission class pattern (record { id = id; when = when; level = level })
+          p.profiles;
+    })) tt)
 
-then_none : (r : Result Policy Fault) (next : Policy → Result Policy Fault) → IfInTheWay r → ((p : Policy) → IfInTheWay (next p)) → IfInTheWay (then_policy r next)
+then_none : (r : Result Policy Fault) (next : Policy → Result Policy Fault) → IfInTheWay r
+    → ((p : Policy) → IfInTheWay (next p)) → IfInTheWay (then_policy r next)
 then_none (Ok p) next none later = later p
 then_none (Err f) next none later = none
 
@@ -152,19 +283,24 @@ module _ (s : State) (r : Input) where
   module _ (name : List ℕ) (shut_out : (why : Rule) → IsShutOut s name why → IsDeniedBy s r why) where
     asking_told : IfRefused (IsTold s r) (console_asking s name)
     asking_told = then_told (IsTold s r) (console_for s name) (λ c. unless_denied (logon_denial s c) >>= λ _. Ok c) (console_told s r name)
-        (λ c is. then_told (IsTold s r) (unless_denied (logon_denial s c)) (λ _. Ok c) (at_logon c (console_is s name c is) (logon_denial s c) refl (logon_rule s c)) (λ _ _. tt))
+        (λ c is. then_told (IsTold s r) (unless_denied (logon_denial s c)) (λ _. Ok c)
+        (at_logon c (console_is s name c is) (logon_denial s c) refl (logon_rule s c)) (λ _ _. tt))
       where
-        at_logon : (c : ConsoleRow) → (console_at s.board name ≡ Some c) × (c.online ≡ true) → (o : Option Rule) → logon_denial s c ≡ o → IsLogonRule o → IfRefused (IsTold s r) (unless_denied o)
+        at_logon : (c : ConsoleRow) → (console_at s.board name ≡ Some c) × (c.online ≡ true) → (o : Option Rule)
+            → logon_denial s c ≡ o → IsLogonRule o → IfRefused (IsTold s r) (unless_denied o)
         at_logon c at None is proper = tt
         at_logon c at (Some why) is proper = inl (proper, shut_out why (record { console = c; there = at.0; online = at.1; denied = is }))
 
 admin_told : (s : State) (name : List ℕ) (o : Operation) → IfRefused (IsTold s (input.Admin name o)) (admin_outcome s name o)
 admin_told s name o =
-    then_told P (console_asking s name) (λ c. refuse_if (right_fault o) None (not (may_change s c o)) >>= λ _. or_refused (changed s o) >>= λ new. does new [] None)
+    then_told P (console_asking s name) (λ c. refuse_if (right_fault o) None (not (may_change s c o)) >>= λ _.
+    or_refused (changed s o) >>= λ new. does new [] None)
     (asking_told s r name (λ why returned. returned))
     (λ c _. then_told P (refuse_if (right_fault o) None (not (may_change s c o))) (λ _. or_refused (changed s o) >>= λ new. does new [] None)
     (refuse_told s r (right_fault o) (not (may_change s c o)) (right_plain o))
-    (λ _ _. then_told P (or_refused (changed s o)) (λ new. does new [] None) (or_told s r (changed s o) (with_rows_none s (board_changed o s.board) (policy_changed s.board o s.policy) (policy_none s.board o s.policy))) (λ _ _. tt)))
+    (λ _ _. then_told P (or_refused (changed s o)) (λ new. does new [] None)
+    (or_told s r (changed s o) (with_rows_none s (board_changed o s.board) (policy_changed s.board o s.policy)
+    (policy_none s.board o s.policy))) (λ _ _. tt)))
   where
     r : Input
     r = input.Admin name o
@@ -174,14 +310,18 @@ admin_told s name o =
 
 profiles_told : (s : State) (name : List ℕ) (class : Class) → IfRefused (IsTold s (input.ListProfiles name class)) (profiles_outcome s name class)
 profiles_told s name class =
-    then_told (IsTold s (input.ListProfiles name class)) (console_asking s name) (λ c. does s (map profile_line (filter (profile_shown s c) (of_class class s.policy.profiles))) None)
+    then_told (IsTold s (input.ListProfiles name class)) (console_asking s name)
+    (λ c. does s (map profile_line (filter (profile_shown s c) (of_class class s.policy.profiles))) None)
     (asking_told s (input.ListProfiles name class) name (λ why returned. returned)) (λ _ _. tt)
 
 account_told : (s : State) (name : List ℕ) (from count : ℕ) → IfRefused (IsTold s (input.ListAccount name from count)) (account_outcome s name from count)
 account_told s name from count =
-    then_told (IsTold s r) (console_asking s name) (λ c. refuse_if fault.NotSpecial None (not (account_shown s c)) >>= λ _. does s (map account_line (asked_for from count s.account)) None)
+    then_told (IsTold s r) (console_asking s name)
+    (λ c. refuse_if fault.NotSpecial None (not (account_shown s c)) >>= λ _. does s
+    (map account_line (asked_for from count s.account)) None)
     (asking_told s r name (λ why returned. returned))
-    (λ c _. then_told (IsTold s r) (refuse_if fault.NotSpecial None (not (account_shown s c))) (λ _. does s (map account_line (asked_for from count s.account)) None)
+    (λ c _. then_told (IsTold s r) (refuse_if fault.NotSpecial None (not (account_shown s c)))
+    (λ _. does s (map account_line (asked_for from count s.account)) None)
     (refuse_told s r fault.NotSpecial (not (account_shown s c)) tt) (λ _ _. tt))
   where
     r : Input
@@ -189,9 +329,12 @@ account_told s name from count =
 
 import_told : (s : State) (name : List ℕ) (number : ℕ) (all : List Row) → IfRefused (IsTold s (input.Import name number all)) (import_outcome s name number all)
 import_told s name number all =
-    then_told (IsTold s r) (console_asking s name) (λ c. refuse_if fault.NotSpecial None (not (is_special (acting s c))) >>= λ _. batch_outcome s number all (batch_of s.batches number))
+    then_told (IsTold s r) (console_asking s name)
+    (λ c. refuse_if fault.NotSpecial None (not (is_special (acting s c))) >>= λ _. batch_outcome s number all
+    (batch_of s.batches number))
     (asking_told s r name (λ why returned. returned))
-    (λ c _. then_told (IsTold s r) (refuse_if fault.NotSpecial None (not (is_special (acting s c)))) (λ _. batch_outcome s number all (batch_of s.batches number))
+    (λ c _. then_told (IsTold s r) (refuse_if fault.NotSpecial None (not (is_special (acting s c))))
+    (λ _. batch_outcome s number all (batch_of s.batches number))
     (refuse_told s r fault.NotSpecial (not (is_special (acting s c))) tt) (λ _ _. batch_told (batch_of s.batches number)))
   where
     r : Input
@@ -202,12 +345,19 @@ import_told s name number all =
     again false = tt
 
     batch_told : (kept : Option Batch) → IfRefused (IsTold s r) (batch_outcome s number all kept)
-    batch_told None = then_told (IsTold s r) (or_refused (with_rows all s)) (λ new. does (record new { batches = with_batch (record { number = number; rows = all }) new.batches }) (batch_line number (codes "KEPT") ∷ []) None)
+    batch_told None = then_told (IsTold s r) (or_refused (with_rows all s)) (λ new. does (record new {
+      batches = with_batch (record {
+        number = number;
+        rows = all;
+      }) new.batches;
+    }) (batch_line number (codes "KEPT") ∷ []) None)
         (or_told s r (with_rows all s) (with_rows_none s (consoles_after all s.board) (policy_after all s.policy) (rows_none all s.policy))) (λ _ _. tt)
     batch_told (Some kept) = again (same_rows kept.rows all)
 
 event_told : (s : State) (e : Event) → IfRefused (IsTold s (input.Event e)) (event_outcome s e)
-event_told s e = then_told (IsTold s (input.Event e)) (acted None (event_effect s.board e)) (λ act. does (record s { board = act.board }) [] None) (acted_told s (input.Event e) (event_effect s.board e) (event_plain s.board e)) (λ _ _. tt)
+event_told s e = then_told (IsTold s (input.Event e)) (acted None (event_effect s.board e))
+    (λ act. does (record s { board = act.board }) [] None)
+    (acted_told s (input.Event e) (event_effect s.board e) (event_plain s.board e)) (λ _ _. tt)
 
 outcome_told : (s : State) (r : Input) → IfRefused (IsTold s r) (outcome s r)
 outcome_told s (input.Command name text) = command_told s name text

@@ -18,7 +18,16 @@ use Rattle.opc_board.specs.Invariants.{unit_at}
 use Rattle.opc_board.specs.Texts.{console_line, lines_of, unit_line}
 use Rattle.opc_state.specs.State.{State}
 use Rattle.opc_machine.specs.Rulings.{is_allowed, need_to_show, passes, ruling, shown}
-use Rattle.opc_machine_laws.specs.DisplayLaws.{LinesAreAboutWhatTheyList, ListsEachConsoleOnce, ListsEachUnitOnce, ListsEveryConsole, ListsEveryUnit, ListsTheUnit, ListsTheUnitOnce, MayBeShown}
+use Rattle.opc_machine_laws.specs.DisplayLaws.{
+  LinesAreAboutWhatTheyList,
+  ListsEachConsoleOnce,
+  ListsEachUnitOnce,
+  ListsEveryConsole,
+  ListsEveryUnit,
+  ListsTheUnit,
+  ListsTheUnitOnce,
+  MayBeShown,
+}
 use Rattle.opc_machine_laws.proofs.Acting.{lists_exactly}
 use Rattle.opc_machine_laws.proofs.Changing.{made_of, makes}
 
@@ -82,7 +91,9 @@ every_console s c why lines rule new acts line =
           (of.0, of.1, of.2, may_be s c (codes "MVS.DISPLAY.CN") of.0.name (ap (shown s c) (sym of.1) ∙ listed.1)),
       λ h.
           exactly.1 (
-            subst (λ l. Contains l line) (sym made) (subst (Contains (map console_line s.board.consoles)) (sym h.1) (makes console_line s.board.consoles h.0 h.2)),
+            subst (λ l. Contains l line) (sym made)
+                (subst (Contains (map console_line s.board.consoles)) (sym h.1)
+                (makes console_line s.board.consoles h.0 h.2)),
             ap (shown s c) h.1 ∙ is_shown s c (codes "MVS.DISPLAY.CN") h.0.name h.3,
           ),
     )

@@ -14,7 +14,9 @@ module _ {A : Type 0} (p : A → Bool) (f : A → A) (y : A) where
   find_here kept [] at = absurd (cc)
   find_here kept (x ∷ xs) at = go (p x) refl at (find_here kept xs)
     where
-      go : (b : Bool) → p x ≡ b → cond b (Some x) (find p xs) ≡ Some y → (find p xs ≡ Some y → find p (changed p f xs) ≡ Some (f y)) → find p (cond b (f x ∷ xs) (x ∷ changed p f xs)) ≡ Some (f y)
+      go : (b : Bool) → p x ≡ b → cond b (Some x) (find p xs) ≡ Some y
+          → (find p xs ≡ Some y → find p (changed p f xs) ≡ Some (f y))
+          → find p (cond b (f x ∷ xs) (x ∷ changed p f xs)) ≡ Some (f y)
       go true is g later = let same : x ≡ y = cc in ap (λ z. find p (f z ∷ xs)) same ∙ ap (λ b. cond b (Some (f y)) (find p xs)) kept
       go false is g later = ap (λ b. cond b (Some x) (find p (changed p f xs))) is ∙ later g
 
@@ -24,16 +26,24 @@ module _ {A : Type 0} (p q : A → Bool) (f : A → A) (y : A) where
   find_others before after [] at = refl
   find_others before after (x ∷ xs) at = go (p x) at (find_others before after xs)
     where
-      go : (b : Bool) → cond b (Some x) (find p xs) ≡ Some y → (find p xs ≡ Some y → find q (changed p f xs) ≡ find q xs) → find q (cond b (f x ∷ xs) (x ∷ changed p f xs)) ≡ find q (x ∷ xs)
-      go true g later = let same : x ≡ y = cc in ap (λ z. find q (f z ∷ xs)) same ∙ ap (λ b. cond b (Some (f y)) (find q xs)) after ∙ sym (ap (λ z. find q (z ∷ xs)) same ∙ ap (λ b. cond b (Some y) (find q xs)) before)
+      go : (b : Bool) → cond b (Some x) (find p xs) ≡ Some y
+          → (find p xs ≡ Some y → find q (changed p f xs) ≡ find q xs)
+          → find q (cond b (f x ∷ xs) (x ∷ changed p f xs)) ≡ find q (x ∷ xs)
+      go true g later = let same : x ≡ y =
+          cc in ap (λ z. find q (f z ∷ xs)) same ∙ ap (λ b. cond b (Some (f y)) (find q xs)) after
+          ∙ sym (ap (λ z. find q (z ∷ xs)) same ∙ ap (λ b. cond b (Some y) (find q xs)) before)
       go false g later = ap (cond (q x) (Some x)) (later g)
 
   pub any_same : q (f y) ≡ q y → (xs : List A) → find p xs ≡ Some y → list_any q (changed p f xs) ≡ list_any q xs
   any_same alike [] at = refl
   any_same alike (x ∷ xs) at = go (p x) at (any_same alike xs)
     where
-      go : (b : Bool) → cond b (Some x) (find p xs) ≡ Some y → (find p xs ≡ Some y → list_any q (changed p f xs) ≡ list_any q xs) → list_any q (cond b (f x ∷ xs) (x ∷ changed p f xs)) ≡ list_any q (x ∷ xs)
-      go true g later = let same : x ≡ y = cc in ap (λ z. list_any q (f z ∷ xs)) same ∙ ap (λ b. b || list_any q xs) alike ∙ sym (ap (λ z. list_any q (z ∷ xs)) same)
+      go : (b : Bool) → cond b (Some x) (find p xs) ≡ Some y
+          → (find p xs ≡ Some y → list_any q (changed p f xs) ≡ list_any q xs)
+          → list_any q (cond b (f x ∷ xs) (x ∷ changed p f xs)) ≡ list_any q (x ∷ xs)
+      go true g later = let same : x ≡ y =
+          cc in ap (λ z. list_any q (f z ∷ xs)) same ∙ ap (λ b. b || list_any q xs) alike
+          ∙ sym (ap (λ z. list_any q (z ∷ xs)) same)
       go false g later = ap (λ b. q x || b) (later g)
 
 pub any_unseen : {A : Type 0} (p q : A → Bool) (f : A → A) → ((x : A) → q (f x) ≡ q x) → (xs : List A) → list_any q (changed p f xs) ≡ list_any q xs
@@ -50,7 +60,9 @@ module _ {A : Type 0} (before : A → A → Bool) (x : A) where
   find_put p is [] none = ap (λ b. cond b (Some x) None) is
   find_put p is (y ∷ ys) none = go (before x y) (p y) refl none (find_put p is ys)
     where
-      go : (b c : Bool) → p y ≡ c → cond c (Some y) (find p ys) ≡ None → (find p ys ≡ None → find p (put before x ys) ≡ Some x) → find p (cond b (x ∷ y ∷ ys) (y ∷ put before x ys)) ≡ Some x
+      go : (b c : Bool) → p y ≡ c → cond c (Some y) (find p ys) ≡ None
+          → (find p ys ≡ None → find p (put before x ys) ≡ Some x)
+          → find p (cond b (x ∷ y ∷ ys) (y ∷ put before x ys)) ≡ Some x
       go b true here g later = absurd (cc)
       go true false here g later = ap (λ c. cond c (Some x) (find p (y ∷ ys))) is
       go false false here g later = ap (λ c. cond c (Some y) (find p (put before x ys))) here ∙ later g
@@ -68,7 +80,9 @@ module _ {A : Type 0} (before : A → A → Bool) (x : A) where
   any_put q [] there = absurd (cc)
   any_put q (y ∷ ys) there = go (before x y) (q y) refl there (any_put q ys)
     where
-      go : (b c : Bool) → q y ≡ c → (c || list_any q ys) ≡ true → (list_any q ys ≡ true → list_any q (put before x ys) ≡ true) → list_any q (cond b (x ∷ y ∷ ys) (y ∷ put before x ys)) ≡ true
+      go : (b c : Bool) → q y ≡ c → (c || list_any q ys) ≡ true
+          → (list_any q ys ≡ true → list_any q (put before x ys) ≡ true)
+          → list_any q (cond b (x ∷ y ∷ ys) (y ∷ put before x ys)) ≡ true
       go true c is g later = ap (λ d. q x || (d || list_any q ys)) is ∙ ap (λ d. q x || d) g ∙ or_true (q x)
         where
           or_true : (a : Bool) → (a || true) ≡ true
@@ -83,7 +97,8 @@ module _ {A : Type 0} where
   find_left_out p [] = refl
   find_left_out p (x ∷ xs) = go (p x) refl (find_left_out p xs)
     where
-      go : (b : Bool) → p x ≡ b → find p (filter (λ z. not (p z)) xs) ≡ None → find p (cond (not b) (x ∷ filter (λ z. not (p z)) xs) (filter (λ z. not (p z)) xs)) ≡ None
+      go : (b : Bool) → p x ≡ b → find p (filter (λ z. not (p z)) xs) ≡ None
+          → find p (cond (not b) (x ∷ filter (λ z. not (p z)) xs) (filter (λ z. not (p z)) xs)) ≡ None
       go true is later = later
       go false is later = ap (λ c. cond c (Some x) (find p (filter (λ z. not (p z)) xs))) is ∙ later
 
@@ -101,7 +116,8 @@ module _ {A : Type 0} where
   find_each p f alike [] = refl
   find_each p f alike (x ∷ xs) = go (p x) refl (find_each p f alike xs)
     where
-      go : (b : Bool) → p x ≡ b → find p (map f xs) ≡ option_map f (find p xs) → cond (p (f x)) (Some (f x)) (find p (map f xs)) ≡ option_map f (cond b (Some x) (find p xs))
+      go : (b : Bool) → p x ≡ b → find p (map f xs) ≡ option_map f (find p xs)
+          → cond (p (f x)) (Some (f x)) (find p (map f xs)) ≡ option_map f (cond b (Some x) (find p xs))
       go true is later = ap (λ c. cond c (Some (f x)) (find p (map f xs))) (alike x ∙ is)
       go false is later = ap (λ c. cond c (Some (f x)) (find p (map f xs))) (alike x ∙ is) ∙ later
 
@@ -111,11 +127,13 @@ module _ {K : Type 0} (cmp : K → K → Ordering) (test : K → Bool) (k : K) w
   Ties x = cmp k x ≡ Equal → test x ≡ test k
 
   -- one that is put in the place of its key is found, and others as before
-  pub find_replaced : ((x : K) → test k ≡ true → test x ≡ true → cmp k x ≡ Equal) → (xs : List K) → AllByRecursion Ties xs → find test (replace_key cmp xs k) ≡ cond (test k) (Some k) (find test xs)
+  pub find_replaced : ((x : K) → test k ≡ true → test x ≡ true → cmp k x ≡ Equal) → (xs : List K)
+      → AllByRecursion Ties xs → find test (replace_key cmp xs k) ≡ cond (test k) (Some k) (find test xs)
   find_replaced tied [] ties = refl
   find_replaced tied (x ∷ xs) ties = go (cmp k x) refl (find_replaced tied xs ties.1)
     where
-      passed : (a b : Bool) → test k ≡ a → test x ≡ b → cmp k x ≡ Greater → cond b (Some x) (cond a (Some k) (find test xs)) ≡ cond a (Some k) (cond b (Some x) (find test xs))
+      passed : (a b : Bool) → test k ≡ a → test x ≡ b → cmp k x ≡ Greater
+          → cond b (Some x) (cond a (Some k) (find test xs)) ≡ cond a (Some k) (cond b (Some x) (find test xs))
       passed true true here there later = let same : cmp k x ≡ Equal = tied x here there in absurd (cc)
       passed true false here there later = refl
       passed false b here there later = refl
@@ -124,7 +142,9 @@ module _ {K : Type 0} (cmp : K → K → Ordering) (test : K → Bool) (k : K) w
       tie true b same = refl
       tie false b same = sym (ap (λ c. cond c (Some x) (find test xs)) same)
 
-      go : (o : Ordering) → cmp k x ≡ o → find test (replace_key cmp xs k) ≡ cond (test k) (Some k) (find test xs) → find test (match_ordering o (k ∷ x ∷ xs) (k ∷ xs) (x ∷ replace_key cmp xs k)) ≡ cond (test k) (Some k) (cond (test x) (Some x) (find test xs))
+      go : (o : Ordering) → cmp k x ≡ o → find test (replace_key cmp xs k) ≡ cond (test k) (Some k) (find test xs)
+          → find test (match_ordering o (k ∷ x ∷ xs) (k ∷ xs) (x ∷ replace_key cmp xs k)) ≡ cond (test k) (Some k)
+          (cond (test x) (Some x) (find test xs))
       go Less is later = refl
       go Equal is later = tie (test k) (test x) (ties.0 is)
       go Greater is later = ap (cond (test x) (Some x)) later ∙ passed (test k) (test x) refl refl is
@@ -142,7 +162,9 @@ module _ {K : Type 0} (cmp : K → K → Ordering) (test : K → Bool) (k : K) w
       turn true false c = refl
       turn false b c = refl
 
-      go : (o : Ordering) → cmp k x ≡ o → list_any test (insert_key cmp xs k) ≡ (test k || list_any test xs) → list_any test (match_ordering o (k ∷ x ∷ xs) (x ∷ xs) (x ∷ insert_key cmp xs k)) ≡ (test k || (test x || list_any test xs))
+      go : (o : Ordering) → cmp k x ≡ o → list_any test (insert_key cmp xs k) ≡ (test k || list_any test xs)
+          → list_any test (match_ordering o (k ∷ x ∷ xs) (x ∷ xs) (x ∷ insert_key cmp xs k)) ≡ (test k
+          || (test x || list_any test xs))
       go Less is later = refl
       go Equal is later = tie (test k) (test x) (list_any test xs) (ties.0 is)
       go Greater is later = ap (λ b. test x || b) later ∙ turn (test k) (test x) (list_any test xs)

@@ -32,10 +32,14 @@ first p u groups = record {
   own = λ l o. plain p u groups ∙ ap (λ x. by p u groups x (highest_level p.entries None groups) u.restricted (entry_level p.entries None (codes "*"))) o;
   group = λ l o g. plain p u groups ∙ ap (λ x. by p u groups x (highest_level p.entries None groups) u.restricted (entry_level p.entries None (codes "*"))) o
       ∙ ap (λ x. by p u groups None x u.restricted (entry_level p.entries None (codes "*"))) g;
-  everyone = λ l r o g e. plain p u groups ∙ ap (λ x. by p u groups x (highest_level p.entries None groups) u.restricted (entry_level p.entries None (codes "*"))) o
+  everyone = λ l r o g e. plain p u groups
+      ∙ ap (λ x. by p u groups x (highest_level p.entries None groups) u.restricted
+      (entry_level p.entries None (codes "*"))) o
       ∙ ap (λ x. by p u groups None x u.restricted (entry_level p.entries None (codes "*"))) g
       ∙ ap (λ b. by p u groups None None b (entry_level p.entries None (codes "*"))) r ∙ ap (λ x. by p u groups None None false x) e;
-  universal = λ r o g e. plain p u groups ∙ ap (λ x. by p u groups x (highest_level p.entries None groups) u.restricted (entry_level p.entries None (codes "*"))) o
+  universal = λ r o g e. plain p u groups
+      ∙ ap (λ x. by p u groups x (highest_level p.entries None groups) u.restricted
+      (entry_level p.entries None (codes "*"))) o
       ∙ ap (λ x. by p u groups None x u.restricted (entry_level p.entries None (codes "*"))) g
       ∙ ap (λ b. by p u groups None None b (entry_level p.entries None (codes "*"))) r ∙ ap (λ x. by p u groups None None false x) e;
 }

@@ -15,7 +15,17 @@ use Rattle.opc_machine.specs.declared.operation.Operation.{Operation}
 use Rattle.opc_machine.specs.declared.operation.Operation.TheVariants as operation
 use Rattle.opc_machine.specs.Rights.{holds_read, is_owner, is_special, owns_changed, sees_all}
 use Rattle.opc_machine.specs.Rulings.{acting}
-use Rattle.opc_machine_laws.specs.RightLaws.{AccountIsSeenByAuditors, ImportsAreOfSpecial, MayChange, MaySeeProfile, Owns, ProfilesAreSeenByReaders, RightsAreOfSpecialAndOwners, SeesAll, changed_profile}
+use Rattle.opc_machine_laws.specs.RightLaws.{
+  AccountIsSeenByAuditors,
+  ImportsAreOfSpecial,
+  MayChange,
+  MaySeeProfile,
+  Owns,
+  ProfilesAreSeenByReaders,
+  RightsAreOfSpecialAndOwners,
+  SeesAll,
+  changed_profile,
+}
 use Rattle.opc_machine_laws.specs.RulingLaws.{held_at}
 use Rattle.opc_machine_laws.proofs.Consoles.{nobody_owns}
 
@@ -39,7 +49,8 @@ owns_is p user o = (λ h. absurd (search (rules, h)), λ none. absurd none)
 
 module _ (s : State) (c : ConsoleRow) where
   module _ (o : Operation) where
-    right_is : (user : User) → Decides (is_special (Some user) || owns_changed s.policy (Some user) o) ((user.special ≡ true) ⊎ Owns s.policy user (changed_profile o))
+    right_is : (user : User) → Decides (is_special (Some user) || owns_changed s.policy (Some user) o)
+        ((user.special ≡ true) ⊎ Owns s.policy user (changed_profile o))
     right_is user = Decides-or user.special (owns_changed s.policy (Some user) o) (itself user.special) (owns_is s.policy user o)
 
     may_by : (u : Option User) → acting s c ≡ u → (is_special u || owns_changed s.policy u o) ≡ true → MayChange s c o
@@ -47,10 +58,14 @@ module _ (s : State) (c : ConsoleRow) where
     may_by (Some user) at h = record { user = user; acts = at; right = (right_is user).0 h }
 
   module _ (p : Profile) where
-    seen_is : (user : User) → Decides (sees_all (Some user) || is_owner (Some user) (Some p) || holds_read s c (Some user) p) ((SeesAll user ⊎ (p.owner ≡ user.id)) ⊎ (includes (held_at s c user p) Read ≡ true))
+    seen_is : (user : User) → Decides (sees_all (Some user) || is_owner (Some user) (Some p)
+        || holds_read s c (Some user) p)
+        ((SeesAll user ⊎ (p.owner ≡ user.id)) ⊎ (includes (held_at s c user p) Read ≡ true))
     seen_is user =
         Decides-or (sees_all (Some user) || is_owner (Some user) (Some p)) (holds_read s c (Some user) p)
-        (Decides-or (sees_all (Some user)) (is_owner (Some user) (Some p)) (Decides-or user.special user.auditor (itself user.special) (itself user.auditor)) (bytes_eq-Decides p.owner user.id))
+        (Decides-or (sees_all (Some user)) (is_owner (Some user) (Some p))
+        (Decides-or user.special user.auditor (itself user.special) (itself user.auditor))
+        (bytes_eq-Decides p.owner user.id))
         (itself (holds_read s c (Some user) p))
 
     seen_by : (u : Option User) → acting s c ≡ u → (sees_all u || is_owner u (Some p) || holds_read s c u p) ≡ true → MaySeeProfile s c p

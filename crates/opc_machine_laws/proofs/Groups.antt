@@ -27,7 +27,8 @@ itself level.Alter = refl
 abbrev IsAtLeast : Level → Option Level → Type 0
 IsAtLeast l highest = (h : Level) × (highest ≡ Some h) × (includes h l ≡ true)
 
-among : (entries : List Entry) (when : Option (List ℕ)) (groups : List (List ℕ)) (group : List ℕ) (l : Level) → Contains groups group → entry_level entries when group ≡ Some l → IsAtLeast l (highest_level entries when groups)
+among : (entries : List Entry) (when : Option (List ℕ)) (groups : List (List ℕ)) (group : List ℕ) (l : Level)
+    → Contains groups group → entry_level entries when group ≡ Some l → IsAtLeast l (highest_level entries when groups)
 among entries when [] group l (k, low, is) at = absurd (omega (arith, low))
 among entries when (x ∷ xs) group l (zero, low, is) at = go (highest_level entries when xs) refl
   where
@@ -36,12 +37,23 @@ among entries when (x ∷ xs) group l (zero, low, is) at = go (highest_level ent
 
     go : (o : Option Level) → highest_level entries when xs ≡ o → IsAtLeast l (higher (entry_level entries when x) (highest_level entries when xs))
     go None none = (l, ap (λ o. higher o (highest_level entries when xs)) here ∙ ap (higher (Some l)) none, itself l)
-    go (Some m) some = (higher_level l m, ap (λ o. higher o (highest_level entries when xs)) here ∙ ap (higher (Some l)) some, above_left level_rank l m (level_rank l) (itself l))
+    go (Some m) some = (
+      higher_level l m,
+      ap (λ o. higher o (highest_level entries when xs)) here
+          ∙ ap (higher (Some l)) some,
+      above_left level_rank l m (level_rank l) (itself l),
+    )
 among entries when (x ∷ xs) group l (suc k, low, is) at = go (entry_level entries when x) refl (among entries when xs group l (k, omega (arith, low), is) at)
   where
-    go : (o : Option Level) → entry_level entries when x ≡ o → IsAtLeast l (highest_level entries when xs) → IsAtLeast l (higher (entry_level entries when x) (highest_level entries when xs))
+    go : (o : Option Level) → entry_level entries when x ≡ o → IsAtLeast l (highest_level entries when xs)
+        → IsAtLeast l (higher (entry_level entries when x) (highest_level entries when xs))
     go None none (h, most, enough) = (h, ap (λ o. higher o (highest_level entries when xs)) none ∙ most, enough)
-    go (Some m) some (h, most, enough) = (higher_level m h, ap (λ o. higher o (highest_level entries when xs)) some ∙ ap (higher (Some m)) most, above_right level_rank m h (level_rank l) enough)
+    go (Some m) some (h, most, enough) = (
+      higher_level m h,
+      ap (λ o. higher o (highest_level entries when xs)) some
+          ∙ ap (higher (Some m)) most,
+      above_right level_rank m h (level_rank l) enough,
+    )
 
 pub each_group : EachGroupCounts
 unfolding held

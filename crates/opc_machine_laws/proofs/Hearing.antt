@@ -57,7 +57,17 @@ only_heard s moment name text lines why new (inr (inr done)) =
 
 pub in_turn : RequestsAreJudgedInTurn
 in_turn s [] r later [] new runs = absurd runs
-in_turn s [] r later (answer ∷ answers) new runs = record { earlier = []; answer = answer; others = answers; left = s; made = runs.0; answered = refl; first = refl; step = runs.1; rest = runs.2 }
+in_turn s [] r later (answer ∷ answers) new runs = record {
+  earlier = [];
+  answer = answer;
+  others = answers;
+  left = s;
+  made = runs.0;
+  answered = refl;
+  first = refl;
+  step = runs.1;
+  rest = runs.2;
+}
 in_turn s (b ∷ before) r later [] new runs = absurd runs
 in_turn s (b ∷ before) r later (answer ∷ answers) new runs =
     let more = in_turn runs.0 before r later answers new runs.2 in

@@ -24,15 +24,18 @@ pub record AreInTheWay (all : List (Bool × Fault)) (r : Result Policy Fault) : 
 pub nothing : (p : Policy) → AreInTheWay [] (Ok p)
 nothing p = record { refused = λ f h. absurd (search (rules, h)); done = λ _. (p, refl) }
 
-pub unless_way : (b : Bool) (name : List ℕ) (all : List (Bool × Fault)) (r : Result Policy Fault) → AreInTheWay all r → AreInTheWay ((b, Exists name) ∷ all) (unless b name r)
+pub unless_way : (b : Bool) (name : List ℕ) (all : List (Bool × Fault)) (r : Result Policy Fault) → AreInTheWay all r
+    → AreInTheWay ((b, Exists name) ∷ all) (unless b name r)
 unless_way true name all r way = record { refused = λ f h. ap Err (search (rules, h)); done = λ h. absurd (search (rules, h)) }
 unless_way false name all r way = record { refused = way.refused; done = way.done }
 
-pub needing_way : (b : Bool) (name : List ℕ) (all : List (Bool × Fault)) (r : Result Policy Fault) → AreInTheWay all r → AreInTheWay ((not b, Missing name) ∷ all) (needing b name r)
+pub needing_way : (b : Bool) (name : List ℕ) (all : List (Bool × Fault)) (r : Result Policy Fault) → AreInTheWay all r
+    → AreInTheWay ((not b, Missing name) ∷ all) (needing b name r)
 needing_way true name all r way = record { refused = way.refused; done = way.done }
 needing_way false name all r way = record { refused = λ f h. ap Err (search (rules, h)); done = λ h. absurd (search (rules, h)) }
 
-in_use_way : (b : Bool) (id : List ℕ) (all : List (Bool × Fault)) (r : Result Policy Fault) → AreInTheWay all r → AreInTheWay ((b, InUse id) ∷ all) (unless_in_use b id r)
+in_use_way : (b : Bool) (id : List ℕ) (all : List (Bool × Fault)) (r : Result Policy Fault) → AreInTheWay all r
+    → AreInTheWay ((b, InUse id) ∷ all) (unless_in_use b id r)
 in_use_way true id all r way = record { refused = λ f h. ap Err (search (rules, h)); done = λ h. absurd (search (rules, h)) }
 in_use_way false id all r way = record { refused = way.refused; done = way.done }
 
@@ -42,9 +45,13 @@ ways s (operation.AltUser id special auditor revoked digest restricted) = needin
 ways s (operation.DelUser id) = needing_way (has_user s.policy id) id _ _ (in_use_way (is_in_use s.policy s.board id) id [] _ (nothing _))
 ways s (operation.AddGroup name) = unless_way (has_name s.policy name) name [] _ (nothing _)
 ways s (operation.Connect user group) =
-    needing_way (has_user s.policy user) user _ _ (needing_way (has_group s.policy group) group _ _ (unless_way (is_connected s.policy user group) group [] _ (nothing _)))
+    needing_way (has_user s.policy user) user _ _
+    (needing_way (has_group s.policy group) group _ _
+    (unless_way (is_connected s.policy user group) group [] _ (nothing _)))
 ways s (operation.Remove user group) =
-    needing_way (has_user s.policy user) user _ _ (needing_way (has_group s.policy group) group _ _ (needing_way (is_connected s.policy user group) group [] _ (nothing _)))
+    needing_way (has_user s.policy user) user _ _
+    (needing_way (has_group s.policy group) group _ _
+    (needing_way (is_connected s.policy user group) group [] _ (nothing _)))
 ways s (operation.RDefine class pattern owner uacc warning) =
     unless_way (is_some (profile_of s.policy.profiles class pattern)) pattern _ _ (needing_way (has_user s.policy owner) owner [] _ (nothing _))
 ways s (operation.RAlter class pattern owner uacc warning) =
@@ -53,7 +60,8 @@ ways s (operation.RDelete class pattern) = needing_way (is_some (profile_of s.po
 ways s (operation.Permit class pattern id level when) =
     needing_way (is_some (profile_of s.policy.profiles class pattern)) pattern _ _ (needing_way (has_holder s.policy id) id [] _ (nothing _))
 ways s (operation.PermitDelete class pattern id when) =
-    needing_way (is_some (profile_of s.policy.profiles class pattern)) pattern _ _ (needing_way (is_permitted s.policy class pattern id when) id [] _ (nothing _))
+    needing_way (is_some (profile_of s.policy.profiles class pattern)) pattern _ _
+    (needing_way (is_permitted s.policy class pattern id when) id [] _ (nothing _))
 ways s (operation.ClassActive class active) = nothing _
 ways s (operation.DefineConsole name auth mode) = nothing _
 
@@ -81,5 +89,13 @@ done_without_obstacle s o none = go (loses_master s.board (board_changed o s.boa
     done = done_to s o new made.0 made.1 refl
 
     go : (lost : Bool) → loses_master s.board (board_changed o s.board) ≡ lost → IsDoneOrLastMaster s o
-    go true lost = record { new = new; done = done; ends = inr (lost_master (has_master s.board.consoles) (has_master (board_changed o s.board).consoles) lost, comes ∙ ap (λ b. mastered b new) lost) }
-    go false kept = record { new = new; done = done; ends = inl (kept_master (has_master s.board.consoles) (has_master (board_changed o s.board).consoles) kept, comes ∙ ap (λ b. mastered b new) kept) }
+    go true lost = record {
+      new = new;
+      done = done;
+      ends = inr (lost_master (has_master s.board.consoles) (has_master (board_changed o s.board).consoles) lost, comes ∙ ap (λ b. mastered b new) lost);
+    }
+    go false kept = record {
+      new = new;
+      done = done;
+      ends = inl (kept_master (has_master s.board.consoles) (has_master (board_changed o s.board).consoles) kept, comes ∙ ap (λ b. mastered b new) kept);
+    }

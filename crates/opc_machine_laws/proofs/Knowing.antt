@@ -12,20 +12,24 @@ use Rattle.opc_machine_laws.specs.Laws.{IsKnown}
 
 module _ (s : State) (id password : List ℕ) (user : User) where
   -- a stored user, by whether the digest is that of the password
-  by_match : (u : User) (digest : List ℕ) → user_of s.policy.users id ≡ Some u → u.digest ≡ Some digest → (b : Bool) → Decides b (digest ≡ sha256 password) → (if b then Some u else None) ≡ Some user → IsKnown s id password user
+  by_match : (u : User) (digest : List ℕ) → user_of s.policy.users id ≡ Some u → u.digest ≡ Some digest → (b : Bool)
+      → Decides b (digest ≡ sha256 password) → (if b then Some u else None) ≡ Some user → IsKnown s id password user
   by_match u digest at has true same h =
       let one : u ≡ user = search (rules, h) in
       record { stored = at ∙ ap Some one; digest = sym (ap (λ (x : User). x.digest) one) ∙ has ∙ ap Some (same.0 refl) }
   by_match u digest at has false same h = absurd (search (rules, h))
 
-  by_digest : (u : User) (digest : Option (List ℕ)) → user_of s.policy.users id ≡ Some u → u.digest ≡ digest → (if is_password password digest then Some u else None) ≡ Some user → IsKnown s id password user
+  by_digest : (u : User) (digest : Option (List ℕ)) → user_of s.policy.users id ≡ Some u → u.digest ≡ digest
+      → (if is_password password digest then Some u else None) ≡ Some user → IsKnown s id password user
   by_digest u None at has h = absurd (search (rules, h))
   by_digest u (Some digest) at has h = by_match u digest at has (bytes_eq digest (sha256 password)) (bytes_eq-Decides digest (sha256 password)) h
 
   pub known_is : known_by s id password ≡ Some user → IsKnown s id password user
   known_is h = go (user_of s.policy.users id) refl h
     where
-      go : (o : Option User) → user_of s.policy.users id ≡ o → option_and_then (λ (u : User). if is_password password u.digest then Some u else None) o ≡ Some user → IsKnown s id password user
+      go : (o : Option User) → user_of s.policy.users id ≡ o
+          → option_and_then (λ (u : User). if is_password password u.digest then Some u else None) o ≡ Some user
+          → IsKnown s id password user
       go None at h = absurd (search (rules, h))
       go (Some u) at h = by_digest u u.digest at refl h
 

@@ -42,7 +42,8 @@ AreLines b k o = (act : BoardDone) → o ≡ Ok act → act.lines ≡ lines_on b
 returned : (o : Outcome) (lines : List Line) → lines_in o ≡ lines → (act : BoardDone) → o ≡ Ok act → act.lines ≡ lines
 returned o lines h act is = ap lines_in (sym is) ∙ h
 
-replied : (b : BoardRows) (o : Option ReplyRow) (new : BoardRows) (lines : List Line) (act : BoardDone) → (found NoReply o >>= λ (r : ReplyRow). done_with new lines) ≡ Ok act → act.lines ≡ lines
+replied : (b : BoardRows) (o : Option ReplyRow) (new : BoardRows) (lines : List Line) (act : BoardDone)
+    → (found NoReply o >>= λ (r : ReplyRow). done_with new lines) ≡ Ok act → act.lines ≡ lines
 replied b None new lines act is = absurd (search (rules, is))
 replied b (Some r) new lines act is = ap lines_in (sym is)
 
@@ -62,12 +63,19 @@ lines_told b at (command.Modify name text) = returned _ _ (of_found NoUnit (unit
 lines_told b at (command.Reply id text) = replied b (reply_at b id.value) _ _
 lines_told b at (command.VaryDeviceOnline device) = returned _ _ (of_found NoDevice (device_at b device.value) _ (λ d. no_lines (online_faults d) _))
 lines_told b at (command.VaryDeviceOffline device) = returned _ _ (of_found NoDevice (device_at b device.value) _ (λ d. no_lines (offline_faults d) _))
-lines_told b at (command.VaryConsoleOnline name) = returned _ _ (of_found NoTarget (console_at b name.value) _ (λ c. no_lines (vary_faults (record c { online = true }) b) _))
-lines_told b at (command.VaryConsoleOffline name) = returned _ _ (of_found NoTarget (console_at b name.value) _ (λ c. no_lines (vary_faults (put_offline c) b) _))
-lines_told b at (command.VaryConsoleAuth name auth) = returned _ _ (of_found NoTarget (console_at b name.value) _ (λ c. no_lines (vary_faults (record c { auth = auth.value }) b) _))
+lines_told b at (command.VaryConsoleOnline name) =
+    returned _ _ (of_found NoTarget (console_at b name.value) _
+    (λ c. no_lines (vary_faults (record c { online = true }) b) _))
+lines_told b at (command.VaryConsoleOffline name) =
+    returned _ _ (of_found NoTarget (console_at b name.value) _ (λ c. no_lines (vary_faults (put_offline c) b) _))
+lines_told b at (command.VaryConsoleAuth name auth) =
+    returned _ _ (of_found NoTarget (console_at b name.value) _
+    (λ c. no_lines (vary_faults (record c { auth = auth.value }) b) _))
 lines_told b at (command.Mount device volume) = returned _ _ (of_found NoDevice (device_at b device.value) _ (λ d. no_lines (mount_faults d) _))
 lines_told b at (command.Unload device) = returned _ _ (of_found NoDevice (device_at b device.value) _ (λ d. no_lines (unload_faults d) _))
-lines_told b at (command.Swap from to) = returned _ _ (of_found NoDevice (device_at b from.value) _ (λ c. of_found NoDevice (device_at b to.value) _ (λ d. no_lines (swap_faults c d) _)))
+lines_told b at (command.Swap from to) =
+    returned _ _ (of_found NoDevice (device_at b from.value) _
+    (λ c. of_found NoDevice (device_at b to.value) _ (λ d. no_lines (swap_faults c d) _)))
 lines_told b at (command.ResetConsole name) = returned _ _ (of_found NoTarget (console_at b name.value) _ (λ c. refl))
 lines_told b at (command.Send text user) = returned _ _ (no_lines (send_faults user.value b) _)
 lines_told b at (command.Log text) = returned _ _ refl

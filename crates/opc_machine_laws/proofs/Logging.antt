@@ -48,8 +48,13 @@ on_only_where s moment name text id password lines why new it_reads (inr (inr do
     let at = console_is s name console a.1 in
     let was_read : command_in text ≡ Ok (command.Logon id password) = ap command_or (reads_so text (command.Logon id password) it_reads) in
     let t : logon s console id.value password.value ≡ Ok d.0 = subst (λ x. (x >>= λ k. typed s console k (need_of s.board k)) ≡ Ok d.0) was_read a.2 in
-    let n = bind_ok (nobody_on console.user) (λ _. found fault.BadLogon (known_by s id.value password.value) >>= λ user. admit (logon_ruling s console user) >>= λ rule. does (record s { board = logged_on console.name id.value s.board }) [] (Some rule)) d.0 t in
-    let u = bind_ok (found fault.BadLogon (known_by s id.value password.value)) (λ user. admit (logon_ruling s console user) >>= λ rule. does (record s { board = logged_on console.name id.value s.board }) [] (Some rule)) d.0 n.2 in
+    let n = bind_ok (nobody_on console.user)
+    (λ _. found fault.BadLogon (known_by s id.value password.value) >>= λ user. admit
+    (logon_ruling s console user) >>=
+    λ rule. does (record s { board = logged_on console.name id.value s.board }) [] (Some rule)) d.0 t in
+    let u = bind_ok (found fault.BadLogon (known_by s id.value password.value))
+    (λ user. admit (logon_ruling s console user) >>= λ rule. does
+    (record s { board = logged_on console.name id.value s.board }) [] (Some rule)) d.0 n.2 in
     let r = bind_ok (admit (logon_ruling s console u.0)) (λ rule. does (record s { board = logged_on console.name id.value s.board }) [] (Some rule)) d.0 u.2 in
     let deed : Deed = record { state = record s { board = logged_on console.name id.value s.board }; lines = []; rule = Some r.0 } in
     let comes : command_outcome s name text ≡ Ok deed = d.1 ∙ sym r.2 in
@@ -82,11 +87,23 @@ on_wherever s moment name text console id password user why answer new lets (inr
     ap (λ x. x >>= λ c. command_in text >>= λ k. typed s c k (need_of s.board k)) (console_back (console_at s.board name) console heard.there heard.online) in
     let of_line : (command_in text >>= λ k. typed s console k (need_of s.board k)) ≡ logon s console id.value password.value =
     ap (λ x. command_or x >>= λ k. typed s console k (need_of s.board k)) (reads_so text k heard.reads) in
-    let of_nobody : logon s console id.value password.value ≡ (found fault.BadLogon (known_by s id.value password.value) >>= λ user. admit (logon_ruling s console user) >>= λ rule. does (record s { board = logged_on console.name id.value s.board }) [] (Some rule)) =
-    ap (λ x. nobody_on x >>= λ _. found fault.BadLogon (known_by s id.value password.value) >>= λ user. admit (logon_ruling s console user) >>= λ rule. does (record s { board = logged_on console.name id.value s.board }) [] (Some rule)) lets.nobody in
-    let of_user : (found fault.BadLogon (known_by s id.value password.value) >>= λ user. admit (logon_ruling s console user) >>= λ rule. does (record s { board = logged_on console.name id.value s.board }) [] (Some rule)) ≡ (admit (logon_ruling s console user) >>= λ rule. does (record s { board = logged_on console.name id.value s.board }) [] (Some rule)) =
-    ap (λ x. found fault.BadLogon x >>= λ user. admit (logon_ruling s console user) >>= λ rule. does (record s { board = logged_on console.name id.value s.board }) [] (Some rule)) (known_back s id.value password.value user lets.known) in
-    let of_ruling : (admit (logon_ruling s console user) >>= λ rule. does (record s { board = logged_on console.name id.value s.board }) [] (Some rule)) ≡ Ok deed =
+    let of_nobody : logon s console id.value
+    password.value ≡ (found fault.BadLogon (known_by s id.value password.value) >>= λ user. admit
+    (logon_ruling s console user) >>=
+    λ rule. does (record s { board = logged_on console.name id.value s.board }) [] (Some rule)) =
+    ap (λ x. nobody_on x >>= λ _. found fault.BadLogon (known_by s id.value password.value) >>= λ user. admit
+    (logon_ruling s console user) >>=
+    λ rule. does (record s { board = logged_on console.name id.value s.board }) [] (Some rule)) lets.nobody in
+    let of_user : (found fault.BadLogon (known_by s id.value password.value) >>= λ user. admit
+    (logon_ruling s console user) >>=
+    λ rule. does (record s { board = logged_on console.name id.value s.board }) [] (Some rule))
+    ≡ (admit (logon_ruling s console user) >>= λ rule. does
+    (record s { board = logged_on console.name id.value s.board }) [] (Some rule)) =
+    ap (λ x. found fault.BadLogon x >>= λ user. admit (logon_ruling s console user) >>= λ rule. does
+    (record s { board = logged_on console.name id.value s.board }) [] (Some rule))
+    (known_back s id.value password.value user lets.known) in
+    let of_ruling : (admit (logon_ruling s console user) >>= λ rule. does
+    (record s { board = logged_on console.name id.value s.board }) [] (Some rule)) ≡ Ok deed =
     ap (λ x. admit x >>= λ rule. does (record s { board = logged_on console.name id.value s.board }) [] (Some rule)) lets.allowed in
     let comes : command_outcome s name text ≡ Ok deed = of_console ∙ of_line ∙ of_nobody ∙ of_user ∙ of_ruling in
     let ends : new ≡ after s moment (input.Command name text) (Ok deed) = done.becomes ∙ ap (after s moment (input.Command name text)) comes in
@@ -126,7 +143,9 @@ off_wherever s moment name text console answer new heard on (inr (inr done)) =
     ap (λ x. x >>= λ c. command_in text >>= λ k. typed s c k (need_of s.board k)) (console_back (console_at s.board name) console heard.there heard.online) in
     let of_line : (command_in text >>= λ k. typed s console k (need_of s.board k)) ≡ logoff s console =
     ap (λ x. command_or x >>= λ k. typed s console k (need_of s.board k)) (reads_so text command.Logoff heard.reads) in
-    let of_user : logoff s console ≡ Ok deed = ap (λ b. refuse_if fault.NotOn None b >>= λ _. does (record s { board = logged_off console.name s.board }) [] None) (not_none console.user on) in
+    let of_user : logoff s console ≡ Ok deed =
+    ap (λ b. refuse_if fault.NotOn None b >>= λ _. does (record s { board = logged_off console.name s.board }) []
+    None) (not_none console.user on) in
     let comes : command_outcome s name text ≡ Ok deed = of_console ∙ of_line ∙ of_user in
     let ends : new ≡ deed.state = done.becomes ∙ ap (after s moment (input.Command name text)) comes in
     inr (record { answered = done.answers ∙ ap answer_of comes; board = ap (λ x. x.board) ends; policy = ap (λ x. x.policy) ends })

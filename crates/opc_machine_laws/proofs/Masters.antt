@@ -52,7 +52,8 @@ one_command text k other it_reads also =
 abbrev Both : List ℕ → Command → BoardRows → BoardRows → Type 0
 Both name k old new = HasDone name k old new × StaysMastered old new
 
-module _ (s : State) (moment : ℕ) (name text : List ℕ) (k : Command) (lines : List Line) (why : Option Rule) (new : State) (it_reads : Reads text k) (step : Step s moment (input.Command name text) (Done lines why) new) where
+module _ (s : State) (moment : ℕ) (name text : List ℕ) (k : Command) (lines : List Line) (why : Option Rule)
+    (new : State) (it_reads : Reads text k) (step : Step s moment (input.Command name text) (Done lines why) new) where
   its_name : (console : ConsoleRow) → console_at s.board name ≡ Some console → console.name ≡ name
   its_name console there = named (λ (d : ConsoleRow). d.name) s.board.consoles name console there
 
@@ -60,7 +61,10 @@ module _ (s : State) (moment : ℕ) (name text : List ℕ) (k : Command) (lines 
   by_logon id password is =
       let on = on_only_where s moment name text id password lines why new (subst (Reads text) is it_reads) step in
       let f = λ (c : ConsoleRow). record c { user = Some id.value } in
-      let does : Both name (command.Logon id password) s.board (at_console name f s.board) = (at_becomes name f _ s.board on.0 on.3.heard.there refl (on.3.nobody, refl), unseen_masters name f s.board (λ c. refl)) in
+      let does : Both name (command.Logon id password) s.board (at_console name f s.board) = (
+        at_becomes name f _ s.board on.0 on.3.heard.there refl (on.3.nobody, refl),
+        unseen_masters name f s.board (λ c. refl),
+      ) in
       let same : at_console name f s.board ≡ new.board = ap (λ n. at_console n f s.board) (sym (its_name on.0 on.3.heard.there)) ∙ sym on.4.board in
       subst (λ c. Both name c s.board new.board) (sym is) (subst (Both name (command.Logon id password) s.board) same does)
 
@@ -68,7 +72,9 @@ module _ (s : State) (moment : ℕ) (name text : List ℕ) (k : Command) (lines 
   by_logoff is =
       let off = off_only_where s moment name text lines why new (subst (Reads text) is it_reads) step in
       let f = λ (c : ConsoleRow). record c { user = None } in
-      let does : Both name command.Logoff s.board (at_console name f s.board) = (at_becomes name f _ s.board off.0 off.1.there refl (off.2, refl), unseen_masters name f s.board (λ c. refl)) in
+      let does : Both name command.Logoff s.board (at_console name f s.board) =
+      (at_becomes name f _ s.board off.0 off.1.there refl (off.2, refl), unseen_masters name f s.board (λ c. refl))
+      in
       let same : at_console name f s.board ≡ new.board = ap (λ n. at_console n f s.board) (sym (its_name off.0 off.1.there)) ∙ sym off.3.board in
       subst (λ c. Both name c s.board new.board) (sym is) (subst (Both name command.Logoff s.board) same does)
 
@@ -77,7 +83,9 @@ module _ (s : State) (moment : ℕ) (name text : List ℕ) (k : Command) (lines 
       let acted = only_where s moment name text k need lines why new it_reads needs step in
       let at : acted.0.name ≡ name = its_name acted.0 acted.2.heard.there in
       let there : console_at s.board acted.0.name ≡ Some acted.0 = subst (λ n. console_at s.board n ≡ Some acted.0) (sym at) acted.2.heard.there in
-      let does : Does acted.0.name s.board acted.0 there k acted.3.act.board = made (Does acted.0.name s.board acted.0 there k) (effect s.board k acted.0.name) acted.3.act acted.3.makes (acts acted.0.name s.board acted.0 there k need needs) in
+      let does : Does acted.0.name s.board acted.0 there k acted.3.act.board =
+      made (Does acted.0.name s.board acted.0 there k) (effect s.board k acted.0.name) acted.3.act acted.3.makes
+      (acts acted.0.name s.board acted.0 there k need needs) in
       subst (λ n. Both n k s.board new.board) at (subst (Both acted.0.name k s.board) (sym acted.3.board) does)
 
   pub does_both : Both name k s.board new.board
@@ -94,11 +102,13 @@ module _ (s : State) (moment : ℕ) (name text : List ℕ) (k : Command) (lines 
 pub commands_do : CommandsDoWhatTheySay
 commands_do s moment name text k lines why new it_reads step = (does_both s moment name text k lines why new it_reads step).0
 
-module _ (s : State) (moment : ℕ) (e : Event) (lines : List Line) (why : Option Rule) (new : State) (step : Step s moment (input.Event e) (Done lines why) new) where
+module _ (s : State) (moment : ℕ) (e : Event) (lines : List Line) (why : Option Rule) (new : State)
+    (step : Step s moment (input.Event e) (Done lines why) new) where
   pub happens_both : Happens s.board e new.board
   happens_both =
       let event = events_only s moment e lines why new step in
-      subst (Happens s.board e) (sym (ap (λ (t : State). t.board) event.1.becomes)) (made (Happens s.board e) (event_effect s.board e) event.0 event.1.makes (happens s.board e))
+      subst (Happens s.board e) (sym (ap (λ (t : State). t.board) event.1.becomes))
+      (made (Happens s.board e) (event_effect s.board e) event.0 event.1.makes (happens s.board e))
 
 pub events_do : EventsDoWhatTheySay
 events_do s moment e lines why new step = (happens_both s moment e lines why new step).0
@@ -108,13 +118,16 @@ events_do s moment e lines why new step = (happens_both s moment e lines why new
 same_board : (s new : State) → new.board ≡ s.board → KeepsMaster s new
 same_board s new same was = ap (λ (b : BoardRows). has_master b.consoles) same ∙ was
 
-done_keeps : (s : State) (moment : ℕ) (r : Input) (lines : List Line) (why : Option Rule) (new : State) → Step s moment r (Done lines why) new → KeepsMaster s new
+done_keeps : (s : State) (moment : ℕ) (r : Input) (lines : List Line) (why : Option Rule) (new : State)
+    → Step s moment r (Done lines why) new → KeepsMaster s new
 done_keeps s moment (input.Command name text) lines why new step =
     let heard = only_heard s moment name text lines why new step in
     (does_both s moment name text heard.1 lines why new heard.2.reads step).1
 done_keeps s moment (input.Admin name o) lines why new step = operations_keep_a_master s o new (administers_only s moment name o lines why new step).3
-done_keeps s moment (input.ListProfiles name class) lines why new step = same_board s new (ap (λ (t : State). t.board) (profiles_exactly s moment name class lines why new step).2.same)
-done_keeps s moment (input.ListAccount name from count) lines why new step = same_board s new (ap (λ (t : State). t.board) (account_only s moment name from count lines why new step).4)
+done_keeps s moment (input.ListProfiles name class) lines why new step =
+    same_board s new (ap (λ (t : State). t.board) (profiles_exactly s moment name class lines why new step).2.same)
+done_keeps s moment (input.ListAccount name from count) lines why new step =
+    same_board s new (ap (λ (t : State). t.board) (account_only s moment name from count lines why new step).4)
 done_keeps s moment (input.Import name batch rows) lines why new step = go (imports_only s moment name batch rows lines why new step).3
   where
     go : IsKeptAgain s batch rows lines new ⊎ IsTakenWhole s batch rows lines new → KeepsMaster s new

@@ -1,5 +1,31 @@
 -- Refusals of authority name their rule.
-use Rattle.std.proofs.Common.{◌≡◌, ◌⊎◌, inl, inr, ℕ, Bool, true, false, not, ◌||◌, ◌&&◌, if◌then◌else◌, List, [], Option, Some, None, IfSome, Result, Ok, Err, filter, refl, subst, rules}
+use Rattle.std.proofs.Common.{
+  ◌≡◌,
+  ◌⊎◌,
+  inl,
+  inr,
+  ℕ,
+  Bool,
+  true,
+  false,
+  not,
+  ◌||◌,
+  ◌&&◌,
+  if◌then◌else◌,
+  List,
+  [],
+  Option,
+  Some,
+  None,
+  IfSome,
+  Result,
+  Ok,
+  Err,
+  filter,
+  refl,
+  subst,
+  rules,
+}
 use Rattle.std.specs.Option.{is_none}
 use Rattle.opc_names.specs.Authority.{includes, enters}
 use Rattle.opc_names.specs.declared.auth.Auth.{Auth}
@@ -39,7 +65,25 @@ use Rattle.opc_machine.specs.declared.request.Answer.TheVariants.{Refused}
 use Rattle.opc_machine.specs.Faults.{line_fault, board_fault}
 use Rattle.opc_machine.specs.Outcome.{Denial, ◌>>=◌, does, found, refuse_if}
 use Rattle.opc_machine.specs.Rulings.{acting, groups_acting, is_required, is_revoked, access_ruling, denied_or, ruling, console_access, logon_ruling, shown}
-use Rattle.opc_machine.specs.Commands.{console_for, command_or, command_in, need_of, denial_fault, allowed, acted, board_command, nobody_on, known_by, logon_fault, admit, logon, logoff, without_need, typed, command_outcome}
+use Rattle.opc_machine.specs.Commands.{
+  console_for,
+  command_or,
+  command_in,
+  need_of,
+  denial_fault,
+  allowed,
+  acted,
+  board_command,
+  nobody_on,
+  known_by,
+  logon_fault,
+  admit,
+  logon,
+  logoff,
+  without_need,
+  typed,
+  command_outcome,
+}
 use Rattle.opc_machine.specs.Machine.{IsAborted}
 use Rattle.opc_machine.specs.Inputs.{Input}
 use Rattle.opc_machine.specs.Inputs as input
@@ -50,8 +94,8 @@ use Rattle.opc_machine_laws.proofs.Plain.{IsPlain}
 use Rattle.opc_machine_laws.proofs.Reasons.{decides_in_class}
 use Rattle.opc_machine.proofs.Inversion.{allowed_ok, console_is, command_is, found_ok}
 
--- A rule that a refusal names denies, or allowed what the board refused; one that names none is neither of authority nor
--- aborted.
+-- A rule that a refusal names denies, or allowed what the board refused; one that names none is neither of authority
+-- nor aborted.
 abbrev pub IsToldBy : State → Input → Fault → Option Rule → Type 0
 IsToldBy s r f None = IsPlain f
 IsToldBy s r f (Some why) = (IsNamedBy f why × IsDeniedBy s r why) ⊎ IsRefusedByBoard s r f why
@@ -63,7 +107,8 @@ abbrev pub IfRefused : {A : Type 0} → (Denial → Type 0) → Result A Denial 
 IfRefused P (Ok x) = Unit {0}
 IfRefused P (Err d) = P d
 
-pub then_told : {A B : Type 0} (P : Denial → Type 0) (x : Result A Denial) (f : A → Result B Denial) → IfRefused P x → ((y : A) → x ≡ Ok y → IfRefused P (f y)) → IfRefused P (x >>= f)
+pub then_told : {A B : Type 0} (P : Denial → Type 0) (x : Result A Denial) (f : A → Result B Denial) → IfRefused P x
+    → ((y : A) → x ≡ Ok y → IfRefused P (f y)) → IfRefused P (x >>= f)
 then_told P (Ok y) f h g = g y refl
 then_told P (Err d) f h g = h
 
@@ -104,14 +149,17 @@ by_console_proper auth need = go (enters auth need.group)
     go true = tt
     go false = tt
 
-by_policy_proper : (active : Bool) (decided : Option Profile) → IfSome decided (λ p. p.class ≡ Opercmds) → (user : Option User) (console : Option (List ℕ)) (groups : List (List ℕ)) (auth : Auth) (need : Need)
+by_policy_proper : (active : Bool) (decided : Option Profile) → IfSome decided (λ p. p.class ≡ Opercmds)
+    → (user : Option User) (console : Option (List ℕ)) (groups : List (List ℕ)) (auth : Auth) (need : Need)
     → IsProper denial_fault (policy_ruling active decided user console groups auth need)
 by_policy_proper active decided of None console groups auth need = by_console_proper auth need
 by_policy_proper false decided of (Some user) console groups auth need = by_console_proper auth need
 by_policy_proper true None of (Some user) console groups auth need = by_console_proper auth need
 by_policy_proper true (Some p) of (Some user) console groups auth need = go (includes (held p user console groups) need.level || p.warning)
   where
-    go : (b : Bool) → IsProper denial_fault (by_verdict (if b then verdicts.Allowed else verdicts.Denied) (profile_rule p user console groups need.level) (console_ruling auth need))
+    go : (b : Bool) → IsProper denial_fault
+        (by_verdict (if b then verdicts.Allowed else verdicts.Denied) (profile_rule p user console groups need.level)
+        (console_ruling auth need))
     go true = tt
     go false = of
 
@@ -119,22 +167,31 @@ pub ruling_proper : (s : State) (c : ConsoleRow) (need : Need) → IsProper deni
 ruling_proper s c need = go (is_required c.mode) (is_none c.user) (is_revoked (acting s c))
   where
     other : IsProper denial_fault (access_ruling s c (acting s c) need)
-    other = by_policy_proper (is_active s.policy.active Opercmds) (deciding_in s.policy Opercmds need.resource) (decides_in_class s.policy.profiles Opercmds need.resource) (acting s c) (Some c.name) (groups_acting s (acting s c)) c.auth need
+    other = by_policy_proper (is_active s.policy.active Opercmds) (deciding_in s.policy Opercmds need.resource)
+        (decides_in_class s.policy.profiles Opercmds need.resource) (acting s c) (Some c.name)
+        (groups_acting s (acting s c)) c.auth need
 
-    go : (required nobody revoked : Bool) → IsProper denial_fault (denied_or (if required && nobody then Some rule.LogonRequired else (if revoked then Some rule.Revoked else None)) (access_ruling s c (acting s c) need))
+    go : (required nobody revoked : Bool)
+        → IsProper denial_fault (denied_or
+        (if required && nobody then Some rule.LogonRequired else (if revoked then Some rule.Revoked else None))
+        (access_ruling s c (acting s c) need))
     go true true revoked = refl
     go true false true = refl
     go true false false = other
     go false nobody true = refl
     go false nobody false = other
 
-console_access_proper : (active : Bool) (decided : Option Profile) → IfSome decided (λ p. p.class ≡ Console) → (user : User) (console : Option (List ℕ)) (groups : List (List ℕ)) (needed : Level)
-    → IsProper logon_fault (by_verdict (verdict active decided user console groups needed) (verdict_rule active decided user console groups needed) (Allowed rule.NoProfile))
+console_access_proper : (active : Bool) (decided : Option Profile) → IfSome decided (λ p. p.class ≡ Console)
+    → (user : User) (console : Option (List ℕ)) (groups : List (List ℕ)) (needed : Level)
+    → IsProper logon_fault (by_verdict (verdict active decided user console groups needed)
+    (verdict_rule active decided user console groups needed) (Allowed rule.NoProfile))
 console_access_proper false decided of user console groups needed = tt
 console_access_proper true None of user console groups needed = tt
 console_access_proper true (Some p) of user console groups needed = go (includes (held p user console groups) needed || p.warning)
   where
-    go : (b : Bool) → IsProper logon_fault (by_verdict (if b then verdicts.Allowed else verdicts.Denied) (profile_rule p user console groups needed) (Allowed rule.NoProfile))
+    go : (b : Bool) → IsProper logon_fault
+        (by_verdict (if b then verdicts.Allowed else verdicts.Denied) (profile_rule p user console groups needed)
+        (Allowed rule.NoProfile))
     go true = tt
     go false = of
 
@@ -143,10 +200,13 @@ logon_proper s c user = go user.revoked
   where
     go : (b : Bool) → IsProper logon_fault (if b then Denied rule.Revoked else console_access s c user)
     go true = refl
-    go false = console_access_proper (is_active s.policy.active Console) (deciding_in s.policy Console c.name) (decides_in_class s.policy.profiles Console c.name) user (Some c.name) (groups_of s.policy.connects user.id) Read
+    go false = console_access_proper (is_active s.policy.active Console) (deciding_in s.policy Console c.name)
+        (decides_in_class s.policy.profiles Console c.name) user (Some c.name) (groups_of s.policy.connects user.id)
+        Read
 
 pub console_told : (s : State) (r : Input) (name : List ℕ) → IfRefused (IsTold s r) (console_for s name)
-console_told s r name = then_told (IsTold s r) (found fault.NoConsole (console_at s.board name)) (λ c. refuse_if fault.ConsoleOffline None (not c.online) >>= λ _. Ok c) (there (console_at s.board name))
+console_told s r name = then_told (IsTold s r) (found fault.NoConsole (console_at s.board name))
+    (λ c. refuse_if fault.ConsoleOffline None (not c.online) >>= λ _. Ok c) (there (console_at s.board name))
     (λ c _. then_told (IsTold s r) (refuse_if fault.ConsoleOffline None (not c.online)) (λ _. Ok c) (online (not c.online)) (λ _ _. tt))
   where
     there : (o : Option ConsoleRow) → IfRefused (IsTold s r) (found fault.NoConsole o)
@@ -162,7 +222,9 @@ module _ (s : State) (name text : List ℕ) where
   line_told (Ok c) = tt
   line_told (Err f) = line_plain f
 
-  acted_told : (c : ConsoleRow) (command : Command) (why : Rule) → IsAllowed s name text c command why → (r : BoardOutcome) → effect s.board command c.name ≡ r → IfRefused (IsTold s (input.Command name text)) (acted (Some why) r)
+  acted_told : (c : ConsoleRow) (command : Command) (why : Rule) → IsAllowed s name text c command why
+      → (r : BoardOutcome) → effect s.board command c.name ≡ r
+      → IfRefused (IsTold s (input.Command name text)) (acted (Some why) r)
   acted_told c command why allows (Ok d) is = tt
   acted_told c command why allows (Err f) is = inr (record { console = c; command = command; allowed = allows; refused = f; refuses = is; returned = refl })
 
@@ -172,27 +234,59 @@ module _ (s : State) (name text : List ℕ) where
   ruling_told c command heard need needs (Denied why) is proper =
       inl (proper, inl (record { console = c; command = command; heard = heard; need = need; needs = needs; denied = is }))
 
-  board_told : (c : ConsoleRow) (command : Command) → IsHeard s name text c command → (need : Need) → need_of s.board command ≡ Some need → IfRefused (IsTold s (input.Command name text)) (board_command s c command need)
+  board_told : (c : ConsoleRow) (command : Command) → IsHeard s name text c command → (need : Need)
+      → need_of s.board command ≡ Some need
+      → IfRefused (IsTold s (input.Command name text)) (board_command s c command need)
   board_told c command heard need needs =
-      then_told (IsTold s (input.Command name text)) (allowed (ruling s c need)) (λ why. acted (Some why) (effect s.board command c.name) >>= λ act. does (record s { board = act.board }) (filter (shown s c) act.lines) (Some why))
+      then_told (IsTold s (input.Command name text)) (allowed (ruling s c need))
+      (λ why. acted (Some why) (effect s.board command c.name) >>= λ act. does (record s { board = act.board })
+      (filter (shown s c) act.lines) (Some why))
       (ruling_told c command heard need needs (ruling s c need) refl (ruling_proper s c need))
-      (λ why is. then_told (IsTold s (input.Command name text)) (acted (Some why) (effect s.board command c.name)) (λ act. does (record s { board = act.board }) (filter (shown s c) act.lines) (Some why))
-      (acted_told c command why (record { heard = heard; need = need; needs = needs; allowed = allowed_ok (ruling s c need) why is }) (effect s.board command c.name) refl) (λ act _. tt))
+      (λ why is. then_told (IsTold s (input.Command name text)) (acted (Some why) (effect s.board command c.name))
+      (λ act. does (record s { board = act.board }) (filter (shown s c) act.lines) (Some why))
+      (acted_told c command why (record {
+        heard = heard;
+        need = need;
+        needs = needs;
+        allowed = allowed_ok (ruling s c need) why is;
+      }) (effect s.board command c.name) refl) (λ act _. tt))
 
-  kept_off : (c : ConsoleRow) (id password : Operand (List ℕ)) → IsHeard s name text c (command.Logon id password) → c.user ≡ None → (user : User) → known_by s id.value password.value ≡ Some user
+  kept_off : (c : ConsoleRow) (id password : Operand (List ℕ)) → IsHeard s name text c (command.Logon id password)
+      → c.user ≡ None → (user : User) → known_by s id.value password.value ≡ Some user
       → (r : Ruling) → logon_ruling s c user ≡ r → IsProper logon_fault r → IfRefused (IsTold s (input.Command name text)) (admit r)
   kept_off c id password heard nobody user known (Allowed why) is proper = tt
   kept_off c id password heard nobody user known (Denied why) is proper =
-      inl (proper, inr (record { console = c; id = id; password = password; heard = heard; nobody = nobody; user = user; known = known_is s id.value password.value user known; denied = is }))
+      inl (
+        proper,
+        inr (record {
+          console = c;
+          id = id;
+          password = password;
+          heard = heard;
+          nobody = nobody;
+          user = user;
+          known = known_is s id.value password.value user known;
+          denied = is;
+        }),
+      )
 
-  logon_told : (c : ConsoleRow) (id password : Operand (List ℕ)) → IsHeard s name text c (command.Logon id password) → IfRefused (IsTold s (input.Command name text)) (logon s c id.value password.value)
+  logon_told : (c : ConsoleRow) (id password : Operand (List ℕ)) → IsHeard s name text c (command.Logon id password)
+      → IfRefused (IsTold s (input.Command name text)) (logon s c id.value password.value)
   logon_told c id password heard =
-      then_told (IsTold s (input.Command name text)) (nobody_on c.user) (λ _. found fault.BadLogon (known_by s id.value password.value) >>= λ user. admit (logon_ruling s c user) >>= λ why. does (record s { board = logged_on c.name id.value s.board }) [] (Some why))
+      then_told (IsTold s (input.Command name text)) (nobody_on c.user)
+      (λ _. found fault.BadLogon (known_by s id.value password.value) >>= λ user. admit (logon_ruling s c user) >>=
+      λ why. does (record s { board = logged_on c.name id.value s.board }) [] (Some why))
       (nobody c.user)
-      (λ on is_on. then_told (IsTold s (input.Command name text)) (found fault.BadLogon (known_by s id.value password.value)) (λ user. admit (logon_ruling s c user) >>= λ why. does (record s { board = logged_on c.name id.value s.board }) [] (Some why))
+      (λ on is_on. then_told (IsTold s (input.Command name text))
+      (found fault.BadLogon (known_by s id.value password.value))
+      (λ user. admit (logon_ruling s c user) >>= λ why. does
+      (record s { board = logged_on c.name id.value s.board }) [] (Some why))
       (stored (known_by s id.value password.value))
-      (λ user is. then_told (IsTold s (input.Command name text)) (admit (logon_ruling s c user)) (λ why. does (record s { board = logged_on c.name id.value s.board }) [] (Some why))
-      (kept_off c id password heard (nobody_ok c.user on is_on) user (found_ok fault.BadLogon (known_by s id.value password.value) user is) (logon_ruling s c user) refl (logon_proper s c user)) (λ why _. tt)))
+      (λ user is. then_told (IsTold s (input.Command name text)) (admit (logon_ruling s c user))
+      (λ why. does (record s { board = logged_on c.name id.value s.board }) [] (Some why))
+      (kept_off c id password heard (nobody_ok c.user on is_on) user
+      (found_ok fault.BadLogon (known_by s id.value password.value) user is) (logon_ruling s c user) refl
+      (logon_proper s c user)) (λ why _. tt)))
     where
       nobody : (o : Option (List ℕ)) → IfRefused (IsTold s (input.Command name text)) (nobody_on o)
       nobody None = tt
@@ -203,7 +297,8 @@ module _ (s : State) (name text : List ℕ) where
       stored None = tt
 
   logoff_told : (c : ConsoleRow) → IfRefused (IsTold s (input.Command name text)) (logoff s c)
-  logoff_told c = then_told (IsTold s (input.Command name text)) (refuse_if fault.NotOn None (is_none c.user)) (λ _. does (record s { board = logged_off c.name s.board }) [] None) (on (is_none c.user)) (λ _ _. tt)
+  logoff_told c = then_told (IsTold s (input.Command name text)) (refuse_if fault.NotOn None (is_none c.user))
+      (λ _. does (record s { board = logged_off c.name s.board }) [] None) (on (is_none c.user)) (λ _ _. tt)
     where
       on : (b : Bool) → IfRefused (IsTold s (input.Command name text)) (refuse_if fault.NotOn None b)
       on true = tt
@@ -214,12 +309,14 @@ module _ (s : State) (name text : List ℕ) where
   no_need_told c command.Logoff heard = logoff_told c
   no_need_told c other heard = tt
 
-  typed_told : (c : ConsoleRow) (k : Command) → IsHeard s name text c k → (need : Option Need) → need_of s.board k ≡ need → IfRefused (IsTold s (input.Command name text)) (typed s c k need)
+  typed_told : (c : ConsoleRow) (k : Command) → IsHeard s name text c k → (need : Option Need)
+      → need_of s.board k ≡ need → IfRefused (IsTold s (input.Command name text)) (typed s c k need)
   typed_told c k heard (Some need) is = board_told c k heard need is
   typed_told c k heard None is = no_need_told c k heard
 
   pub command_told : IfRefused (IsTold s (input.Command name text)) (command_outcome s name text)
-  command_told = then_told (IsTold s (input.Command name text)) (console_for s name) (λ c. command_in text >>= λ k. typed s c k (need_of s.board k)) (console_told s (input.Command name text) name)
+  command_told = then_told (IsTold s (input.Command name text)) (console_for s name)
+      (λ c. command_in text >>= λ k. typed s c k (need_of s.board k)) (console_told s (input.Command name text) name)
       (λ c there. then_told (IsTold s (input.Command name text)) (command_in text) (λ k. typed s c k (need_of s.board k)) (line_told (reading text))
       (λ k reads. typed_told c k (heard c there k reads) (need_of s.board k) refl))
     where

@@ -10,30 +10,42 @@ use Rattle.opc_board.specs.declared.rows.UnitRow.{UnitRow}
 use Rattle.opc_board.specs.Invariants.{Name, kind_found, unit_at, unit_kind}
 use Rattle.opc_machine_laws.specs.NeedLaws.{CommandsNeedSo, by, of_kind, of_unit}
 
-cancels_kind : (kind : UnitKind) (name : Name) → of_kind_at (codes "MVS.CANCEL.JOB") (codes "MVS.CANCEL.STC") (kind_found kind) name ≡ codes "MVS.CANCEL." ++ of_kind (codes "JOB") kind name
+cancels_kind : (kind : UnitKind) (name : Name)
+    → of_kind_at (codes "MVS.CANCEL.JOB") (codes "MVS.CANCEL.STC") (kind_found kind) name ≡ codes "MVS.CANCEL."
+    ++ of_kind (codes "JOB") kind name
 cancels_kind Job name = refl
 cancels_kind (Stc member) name = refl
 cancels_kind Tsu name = refl
 
-cancels : (unit : Option UnitRow) (name : Name) → of_kind_at (codes "MVS.CANCEL.JOB") (codes "MVS.CANCEL.STC") (unit_kind unit) name ≡ codes "MVS.CANCEL." ++ of_unit (codes "JOB") unit name
+cancels : (unit : Option UnitRow) (name : Name)
+    → of_kind_at (codes "MVS.CANCEL.JOB") (codes "MVS.CANCEL.STC") (unit_kind unit) name ≡ codes "MVS.CANCEL."
+    ++ of_unit (codes "JOB") unit name
 cancels None name = refl
 cancels (Some unit) name = cancels_kind unit.kind name
 
-stops_kind : (kind : UnitKind) (name : Name) → of_kind_at (codes "MVS.STOP.JOB") (codes "MVS.STOP.STC") (kind_found kind) name ≡ codes "MVS.STOP." ++ of_kind (codes "JOB") kind name
+stops_kind : (kind : UnitKind) (name : Name)
+    → of_kind_at (codes "MVS.STOP.JOB") (codes "MVS.STOP.STC") (kind_found kind) name ≡ codes "MVS.STOP."
+    ++ of_kind (codes "JOB") kind name
 stops_kind Job name = refl
 stops_kind (Stc member) name = refl
 stops_kind Tsu name = refl
 
-stops : (unit : Option UnitRow) (name : Name) → of_kind_at (codes "MVS.STOP.JOB") (codes "MVS.STOP.STC") (unit_kind unit) name ≡ codes "MVS.STOP." ++ of_unit (codes "JOB") unit name
+stops : (unit : Option UnitRow) (name : Name)
+    → of_kind_at (codes "MVS.STOP.JOB") (codes "MVS.STOP.STC") (unit_kind unit) name ≡ codes "MVS.STOP."
+    ++ of_unit (codes "JOB") unit name
 stops None name = refl
 stops (Some unit) name = stops_kind unit.kind name
 
-modifies_kind : (kind : UnitKind) (name : Name) → of_kind_at (codes "MVS.MODIFY.JOB") (codes "MVS.MODIFY.STC") (kind_found kind) name ≡ codes "MVS.MODIFY." ++ of_kind (codes "JOB") kind name
+modifies_kind : (kind : UnitKind) (name : Name)
+    → of_kind_at (codes "MVS.MODIFY.JOB") (codes "MVS.MODIFY.STC") (kind_found kind) name ≡ codes "MVS.MODIFY."
+    ++ of_kind (codes "JOB") kind name
 modifies_kind Job name = refl
 modifies_kind (Stc member) name = refl
 modifies_kind Tsu name = refl
 
-modifies : (unit : Option UnitRow) (name : Name) → of_kind_at (codes "MVS.MODIFY.JOB") (codes "MVS.MODIFY.STC") (unit_kind unit) name ≡ codes "MVS.MODIFY." ++ of_unit (codes "JOB") unit name
+modifies : (unit : Option UnitRow) (name : Name)
+    → of_kind_at (codes "MVS.MODIFY.JOB") (codes "MVS.MODIFY.STC") (unit_kind unit) name ≡ codes "MVS.MODIFY."
+    ++ of_unit (codes "JOB") unit name
 modifies None name = refl
 modifies (Some unit) name = modifies_kind unit.kind name
 

@@ -31,7 +31,8 @@ module _ {A : Type 0} where
   get_numbered : (n k : ℕ) (xs : List A) → slice_get (enumerate_from n xs) k ≡ option_map (λ x. (n + k, x)) (slice_get xs k)
   get_numbered n k [] = refl
   get_numbered n zero (x ∷ xs) = let e : n ≡ n + 0 = omega arith in ap (λ (m : ℕ). Some (m, x)) e
-  get_numbered n (suc k) (x ∷ xs) = let e : n + 1 + k ≡ n + suc k = omega arith in get_numbered (n + 1) k xs ∙ ap (λ (m : ℕ). option_map (λ (y : A). (m, y)) (slice_get xs k)) e
+  get_numbered n (suc k) (x ∷ xs) = let e : n + 1 + k ≡ n + suc k =
+      omega arith in get_numbered (n + 1) k xs ∙ ap (λ (m : ℕ). option_map (λ (y : A). (m, y)) (slice_get xs k)) e
 
 module _ (from count : ℕ) (account : List AccountRow) (k : ℕ) where
   line_at : slice_get (map account_line (asked_for from count account)) k ≡ option_map account_line (slice_get (asked_for from count account) k)
@@ -45,13 +46,19 @@ module _ (from count : ℕ) (account : List AccountRow) (k : ℕ) where
 
 page : (from count : ℕ) (account : List AccountRow) → IsPage from count account (map account_line (asked_for from count account))
 page from count account = record {
-  within = λ k row low at. line_at from count account k ∙ ap (option_map account_line) (asked_at from count account k low ∙ ap (option_map (λ (row : AccountRow). (from - 1 + k + 1, row))) at);
+  within = λ k row low at. line_at from count account k
+      ∙ ap (option_map account_line) (asked_at from count account k low
+      ∙ ap (option_map (λ (row : AccountRow). (from - 1 + k + 1, row))) at);
   past_count = λ k past. line_at from count account k ∙ ap (option_map account_line) (get_past count k _ past);
   past_account = λ k none. line_at from count account k ∙ ap (option_map account_line) (go k none);
 }
   where
     go : (k : ℕ) → slice_get account (from - 1 + k) ≡ None → slice_get (asked_for from count account) k ≡ None
-    go k none = elim (cases_lt k count) as (λ _. slice_get (asked_for from count account) k ≡ None) [ inl low ↦ asked_at from count account k low ∙ ap (option_map (λ (row : AccountRow). (from - 1 + k + 1, row))) none | inr past ↦ get_past count k _ past ]
+    go k none = elim (cases_lt k count) as (λ _. slice_get (asked_for from count account) k ≡ None) [
+      | inl low ↦ asked_at from count account k low
+          ∙ ap (option_map (λ (row : AccountRow). (from - 1 + k + 1, row))) none
+      | inr past ↦ get_past count k _ past
+    ]
 
 pub account_is_paged : AccountIsPaged
 account_is_paged s moment name from count lines why new step =

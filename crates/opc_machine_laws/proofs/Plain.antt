@@ -48,7 +48,9 @@ abbrev pub IsPlainIfFault : Outcome → Type 0
 IsPlainIfFault (Ok d) = Unit {0}
 IsPlainIfFault (Err f) = IsPlain (board_fault f)
 
-faults_plain : (faults : List (Bool × BoardFault)) (o : Outcome) → AllByRecursion (λ (x : Bool × BoardFault). IsPlain (board_fault x.1)) faults → IsPlainIfFault o → IsPlainIfFault (faults_or faults o)
+faults_plain : (faults : List (Bool × BoardFault)) (o : Outcome)
+    → AllByRecursion (λ (x : Bool × BoardFault). IsPlain (board_fault x.1)) faults → IsPlainIfFault o
+    → IsPlainIfFault (faults_or faults o)
 faults_plain [] o all plain = plain
 faults_plain (x ∷ faults) o all plain = go x.0 (faults_plain faults o all.1 plain)
   where
@@ -56,17 +58,28 @@ faults_plain (x ∷ faults) o all plain = go x.0 (faults_plain faults o all.1 pl
     go true later = all.0
     go false later = later
 
-found_plain : {A : Type 0} (f : BoardFault) (o : Option A) (next : A → Outcome) → IsPlain (board_fault f) → ((x : A) → IsPlainIfFault (next x)) → IsPlainIfFault (found f o >>= next)
+found_plain : {A : Type 0} (f : BoardFault) (o : Option A) (next : A → Outcome) → IsPlain (board_fault f)
+    → ((x : A) → IsPlainIfFault (next x)) → IsPlainIfFault (found f o >>= next)
 found_plain f (Some x) next plain h = h x
 found_plain f None next plain h = plain
 
 pub event_plain : (b : BoardRows) (e : Event) → IsPlainIfFault (event_effect b e)
-event_plain b (event.JobIn name kind cancelable) = faults_plain (come_faults name b) (done (record b { units = put unit_before (new_unit name kind cancelable) b.units })) (tt, (tt, tt)) tt
+event_plain b (event.JobIn name kind cancelable) =
+    faults_plain (come_faults name b) (done
+    (record b { units = put unit_before (new_unit name kind cancelable) b.units })) (tt, (tt, tt)) tt
 event_plain b (event.JobEnd name) = found_plain NoUnit (unit_at b name) (λ unit. done (without_unit name b)) tt (λ unit. tt)
-event_plain b (event.Ask id text) = faults_plain (ask_faults id b) (done (record b { replies = put reply_before (record { id = id; text = text }) b.replies })) (tt, tt) tt
-event_plain b (event.Attach device) = faults_plain (attach_faults device b) (done (record b { devices = put device_before (new_device device) b.devices })) (tt, tt) tt
+event_plain b (event.Ask id text) = faults_plain (ask_faults id b) (done (record b {
+  replies = put reply_before (record {
+    id = id;
+    text = text;
+  }) b.replies;
+})) (tt, tt) tt
+event_plain b (event.Attach device) = faults_plain (attach_faults device b)
+    (done (record b { devices = put device_before (new_device device) b.devices })) (tt, tt) tt
 event_plain b (event.Allocate device unit) =
-    found_plain NoDevice (device_at b device) (λ d. found NoUnit (unit_at b unit) >>= λ u. faults_or (allocate_faults d) (done (with_device (record d { unit = Some unit }) b))) tt
+    found_plain NoDevice (device_at b device)
+    (λ d. found NoUnit (unit_at b unit) >>= λ u. faults_or (allocate_faults d)
+    (done (with_device (record d { unit = Some unit }) b))) tt
     (λ d. found_plain NoUnit (unit_at b unit) (λ u. faults_or (allocate_faults d) (done (with_device (record d { unit = Some unit }) b))) tt
     (λ u. faults_plain (allocate_faults d) (done (with_device (record d { unit = Some unit }) b)) (tt, (tt, tt)) tt))
 event_plain b (event.Free device) =

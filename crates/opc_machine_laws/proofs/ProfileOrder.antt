@@ -28,7 +28,9 @@ by_patterns p q h one =
 in_order : (profiles : List Profile) → Ascends (λ (p q : Profile). is_lt (profile_cmp p q)) profiles → AreMostSpecificFirst profiles
 in_order [] up = λ i j d lt within. absurd (omega (arith, within))
 in_order (p ∷ profiles) up =
-    AllPairs-cons IsFirst p profiles (All-from_recursion (IsFirst p) profiles (all_weaker (λ (q : Profile). is_lt (profile_cmp p q) ≡ true) (IsFirst p) (by_patterns p) profiles up.0)) (in_order profiles up.1)
+    AllPairs-cons IsFirst p profiles (All-from_recursion (IsFirst p) profiles
+    (all_weaker (λ (q : Profile). is_lt (profile_cmp p q) ≡ true) (IsFirst p) (by_patterns p) profiles up.0))
+    (in_order profiles up.1)
 
 pub more_specific_first : MoreSpecificProfilesComeFirst
 more_specific_first s keyed = in_order s.policy.profiles keyed.profiles

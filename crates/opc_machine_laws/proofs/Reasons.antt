@@ -1,5 +1,29 @@
 -- Why something is ruled as it is.
-use Rattle.std.proofs.Common.{◌≡◌, ◌⊎◌, inl, inr, ℕ, Bool, true, false, ◌&&◌, if◌then◌else◌, List, [], ◌∷◌, Option, Some, None, IfSome, refl, rules, sym, ap, subst, ◌∙◌}
+use Rattle.std.proofs.Common.{
+  ◌≡◌,
+  ◌⊎◌,
+  inl,
+  inr,
+  ℕ,
+  Bool,
+  true,
+  false,
+  ◌&&◌,
+  if◌then◌else◌,
+  List,
+  [],
+  ◌∷◌,
+  Option,
+  Some,
+  None,
+  IfSome,
+  refl,
+  rules,
+  sym,
+  ap,
+  subst,
+  ◌∙◌,
+}
 use Rattle.std.specs.List.{AllByRecursion}
 use Rattle.std.specs.Option.{is_none}
 use Rattle.opc_names.specs.Authority.{enters, same_class}
@@ -28,7 +52,20 @@ use Rattle.opc_rows.proofs.Orders.{all_filter}
 use Rattle.opc_board.specs.declared.rows.ConsoleRow.{ConsoleRow}
 use Rattle.opc_state.specs.State.{State, deciding_in}
 use Rattle.opc_machine.specs.Rulings.{access_ruling, acting, console_access, denied_or, is_required, is_revoked, logon_denial, logon_ruling}
-use Rattle.opc_machine_laws.specs.RulingLaws.{IsByProfile, IsDeniedRevoked, IsDeniedUnattended, IsFree, IsRuledByConsole, IsRuledByLogon, IsRuledByProfile, IsUndecided, LogonRuleSaysWhy, LogonRulingsSayWhy, RulingsSayWhy, said}
+use Rattle.opc_machine_laws.specs.RulingLaws.{
+  IsByProfile,
+  IsDeniedRevoked,
+  IsDeniedUnattended,
+  IsFree,
+  IsRuledByConsole,
+  IsRuledByLogon,
+  IsRuledByProfile,
+  IsUndecided,
+  LogonRuleSaysWhy,
+  LogonRulingsSayWhy,
+  RulingsSayWhy,
+  said,
+}
 
 -- the first of some is as all of them are
 first_is_one : (P : Profile → Type 0) (profiles : List Profile) → AllByRecursion P profiles → IfSome (first_of profiles) P
@@ -47,12 +84,16 @@ of_this_class : (class : Class) (profiles : List Profile) → AllByRecursion (λ
 of_this_class class [] = tt
 of_this_class class (p ∷ profiles) = go (same_class p.class class) refl (of_this_class class profiles)
   where
-    go : (b : Bool) → same_class p.class class ≡ b → AllByRecursion (λ (q : Profile). q.class ≡ class) (of_class class profiles) → AllByRecursion (λ (q : Profile). q.class ≡ class) (if b then p ∷ of_class class profiles else of_class class profiles)
+    go : (b : Bool) → same_class p.class class ≡ b
+        → AllByRecursion (λ (q : Profile). q.class ≡ class) (of_class class profiles)
+        → AllByRecursion (λ (q : Profile). q.class ≡ class)
+        (if b then p ∷ of_class class profiles else of_class class profiles)
     go true e rest = (same_class_is p.class class e, rest)
     go false e rest = rest
 
 -- the profile that decides in a class is of that class
-pub decides_in_class : (profiles : List Profile) (class : Class) (resource : List ℕ) → IfSome (deciding (of_class class profiles) resource) (λ p. p.class ≡ class)
+pub decides_in_class : (profiles : List Profile) (class : Class) (resource : List ℕ)
+    → IfSome (deciding (of_class class profiles) resource) (λ p. p.class ≡ class)
 decides_in_class profiles class resource =
     first_is_one (λ p. p.class ≡ class) (covering resource (of_class class profiles))
     (all_filter (λ p. p.class ≡ class) (λ p. covers_text p.pattern resource) (of_class class profiles) (of_this_class class profiles))
@@ -66,9 +107,15 @@ said_by true why other = refl
 said_by false why other = refl
 
 -- by the profile that decides, or by what decides where none does
-by_profile : (s : State) (c : ConsoleRow) (user : User) (class : Class) (resource : List ℕ) (needed : Level) (other : Ruling) (a : Bool) → is_active s.policy.active class ≡ a → (d : Option Profile) → deciding_in s.policy class resource ≡ d
-    → IsByProfile s c user class resource needed (by_verdict (verdict a d user (Some c.name) (groups_of s.policy.connects user.id) needed) (verdict_rule a d user (Some c.name) (groups_of s.policy.connects user.id) needed) other)
-    ⊎ (IsUndecided s class resource × (by_verdict (verdict a d user (Some c.name) (groups_of s.policy.connects user.id) needed) (verdict_rule a d user (Some c.name) (groups_of s.policy.connects user.id) needed) other ≡ other))
+by_profile : (s : State) (c : ConsoleRow) (user : User) (class : Class) (resource : List ℕ) (needed : Level)
+    (other : Ruling) (a : Bool) → is_active s.policy.active class ≡ a → (d : Option Profile)
+    → deciding_in s.policy class resource ≡ d
+    → IsByProfile s c user class resource needed
+    (by_verdict (verdict a d user (Some c.name) (groups_of s.policy.connects user.id) needed)
+    (verdict_rule a d user (Some c.name) (groups_of s.policy.connects user.id) needed) other)
+    ⊎ (IsUndecided s class resource
+    × (by_verdict (verdict a d user (Some c.name) (groups_of s.policy.connects user.id) needed)
+    (verdict_rule a d user (Some c.name) (groups_of s.policy.connects user.id) needed) other ≡ other))
 by_profile s c user class resource needed other false active d decides = inr (inl active, refl)
 by_profile s c user class resource needed other true active None decides = inr (inr decides, refl)
 by_profile s c user class resource needed other true active (Some p) decides = inl (record {
@@ -103,10 +150,17 @@ AtLogon s c denial = IsDeniedUnattended c denial ⊎ (IsDeniedRevoked s c denial
 pub at_logon : LogonRuleSaysWhy
 at_logon s c = go (is_required c.mode && is_none c.user) refl (is_revoked (acting s c)) refl
   where
-    go : (a : Bool) → (is_required c.mode && is_none c.user) ≡ a → (b : Bool) → is_revoked (acting s c) ≡ b → AtLogon s c (if a then Some rule.LogonRequired else (if b then Some rule.Revoked else None))
+    go : (a : Bool) → (is_required c.mode && is_none c.user) ≡ a → (b : Bool) → is_revoked (acting s c) ≡ b
+        → AtLogon s c (if a then Some rule.LogonRequired else (if b then Some rule.Revoked else None))
     go true nobody b revoked = inl (record { unattended = unattended c.mode c.user nobody; says = refl })
     go false somebody true revoked =
-        let one = revoked_one (acting s c) revoked in inr (inl (record { attended = attended c.mode c.user somebody; user = one.0; acts = one.1; revoked = one.2; says = refl }))
+        let one = revoked_one (acting s c) revoked in inr (inl (record {
+          attended = attended c.mode c.user somebody;
+          user = one.0;
+          acts = one.1;
+          revoked = one.2;
+          says = refl;
+        }))
     go false somebody false free = inr (inr (record { attended = attended c.mode c.user somebody; trusted = not_revoked (acting s c) free; says = refl }))
 
 console_said : (b : Bool) (why : Rule) → (if b then Allowed why else Denied why) ≡ said b why
@@ -119,10 +173,17 @@ IsRuled s c need r = IsRuledByLogon s c r ⊎ (IsRuledByProfile s c need r ⊎ I
 pub rulings_say_why : RulingsSayWhy
 rulings_say_why s c need = go (logon_denial s c) refl (acting s c) refl
   where
-    console : (acting s c ≡ None) ⊎ IsUndecided s Opercmds need.resource → logon_denial s c ≡ None → (r : Ruling) → r ≡ console_ruling c.auth need → IsRuled s c need r
-    console why free r is = inr (inr (record { free = free; undecided = why; says = is ∙ console_said (enters c.auth need.group) (rule.ConsoleGroup need.group c.auth) }))
+    console : (acting s c ≡ None) ⊎ IsUndecided s Opercmds need.resource → logon_denial s c ≡ None → (r : Ruling)
+        → r ≡ console_ruling c.auth need → IsRuled s c need r
+    console why free r is = inr (inr (record {
+      free = free;
+      undecided = why;
+      says = is ∙ console_said (enters c.auth need.group) (rule.ConsoleGroup need.group c.auth);
+    }))
 
-    user_ruled : logon_denial s c ≡ None → (user : User) → acting s c ≡ Some user → (r : Ruling) → IsByProfile s c user Opercmds need.resource need.level r ⊎ (IsUndecided s Opercmds need.resource × (r ≡ console_ruling c.auth need)) → IsRuled s c need r
+    user_ruled : logon_denial s c ≡ None → (user : User) → acting s c ≡ Some user → (r : Ruling)
+        → IsByProfile s c user Opercmds need.resource need.level r
+        ⊎ (IsUndecided s Opercmds need.resource × (r ≡ console_ruling c.auth need)) → IsRuled s c need r
     user_ruled free user is r (inl by) = inr (inl (record { free = free; user = user; acts = is; by = by }))
     user_ruled free user is r (inr none) = console (inr none.0) free r none.1
 
@@ -131,7 +192,8 @@ rulings_say_why s c need = go (logon_denial s c) refl (acting s c) refl
     go None free None is = console (inl is) free (console_ruling c.auth need) refl
     go None free (Some user) is =
         user_ruled free user is (access_ruling s c (Some user) need)
-        (by_profile s c user Opercmds need.resource need.level (console_ruling c.auth need) (is_active s.policy.active Opercmds) refl (deciding_in s.policy Opercmds need.resource) refl)
+        (by_profile s c user Opercmds need.resource need.level (console_ruling c.auth need)
+        (is_active s.policy.active Opercmds) refl (deciding_in s.policy Opercmds need.resource) refl)
 
 pub logon_rulings_say_why : LogonRulingsSayWhy
 logon_rulings_say_why s c user = record {

@@ -1,5 +1,30 @@
 -- Which fault is answered.
-use Rattle.std.proofs.Common.{◌≡◌, inl, inr, ℕ, Bool, true, false, not, if◌then◌else◌, List, [], ◌∷◌, Some, None, Ok, Err, filter, map, refl, rules, sym, ap, ◌∙◌, codes}
+use Rattle.std.proofs.Common.{
+  ◌≡◌,
+  inl,
+  inr,
+  ℕ,
+  Bool,
+  true,
+  false,
+  not,
+  if◌then◌else◌,
+  List,
+  [],
+  ◌∷◌,
+  Some,
+  None,
+  Ok,
+  Err,
+  filter,
+  map,
+  refl,
+  rules,
+  sym,
+  ap,
+  ◌∙◌,
+  codes,
+}
 use Rattle.std.specs.Option.{is_none}
 use Rattle.opc_terms.specs.declared.fault.Fault.{Fault}
 use Rattle.opc_terms.specs.declared.fault.Fault.TheVariants as fault
@@ -24,7 +49,18 @@ use Rattle.opc_machine.specs.Machine.{answer_of, outcome}
 use Rattle.opc_machine.specs.Outcome.{Denial, Outcome, ◌>>=◌, does, found, or_refused, refuse_if, refused}
 use Rattle.opc_machine.specs.Rights.{account_shown, console_asking, is_special, may_change, profile_shown, right_fault, unless_denied}
 use Rattle.opc_machine.specs.Rulings.{acting, logon_denial, logon_ruling}
-use Rattle.opc_machine_laws.specs.FaultLaws.{AdministrationFaultsAreAnswered, BadLinesAreAnswered, ChangedBatchesAreAnswered, ImportFaultsAreAnswered, IsRefusedBy, LogonFaultsAreAnswered, MissingConsolesAreAnswered, MissingRightsAreAnswered, OfflineConsolesAreAnswered, missing_right}
+use Rattle.opc_machine_laws.specs.FaultLaws.{
+  AdministrationFaultsAreAnswered,
+  BadLinesAreAnswered,
+  ChangedBatchesAreAnswered,
+  ImportFaultsAreAnswered,
+  IsRefusedBy,
+  LogonFaultsAreAnswered,
+  MissingConsolesAreAnswered,
+  MissingRightsAreAnswered,
+  OfflineConsolesAreAnswered,
+  missing_right,
+}
 use Rattle.opc_machine_laws.specs.RightLaws.{changed_profile}
 use Rattle.opc_machine_laws.proofs.Acting.{console_back}
 use Rattle.opc_machine_laws.proofs.Answering.{heard_so}
@@ -53,16 +89,20 @@ first_denied s (input.Command n text) name d names h =
     ap (λ x. x >>= λ c. command_in text >>= λ k. typed s c k (need_of s.board k)) (ap (console_for s) at ∙ h)
 first_denied s (input.Admin n o) name d names h =
     let at : n ≡ name = search (rules, names) in
-    ap (λ x. x >>= λ c. refuse_if (right_fault o) None (not (may_change s c o)) >>= λ _. or_refused (changed s o) >>= λ t. does t [] None) (asking_denied s n d (ap (console_for s) at ∙ h))
+    ap (λ x. x >>= λ c. refuse_if (right_fault o) None (not (may_change s c o)) >>= λ _. or_refused (changed s o) >>=
+    λ t. does t [] None) (asking_denied s n d (ap (console_for s) at ∙ h))
 first_denied s (input.ListProfiles n class) name d names h =
     let at : n ≡ name = search (rules, names) in
-    ap (λ x. x >>= λ c. does s (map profile_line (filter (profile_shown s c) (of_class class s.policy.profiles))) None) (asking_denied s n d (ap (console_for s) at ∙ h))
+    ap (λ x. x >>= λ c. does s (map profile_line (filter (profile_shown s c) (of_class class s.policy.profiles))) None)
+    (asking_denied s n d (ap (console_for s) at ∙ h))
 first_denied s (input.ListAccount n from count) name d names h =
     let at : n ≡ name = search (rules, names) in
-    ap (λ x. x >>= λ c. refuse_if fault.NotSpecial None (not (account_shown s c)) >>= λ _. does s (map account_line (asked_for from count s.account)) None) (asking_denied s n d (ap (console_for s) at ∙ h))
+    ap (λ x. x >>= λ c. refuse_if fault.NotSpecial None (not (account_shown s c)) >>= λ _. does s
+    (map account_line (asked_for from count s.account)) None) (asking_denied s n d (ap (console_for s) at ∙ h))
 first_denied s (input.Import n number all) name d names h =
     let at : n ≡ name = search (rules, names) in
-    ap (λ x. x >>= λ c. refuse_if fault.NotSpecial None (not (is_special (acting s c))) >>= λ _. batch_outcome s number all (batch_of s.batches number)) (asking_denied s n d (ap (console_for s) at ∙ h))
+    ap (λ x. x >>= λ c. refuse_if fault.NotSpecial None (not (is_special (acting s c))) >>= λ _. batch_outcome s number
+    all (batch_of s.batches number)) (asking_denied s n d (ap (console_for s) at ∙ h))
 first_denied s (input.Event e) name d names h = absurd (search (rules, names))
 
 pub missing_console : MissingConsolesAreAnswered
@@ -88,12 +128,15 @@ pub logon_faults : LogonFaultsAreAnswered
 logon_faults s name text c (fault.AlreadyOn user) (id, password, heard, on) =
     answered s (input.Command name text) (fault.AlreadyOn user)
     (heard_so s name text c (command.Logon id password) heard
-    ∙ ap (λ x. nobody_on x >>= λ _. found fault.BadLogon (known_by s id.value password.value) >>= λ u. admit (logon_ruling s c u) >>= λ w. does (record s { board = logged_on c.name id.value s.board }) [] (Some w)) on)
+    ∙ ap (λ x. nobody_on x >>= λ _. found fault.BadLogon (known_by s id.value password.value) >>= λ u. admit
+    (logon_ruling s c u) >>= λ w. does (record s { board = logged_on c.name id.value s.board }) [] (Some w)) on)
 logon_faults s name text c fault.BadLogon (id, password, heard, nobody, none) =
     answered s (input.Command name text) fault.BadLogon
     (heard_so s name text c (command.Logon id password) heard
-    ∙ ap (λ x. nobody_on x >>= λ _. found fault.BadLogon (known_by s id.value password.value) >>= λ u. admit (logon_ruling s c u) >>= λ w. does (record s { board = logged_on c.name id.value s.board }) [] (Some w)) nobody
-    ∙ ap (λ x. found fault.BadLogon x >>= λ u. admit (logon_ruling s c u) >>= λ w. does (record s { board = logged_on c.name id.value s.board }) [] (Some w)) (unknown s id.value password.value none))
+    ∙ ap (λ x. nobody_on x >>= λ _. found fault.BadLogon (known_by s id.value password.value) >>= λ u. admit
+    (logon_ruling s c u) >>= λ w. does (record s { board = logged_on c.name id.value s.board }) [] (Some w)) nobody
+    ∙ ap (λ x. found fault.BadLogon x >>= λ u. admit (logon_ruling s c u) >>= λ w. does
+    (record s { board = logged_on c.name id.value s.board }) [] (Some w)) (unknown s id.value password.value none))
 logon_faults s name text c fault.NotOn (heard, nobody) =
     answered s (input.Command name text) fault.NotOn
     (heard_so s name text c command.Logoff heard
@@ -112,17 +155,20 @@ right_told o = refl
 pub missing_rights : MissingRightsAreAnswered
 missing_rights s (input.Admin name o) c returned (asks, lacks, is) =
     let comes : admin_outcome s name o ≡ refusal (right_fault o) =
-    ap (λ x. x >>= λ d. refuse_if (right_fault o) None (not (may_change s d o)) >>= λ _. or_refused (changed s o) >>= λ t. does t [] None) (asking_back s name c asks)
+    ap (λ x. x >>= λ d. refuse_if (right_fault o) None (not (may_change s d o)) >>= λ _. or_refused (changed s o) >>=
+    λ t. does t [] None) (asking_back s name c asks)
     ∙ ap (λ b. refuse_if (right_fault o) None (not b) >>= λ _. or_refused (changed s o) >>= λ t. does t [] None) lacks in
     answered s (input.Admin name o) returned (comes ∙ ap refusal (right_told o ∙ sym is))
 missing_rights s (input.ListAccount name from count) c returned (asks, lacks, is) =
     let comes : account_outcome s name from count ≡ refusal fault.NotSpecial =
-    ap (λ x. x >>= λ d. refuse_if fault.NotSpecial None (not (account_shown s d)) >>= λ _. does s (map account_line (asked_for from count s.account)) None) (asking_back s name c asks)
+    ap (λ x. x >>= λ d. refuse_if fault.NotSpecial None (not (account_shown s d)) >>= λ _. does s
+    (map account_line (asked_for from count s.account)) None) (asking_back s name c asks)
     ∙ ap (λ b. refuse_if fault.NotSpecial None (not b) >>= λ _. does s (map account_line (asked_for from count s.account)) None) lacks in
     answered s (input.ListAccount name from count) returned (comes ∙ ap refusal (sym is))
 missing_rights s (input.Import name number all) c returned (asks, lacks, is) =
     let comes : import_outcome s name number all ≡ refusal fault.NotSpecial =
-    ap (λ x. x >>= λ d. refuse_if fault.NotSpecial None (not (is_special (acting s d))) >>= λ _. batch_outcome s number all (batch_of s.batches number)) (asking_back s name c asks)
+    ap (λ x. x >>= λ d. refuse_if fault.NotSpecial None (not (is_special (acting s d))) >>= λ _. batch_outcome s number
+    all (batch_of s.batches number)) (asking_back s name c asks)
     ∙ ap (λ b. refuse_if fault.NotSpecial None (not b) >>= λ _. batch_outcome s number all (batch_of s.batches number)) lacks in
     answered s (input.Import name number all) returned (comes ∙ ap refusal (sym is))
 missing_rights s other c returned none = absurd none
@@ -132,7 +178,8 @@ missing_rights s other c returned none = absurd none
 pub administration_faults : AdministrationFaultsAreAnswered
 administration_faults s name o c f asks may is =
     answered s (input.Admin name o) f
-    (ap (λ x. x >>= λ d. refuse_if (right_fault o) None (not (may_change s d o)) >>= λ _. or_refused (changed s o) >>= λ t. does t [] None) (asking_back s name c asks)
+    (ap (λ x. x >>= λ d. refuse_if (right_fault o) None (not (may_change s d o)) >>= λ _. or_refused (changed s o) >>=
+    λ t. does t [] None) (asking_back s name c asks)
     ∙ ap (λ b. refuse_if (right_fault o) None (not b) >>= λ _. or_refused (changed s o) >>= λ t. does t [] None) may
     ∙ ap (λ x. or_refused x >>= λ t. does t [] None) is)
 
@@ -141,7 +188,12 @@ import_faults s name number all c f asks may new is =
     answered s (input.Import name number all) f
     (import_right s name number all c asks may
     ∙ ap (batch_outcome s number all) new
-    ∙ ap (λ x. or_refused x >>= λ t. does (record t { batches = with_batch (record { number = number; rows = all }) t.batches }) (batch_line number (codes "KEPT") ∷ []) None) is)
+    ∙ ap (λ x. or_refused x >>= λ t. does (record t {
+      batches = with_batch (record {
+        number = number;
+        rows = all;
+      }) t.batches;
+    }) (batch_line number (codes "KEPT") ∷ []) None) is)
 
 pub changed_batches : ChangedBatchesAreAnswered
 changed_batches s name number all c kept asks may is others =

@@ -1,5 +1,32 @@
 -- What the rows of an import leave there, and what is in their way.
-use Rattle.std.proofs.Common.{◌≡◌, ◌≢◌, ◌⊎◌, inl, inr, ℕ, Bool, true, false, not, ◌&&◌, ◌||◌, cond, List, [], ◌∷◌, ◌++◌, Option, Some, None, Ok, refl, sym, ap, subst, ◌∙◌}
+use Rattle.std.proofs.Common.{
+  ◌≡◌,
+  ◌≢◌,
+  ◌⊎◌,
+  inl,
+  inr,
+  ℕ,
+  Bool,
+  true,
+  false,
+  not,
+  ◌&&◌,
+  ◌||◌,
+  cond,
+  List,
+  [],
+  ◌∷◌,
+  ◌++◌,
+  Option,
+  Some,
+  None,
+  Ok,
+  refl,
+  sym,
+  ap,
+  subst,
+  ◌∙◌,
+}
 use Rattle.std.specs.BTreeSet.{replace_key}
 use Rattle.std.specs.List.{AllByRecursion, find, list_any}
 use Rattle.std.specs.Option.{is_some, option_eq, option_map, option_map_or}
@@ -27,7 +54,23 @@ use Rattle.opc_state.specs.Loads.{is_connected}
 use Rattle.opc_machine.specs.Bootstrap.{consoles_after, mastered, policy_after, then_policy, with_rows_of}
 use Rattle.opc_machine_laws.specs.EffectLaws.{OnlyConsoles}
 use Rattle.opc_machine_laws.specs.ObstacleLaws.{is_defined, is_listed}
-use Rattle.opc_machine_laws.specs.RowLaws.{ConsoleIsDefined, ConsolesAreDefined, HasPattern, HasTaken, IsOther, IsPermitted, IsWritten, KeepsAll, KeepsConsoles, ProfileBecomes, RowObstaclesAreFaults, RowsAreTakenWithoutObstacle, RowsKeepAMasterOrAreRefused, RowsNeverDelete, row_obstacles}
+use Rattle.opc_machine_laws.specs.RowLaws.{
+  ConsoleIsDefined,
+  ConsolesAreDefined,
+  HasPattern,
+  HasTaken,
+  IsOther,
+  IsPermitted,
+  IsWritten,
+  KeepsAll,
+  KeepsConsoles,
+  ProfileBecomes,
+  RowObstaclesAreFaults,
+  RowsAreTakenWithoutObstacle,
+  RowsKeepAMasterOrAreRefused,
+  RowsNeverDelete,
+  row_obstacles,
+}
 use Rattle.opc_machine_laws.specs.TakingLaws.{AreDefined, AreTaken, with_console_of}
 use Rattle.opc_machine_laws.proofs.AtNames.{comes, console_becomes}
 use Rattle.opc_machine_laws.proofs.Hindering.{AreInTheWay, needing_way, nothing, unless_way}
@@ -89,54 +132,76 @@ module _ (old new : Policy) where
     defined_still : (class : Class) (pattern : List ℕ) → is_defined old class pattern ≡ true → is_defined new class pattern ≡ true
     defined_still class pattern was = go (both_or_other (which_class class profile.class) (which_name pattern profile.pattern))
       where
-        made : (o : Option Profile) → profile_of old.profiles profile.class profile.pattern ≡ o → is_some (profile_of new.profiles profile.class profile.pattern) ≡ true
+        made : (o : Option Profile) → profile_of old.profiles profile.class profile.pattern ≡ o
+            → is_some (profile_of new.profiles profile.class profile.pattern) ≡ true
         made None none = ap is_some (becomes.fresh none)
         made (Some q) at = ap is_some (becomes.kept q at)
 
         go : ((class ≡ profile.class) × (pattern ≡ profile.pattern)) ⊎ IsOther class pattern profile.class profile.pattern → is_defined new class pattern ≡ true
-        go (inl same) = ap (λ c. is_some (profile_of new.profiles c pattern)) same.0 ∙ ap (λ n. is_some (profile_of new.profiles profile.class n)) same.1 ∙ made (profile_of old.profiles profile.class profile.pattern) refl
+        go (inl same) = ap (λ c. is_some (profile_of new.profiles c pattern)) same.0
+            ∙ ap (λ n. is_some (profile_of new.profiles profile.class n)) same.1
+            ∙ made (profile_of old.profiles profile.class profile.pattern) refl
         go (inr other) = ap is_some (becomes.others class pattern other) ∙ was
 
-    listed_still : (class : Class) (pattern id : List ℕ) (when : Option (List ℕ)) → is_listed old class pattern id when ≡ true → is_listed new class pattern id when ≡ true
+    listed_still : (class : Class) (pattern id : List ℕ) (when : Option (List ℕ))
+        → is_listed old class pattern id when ≡ true → is_listed new class pattern id when ≡ true
     listed_still class pattern id when was = go (both_or_other (which_class class profile.class) (which_name pattern profile.pattern))
       where
-        made : (o : Option Profile) → profile_of old.profiles profile.class profile.pattern ≡ o → by_list when id o ≡ true → by_list when id (profile_of new.profiles profile.class profile.pattern) ≡ true
+        made : (o : Option Profile) → profile_of old.profiles profile.class profile.pattern ≡ o
+            → by_list when id o ≡ true → by_list when id (profile_of new.profiles profile.class profile.pattern) ≡ true
         made None none h = absurd (cc)
         made (Some q) at h = ap (by_list when id) (becomes.kept q at) ∙ h
 
-        at_key : class ≡ profile.class → pattern ≡ profile.pattern → (p : Policy) → by_list when id (profile_of p.profiles class pattern) ≡ by_list when id (profile_of p.profiles profile.class profile.pattern)
-        at_key one two p = ap (λ c. by_list when id (profile_of p.profiles c pattern)) one ∙ ap (λ n. by_list when id (profile_of p.profiles profile.class n)) two
+        at_key : class ≡ profile.class → pattern ≡ profile.pattern → (p : Policy)
+            → by_list when id (profile_of p.profiles class pattern) ≡ by_list when id
+            (profile_of p.profiles profile.class profile.pattern)
+        at_key one two p = ap (λ c. by_list when id (profile_of p.profiles c pattern)) one
+            ∙ ap (λ n. by_list when id (profile_of p.profiles profile.class n)) two
 
-        go : ((class ≡ profile.class) × (pattern ≡ profile.pattern)) ⊎ IsOther class pattern profile.class profile.pattern → is_listed new class pattern id when ≡ true
+        go : ((class ≡ profile.class) × (pattern ≡ profile.pattern))
+            ⊎ IsOther class pattern profile.class profile.pattern → is_listed new class pattern id when ≡ true
         go (inl same) = at_key same.0 same.1 new ∙ made (profile_of old.profiles profile.class profile.pattern) refl (sym (at_key same.0 same.1 old) ∙ was)
         go (inr other) = ap (by_list when id) (becomes.others class pattern other) ∙ was
 
-  module _ (class : Class) (pattern id : List ℕ) (when : Option (List ℕ)) (level : Level) (permitted : IsPermitted class pattern id when (Some level) old new) where
+  module _ (class : Class) (pattern id : List ℕ) (when : Option (List ℕ)) (level : Level)
+      (permitted : IsPermitted class pattern id when (Some level) old new) where
     permitted_defined : (c : Class) (n : List ℕ) → is_defined old c n ≡ true → is_defined new c n ≡ true
     permitted_defined c n was = go (both_or_other (which_class c class) (which_name n pattern))
       where
         go : ((c ≡ class) × (n ≡ pattern)) ⊎ IsOther c n class pattern → is_defined new c n ≡ true
-        go (inl same) = ap (λ d. is_some (profile_of new.profiles d n)) same.0 ∙ ap (λ m. is_some (profile_of new.profiles class m)) same.1 ∙ ap is_some permitted.here
+        go (inl same) = ap (λ d. is_some (profile_of new.profiles d n)) same.0
+            ∙ ap (λ m. is_some (profile_of new.profiles class m)) same.1 ∙ ap is_some permitted.here
         go (inr other) = ap is_some (permitted.others c n other) ∙ was
 
     permitted_listed : (c : Class) (n other : List ℕ) (place : Option (List ℕ)) → is_listed old c n other place ≡ true → is_listed new c n other place ≡ true
     permitted_listed c n other place was = go (both_or_other (which_class c class) (which_name n pattern))
       where
-        at_key : c ≡ class → n ≡ pattern → (p : Policy) → by_list place other (profile_of p.profiles c n) ≡ by_list place other (profile_of p.profiles class pattern)
+        at_key : c ≡ class → n ≡ pattern → (p : Policy)
+            → by_list place other (profile_of p.profiles c n) ≡ by_list place other
+            (profile_of p.profiles class pattern)
         at_key one two p = ap (λ d. by_list place other (profile_of p.profiles d n)) one ∙ ap (λ m. by_list place other (profile_of p.profiles class m)) two
 
-        entry : ((other ≡ id) × (place ≡ when)) ⊎ IsOther other place id when → list_any (is_for place other) permitted.profile.entries ≡ true → list_any (is_for place other) permitted.entries ≡ true
-        entry (inl same) h = listed_level place other permitted.entries ∙ ap (λ i. is_some (entry_level permitted.entries place i)) same.0 ∙ ap (λ w. is_some (entry_level permitted.entries w id)) same.1 ∙ ap is_some permitted.given
-        entry (inr differ) h = listed_level place other permitted.entries ∙ ap is_some (permitted.listed other place differ) ∙ sym (listed_level place other permitted.profile.entries) ∙ h
+        entry : ((other ≡ id) × (place ≡ when)) ⊎ IsOther other place id when
+            → list_any (is_for place other) permitted.profile.entries ≡ true
+            → list_any (is_for place other) permitted.entries ≡ true
+        entry (inl same) h = listed_level place other permitted.entries
+            ∙ ap (λ i. is_some (entry_level permitted.entries place i)) same.0
+            ∙ ap (λ w. is_some (entry_level permitted.entries w id)) same.1 ∙ ap is_some permitted.given
+        entry (inr differ) h = listed_level place other permitted.entries
+            ∙ ap is_some (permitted.listed other place differ)
+            ∙ sym (listed_level place other permitted.profile.entries) ∙ h
 
         go : ((c ≡ class) × (n ≡ pattern)) ⊎ IsOther c n class pattern → is_listed new c n other place ≡ true
         go (inl same) =
             at_key same.0 same.1 new ∙ ap (by_list place other) permitted.here
-            ∙ entry (both_or_other (which_name other id) (which_place place when)) (sym (ap (by_list place other) permitted.there) ∙ sym (at_key same.0 same.1 old) ∙ was)
+            ∙ entry (both_or_other (which_name other id) (which_place place when))
+            (sym (ap (by_list place other) permitted.there) ∙ sym (at_key same.0 same.1 old) ∙ was)
         go (inr differ) = ap (by_list place other) (permitted.others c n differ) ∙ was
 
-  keeps_profiles : new ≡ record old { profiles = new.profiles } → ((class : Class) (pattern : List ℕ) → is_defined old class pattern ≡ true → is_defined new class pattern ≡ true)
-      → ((class : Class) (pattern id : List ℕ) (when : Option (List ℕ)) → is_listed old class pattern id when ≡ true → is_listed new class pattern id when ≡ true) → KeepsAll old new
+  keeps_profiles : new ≡ record old { profiles = new.profiles }
+      → ((class : Class) (pattern : List ℕ) → is_defined old class pattern ≡ true → is_defined new class pattern ≡ true)
+      → ((class : Class) (pattern id : List ℕ) (when : Option (List ℕ)) → is_listed old class pattern id when ≡ true
+      → is_listed new class pattern id when ≡ true) → KeepsAll old new
   keeps_profiles rest defined listed = record {
     users = λ id was. ap (λ (p : Policy). has_user p id) rest ∙ was;
     groups = λ name was. ap (λ (p : Policy). has_group p name) rest ∙ was;
@@ -183,17 +248,28 @@ module _ (old new : Policy) where
     entries = λ c pattern id when was. ap (λ (p : Policy). is_listed p c pattern id when) h.1 ∙ was;
   }
     where
-      go : (one other : List ℕ) → is_connected old one other ≡ true → ((one ≡ user) × (other ≡ group)) ⊎ IsOther one other user group → is_connected new one other ≡ true
+      go : (one other : List ℕ) → is_connected old one other ≡ true → ((one ≡ user) × (other ≡ group))
+          ⊎ IsOther one other user group → is_connected new one other ≡ true
       go one other was (inl same) = ap (λ u. is_connected new u other) same.0 ∙ ap (is_connected new user) same.1 ∙ h.0.here
       go one other was (inr apart) = h.0.others (one, other) (λ e. apart (ap (λ (c : List ℕ × List ℕ). c.0) e) (ap (λ (c : List ℕ × List ℕ). c.1) e)) ∙ was
   taken_keeps (rows.Console name auth mode) h = keeps_itself h
   taken_keeps (rows.Profile class pattern uacc owner warning) h =
-      keeps_profiles h.1 (defined_still (record { class = class; pattern = pattern; owner = owner; uacc = uacc; warning = warning; entries = [] }) h.0) (listed_still (record { class = class; pattern = pattern; owner = owner; uacc = uacc; warning = warning; entries = [] }) h.0)
-  taken_keeps (rows.Permit class pattern id level when) h = keeps_profiles h.1 (permitted_defined class pattern id when level h.0) (permitted_listed class pattern id when level h.0)
+      keeps_profiles h.1 (defined_still (record {
+        class = class;
+        pattern = pattern;
+        owner = owner;
+        uacc = uacc;
+        warning = warning;
+        entries = [];
+      }) h.0) (listed_still (record { class = class; pattern = pattern; owner = owner; uacc = uacc; warning = warning; entries = [] }) h.0)
+  taken_keeps (rows.Permit class pattern id level when) h =
+      keeps_profiles h.1 (permitted_defined class pattern id when level h.0)
+      (permitted_listed class pattern id when level h.0)
 
 -- patterns stay patterns
 
-all_replaced : {K : Type 0} (P : K → Type 0) (cmp : K → K → Ordering) (k : K) (xs : List K) → P k → AllByRecursion P xs → AllByRecursion P (replace_key cmp xs k)
+all_replaced : {K : Type 0} (P : K → Type 0) (cmp : K → K → Ordering) (k : K) (xs : List K) → P k → AllByRecursion P xs
+    → AllByRecursion P (replace_key cmp xs k)
 all_replaced P cmp k [] here all = (here, tt)
 all_replaced {K = K} P cmp k (x ∷ xs) here all = go (cmp k x) (all_replaced P cmp k xs here all.1)
   where
@@ -215,9 +291,15 @@ module _ (old new : Policy) (stored : ArePatterns old) where
   patterns_stay (rows.Profile class pattern uacc owner warning) written makes =
       row_so _ new ArePatterns (all_replaced HasPattern profile_cmp _ old.profiles written stored) (needing_ok (has_user old owner) owner _ new makes)
   patterns_stay (rows.Permit class pattern id level when) written makes =
-      row_so _ new ArePatterns (go (profile_of old.profiles class pattern) refl) (needing_ok (has_holder old id) id _ new (needing_ok (is_some (profile_of old.profiles class pattern)) pattern _ new makes))
+      row_so _ new ArePatterns (go (profile_of old.profiles class pattern) refl)
+      (needing_ok (has_holder old id) id _ new
+      (needing_ok (is_some (profile_of old.profiles class pattern)) pattern _ new makes))
     where
-      go : (o : Option Profile) → profile_of old.profiles class pattern ≡ o → AllByRecursion HasPattern (listing (record { id = id; when = when; level = level }) old.profiles o)
+      go : (o : Option Profile) → profile_of old.profiles class pattern ≡ o → AllByRecursion HasPattern (listing (record {
+        id = id;
+        when = when;
+        level = level;
+      }) old.profiles o)
       go None at = stored
       go (Some q) at = all_replaced HasPattern profile_cmp _ old.profiles (all_found HasPattern (is_of class pattern) q old.profiles at stored) stored
 
@@ -235,7 +317,8 @@ keeps_on p q r one other = record {
 all_keep : (all : List Row) (old new : Policy) → ArePatterns old → AllByRecursion IsWritten all → AreTaken all old new → KeepsAll old new
 all_keep [] old new stored written taken = keeps_itself old new taken
 all_keep (row ∷ more) old new stored written (next, takes, later) =
-    keeps_on old next new (taken_keeps old next row (rows_do row old next stored written.0 takes)) (all_keep more next new (patterns_stay old next stored row written.0 takes) written.1 later)
+    keeps_on old next new (taken_keeps old next row (rows_do row old next stored written.0 takes))
+    (all_keep more next new (patterns_stay old next stored row written.0 takes) written.1 later)
 
 -- consoles
 
@@ -250,7 +333,10 @@ consoles_defined name auth mode b = go (console_at b name) refl
         let new : ConsoleRow = record c { auth = auth; mode = mode } in
         let become = console_becomes name new (λ was now. now ≡ new) b c at refl refl in
         record {
-          kept = λ d there. let same : c ≡ d = cc in become.0.here ∙ ap Some (become.0.changed ∙ ap (λ (e : ConsoleRow). record e { auth = auth; mode = mode }) same);
+          kept = λ d there. let same : c ≡ d = cc in become.0.here ∙ ap Some (become.0.changed ∙ ap (λ (e : ConsoleRow). record e {
+            auth = auth;
+            mode = mode;
+          }) same);
           fresh = λ none. absurd (cc);
           others = become.0.others;
           rest = become.1;
@@ -269,13 +355,17 @@ consoles_on (rows.Console name auth mode) b = record { consoles = λ other was. 
     made None none = ap is_some (is.fresh none)
     made (Some c) at = ap is_some (is.kept c at)
 
-    go : (other : Name) → is_some (console_at b other) ≡ true → (other ≡ name) ⊎ (other ≢ name) → is_some (console_at (console_defined name auth mode b) other) ≡ true
+    go : (other : Name) → is_some (console_at b other) ≡ true → (other ≡ name) ⊎ (other ≢ name)
+        → is_some (console_at (console_defined name auth mode b) other) ≡ true
     go other was (inl same) = ap (λ n. is_some (console_at (console_defined name auth mode b) n)) same ∙ made (console_at b name) refl
     go other was (inr apart) = ap is_some (is.others other apart) ∙ was
 consoles_on row b = record { consoles = λ other was. was; rest = refl }
 
 all_consoles : (all : List Row) (old new : BoardRows) → AreDefined all old new → KeepsConsoles old new
-all_consoles [] old new same = record { consoles = λ other was. ap (λ (b : BoardRows). is_some (console_at b other)) same ∙ was; rest = same ∙ ap (λ (b : BoardRows). record old { consoles = b.consoles }) (sym same) }
+all_consoles [] old new same = record {
+  consoles = λ other was. ap (λ (b : BoardRows). is_some (console_at b other)) same ∙ was;
+  rest = same ∙ ap (λ (b : BoardRows). record old { consoles = b.consoles }) (sym same);
+}
 all_consoles (row ∷ more) old new defined =
     let one = consoles_on row old in
     let later = all_consoles more (with_console_of row old) new defined in
@@ -295,14 +385,17 @@ row_ways p (rows.User user) = unless_way (has_group p user.id) user.id [] _ (not
 row_ways p (rows.Connect user group) = needing_way (has_user p user) user _ _ (needing_way (has_group p group) group [] _ (nothing _))
 row_ways p (rows.Console name auth mode) = nothing _
 row_ways p (rows.Profile class pattern uacc owner warning) = needing_way (has_user p owner) owner [] _ (nothing _)
-row_ways p (rows.Permit class pattern id level when) = needing_way (is_some (profile_of p.profiles class pattern)) pattern _ _ (needing_way (has_holder p id) id [] _ (nothing _))
+row_ways p (rows.Permit class pattern id level when) =
+    needing_way (is_some (profile_of p.profiles class pattern)) pattern _ _
+    (needing_way (has_holder p id) id [] _ (nothing _))
 
 pub without_obstacle : RowsAreTakenWithoutObstacle
 without_obstacle row old none = (row_ways old row).done none
 
 reached_so : (before rest : List Row) (old reached : Policy) → AreTaken before old reached → policy_after (before ++ rest) old ≡ policy_after rest reached
 reached_so [] rest old reached same = ap (policy_after rest) (sym same)
-reached_so (row ∷ before) rest old reached (next, takes, later) = ap (λ r. then_policy r (λ q. policy_after (before ++ rest) q)) takes ∙ reached_so before rest next reached later
+reached_so (row ∷ before) rest old reached (next, takes, later) =
+    ap (λ r. then_policy r (λ q. policy_after (before ++ rest) q)) takes ∙ reached_so before rest next reached later
 
 pub row_obstacles_are_faults : RowObstaclesAreFaults
 row_obstacles_are_faults before row more s reached fault taken first =

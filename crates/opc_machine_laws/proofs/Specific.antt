@@ -16,7 +16,9 @@ earlier (Literal a) (Literal b) h = absurd (h.other (ap Literal (head_is a b (h.
 earlier (Literal a) Percent h = tt
 earlier (Literal a) Star h = tt
 earlier (Literal a) Stars h = tt
-earlier Percent (Literal b) h = let same : 47 + b ≡ b = head_is (47 + b) b (h.within ((47 + b) ∷ []) (47 + b, refl, λ e. absurd (omega (arith, e)))) in absurd (omega (arith, same))
+earlier Percent (Literal b) h = let same : 47 + b ≡ b =
+    head_is (47 + b) b (h.within ((47 + b) ∷ []) (47 + b, refl, λ e. absurd (omega (arith, e)))) in
+    absurd (omega (arith, same))
 earlier Percent Percent h = absurd (h.other refl)
 earlier Percent Star h = tt
 earlier Percent Stars h = tt

@@ -1,5 +1,35 @@
 -- What is stored, connected, named, and who is on.
-use Rattle.std.proofs.Common.{◌≡◌, ◌⊎◌, inl, inr, ℕ, zero, suc, Bool, true, false, ◌&&◌, ◌||◌, if◌then◌else◌, List, [], ◌∷◌, Option, Some, None, codes, filter, find, Contains, refl, sym, ap, subst, ◌∙◌, arith}
+use Rattle.std.proofs.Common.{
+  ◌≡◌,
+  ◌⊎◌,
+  inl,
+  inr,
+  ℕ,
+  zero,
+  suc,
+  Bool,
+  true,
+  false,
+  ◌&&◌,
+  ◌||◌,
+  if◌then◌else◌,
+  List,
+  [],
+  ◌∷◌,
+  Option,
+  Some,
+  None,
+  codes,
+  filter,
+  find,
+  Contains,
+  refl,
+  sym,
+  ap,
+  subst,
+  ◌∙◌,
+  arith,
+}
 use Rattle.std.specs.List.{list_any}
 use Rattle.std.specs.Str.{bytes_eq}
 use Rattle.std.proofs.lemmas.Bool.{or_left, or_right}
@@ -43,18 +73,21 @@ found : {A : Type 0} (q : A → Bool) (xs : List A) (x : A) → find q xs ≡ So
 found q [] x h = absurd (cc)
 found q (y ∷ ys) x h = go (q y) refl h (found q ys x)
   where
-    go : (b : Bool) → q y ≡ b → (if b then Some y else find q ys) ≡ Some x → (find q ys ≡ Some x → Contains ys x × (q x ≡ true)) → Contains (y ∷ ys) x × (q x ≡ true)
+    go : (b : Bool) → q y ≡ b → (if b then Some y else find q ys) ≡ Some x
+        → (find q ys ≡ Some x → Contains ys x × (q x ≡ true)) → Contains (y ∷ ys) x × (q x ≡ true)
     go true is k later = let same : y ≡ x = cc in ((0, omega arith, same), subst (λ z. q z ≡ true) same is)
     go false is k later = let f = later k in ((suc f.0.0, omega (arith, f.0.1), f.0.2), f.1)
 
 -- users and groups
 
 user_there : (p : Policy) (name : List ℕ) → has_user p name ≡ true → (u : User) × Contains p.users u × (u.id ≡ name)
-user_there p name h = let one = there (λ (u : User). bytes_eq name u.id) p.users (any_found (λ (u : User). bytes_eq name u.id) p.users ∙ h) in (one.0, one.1, sym (same_name name one.0.id one.2))
+user_there p name h = let one = there (λ (u : User). bytes_eq name u.id) p.users
+    (any_found (λ (u : User). bytes_eq name u.id) p.users ∙ h) in (one.0, one.1, sym (same_name name one.0.id one.2))
 
 user_back : (p : Policy) (name : List ℕ) → (u : User) × Contains p.users u × (u.id ≡ name) → has_user p name ≡ true
 user_back p name (u, in_it, is) =
-    sym (any_found (λ (v : User). bytes_eq name v.id) p.users) ∙ any (λ (v : User). bytes_eq name v.id) p.users u in_it (ap (bytes_eq name) is ∙ name_itself name)
+    sym (any_found (λ (v : User). bytes_eq name v.id) p.users)
+    ∙ any (λ (v : User). bytes_eq name v.id) p.users u in_it (ap (bytes_eq name) is ∙ name_itself name)
 
 user_found : (p : Policy) (name : List ℕ) (u : User) → user_of p.users name ≡ Some u → Contains p.users u × (u.id ≡ name)
 user_found p name u h = let f = found (λ (v : User). bytes_eq name v.id) p.users u h in (f.0, sym (same_name name u.id f.1))
@@ -71,7 +104,8 @@ holder_parts false false false h = absurd (cc)
 holder_is : (p : Policy) (name : List ℕ) → has_holder p name ≡ true → (name ≡ codes "*") ⊎ ((has_user p name ≡ true) ⊎ (has_group p name ≡ true))
 holder_is p name h = go (holder_parts (bytes_eq name (codes "*")) (has_user p name) (has_group p name) h)
   where
-    go : (bytes_eq name (codes "*") ≡ true) ⊎ ((has_user p name ≡ true) ⊎ (has_group p name ≡ true)) → (name ≡ codes "*") ⊎ ((has_user p name ≡ true) ⊎ (has_group p name ≡ true))
+    go : (bytes_eq name (codes "*") ≡ true) ⊎ ((has_user p name ≡ true) ⊎ (has_group p name ≡ true))
+        → (name ≡ codes "*") ⊎ ((has_user p name ≡ true) ⊎ (has_group p name ≡ true))
     go (inl everyone) = inl (same_name name (codes "*") everyone)
     go (inr other) = inr other
 
@@ -115,7 +149,10 @@ connects_connect p user group = record {
         let one = made_of (λ (c : Connect). c.group) (filter (λ (c : Connect). bytes_eq c.user user) p.connects) group h in
         let of = of_filter (λ (c : Connect). bytes_eq c.user user) p.connects one.0 one.2 in
         subst (Contains p.connects) (both_names one.0 user group (same_name one.0.user user of.1) (sym one.1)) of.0,
-    λ in_it. makes (λ (c : Connect). c.group) (filter (λ (c : Connect). bytes_eq c.user user) p.connects) (record { user = user; group = group }) (to_filter (λ (c : Connect). bytes_eq c.user user) p.connects (record { user = user; group = group }) in_it (name_itself user)),
+    λ in_it. makes (λ (c : Connect). c.group) (filter (λ (c : Connect). bytes_eq c.user user) p.connects) (record {
+      user = user;
+      group = group;
+    }) (to_filter (λ (c : Connect). bytes_eq c.user user) p.connects (record { user = user; group = group }) in_it (name_itself user)),
   );
 }
 
@@ -137,7 +174,8 @@ profile_names id q h = go (either (bytes_eq q.owner id) (has_entry id q) h)
 
 names_back : (id : List ℕ) (q : Profile) → (q.owner ≡ id) ⊎ ((e : Entry) × Contains q.entries e × (e.id ≡ id)) → names id q ≡ true
 names_back id q (inl owner) = or_left (bytes_eq q.owner id) (has_entry id q) (ap (λ n. bytes_eq n id) owner ∙ name_itself id)
-names_back id q (inr (e, in_it, is)) = or_right (bytes_eq q.owner id) (has_entry id q) (any (λ (f : Entry). bytes_eq f.id id) q.entries e in_it (ap (λ n. bytes_eq n id) is ∙ name_itself id))
+names_back id q (inr (e, in_it, is)) = or_right (bytes_eq q.owner id) (has_entry id q)
+    (any (λ (f : Entry). bytes_eq f.id id) q.entries e in_it (ap (λ n. bytes_eq n id) is ∙ name_itself id))
 
 is_named_in : (p : Policy) (id : List ℕ) → is_named p id ≡ true → IsNamedIn p id
 is_named_in p id h = go (either (list_any (λ (c : Connect). bytes_eq c.user id) p.connects) (list_any (names id) p.profiles) h)
@@ -151,7 +189,8 @@ named_back p id (inl (c, in_it, is)) =
     or_left (list_any (λ (d : Connect). bytes_eq d.user id) p.connects) (list_any (names id) p.profiles)
     (any (λ (d : Connect). bytes_eq d.user id) p.connects c in_it (ap (λ n. bytes_eq n id) is ∙ name_itself id))
 named_back p id (inr (q, in_it, is)) =
-    or_right (list_any (λ (d : Connect). bytes_eq d.user id) p.connects) (list_any (names id) p.profiles) (any (names id) p.profiles q in_it (names_back id q is))
+    or_right (list_any (λ (d : Connect). bytes_eq d.user id) p.connects) (list_any (names id) p.profiles)
+    (any (names id) p.profiles q in_it (names_back id q is))
 
 pub named_is : NamedIsWhoIsNamed
 named_is p id = (is_named_in p id, named_back p id)

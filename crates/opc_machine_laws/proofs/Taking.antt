@@ -1,5 +1,33 @@
 -- What operations of administration and rows of an import make of the state.
-use Rattle.std.proofs.Common.{◌≡◌, ℕ, Bool, true, false, not, ◌&&◌, ◌==◌, if◌then◌else◌, is_some, List, [], ◌∷◌, Some, None, Result, Ok, Err, Contains, zero, suc, arith, refl, rules, sym, ap, ◌∙◌}
+use Rattle.std.proofs.Common.{
+  ◌≡◌,
+  ℕ,
+  Bool,
+  true,
+  false,
+  not,
+  ◌&&◌,
+  ◌==◌,
+  if◌then◌else◌,
+  is_some,
+  List,
+  [],
+  ◌∷◌,
+  Some,
+  None,
+  Result,
+  Ok,
+  Err,
+  Contains,
+  zero,
+  suc,
+  arith,
+  refl,
+  rules,
+  sym,
+  ap,
+  ◌∙◌,
+}
 use Rattle.std.proofs.lemmas.Bool.Decides.{nat_tests}
 use Rattle.opc_terms.specs.declared.fault.Fault.{Fault}
 use Rattle.opc_terms.specs.declared.fault.Fault.TheVariants.{NotEmpty}
@@ -19,7 +47,19 @@ use Rattle.opc_machine.specs.declared.operation.Operation.TheVariants as operati
 use Rattle.opc_machine.specs.Administration.{board_changed, has_name, is_in_use, is_permitted, policy_changed, unless_in_use}
 use Rattle.opc_machine.specs.Bootstrap.{console_after, consoles_after, loses_master, mastered, policy_after, then_policy, with_rows, with_rows_of}
 use Rattle.opc_machine.specs.Imports.{batch_of}
-use Rattle.opc_machine_laws.specs.TakingLaws.{AreDefined, AreTaken, AreTakenWhole, BatchesAreFoundByNumber, FirstPoliciesAreFirst, IsDoneTo, KeepsMaster, OperationsDoWhatTheySay, OperationsKeepAMaster, RowsAreTakenInTurn, with_console_of}
+use Rattle.opc_machine_laws.specs.TakingLaws.{
+  AreDefined,
+  AreTaken,
+  AreTakenWhole,
+  BatchesAreFoundByNumber,
+  FirstPoliciesAreFirst,
+  IsDoneTo,
+  KeepsMaster,
+  OperationsDoWhatTheySay,
+  OperationsKeepAMaster,
+  RowsAreTakenInTurn,
+  with_console_of,
+}
 
 -- the state that is made of a policy and a board, where no last master is lost
 pub record IsMade (s : State) (board : BoardRows) (r : Result Policy Fault) (new : State) : Type 0 where
@@ -67,15 +107,20 @@ module _ (s new : State) (q : Policy) (becomes : new ≡ record s { policy = q }
   put : (p : Policy) → ◌≡◌ {A = Result Policy Fault} (Ok p) (Ok q) → new ≡ record s { policy = p }
   put p h = becomes ∙ ap (λ (x : Policy). record s { policy = x }) (same_policy p q h)
 
-pub done_to : (s : State) (o : Operation) (new : State) (q : Policy) → policy_changed s.board o s.policy ≡ Ok q → new ≡ record s { policy = q; board = board_changed o s.board } → IsDoneTo s o new
+pub done_to : (s : State) (o : Operation) (new : State) (q : Policy) → policy_changed s.board o s.policy ≡ Ok q → new ≡ record s {
+  policy = q;
+  board = board_changed o s.board;
+} → IsDoneTo s o new
 done_to s (operation.AddUser id special auditor digest restricted) new q h is = put s new q is _ (unless_ok (has_name s.policy id) id _ q h)
 done_to s (operation.AltUser id special auditor revoked digest restricted) new q h is = put s new q is _ (needing_ok (has_user s.policy id) id _ q h)
 done_to s (operation.DelUser id) new q h is = put s new q is _ (in_use_ok (is_in_use s.policy s.board id) id _ q (needing_ok (has_user s.policy id) id _ q h))
 done_to s (operation.AddGroup name) new q h is = put s new q is _ (unless_ok (has_name s.policy name) name _ q h)
 done_to s (operation.Connect user group) new q h is =
-    put s new q is _ (unless_ok (is_connected s.policy user group) group _ q (needing_ok (has_group s.policy group) group _ q (needing_ok (has_user s.policy user) user _ q h)))
+    put s new q is _ (unless_ok (is_connected s.policy user group) group _ q
+    (needing_ok (has_group s.policy group) group _ q (needing_ok (has_user s.policy user) user _ q h)))
 done_to s (operation.Remove user group) new q h is =
-    put s new q is _ (needing_ok (is_connected s.policy user group) group _ q (needing_ok (has_group s.policy group) group _ q (needing_ok (has_user s.policy user) user _ q h)))
+    put s new q is _ (needing_ok (is_connected s.policy user group) group _ q
+    (needing_ok (has_group s.policy group) group _ q (needing_ok (has_user s.policy user) user _ q h)))
 done_to s (operation.RDefine class pattern owner uacc warning) new q h is =
     put s new q is _ (needing_ok (has_user s.policy owner) owner _ q (unless_ok (is_some (profile_of s.policy.profiles class pattern)) pattern _ q h))
 done_to s (operation.RAlter class pattern owner uacc warning) new q h is =
@@ -84,7 +129,8 @@ done_to s (operation.RDelete class pattern) new q h is = put s new q is _ (needi
 done_to s (operation.Permit class pattern id level when) new q h is =
     put s new q is _ (needing_ok (has_holder s.policy id) id _ q (needing_ok (is_some (profile_of s.policy.profiles class pattern)) pattern _ q h))
 done_to s (operation.PermitDelete class pattern id when) new q h is =
-    put s new q is _ (needing_ok (is_permitted s.policy class pattern id when) id _ q (needing_ok (is_some (profile_of s.policy.profiles class pattern)) pattern _ q h))
+    put s new q is _ (needing_ok (is_permitted s.policy class pattern id when) id _ q
+    (needing_ok (is_some (profile_of s.policy.profiles class pattern)) pattern _ q h))
 done_to s (operation.ClassActive class active) new q h is = put s new q is _ h
 done_to s (operation.DefineConsole name auth mode) new q h is =
     is ∙ ap (λ (x : Policy). record s { policy = x; board = board_changed (operation.DefineConsole name auth mode) s.board }) (same_policy s.policy q h)
@@ -95,7 +141,8 @@ do_what_they_say s o new h =
     done_to s o new made.policy made.makes made.becomes
 
 pub operations_keep_a_master : OperationsKeepAMaster
-operations_keep_a_master s o new h = keeps_master s (board_changed o s.board) (policy_changed s.board o s.policy) new (made_of s (board_changed o s.board) (policy_changed s.board o s.policy) new h)
+operations_keep_a_master s o new h = keeps_master s (board_changed o s.board) (policy_changed s.board o s.policy) new
+    (made_of s (board_changed o s.board) (policy_changed s.board o s.policy) new h)
 
 -- rows
 
@@ -103,7 +150,8 @@ taken_so : (all : List Row) (old new : Policy) → policy_after all old ≡ Ok n
 taken_so [] old new h = same_policy old new h
 taken_so (row ∷ more) old new h = go (after_row row old) refl h (λ q. taken_so more q new)
   where
-    go : (r : Result Policy Fault) → after_row row old ≡ r → then_policy r (λ q. policy_after more q) ≡ Ok new → ((q : Policy) → policy_after more q ≡ Ok new → AreTaken more q new)
+    go : (r : Result Policy Fault) → after_row row old ≡ r → then_policy r (λ q. policy_after more q) ≡ Ok new
+        → ((q : Policy) → policy_after more q ≡ Ok new → AreTaken more q new)
         → (next : Policy) × (after_row row old ≡ Ok next) × AreTaken more next new
     go (Ok q) is k later = (q, is, later q k)
     go (Err f) is k later = absurd (search (rules, k))
@@ -142,7 +190,10 @@ module _ (all : List Row) (s new : State) where
   whole_back whole =
       let defined : new.board ≡ consoles_after all s.board = defined_back all s.board new.board whole.board in
       let keeps : loses_master s.board new.board ≡ false = no_master_lost (has_master s.board.consoles) (has_master new.board.consoles) whole.master in
-      let same : ◌≡◌ {A = Result State Fault} (Ok (record s { policy = new.policy; board = new.board })) (Ok new) = rw (← whole.account, ← whole.batches) refl in
+      let same : ◌≡◌ {A = Result State Fault} (Ok (record s {
+        policy = new.policy;
+        board = new.board;
+      })) (Ok new) = rw (← whole.account, ← whole.batches) refl in
       ap (λ b. with_rows_of s b (policy_after all s.policy)) (sym defined)
       ∙ ap (with_rows_of s new.board) (taken_back all s.policy new.policy whole.policy)
       ∙ ap (λ lost. mastered lost (record s { policy = new.policy; board = new.board })) keeps
@@ -170,7 +221,9 @@ module _ (number : ℕ) where
   found_so [] batch h = absurd (search (rules, h))
   found_so (b ∷ more) batch h = go (b.number == number) refl h (found_so more batch)
     where
-      go : (t : Bool) → (b.number == number) ≡ t → (if t then Some b else batch_of more number) ≡ Some batch → (batch_of more number ≡ Some batch → Contains more batch × (batch.number ≡ number)) → Contains (b ∷ more) batch × (batch.number ≡ number)
+      go : (t : Bool) → (b.number == number) ≡ t → (if t then Some b else batch_of more number) ≡ Some batch
+          → (batch_of more number ≡ Some batch → Contains more batch × (batch.number ≡ number))
+          → Contains (b ∷ more) batch × (batch.number ≡ number)
       go true is k later =
           let same : b ≡ batch = search (rules, k) in
           let at : b.number ≡ number = grind (arith, nat_tests) in
@@ -181,7 +234,9 @@ module _ (number : ℕ) where
   none_so [] h batch (k, low, is) at = omega (arith, low)
   none_so (b ∷ more) h batch in_it at = go (b.number == number) refl h in_it (none_so more)
     where
-      go : (t : Bool) → (b.number == number) ≡ t → (if t then Some b else batch_of more number) ≡ None → Contains (b ∷ more) batch → (batch_of more number ≡ None → (x : Batch) → Contains more x → x.number ≡ number → ⊥) → ⊥
+      go : (t : Bool) → (b.number == number) ≡ t → (if t then Some b else batch_of more number) ≡ None
+          → Contains (b ∷ more) batch → (batch_of more number ≡ None → (x : Batch) → Contains more x → x.number ≡ number
+          → ⊥) → ⊥
       go true is none within later = search (rules, none)
       go false is none (zero, low, same) later = let here : b.number ≡ number = ap (λ (x : Batch). x.number) same ∙ at in grind (arith, nat_tests)
       go false is none (suc k, low, same) later = later none batch (k, omega (arith, low), same) at

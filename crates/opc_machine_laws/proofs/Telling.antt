@@ -50,7 +50,8 @@ pub read_back : SpellingsReadBack
 read_back = record { level = level_back; class = class_back; auth = auth_back; mode = mode_back }
 
 -- the abbreviation of a verb
-short_is : (v : Verb) (word : List ℕ) → lookup verbs word ≡ Some v → (other : List ℕ) → ◌≡◌ {A = Option (List ℕ)} (Some word) (Some other) → lookup verbs other ≡ Some v
+short_is : (v : Verb) (word : List ℕ) → lookup verbs word ≡ Some v → (other : List ℕ)
+    → ◌≡◌ {A = Option (List ℕ)} (Some word) (Some other) → lookup verbs other ≡ Some v
 short_is v word h other e = let same : word ≡ other = search (rules, e) in ap (lookup verbs) (sym same) ∙ h
 
 no_short : (v : Verb) (other : List ℕ) → ◌≡◌ {A = Option (List ℕ)} None (Some other) → lookup verbs other ≡ Some v
@@ -88,4 +89,16 @@ words_read = record { levels = refl; groups = refl }
 
 pub lines_read : LinesReadSo
 unfolding digits
-lines_read = record { job = refl; task = refl; session = refl; used = refl; free = refl; attended = refl; unattended = refl; reply = refl; profile = refl; account = refl; batch = refl }
+lines_read = record {
+  job = refl;
+  task = refl;
+  session = refl;
+  used = refl;
+  free = refl;
+  attended = refl;
+  unattended = refl;
+  reply = refl;
+  profile = refl;
+  account = refl;
+  batch = refl;
+}

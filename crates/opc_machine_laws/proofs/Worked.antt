@@ -97,7 +97,9 @@ abbrev pub base : State
 base = record {
   policy = policy;
   board = record empty.board { consoles = consoles };
-  account = refused_row 101 (codes "C3") (codes "E12") (codes "LOGONREQUIRED") ∷ refused_row 102 (codes "C3") (codes "E14") (codes "-") ∷ refused_row 103 (codes "C3") (codes "E16") (codes "-") ∷ [];
+  account = refused_row 101 (codes "C3") (codes "E12") (codes "LOGONREQUIRED")
+      ∷ refused_row 102 (codes "C3") (codes "E14") (codes "-") ∷ refused_row 103 (codes "C3") (codes "E16") (codes "-")
+      ∷ [];
   batches = record { number = 7; rows = day } ∷ [];
 }
 
@@ -175,7 +177,9 @@ owner_defines_nothing = refl
 -- users
 
 pub adds_user : users_after (operation.AddUser (codes "BERT") true false None false)
-    ≡ Some (plain (codes "ANNA") ∷ user (codes "BERT") true false false ∷ plain (codes "CARL") ∷ plain (codes "DORA") ∷ plain (codes "EMIL") ∷ plain (codes "FRED") ∷ plain (codes "GUS") ∷ user (codes "OLD") false false true ∷ user (codes "SECADM") true false false ∷ [])
+    ≡ Some (plain (codes "ANNA") ∷ user (codes "BERT") true false false ∷ plain (codes "CARL") ∷ plain (codes "DORA")
+    ∷ plain (codes "EMIL") ∷ plain (codes "FRED") ∷ plain (codes "GUS") ∷ user (codes "OLD") false false true
+    ∷ user (codes "SECADM") true false false ∷ [])
 adds_user = refl
 
 user_exists : refusal (operation.AddUser (codes "ANNA") false false None false) ≡ plainly (fault.Exists (codes "ANNA"))
@@ -185,14 +189,17 @@ group_has_the_name : refusal (operation.AddUser (codes "OPS") false false None f
 group_has_the_name = refl
 
 alters_user : users_after (operation.AltUser (codes "ANNA") false true true None false)
-    ≡ Some (user (codes "ANNA") false true true ∷ plain (codes "CARL") ∷ plain (codes "DORA") ∷ plain (codes "EMIL") ∷ plain (codes "FRED") ∷ plain (codes "GUS") ∷ user (codes "OLD") false false true ∷ user (codes "SECADM") true false false ∷ [])
+    ≡ Some (user (codes "ANNA") false true true ∷ plain (codes "CARL") ∷ plain (codes "DORA") ∷ plain (codes "EMIL")
+    ∷ plain (codes "FRED") ∷ plain (codes "GUS") ∷ user (codes "OLD") false false true
+    ∷ user (codes "SECADM") true false false ∷ [])
 alters_user = refl
 
 no_user_to_alter : refusal (operation.AltUser (codes "BERT") false false false None false) ≡ plainly (fault.Missing (codes "BERT"))
 no_user_to_alter = refl
 
 deletes_user : users_after (operation.DelUser (codes "GUS"))
-    ≡ Some (plain (codes "ANNA") ∷ plain (codes "CARL") ∷ plain (codes "DORA") ∷ plain (codes "EMIL") ∷ plain (codes "FRED") ∷ user (codes "OLD") false false true ∷ user (codes "SECADM") true false false ∷ [])
+    ≡ Some (plain (codes "ANNA") ∷ plain (codes "CARL") ∷ plain (codes "DORA") ∷ plain (codes "EMIL")
+    ∷ plain (codes "FRED") ∷ user (codes "OLD") false false true ∷ user (codes "SECADM") true false false ∷ [])
 deletes_user = refl
 
 no_user_to_delete : refusal (operation.DelUser (codes "BERT")) ≡ plainly (fault.Missing (codes "BERT"))
@@ -221,7 +228,8 @@ group_exists = refl
 user_has_the_name : refusal (operation.AddGroup (codes "ANNA")) ≡ plainly (fault.Exists (codes "ANNA"))
 user_has_the_name = refl
 
-connects_user : connects_after (operation.Connect (codes "ANNA") (codes "OPS")) ≡ Some (connect (codes "ANNA") (codes "OPS") ∷ connect (codes "DORA") (codes "OPS") ∷ [])
+connects_user : connects_after (operation.Connect (codes "ANNA") (codes "OPS")) ≡ Some
+    (connect (codes "ANNA") (codes "OPS") ∷ connect (codes "DORA") (codes "OPS") ∷ [])
 connects_user = refl
 
 no_user_to_connect : refusal (operation.Connect (codes "BERT") (codes "LATE")) ≡ plainly (fault.Missing (codes "BERT"))
@@ -276,18 +284,33 @@ no_profile_to_delete = refl
 
 -- classes and consoles
 
-deactivates_class : option_map (λ (s : State). s.policy.active) (after (operation.ClassActive Console false)) ≡ Some (record { console = false; opercmds = true })
+deactivates_class : option_map (λ (s : State). s.policy.active) (after (operation.ClassActive Console false)) ≡ Some (record {
+  console = false;
+  opercmds = true;
+})
 deactivates_class = refl
 
 last_master : refusal (operation.DefineConsole (codes "C2") auth.All Optional) ≡ plainly fault.LastMaster
 last_master = refl
 
 -- the user stays on
-sets_console : option_map (λ (s : State). s.board.consoles) (state_in (outcome (record base { board = record base.board { consoles = console (codes "C1") auth.Sys Optional true (Some (codes "SECADM")) ∷ [] } }) (input.Admin (codes "C1") (operation.DefineConsole (codes "C1") auth.Master Required))))
+sets_console : option_map (λ (s : State). s.board.consoles)
+    (state_in (outcome
+    (record base {
+      board = record base.board
+          { consoles = console (codes "C1") auth.Sys Optional true (Some (codes "SECADM")) ∷ [] };
+    })
+    (input.Admin (codes "C1") (operation.DefineConsole (codes "C1") auth.Master Required))))
     ≡ Some (console (codes "C1") auth.Master Required true (Some (codes "SECADM")) ∷ [])
 sets_console = refl
 
-defines_console : option_map (λ (s : State). s.board.consoles) (state_in (outcome (record base { board = record base.board { consoles = console (codes "C1") auth.Sys Optional true (Some (codes "SECADM")) ∷ [] } }) (input.Admin (codes "C1") (operation.DefineConsole (codes "A1") auth.Info Required))))
+defines_console : option_map (λ (s : State). s.board.consoles)
+    (state_in (outcome
+    (record base {
+      board = record base.board
+          { consoles = console (codes "C1") auth.Sys Optional true (Some (codes "SECADM")) ∷ [] };
+    })
+    (input.Admin (codes "C1") (operation.DefineConsole (codes "A1") auth.Info Required))))
     ≡ Some (console (codes "A1") auth.Info Required true None ∷ console (codes "C1") auth.Sys Optional true (Some (codes "SECADM")) ∷ [])
 defines_console = refl
 
@@ -298,14 +321,18 @@ all_profiles : texts_in (outcome base (input.ListProfiles (codes "C2") Opercmds)
 all_profiles = refl
 
 -- his own, and one in which he holds READ; a warning shows nothing
-own_profiles : texts_in (outcome base (input.ListProfiles (codes "C5") Opercmds)) ≡ Some (codes "A.B UACC NONE OWNER CARL" ∷ codes "** UACC READ OWNER SECADM" ∷ [])
+own_profiles : texts_in (outcome base (input.ListProfiles (codes "C5") Opercmds)) ≡ Some
+    (codes "A.B UACC NONE OWNER CARL" ∷ codes "** UACC READ OWNER SECADM" ∷ [])
 unfolding held
 own_profiles = refl
 
 nobody_sees_profiles : texts_in (outcome base (input.ListProfiles (codes "C7") Opercmds)) ≡ Some []
 nobody_sees_profiles = refl
 
-profiles_need_logon : first_refusal base (input.ListProfiles (codes "C3") Opercmds) ≡ Some (record { fault = fault.LogonRequired; rule = Some rule.LogonRequired })
+profiles_need_logon : first_refusal base (input.ListProfiles (codes "C3") Opercmds) ≡ Some (record {
+  fault = fault.LogonRequired;
+  rule = Some rule.LogonRequired;
+})
 profiles_need_logon = refl
 
 the_account : texts_in (outcome base (input.ListAccount (codes "C2") 0 2)) ≡ Some (codes "1 101 C3 - E12 LOGONREQUIRED" ∷ codes "2 102 C3 - E14 -" ∷ [])
@@ -332,7 +359,10 @@ refused_import number rows = first_refusal base (input.Import (codes "C2") numbe
 
 keeps_batch : imported 8 day
     ≡ Ok (record {
-      state = record base { policy = record policy { groups = codes "DAY" ∷ codes "NIGHT" ∷ codes "OPS" ∷ [] }; batches = record { number = 7; rows = day } ∷ record { number = 8; rows = day } ∷ [] };
+      state = record base {
+        policy = record policy { groups = codes "DAY" ∷ codes "NIGHT" ∷ codes "OPS" ∷ [] };
+        batches = record { number = 7; rows = day } ∷ record { number = 8; rows = day } ∷ [];
+      };
       lines = record { item = Plain; text = codes "BATCH 8 KEPT" } ∷ [];
       rule = None;
     })
@@ -369,7 +399,16 @@ has_invariants = record {
   board = record {
     units_rise = tt;
     devices_rise = tt;
-    consoles_rise = ((refl, (refl, (refl, (refl, (refl, (refl, tt)))))), ((refl, (refl, (refl, (refl, (refl, tt))))), ((refl, (refl, (refl, (refl, tt)))), ((refl, (refl, (refl, tt))), ((refl, (refl, tt)), ((refl, tt), (tt, tt)))))));
+    consoles_rise = (
+      (refl, (refl, (refl, (refl, (refl, (refl, tt)))))),
+      (
+        (refl, (refl, (refl, (refl, (refl, tt))))),
+        (
+          (refl, (refl, (refl, (refl, tt)))),
+          ((refl, (refl, (refl, tt))), ((refl, (refl, tt)), ((refl, tt), (tt, tt)))),
+        ),
+      ),
+    );
     replies_rise = tt;
     held = tt;
   };

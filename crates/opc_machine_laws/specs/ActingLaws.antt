@@ -35,7 +35,8 @@ pub record ActsAs (s : State) (console other : ConsoleRow) : Type 0 where
 -- What is accounted of a console names this user, or nobody.
 abbrev pub IsAccountedTo : State → ConsoleRow → Option (List ℕ) → Type 0
 IsAccountedTo s console user =
-    (moment : ℕ) (r : Input) (name code : List ℕ) (why : Option Rule) → console_of r ≡ Some name → console_at s.board name ≡ Some console
+    (moment : ℕ) (r : Input) (name code : List ℕ) (why : Option Rule) → console_of r ≡ Some name
+    → console_at s.board name ≡ Some console
     → (account_row s moment r code why).user ≡ text_or (codes "-") user
 
 -- A console acts for this user, or for nobody, and so it is accounted.
@@ -43,10 +44,12 @@ pub record ActsFor (s : State) (console : ConsoleRow) (user : Option (List ℕ))
   pub acts : IsActing s console user
   pub returned : IsAccountedTo s console user
 
--- An AUTO console where nobody is on acts for the user of its own name, as if that user were on, where such a user is stored,
+-- An AUTO console where nobody is on acts for the user of its own name, as if that user were on, where such a user is
+-- stored,
 abbrev pub AutoConsolesActForTheirOwn : Type 0
 AutoConsolesActForTheirOwn =
-    (s : State) (console : ConsoleRow) → console.mode ≡ Auto → console.user ≡ None → has_user s.policy console.name ≡ true
+    (s : State) (console : ConsoleRow) → console.mode ≡ Auto → console.user ≡ None
+    → has_user s.policy console.name ≡ true
     → ActsFor s console (Some console.name) × ActsAs s console (record console { user = Some console.name })
 
 -- By its authority alone: as an OPTIONAL console where nobody is on.
@@ -61,11 +64,13 @@ pub record ActsAlone (s : State) (console : ConsoleRow) : Type 0 where
 -- and else for nobody.
 abbrev pub OtherAutoConsolesActAlone : Type 0
 OtherAutoConsolesActAlone =
-    (s : State) (console : ConsoleRow) → console.mode ≡ Auto → console.user ≡ None → has_user s.policy console.name ≡ false → ActsAlone s console
+    (s : State) (console : ConsoleRow) → console.mode ≡ Auto → console.user ≡ None
+    → has_user s.policy console.name ≡ false → ActsAlone s console
 
 -- So does an OPTIONAL console where nobody is on, whoever is stored.
 abbrev pub OptionalConsolesActAlone : Type 0
-OptionalConsolesActAlone = (s : State) (console : ConsoleRow) → console.mode ≡ Optional → console.user ≡ None → ActsAlone s console
+OptionalConsolesActAlone = (s : State) (console : ConsoleRow) → console.mode ≡ Optional → console.user ≡ None
+    → ActsAlone s console
 
 -- Who is on comes first: whatever the mode, a console acts for the user who is on.
 abbrev pub WhoIsOnComesFirst : Type 0
@@ -75,11 +80,14 @@ WhoIsOnComesFirst =
 
 -- A REQUIRED console where nobody is on acts for nobody, whoever is stored.
 abbrev pub RequiredConsolesActForNobody : Type 0
-RequiredConsolesActForNobody = (s : State) (console : ConsoleRow) → console.mode ≡ Required → console.user ≡ None → ActsFor s console None
+RequiredConsolesActForNobody = (s : State) (console : ConsoleRow)
+    → console.mode ≡ Required → console.user ≡ None → ActsFor s console None
 
 -- What names no console, or none that is there, is accounted to nobody.
 abbrev pub IsAskedNowhere : State → Input → Type 0
-IsAskedNowhere s r = (console_of r ≡ None) ⊎ ((name : List ℕ) × (console_of r ≡ Some name) × (console_at s.board name ≡ None))
+IsAskedNowhere s r = (console_of r ≡ None)
+    ⊎ ((name : List ℕ) × (console_of r ≡ Some name) × (console_at s.board name ≡ None))
 
 abbrev pub OthersAreAccountedToNobody : Type 0
-OthersAreAccountedToNobody = (s : State) (moment : ℕ) (r : Input) (code : List ℕ) (why : Option Rule) → IsAskedNowhere s r → (account_row s moment r code why).user ≡ codes "-"
+OthersAreAccountedToNobody = (s : State) (moment : ℕ) (r : Input) (code : List ℕ) (why : Option Rule)
+    → IsAskedNowhere s r → (account_row s moment r code why).user ≡ codes "-"

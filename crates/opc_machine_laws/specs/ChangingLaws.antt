@@ -36,31 +36,40 @@ pub record MayAsk (s : State) (name : List ℕ) (console : ConsoleRow) : Type 0 
 -- Administration is done only where the policy of that moment gives the right, and does what it says,
 abbrev pub AdministersOnlyWhereAllowed : Type 0
 AdministersOnlyWhereAllowed =
-    (s : State) (moment : ℕ) (name : List ℕ) (o : Operation) (lines : List Line) (why : Option Rule) (new : State) → Step s moment (input.Admin name o) (Done lines why) new
-    → (console : ConsoleRow) × MayAsk s name console × (may_change s console o ≡ true) × (changed s o ≡ Ok new) × (lines ≡ []) × (why ≡ None)
+    (s : State) (moment : ℕ) (name : List ℕ) (o : Operation) (lines : List Line) (why : Option Rule) (new : State)
+    → Step s moment (input.Admin name o) (Done lines why) new
+    → (console : ConsoleRow) × MayAsk s name console × (may_change s console o ≡ true) × (changed s o ≡ Ok new)
+    × (lines ≡ []) × (why ≡ None)
 
 -- and wherever it does, unless something is in the way or the request is aborted.
 abbrev pub AdministersWhereverAllowed : Type 0
 AdministersWhereverAllowed =
-    (s : State) (moment : ℕ) (name : List ℕ) (o : Operation) (console : ConsoleRow) (next : State) (answer : Answer) (new : State)
-    → MayAsk s name console → may_change s console o ≡ true → changed s o ≡ Ok next → Step s moment (input.Admin name o) answer new
+    (s : State) (moment : ℕ) (name : List ℕ) (o : Operation) (console : ConsoleRow) (next : State) (answer : Answer)
+    (new : State)
+    → MayAsk s name console → may_change s console o ≡ true → changed s o ≡ Ok next
+    → Step s moment (input.Admin name o) answer new
     → IsAborted answer ⊎ ((answer ≡ Done [] None) × (new ≡ next))
 
 -- Of the profiles of a class, exactly those are listed that may be shown, each once, in the order of the state, and
 -- nothing changes.
-pub record ListsProfiles (s : State) (console : ConsoleRow) (class : Class) (lines : List Line) (new : State) : Type 0 where
+pub record ListsProfiles (s : State) (console : ConsoleRow) (class : Class) (lines : List Line) (new : State) : Type
+    0 where
   pub each_once : lines ≡ map profile_line (filter (profile_shown s console) (of_class class s.policy.profiles))
-  pub exactly : (line : Line) → Contains lines line ↔ ((p : Profile) × (line ≡ profile_line p) × Contains (of_class class s.policy.profiles) p × (profile_shown s console p ≡ true))
+  pub exactly : (line : Line) → Contains lines
+      line ↔ ((p : Profile) × (line ≡ profile_line p) × Contains (of_class class s.policy.profiles) p
+      × (profile_shown s console p ≡ true))
   pub same : new ≡ s
 
 abbrev pub ListsExactlyProfilesShown : Type 0
 ListsExactlyProfilesShown =
-    (s : State) (moment : ℕ) (name : List ℕ) (class : Class) (lines : List Line) (why : Option Rule) (new : State) → Step s moment (input.ListProfiles name class) (Done lines why) new
+    (s : State) (moment : ℕ) (name : List ℕ) (class : Class) (lines : List Line) (why : Option Rule) (new : State)
+    → Step s moment (input.ListProfiles name class) (Done lines why) new
     → (console : ConsoleRow) × MayAsk s name console × ListsProfiles s console class lines new
 
 abbrev pub ListsProfilesWhereverAsked : Type 0
 ListsProfilesWhereverAsked =
-    (s : State) (moment : ℕ) (name : List ℕ) (class : Class) (console : ConsoleRow) (answer : Answer) (new : State) → MayAsk s name console → Step s moment (input.ListProfiles name class) answer new
+    (s : State) (moment : ℕ) (name : List ℕ) (class : Class) (console : ConsoleRow) (answer : Answer) (new : State)
+    → MayAsk s name console → Step s moment (input.ListProfiles name class) answer new
     → IsAborted answer ⊎ ((lines : List Line) × (answer ≡ Done lines None) × ListsProfiles s console class lines new)
 
 -- In that order the more specific comes first, and none comes twice.
@@ -70,26 +79,32 @@ MoreSpecificProfilesComeFirst = (s : State) → IsKeyed s → AreMostSpecificFir
 -- The account is listed only where it may be shown,
 abbrev pub ListsAccountOnlyWhereShown : Type 0
 ListsAccountOnlyWhereShown =
-    (s : State) (moment : ℕ) (name : List ℕ) (from count : ℕ) (lines : List Line) (why : Option Rule) (new : State) → Step s moment (input.ListAccount name from count) (Done lines why) new
-    → (console : ConsoleRow) × MayAsk s name console × (account_shown s console ≡ true) × (lines ≡ map account_line (asked_for from count s.account)) × (new ≡ s)
+    (s : State) (moment : ℕ) (name : List ℕ) (from count : ℕ) (lines : List Line) (why : Option Rule) (new : State)
+    → Step s moment (input.ListAccount name from count) (Done lines why) new
+    → (console : ConsoleRow) × MayAsk s name console × (account_shown s console ≡ true)
+    × (lines ≡ map account_line (asked_for from count s.account)) × (new ≡ s)
 
 -- and wherever it may, unless the request is aborted.
 abbrev pub ListsAccountWhereverShown : Type 0
 ListsAccountWhereverShown =
     (s : State) (moment : ℕ) (name : List ℕ) (from count : ℕ) (console : ConsoleRow) (answer : Answer) (new : State)
-    → MayAsk s name console → account_shown s console ≡ true → Step s moment (input.ListAccount name from count) answer new
+    → MayAsk s name console → account_shown s console ≡ true
+    → Step s moment (input.ListAccount name from count) answer new
     → IsAborted answer ⊎ ((answer ≡ Done (map account_line (asked_for from count s.account)) None) × (new ≡ s))
 
--- The first line is the row that was asked for, by its number, and each next line the next row; 0 asks for the first row,
--- as 1 does. There is a line for each row up to the count, and no other.
+-- The first line is the row that was asked for, by its number, and each next line the next row; 0 asks for the first
+-- row, as 1 does. There is a line for each row up to the count, and no other.
 pub record IsPage (from count : ℕ) (account : List AccountRow) (lines : List Line) : Type 0 where
-  pub within : (k : ℕ) (row : AccountRow) → k < count → slice_get account (from - 1 + k) ≡ Some row → slice_get lines k ≡ Some (account_line (from - 1 + k + 1, row))
+  pub within : (k : ℕ) (row : AccountRow)
+      → k < count → slice_get account (from - 1 + k) ≡ Some row → slice_get lines k ≡ Some
+      (account_line (from - 1 + k + 1, row))
   pub past_count : (k : ℕ) → count ≤ k → slice_get lines k ≡ None
   pub past_account : (k : ℕ) → slice_get account (from - 1 + k) ≡ None → slice_get lines k ≡ None
 
 abbrev pub AccountIsPaged : Type 0
 AccountIsPaged =
-    (s : State) (moment : ℕ) (name : List ℕ) (from count : ℕ) (lines : List Line) (why : Option Rule) (new : State) → Step s moment (input.ListAccount name from count) (Done lines why) new
+    (s : State) (moment : ℕ) (name : List ℕ) (from count : ℕ) (lines : List Line) (why : Option Rule) (new : State)
+    → Step s moment (input.ListAccount name from count) (Done lines why) new
     → IsPage from count s.account lines
 
 -- The batch is kept with these very rows, and nothing changes.
@@ -111,21 +126,32 @@ pub record IsTakenWhole (s : State) (batch : ℕ) (rows : List Row) (lines : Lis
 -- An import is done only for SPECIAL, and then all of it, or nothing where it was done before.
 abbrev pub ImportsOnlyWhereAllowed : Type 0
 ImportsOnlyWhereAllowed =
-    (s : State) (moment : ℕ) (name : List ℕ) (batch : ℕ) (rows : List Row) (lines : List Line) (why : Option Rule) (new : State) → Step s moment (input.Import name batch rows) (Done lines why) new
-    → (console : ConsoleRow) × MayAsk s name console × (is_special (acting s console) ≡ true) × (IsKeptAgain s batch rows lines new ⊎ IsTakenWhole s batch rows lines new)
+    (s : State) (moment : ℕ) (name : List ℕ) (batch : ℕ) (rows : List Row) (lines : List Line) (why : Option Rule)
+    (new : State) → Step s moment (input.Import name batch rows) (Done lines why) new
+    → (console : ConsoleRow) × MayAsk s name console × (is_special (acting s console) ≡ true)
+    × (IsKeptAgain s batch rows lines new ⊎ IsTakenWhole s batch rows lines new)
 
 -- It is done wherever SPECIAL asks: with a new number all rows are taken, unless one is refused,
 abbrev pub ImportsWhereverAllowed : Type 0
 ImportsWhereverAllowed =
-    (s : State) (moment : ℕ) (name : List ℕ) (batch : ℕ) (rows : List Row) (console : ConsoleRow) (next : State) (answer : Answer) (new : State)
-    → MayAsk s name console → is_special (acting s console) ≡ true → batch_of s.batches batch ≡ None → with_rows rows s ≡ Ok next → Step s moment (input.Import name batch rows) answer new
-    → IsAborted answer ⊎ ((answer ≡ Done (batch_line batch (codes "KEPT") ∷ []) None) × (new ≡ record next { batches = with_batch (record { number = batch; rows = rows }) next.batches }))
+    (s : State) (moment : ℕ) (name : List ℕ) (batch : ℕ) (rows : List Row) (console : ConsoleRow) (next : State)
+    (answer : Answer) (new : State)
+    → MayAsk s name console → is_special (acting s console) ≡ true → batch_of s.batches batch ≡ None
+    → with_rows rows s ≡ Ok next → Step s moment (input.Import name batch rows) answer new
+    → IsAborted answer ⊎ ((answer ≡ Done (batch_line batch (codes "KEPT") ∷ []) None) × (new ≡ record next {
+      batches = with_batch (record {
+        number = batch;
+        rows = rows;
+      }) next.batches;
+    }))
 
 -- and with a number that is kept, nothing.
 abbrev pub RepeatsWhereverAllowed : Type 0
 RepeatsWhereverAllowed =
-    (s : State) (moment : ℕ) (name : List ℕ) (batch : ℕ) (rows : List Row) (console : ConsoleRow) (kept : Batch) (answer : Answer) (new : State)
-    → MayAsk s name console → is_special (acting s console) ≡ true → batch_of s.batches batch ≡ Some kept → kept.rows ≡ rows → Step s moment (input.Import name batch rows) answer new
+    (s : State) (moment : ℕ) (name : List ℕ) (batch : ℕ) (rows : List Row) (console : ConsoleRow) (kept : Batch)
+    (answer : Answer) (new : State)
+    → MayAsk s name console → is_special (acting s console) ≡ true → batch_of s.batches batch ≡ Some kept
+    → kept.rows ≡ rows → Step s moment (input.Import name batch rows) answer new
     → IsAborted answer ⊎ ((answer ≡ Done (batch_line batch (codes "AGAIN") ∷ []) None) × (new ≡ s))
 
 -- Two batches are the same where their rows are equal.

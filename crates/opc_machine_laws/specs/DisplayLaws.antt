@@ -29,17 +29,23 @@ use Rattle.opc_machine_laws.specs.Laws.{Acts}
 
 -- A unit or a console may be shown: READ on its resource is allowed.
 abbrev pub MayBeShown : State → ConsoleRow → List ℕ → List ℕ → Type 0
-MayBeShown s console words name = (why : Rule) × (ruling s console (record { resource = qualified words name; level = Read; group = Info }) ≡ Allowed why)
+MayBeShown s console words name = (why : Rule) × (ruling s console (record {
+  resource = qualified words name;
+  level = Read;
+  group = Info;
+}) ≡ Allowed why)
 
--- The line of a unit or a console is about it. It is shown exactly where that may be. A plain line, as that of a device or a
--- reply, always is.
+-- The line of a unit or a console is about it. It is shown exactly where that may be. A plain line, as that of a device
+-- or a reply, always is.
 pub record AreAbout (s : State) (console : ConsoleRow) : Type 0 where
   pub units : (unit : UnitRow) → (unit_line unit).item ≡ item.Unit unit.name
   pub consoles : (row : ConsoleRow) → (console_line row).item ≡ item.Console row.name
   pub devices : (device : DeviceRow) → (device_line device).item ≡ item.Plain
   pub replies : (id : ℕ) (text : List ℕ) → (reply_line id text).item ≡ item.Plain
-  pub of_unit : (line : Line) (name : List ℕ) → line.item ≡ item.Unit name → (shown s console line ≡ true) ↔ MayBeShown s console (codes "MVS.DISPLAY.JOB") name
-  pub of_console : (line : Line) (name : List ℕ) → line.item ≡ item.Console name → (shown s console line ≡ true) ↔ MayBeShown s console (codes "MVS.DISPLAY.CN") name
+  pub of_unit : (line : Line) (name : List ℕ) → line.item ≡ item.Unit name
+      → (shown s console line ≡ true) ↔ MayBeShown s console (codes "MVS.DISPLAY.JOB") name
+  pub of_console : (line : Line) (name : List ℕ) → line.item ≡ item.Console name
+      → (shown s console line ≡ true) ↔ MayBeShown s console (codes "MVS.DISPLAY.CN") name
   pub plain : (line : Line) → line.item ≡ item.Plain → shown s console line ≡ true
 
 abbrev pub LinesAreAboutWhatTheyList : Type 0
@@ -48,39 +54,46 @@ LinesAreAboutWhatTheyList = (s : State) (console : ConsoleRow) → AreAbout s co
 -- D A,L lists each unit of the board that may be shown, and nothing else,
 abbrev pub ListsEveryUnit : Type 0
 ListsEveryUnit =
-    (s : State) (console : ConsoleRow) (why : Rule) (lines : List Line) (rule : Option Rule) (new : State) → Acts s console command.DisplayUnits why (Done lines rule) new → (line : Line)
+    (s : State) (console : ConsoleRow) (why : Rule) (lines : List Line) (rule : Option Rule) (new : State)
+    → Acts s console command.DisplayUnits why (Done lines rule) new → (line : Line)
     → Contains lines line ↔ ((unit : UnitRow) × (line ≡ unit_line unit) × Contains s.board.units unit × MayBeShown s console (codes "MVS.DISPLAY.JOB") unit.name)
 
 -- D A with a name that unit alone,
 abbrev pub ListsTheUnit : Type 0
 ListsTheUnit =
-    (s : State) (console : ConsoleRow) (name : Operand (List ℕ)) (why : Rule) (lines : List Line) (rule : Option Rule) (new : State) → Acts s console (command.DisplayUnit name) why (Done lines rule) new → (line : Line)
-    → Contains lines line ↔ ((unit : UnitRow) × (line ≡ unit_line unit) × (unit_at s.board name.value ≡ Some unit) × MayBeShown s console (codes "MVS.DISPLAY.JOB") unit.name)
+    (s : State) (console : ConsoleRow) (name : Operand (List ℕ)) (why : Rule) (lines : List Line) (rule : Option Rule)
+    (new : State) → Acts s console (command.DisplayUnit name) why (Done lines rule) new → (line : Line)
+    → Contains lines line ↔ ((unit : UnitRow) × (line ≡ unit_line unit) × (unit_at s.board name.value ≡ Some unit)
+    × MayBeShown s console (codes "MVS.DISPLAY.JOB") unit.name)
 
 -- and D C each console that may be.
 abbrev pub ListsEveryConsole : Type 0
 ListsEveryConsole =
-    (s : State) (console : ConsoleRow) (why : Rule) (lines : List Line) (rule : Option Rule) (new : State) → Acts s console command.DisplayConsoles why (Done lines rule) new → (line : Line)
+    (s : State) (console : ConsoleRow) (why : Rule) (lines : List Line) (rule : Option Rule) (new : State)
+    → Acts s console command.DisplayConsoles why (Done lines rule) new → (line : Line)
     → Contains lines line ↔ ((row : ConsoleRow) × (line ≡ console_line row) × Contains s.board.consoles row × MayBeShown s console (codes "MVS.DISPLAY.CN") row.name)
 
 -- They list each of these once, in the order of the board.
 abbrev pub ListsEachUnitOnce : Type 0
 ListsEachUnitOnce =
-    (s : State) (console : ConsoleRow) (why : Rule) (lines : List Line) (rule : Option Rule) (new : State) → Acts s console command.DisplayUnits why (Done lines rule) new
+    (s : State) (console : ConsoleRow) (why : Rule) (lines : List Line) (rule : Option Rule) (new : State)
+    → Acts s console command.DisplayUnits why (Done lines rule) new
     → lines ≡ filter (shown s console) (map unit_line s.board.units)
 
 abbrev pub ListsTheUnitOnce : Type 0
 ListsTheUnitOnce =
-    (s : State) (console : ConsoleRow) (name : Operand (List ℕ)) (why : Rule) (lines : List Line) (rule : Option Rule) (new : State) → Acts s console (command.DisplayUnit name) why (Done lines rule) new
+    (s : State) (console : ConsoleRow) (name : Operand (List ℕ)) (why : Rule) (lines : List Line) (rule : Option Rule)
+    (new : State) → Acts s console (command.DisplayUnit name) why (Done lines rule) new
     → lines ≡ filter (shown s console) (lines_of (unit_at s.board name.value))
 
 abbrev pub ListsEachConsoleOnce : Type 0
 ListsEachConsoleOnce =
-    (s : State) (console : ConsoleRow) (why : Rule) (lines : List Line) (rule : Option Rule) (new : State) → Acts s console command.DisplayConsoles why (Done lines rule) new
+    (s : State) (console : ConsoleRow) (why : Rule) (lines : List Line) (rule : Option Rule) (new : State)
+    → Acts s console command.DisplayConsoles why (Done lines rule) new
     → lines ≡ filter (shown s console) (map console_line s.board.consoles)
 
--- The lines of a display are those of the board, in its order; R tells the reply that it answers, and no other command tells
--- anything.
+-- The lines of a display are those of the board, in its order; R tells the reply that it answers, and no other command
+-- tells anything.
 abbrev pub lines_on : BoardRows → Command → List Line
 lines_on b command.DisplayUnits = map unit_line b.units
 lines_on b (command.DisplayUnit name) = lines_of (unit_at b name.value)
@@ -93,11 +106,12 @@ lines_on b other = []
 -- Of these a command that acts gives those that may be shown, and no other line.
 abbrev pub CommandsTellTheirLines : Type 0
 CommandsTellTheirLines =
-    (s : State) (console : ConsoleRow) (k : Command) (why : Rule) (lines : List Line) (rule : Option Rule) (new : State) → Acts s console k why (Done lines rule) new
+    (s : State) (console : ConsoleRow) (k : Command) (why : Rule) (lines : List Line) (rule : Option Rule) (new : State)
+    → Acts s console k why (Done lines rule) new
     → lines ≡ filter (shown s console) (lines_on s.board k)
 
--- A board that is in order goes by the names of its units and consoles and the numbers of its devices, by their ASCII codes, and
--- by the numbers of its replies.
+-- A board that is in order goes by the names of its units and consoles and the numbers of its devices, by their ASCII
+-- codes, and by the numbers of its replies.
 pub record GoesByName (b : BoardRows) : Type 0 where
   pub units : IsInKeyOrder (slice_cmp nat_cmp) (λ (unit : UnitRow). unit.name) b.units
   pub devices : IsInKeyOrder (slice_cmp nat_cmp) (λ (device : DeviceRow). device.number) b.devices

@@ -31,35 +31,43 @@ use Rattle.opc_machine_laws.specs.RightLaws.{changed_profile}
 
 -- The request is refused by this fault, which names no rule, unless it is aborted.
 abbrev pub IsRefusedBy : State → Input → Fault → Type 0
-IsRefusedBy s r fault = (moment : ℕ) (answer : Answer) (new : State) → Step s moment r answer new → IsAborted answer ⊎ (answer ≡ Refused fault None)
+IsRefusedBy s r fault = (moment : ℕ) (answer : Answer) (new : State) → Step s moment r answer new → IsAborted answer
+    ⊎ (answer ≡ Refused fault None)
 
 -- The console that is named is not there, or is offline.
 abbrev pub MissingConsolesAreAnswered : Type 0
-MissingConsolesAreAnswered = (s : State) (r : Input) (name : List ℕ) → console_of r ≡ Some name → console_at s.board name ≡ None → IsRefusedBy s r fault.NoConsole
+MissingConsolesAreAnswered = (s : State) (r : Input) (name : List ℕ) → console_of r ≡ Some name
+    → console_at s.board name ≡ None → IsRefusedBy s r fault.NoConsole
 
 abbrev pub OfflineConsolesAreAnswered : Type 0
 OfflineConsolesAreAnswered =
-    (s : State) (r : Input) (name : List ℕ) (console : ConsoleRow) → console_of r ≡ Some name → console_at s.board name ≡ Some console → console.online ≡ false
+    (s : State) (r : Input) (name : List ℕ) (console : ConsoleRow) → console_of r ≡ Some name
+    → console_at s.board name ≡ Some console → console.online ≡ false
     → IsRefusedBy s r fault.ConsoleOffline
 
 -- The line that is typed is no command.
 abbrev pub BadLinesAreAnswered : Type 0
 BadLinesAreAnswered =
-    (s : State) (name text : List ℕ) (console : ConsoleRow) (bad : ReadFault) → console_at s.board name ≡ Some console → console.online ≡ true → IsReadFault text bad
+    (s : State) (name text : List ℕ) (console : ConsoleRow) (bad : ReadFault) → console_at s.board name ≡ Some console
+    → console.online ≡ true → IsReadFault text bad
     → IsRefusedBy s (input.Command name text) (line_fault bad)
 
 -- Somebody is on where a user is to log on; the password is not the user's, or there is no such user; nobody is on who
 -- could log off.
 abbrev pub IsOutOfTurn : State → List ℕ → List ℕ → ConsoleRow → Fault → Type 0
-IsOutOfTurn s name text console (fault.AlreadyOn user) = (id : Operand (List ℕ)) × (password : Operand (List ℕ)) × IsHeard s name text console (command.Logon id password) × (console.user ≡ Some user)
+IsOutOfTurn s name text console (fault.AlreadyOn user) =
+    (id : Operand (List ℕ)) × (password : Operand (List ℕ)) × IsHeard s name text console (command.Logon id password)
+    × (console.user ≡ Some user)
 IsOutOfTurn s name text console fault.BadLogon =
-    (id : Operand (List ℕ)) × (password : Operand (List ℕ)) × IsHeard s name text console (command.Logon id password) × (console.user ≡ None)
+    (id : Operand (List ℕ)) × (password : Operand (List ℕ)) × IsHeard s name text console (command.Logon id password)
+    × (console.user ≡ None)
     × ((user : User) → IsKnown s id.value password.value user → ⊥)
 IsOutOfTurn s name text console fault.NotOn = IsHeard s name text console command.Logoff × (console.user ≡ None)
 IsOutOfTurn s name text console other = ⊥
 
 abbrev pub LogonFaultsAreAnswered : Type 0
-LogonFaultsAreAnswered = (s : State) (name text : List ℕ) (console : ConsoleRow) (fault : Fault) → IsOutOfTurn s name text console fault → IsRefusedBy s (input.Command name text) fault
+LogonFaultsAreAnswered = (s : State) (name text : List ℕ) (console : ConsoleRow) (fault : Fault)
+    → IsOutOfTurn s name text console fault → IsRefusedBy s (input.Command name text) fault
 
 -- A profile that is changed wants its owner, or SPECIAL, and all else SPECIAL.
 abbrev pub missing_right : Option (Class × List ℕ) → Fault
@@ -68,26 +76,35 @@ missing_right (Some profile) = fault.NotOwner
 
 -- The console may ask, and not for this: the right is missing, whatever else is in the way.
 abbrev pub LacksRight : State → Input → ConsoleRow → Fault → Type 0
-LacksRight s (input.Admin name o) console returned = MayAsk s name console × (may_change s console o ≡ false) × (returned ≡ missing_right (changed_profile o))
-LacksRight s (input.ListAccount name from count) console returned = MayAsk s name console × (account_shown s console ≡ false) × (returned ≡ fault.NotSpecial)
-LacksRight s (input.Import name number rows) console returned = MayAsk s name console × (is_special (acting s console) ≡ false) × (returned ≡ fault.NotSpecial)
+LacksRight s (input.Admin name o) console returned =
+    MayAsk s name console × (may_change s console o ≡ false) × (returned ≡ missing_right (changed_profile o))
+LacksRight s (input.ListAccount name from count) console returned =
+    MayAsk s name console × (account_shown s console ≡ false) × (returned ≡ fault.NotSpecial)
+LacksRight s (input.Import name number rows) console returned =
+    MayAsk s name console × (is_special (acting s console) ≡ false) × (returned ≡ fault.NotSpecial)
 LacksRight s other console returned = ⊥
 
 abbrev pub MissingRightsAreAnswered : Type 0
-MissingRightsAreAnswered = (s : State) (r : Input) (console : ConsoleRow) (fault : Fault) → LacksRight s r console fault → IsRefusedBy s r fault
+MissingRightsAreAnswered = (s : State) (r : Input) (console : ConsoleRow) (fault : Fault) → LacksRight s r console fault
+    → IsRefusedBy s r fault
 
 -- The right is there, and something is in the way of the change, or of a row; or the batch is kept with other rows.
 abbrev pub AdministrationFaultsAreAnswered : Type 0
 AdministrationFaultsAreAnswered =
-    (s : State) (name : List ℕ) (o : Operation) (console : ConsoleRow) (fault : Fault) → MayAsk s name console → may_change s console o ≡ true → changed s o ≡ Err fault
+    (s : State) (name : List ℕ) (o : Operation) (console : ConsoleRow) (fault : Fault) → MayAsk s name console
+    → may_change s console o ≡ true → changed s o ≡ Err fault
     → IsRefusedBy s (input.Admin name o) fault
 
 abbrev pub ImportFaultsAreAnswered : Type 0
 ImportFaultsAreAnswered =
-    (s : State) (name : List ℕ) (number : ℕ) (rows : List Row) (console : ConsoleRow) (fault : Fault) → MayAsk s name console → is_special (acting s console) ≡ true → batch_of s.batches number ≡ None → with_rows rows s ≡ Err fault
+    (s : State) (name : List ℕ) (number : ℕ) (rows : List Row) (console : ConsoleRow) (fault : Fault)
+    → MayAsk s name console → is_special (acting s console) ≡ true → batch_of s.batches number ≡ None
+    → with_rows rows s ≡ Err fault
     → IsRefusedBy s (input.Import name number rows) fault
 
 abbrev pub ChangedBatchesAreAnswered : Type 0
 ChangedBatchesAreAnswered =
-    (s : State) (name : List ℕ) (number : ℕ) (rows : List Row) (console : ConsoleRow) (kept : Batch) → MayAsk s name console → is_special (acting s console) ≡ true → batch_of s.batches number ≡ Some kept → kept.rows ≢ rows
+    (s : State) (name : List ℕ) (number : ℕ) (rows : List Row) (console : ConsoleRow) (kept : Batch)
+    → MayAsk s name console → is_special (acting s console) ≡ true → batch_of s.batches number ≡ Some kept
+    → kept.rows ≢ rows
     → IsRefusedBy s (input.Import name number rows) fault.BatchChanged

@@ -7,7 +7,22 @@ use Rattle.opc_board.specs.declared.board.BoardRows.{BoardRows}
 use Rattle.opc_board.specs.declared.event.Event.{Event}
 use Rattle.opc_board.specs.declared.event.Event.TheVariants as event
 use Rattle.opc_board.specs.declared.fault.BoardFault.{BoardFault}
-use Rattle.opc_board.specs.declared.fault.BoardFault.TheVariants.{Cancelable, DeviceInUse, DeviceState, Halted, LastMaster, NoDevice, NoReply, NoTarget, NoUnit, NoVolume, NonCancelable, ReplyExists, UnitExists, WrongKind}
+use Rattle.opc_board.specs.declared.fault.BoardFault.TheVariants.{
+  Cancelable,
+  DeviceInUse,
+  DeviceState,
+  Halted,
+  LastMaster,
+  NoDevice,
+  NoReply,
+  NoTarget,
+  NoUnit,
+  NoVolume,
+  NonCancelable,
+  ReplyExists,
+  UnitExists,
+  WrongKind,
+}
 use Rattle.opc_board.specs.declared.rows.DeviceRow.{DeviceRow}
 use Rattle.opc_board.specs.declared.rows.UnitRow.{UnitRow}
 use Rattle.opc_board.specs.Effect.{effect, event_effect}
@@ -38,25 +53,34 @@ is_used (Some device) = is_some device.unit
 -- were lost comes after all of this.
 abbrev pub board_obstacles : BoardRows → Command → List (Bool × BoardFault)
 board_obstacles b (command.Cancel name) =
-    (is_none (unit_at b name.value), NoUnit) ∷ (is_session (unit_at b name.value), WrongKind) ∷ (not (is_cancelable (unit_at b name.value)), NonCancelable) ∷ []
+    (is_none (unit_at b name.value), NoUnit)
+    ∷ (is_session (unit_at b name.value), WrongKind) ∷ (not (is_cancelable (unit_at b name.value)), NonCancelable) ∷ []
 board_obstacles b (command.CancelUser user) =
-    (is_none (unit_at b user.value), NoUnit) ∷ (not (is_session (unit_at b user.value)), WrongKind) ∷ (not (is_cancelable (unit_at b user.value)), NonCancelable) ∷ []
-board_obstacles b (command.Force name) = (is_none (unit_at b name.value), NoUnit) ∷ (is_cancelable (unit_at b name.value), Cancelable) ∷ []
+    (is_none (unit_at b user.value), NoUnit) ∷ (not (is_session (unit_at b user.value)), WrongKind)
+    ∷ (not (is_cancelable (unit_at b user.value)), NonCancelable) ∷ []
+board_obstacles b (command.Force name) =
+    (is_none (unit_at b name.value), NoUnit) ∷ (is_cancelable (unit_at b name.value), Cancelable) ∷ []
 board_obstacles b (command.Start member) = (b.halted, Halted) ∷ (is_some (unit_at b member.value), UnitExists) ∷ []
 board_obstacles b (command.StartAs member id) = (b.halted, Halted) ∷ (is_some (unit_at b id.value), UnitExists) ∷ []
-board_obstacles b (command.Stop name) = (is_none (unit_at b name.value), NoUnit) ∷ (is_session (unit_at b name.value), WrongKind) ∷ []
-board_obstacles b (command.Modify name text) = (is_none (unit_at b name.value), NoUnit) ∷ (is_session (unit_at b name.value), WrongKind) ∷ []
+board_obstacles b (command.Stop name) = (is_none (unit_at b name.value), NoUnit)
+    ∷ (is_session (unit_at b name.value), WrongKind) ∷ []
+board_obstacles b (command.Modify name text) =
+    (is_none (unit_at b name.value), NoUnit) ∷ (is_session (unit_at b name.value), WrongKind) ∷ []
 board_obstacles b (command.Reply id text) = (is_none (reply_at b id.value), NoReply) ∷ []
-board_obstacles b (command.VaryDeviceOnline device) = (is_none (device_at b device.value), NoDevice) ∷ (is_online (device_at b device.value), DeviceState) ∷ []
+board_obstacles b (command.VaryDeviceOnline device) =
+    (is_none (device_at b device.value), NoDevice) ∷ (is_online (device_at b device.value), DeviceState) ∷ []
 board_obstacles b (command.VaryDeviceOffline device) =
-    (is_none (device_at b device.value), NoDevice) ∷ (not (is_online (device_at b device.value)), DeviceState) ∷ (is_used (device_at b device.value), DeviceInUse) ∷ []
+    (is_none (device_at b device.value), NoDevice) ∷ (not (is_online (device_at b device.value)), DeviceState)
+    ∷ (is_used (device_at b device.value), DeviceInUse) ∷ []
 board_obstacles b (command.VaryConsoleOnline name) = (is_none (console_at b name.value), NoTarget) ∷ []
 board_obstacles b (command.VaryConsoleOffline name) = (is_none (console_at b name.value), NoTarget) ∷ []
 board_obstacles b (command.VaryConsoleAuth name auth) = (is_none (console_at b name.value), NoTarget) ∷ []
 board_obstacles b (command.Mount device volume) =
-    (is_none (device_at b device.value), NoDevice) ∷ (not (is_online (device_at b device.value)), DeviceState) ∷ (has_volume (device_at b device.value), DeviceState) ∷ []
+    (is_none (device_at b device.value), NoDevice) ∷ (not (is_online (device_at b device.value)), DeviceState)
+    ∷ (has_volume (device_at b device.value), DeviceState) ∷ []
 board_obstacles b (command.Unload device) =
-    (is_none (device_at b device.value), NoDevice) ∷ (not (has_volume (device_at b device.value)), NoVolume) ∷ (is_used (device_at b device.value), DeviceInUse) ∷ []
+    (is_none (device_at b device.value), NoDevice)
+    ∷ (not (has_volume (device_at b device.value)), NoVolume) ∷ (is_used (device_at b device.value), DeviceInUse) ∷ []
 board_obstacles b (command.Swap from to) =
     (is_none (device_at b from.value), NoDevice)
     ∷ (is_none (device_at b to.value), NoDevice)
@@ -72,7 +96,8 @@ board_obstacles b other = []
 
 -- The first of these is the fault of the command.
 abbrev pub BoardObstaclesAreFaults : Type 0
-BoardObstaclesAreFaults = (b : BoardRows) (at : Name) (k : Command) (fault : BoardFault) → first_obstacle (board_obstacles b k) ≡ Some fault → effect b k at ≡ Err fault
+BoardObstaclesAreFaults = (b : BoardRows) (at : Name) (k : Command) (fault : BoardFault)
+    → first_obstacle (board_obstacles b k) ≡ Some fault → effect b k at ≡ Err fault
 
 -- What the command does would lose the last online console with AUTH MASTER.
 pub record LosesMaster (b : BoardRows) (at : Name) (k : Command) (outcome : Outcome) : Type 0 where
@@ -86,7 +111,8 @@ abbrev pub IsDoneOrLosesMaster : BoardRows → Name → Command → Outcome → 
 IsDoneOrLosesMaster b at k outcome = ((act : Done) × (outcome ≡ Ok act)) ⊎ LosesMaster b at k outcome
 
 abbrev pub CommandsActWithoutObstacle : Type 0
-CommandsActWithoutObstacle = (b : BoardRows) (at : Name) (k : Command) → first_obstacle (board_obstacles b k) ≡ None → IsDoneOrLosesMaster b at k (effect b k at)
+CommandsActWithoutObstacle = (b : BoardRows) (at : Name) (k : Command) → first_obstacle (board_obstacles b k) ≡ None
+    → IsDoneOrLosesMaster b at k (effect b k at)
 
 -- So it is with events.
 abbrev pub event_obstacles : BoardRows → Event → List (Bool × BoardFault)
@@ -95,12 +121,16 @@ event_obstacles b (event.JobEnd name) = (is_none (unit_at b name), NoUnit) ∷ [
 event_obstacles b (event.Ask id text) = (is_some (reply_at b id), ReplyExists) ∷ []
 event_obstacles b (event.Attach device) = (is_some (device_at b device), DeviceState) ∷ []
 event_obstacles b (event.Allocate device unit) =
-    (is_none (device_at b device), NoDevice) ∷ (is_none (unit_at b unit), NoUnit) ∷ (not (is_online (device_at b device)), DeviceState) ∷ (is_used (device_at b device), DeviceInUse) ∷ []
-event_obstacles b (event.Free device) = (is_none (device_at b device), NoDevice) ∷ (not (is_used (device_at b device)), DeviceState) ∷ []
+    (is_none (device_at b device), NoDevice) ∷ (is_none (unit_at b unit), NoUnit)
+    ∷ (not (is_online (device_at b device)), DeviceState) ∷ (is_used (device_at b device), DeviceInUse) ∷ []
+event_obstacles b (event.Free device) = (is_none (device_at b device), NoDevice)
+    ∷ (not (is_used (device_at b device)), DeviceState) ∷ []
 event_obstacles b event.Resume = []
 
 abbrev pub EventObstaclesAreFaults : Type 0
-EventObstaclesAreFaults = (b : BoardRows) (e : Event) (fault : BoardFault) → first_obstacle (event_obstacles b e) ≡ Some fault → event_effect b e ≡ Err fault
+EventObstaclesAreFaults = (b : BoardRows) (e : Event) (fault : BoardFault)
+    → first_obstacle (event_obstacles b e) ≡ Some fault → event_effect b e ≡ Err fault
 
 abbrev pub EventsHappenWithoutObstacle : Type 0
-EventsHappenWithoutObstacle = (b : BoardRows) (e : Event) → first_obstacle (event_obstacles b e) ≡ None → (act : Done) × (event_effect b e ≡ Ok act)
+EventsHappenWithoutObstacle = (b : BoardRows) (e : Event) → first_obstacle (event_obstacles b e) ≡ None → (act : Done)
+    × (event_effect b e ≡ Ok act)

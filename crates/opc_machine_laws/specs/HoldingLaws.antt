@@ -1,5 +1,23 @@
 -- What users hold by access lists, to those who write them.
-use Rattle.std.specs.Prelude.{◌≡◌, ◌⊎◌, ◌||◌, ℕ, Bool, true, false, List, [], ◌∷◌, Option, Some, None, codes, filter, map, Contains}
+use Rattle.std.specs.Prelude.{
+  ◌≡◌,
+  ◌⊎◌,
+  ◌||◌,
+  ℕ,
+  Bool,
+  true,
+  false,
+  List,
+  [],
+  ◌∷◌,
+  Option,
+  Some,
+  None,
+  codes,
+  filter,
+  map,
+  Contains,
+}
 use Rattle.std.specs.List.{list_any}
 use Rattle.std.specs.Option.{is_none, option_eq}
 use Rattle.std.specs.Str.{bytes_eq}
@@ -17,7 +35,8 @@ abbrev pub IsForUser : User → List (List ℕ) → Entry → Type 0
 IsForUser u groups e = (e.id ≡ u.id) ⊎ (Contains groups e.id ⊎ ((e.id ≡ codes "*") × (u.restricted ≡ false)))
 
 -- An entry gives a user a level: it is in the access list, for every console or for this one, and for the user.
-pub record Gives (p : Profile) (u : User) (console : Option (List ℕ)) (groups : List (List ℕ)) (needed : Level) (e : Entry) : Type 0 where
+pub record Gives (p : Profile) (u : User) (console : Option (List ℕ)) (groups : List (List ℕ)) (needed : Level)
+    (e : Entry) : Type 0 where
   pub listed : Contains p.entries e
   pub here : (e.when ≡ None) ⊎ (e.when ≡ console)
   pub for_user : IsForUser u groups e
@@ -27,17 +46,21 @@ pub record Gives (p : Profile) (u : User) (console : Option (List ℕ)) (groups 
 -- RESTRICTED.
 abbrev pub LevelsAreGiven : Type 0
 LevelsAreGiven =
-    (p : Profile) (u : User) (console : Option (List ℕ)) (groups : List (List ℕ)) (needed : Level) → includes (held p u console groups) needed ≡ true
-    → (needed ≡ level.None) ⊎ (((e : Entry) × Gives p u console groups needed e) ⊎ ((u.restricted ≡ false) × (includes p.uacc needed ≡ true)))
+    (p : Profile) (u : User) (console : Option (List ℕ)) (groups : List (List ℕ)) (needed : Level)
+    → includes (held p u console groups) needed ≡ true
+    → (needed ≡ level.None) ⊎ (((e : Entry) × Gives p u console groups needed e)
+    ⊎ ((u.restricted ≡ false) × (includes p.uacc needed ≡ true)))
 
 -- At a console a user holds at least what the user holds without one: no entry for a console lowers a level,
 abbrev pub ConsolesNeverLower : Type 0
-ConsolesNeverLower = (p : Profile) (u : User) (console : List ℕ) (groups : List (List ℕ)) → includes (held p u (Some console) groups) (held p u None groups) ≡ true
+ConsolesNeverLower = (p : Profile) (u : User) (console : List ℕ) (groups : List (List ℕ))
+    → includes (held p u (Some console) groups) (held p u None groups) ≡ true
 
 -- and the first source among the entries for a console raises it there to its own level.
 abbrev pub ConsoleEntriesRaise : Type 0
 ConsoleEntriesRaise =
-    (p : Profile) (u : User) (console : List ℕ) (groups : List (List ℕ)) (given : Level) → first_level p.entries (Some console) u groups ≡ Some given
+    (p : Profile) (u : User) (console : List ℕ) (groups : List (List ℕ)) (given : Level)
+    → first_level p.entries (Some console) u groups ≡ Some given
     → includes (held p u (Some console) groups) given ≡ true
 
 -- whether an entry is for every console or for this one
@@ -54,29 +77,39 @@ EntriesCountAtTheirConsole =
 abbrev pub is_named : User → List (List ℕ) → Entry → Bool
 is_named u groups e = bytes_eq e.id u.id || list_any (bytes_eq e.id) groups
 
--- A RESTRICTED user has nothing of what is given everyone: the user holds the same without universal access, and without
--- the entries for others.
+-- A RESTRICTED user has nothing of what is given everyone: the user holds the same without universal access, and
+-- without the entries for others.
 abbrev pub RestrictedUsersAreNamed : Type 0
 RestrictedUsersAreNamed =
     (p : Profile) (u : User) (console : Option (List ℕ)) (groups : List (List ℕ)) → u.restricted ≡ true
-    → held (record p { uacc = level.None; entries = filter (is_named u groups) p.entries }) u console groups ≡ held p u console groups
+    → held (record p {
+      uacc = level.None;
+      entries = filter (is_named u groups) p.entries;
+    }) u console groups ≡ held p u console groups
 
 -- The first source that has a level decides, also where it is NONE.
--- Without the entries for a console: the user's own entry, then the highest for a group, then that for everyone, then the
--- universal access. None of the later ones raises it, and none lowers it.
+-- Without the entries for a console: the user's own entry, then the highest for a group, then that for everyone, then
+-- the universal access. None of the later ones raises it, and none lowers it.
 pub record IsByFirstSource (p : Profile) (u : User) (groups : List (List ℕ)) : Type 0 where
   pub own : (l : Level) → entry_level p.entries None u.id ≡ Some l → held p u None groups ≡ l
-  pub group : (l : Level) → entry_level p.entries None u.id ≡ None → highest_level p.entries None groups ≡ Some l → held p u None groups ≡ l
-  pub everyone : (l : Level) → u.restricted ≡ false → entry_level p.entries None u.id ≡ None → highest_level p.entries None groups ≡ None → entry_level p.entries None (codes "*") ≡ Some l → held p u None groups ≡ l
-  pub universal : u.restricted ≡ false → entry_level p.entries None u.id ≡ None → highest_level p.entries None groups ≡ None → entry_level p.entries None (codes "*") ≡ None → held p u None groups ≡ p.uacc
+  pub group : (l : Level) → entry_level p.entries None u.id ≡ None
+      → highest_level p.entries None groups ≡ Some l → held p u None groups ≡ l
+  pub everyone : (l : Level) → u.restricted ≡ false → entry_level p.entries None u.id ≡ None
+      → highest_level p.entries None groups ≡ None → entry_level p.entries None (codes "*") ≡ Some l
+      → held p u None groups ≡ l
+  pub universal : u.restricted ≡ false → entry_level p.entries None u.id ≡ None
+      → highest_level p.entries None groups ≡ None → entry_level p.entries None (codes "*") ≡ None
+      → held p u None groups ≡ p.uacc
 
 abbrev pub FirstSourceDecides : Type 0
 FirstSourceDecides = (p : Profile) (u : User) (groups : List (List ℕ)) → IsByFirstSource p u groups
 
--- Of a user's groups each counts: without an entry for the user, the user holds at least what an entry for a group gives.
+-- Of a user's groups each counts: without an entry for the user, the user holds at least what an entry for a group
+-- gives.
 abbrev pub EachGroupCounts : Type 0
 EachGroupCounts =
-    (p : Profile) (u : User) (console : Option (List ℕ)) (groups : List (List ℕ)) (group : List ℕ) (given : Level) → entry_level p.entries None u.id ≡ None → Contains groups group → entry_level p.entries None group ≡ Some given
+    (p : Profile) (u : User) (console : Option (List ℕ)) (groups : List (List ℕ)) (group : List ℕ) (given : Level)
+    → entry_level p.entries None u.id ≡ None → Contains groups group → entry_level p.entries None group ≡ Some given
     → includes (held p u console groups) given ≡ true
 
 -- the levels, the lowest first, and which of these each includes: itself and those below

@@ -1,5 +1,22 @@
 -- What the access machine means to those who use it.
-use Rattle.std.specs.Prelude.{◌≡◌, ◌⊎◌, ◌↔◌, ℕ, true, List, [], ◌∷◌, ◌++◌, Option, Some, None, Ok, Err, filter, Contains}
+use Rattle.std.specs.Prelude.{
+  ◌≡◌,
+  ◌⊎◌,
+  ◌↔◌,
+  ℕ,
+  true,
+  List,
+  [],
+  ◌∷◌,
+  ◌++◌,
+  Option,
+  Some,
+  None,
+  Ok,
+  Err,
+  filter,
+  Contains,
+}
 use Rattle.std.specs.Option.{is_some}
 use Rattle.sha2.specs.Sha256.{sha256}
 use Rattle.opc_names.specs.declared.class.Class.{Class}
@@ -41,7 +58,8 @@ pub record IsHeard (s : State) (name text : List ℕ) (console : ConsoleRow) (co
   pub reads : Reads text command
 
 -- The policy of this moment allows it: the ruling on what it needs is Allowed.
-pub record IsAllowed (s : State) (name text : List ℕ) (console : ConsoleRow) (command : Command) (why : Rule) : Type 0 where
+pub record IsAllowed (s : State) (name text : List ℕ) (console : ConsoleRow) (command : Command) (why : Rule) : Type
+    0 where
   pub heard : IsHeard s name text console command
   pub need : Need
   pub needs : need_of s.board command ≡ Some need
@@ -49,7 +67,8 @@ pub record IsAllowed (s : State) (name text : List ℕ) (console : ConsoleRow) (
 
 -- The command acts: it is done by that rule, the board is the one that it makes, and of its lines those are given
 -- that may be shown. The policy stays.
-pub record Acts (s : State) (console : ConsoleRow) (command : Command) (why : Rule) (answer : Answer) (new : State) : Type 0 where
+pub record Acts (s : State) (console : ConsoleRow) (command : Command) (why : Rule) (answer : Answer)
+    (new : State) : Type 0 where
   pub act : BoardDone
   pub makes : effect s.board command console.name ≡ Ok act
   pub answered : answer ≡ Done (filter (shown s console) act.lines) (Some why)
@@ -59,31 +78,41 @@ pub record Acts (s : State) (console : ConsoleRow) (command : Command) (why : Ru
 -- A command that needs something acts only where the policy of that moment allows it,
 abbrev pub ActsOnlyWhereAllowed : Type 0
 ActsOnlyWhereAllowed =
-    (s : State) (moment : ℕ) (name text : List ℕ) (command : Command) (need : Need) (lines : List Line) (why : Option Rule) (new : State)
-    → Reads text command → need_of s.board command ≡ Some need → Step s moment (input.Command name text) (Done lines why) new
-    → (console : ConsoleRow) × (rule : Rule) × IsAllowed s name text console command rule × Acts s console command rule (Done lines why) new
+    (s : State) (moment : ℕ) (name text : List ℕ) (command : Command) (need : Need) (lines : List Line)
+    (why : Option Rule) (new : State)
+    → Reads text command → need_of s.board command ≡ Some need
+    → Step s moment (input.Command name text) (Done lines why) new
+    → (console : ConsoleRow) × (rule : Rule) × IsAllowed s name text console command rule
+    × Acts s console command rule (Done lines why) new
 
 -- and wherever it does, unless the board is in the way or the request is aborted.
 abbrev pub ActsWhereverAllowed : Type 0
 ActsWhereverAllowed =
-    (s : State) (moment : ℕ) (name text : List ℕ) (console : ConsoleRow) (command : Command) (why : Rule) (act : BoardDone) (answer : Answer) (new : State)
-    → IsAllowed s name text console command why → effect s.board command console.name ≡ Ok act → Step s moment (input.Command name text) answer new
+    (s : State) (moment : ℕ) (name text : List ℕ) (console : ConsoleRow) (command : Command) (why : Rule)
+    (act : BoardDone) (answer : Answer) (new : State)
+    → IsAllowed s name text console command why → effect s.board command console.name ≡ Ok act
+    → Step s moment (input.Command name text) answer new
     → IsAborted answer ⊎ Acts s console command why answer new
 
 -- LOGON and LOGOFF
 abbrev pub IsSession : Command → Type 0
-IsSession k = ((id : Operand (List ℕ)) × (password : Operand (List ℕ)) × (k ≡ command.Logon id password)) ⊎ (k ≡ command.Logoff)
+IsSession k = ((id : Operand (List ℕ)) × (password : Operand (List ℕ)) × (k ≡ command.Logon id password))
+    ⊎ (k ≡ command.Logoff)
 
--- Nothing else that is typed is done: only a line that is heard, of a command that needs something, or of LOGON or LOGOFF.
+-- Nothing else that is typed is done: only a line that is heard, of a command that needs something, or of LOGON or
+-- LOGOFF.
 abbrev pub OnlyWhatIsHeardIsDone : Type 0
 OnlyWhatIsHeardIsDone =
-    (s : State) (moment : ℕ) (name text : List ℕ) (lines : List Line) (why : Option Rule) (new : State) → Step s moment (input.Command name text) (Done lines why) new
-    → (console : ConsoleRow) × (command : Command) × IsHeard s name text console command × (IsSession command ⊎ ((need : Need) × (need_of s.board command ≡ Some need)))
+    (s : State) (moment : ℕ) (name text : List ℕ) (lines : List Line) (why : Option Rule) (new : State)
+    → Step s moment (input.Command name text) (Done lines why) new
+    → (console : ConsoleRow) × (command : Command) × IsHeard s name text console command
+    × (IsSession command ⊎ ((need : Need) × (need_of s.board command ≡ Some need)))
 
 -- Of the lines of a command that acts, a unit's or a console's is listed exactly where it may be shown.
 abbrev pub ListsExactlyWhatMayBeShown : Type 0
 ListsExactlyWhatMayBeShown =
-    (s : State) (console : ConsoleRow) (command : Command) (why : Rule) (lines : List Line) (rule : Option Rule) (new : State) (acts : Acts s console command why (Done lines rule) new) (line : Line)
+    (s : State) (console : ConsoleRow) (command : Command) (why : Rule) (lines : List Line) (rule : Option Rule)
+    (new : State) (acts : Acts s console command why (Done lines rule) new) (line : Line)
     → Contains lines line ↔ (Contains acts.act.lines line × (shown s console line ≡ true))
 
 -- The user of this id is stored, and with the SHA-256 of this password; whoever has none knows no password.
@@ -93,14 +122,16 @@ pub record IsKnown (s : State) (id password : List ℕ) (user : User) : Type 0 w
 
 -- A LOGON may let the user on: the line is heard, nobody is on, the password is the user's, and the policy of this
 -- moment allows it.
-pub record IsAdmitted (s : State) (name text : List ℕ) (console : ConsoleRow) (id password : Operand (List ℕ)) (user : User) (why : Rule) : Type 0 where
+pub record IsAdmitted (s : State) (name text : List ℕ) (console : ConsoleRow) (id password : Operand (List ℕ))
+    (user : User) (why : Rule) : Type 0 where
   pub heard : IsHeard s name text console (command.Logon id password)
   pub nobody : console.user ≡ None
   pub known : IsKnown s id.value password.value user
   pub allowed : logon_ruling s console user ≡ Allowed why
 
 -- The user is on, by that rule, and the policy stays.
-pub record LogsOn (s : State) (console : ConsoleRow) (id : List ℕ) (why : Rule) (answer : Answer) (new : State) : Type 0 where
+pub record LogsOn (s : State) (console : ConsoleRow) (id : List ℕ) (why : Rule) (answer : Answer) (new : State) : Type
+    0 where
   pub answered : answer ≡ Done [] (Some why)
   pub board : new.board ≡ logged_on console.name id s.board
   pub policy : new.policy ≡ s.policy
@@ -108,14 +139,17 @@ pub record LogsOn (s : State) (console : ConsoleRow) (id : List ℕ) (why : Rule
 -- A user is logged on only where the policy of that moment allows it,
 abbrev pub LogsOnOnlyWhereAllowed : Type 0
 LogsOnOnlyWhereAllowed =
-    (s : State) (moment : ℕ) (name text : List ℕ) (id password : Operand (List ℕ)) (lines : List Line) (why : Option Rule) (new : State)
+    (s : State) (moment : ℕ) (name text : List ℕ) (id password : Operand (List ℕ)) (lines : List Line)
+    (why : Option Rule) (new : State)
     → Reads text (command.Logon id password) → Step s moment (input.Command name text) (Done lines why) new
-    → (console : ConsoleRow) × (user : User) × (rule : Rule) × IsAdmitted s name text console id password user rule × LogsOn s console id.value rule (Done lines why) new
+    → (console : ConsoleRow) × (user : User) × (rule : Rule) × IsAdmitted s name text console id password user rule
+    × LogsOn s console id.value rule (Done lines why) new
 
 -- and wherever it does, unless the request is aborted.
 abbrev pub LogsOnWhereverAllowed : Type 0
 LogsOnWhereverAllowed =
-    (s : State) (moment : ℕ) (name text : List ℕ) (console : ConsoleRow) (id password : Operand (List ℕ)) (user : User) (why : Rule) (answer : Answer) (new : State)
+    (s : State) (moment : ℕ) (name text : List ℕ) (console : ConsoleRow) (id password : Operand (List ℕ)) (user : User)
+    (why : Rule) (answer : Answer) (new : State)
     → IsAdmitted s name text console id password user why → Step s moment (input.Command name text) answer new
     → IsAborted answer ⊎ LogsOn s console id.value why answer new
 
@@ -130,17 +164,20 @@ abbrev pub LogsOffOnlyWhereSomebodyIsOn : Type 0
 LogsOffOnlyWhereSomebodyIsOn =
     (s : State) (moment : ℕ) (name text : List ℕ) (lines : List Line) (why : Option Rule) (new : State)
     → Reads text command.Logoff → Step s moment (input.Command name text) (Done lines why) new
-    → (console : ConsoleRow) × IsHeard s name text console command.Logoff × (is_some console.user ≡ true) × LogsOff s console (Done lines why) new
+    → (console : ConsoleRow) × IsHeard s name text console command.Logoff × (is_some console.user ≡ true)
+    × LogsOff s console (Done lines why) new
 
 -- and wherever somebody is, unless the request is aborted.
 abbrev pub LogsOffWhereverSomebodyIsOn : Type 0
 LogsOffWhereverSomebodyIsOn =
     (s : State) (moment : ℕ) (name text : List ℕ) (console : ConsoleRow) (answer : Answer) (new : State)
-    → IsHeard s name text console command.Logoff → is_some console.user ≡ true → Step s moment (input.Command name text) answer new
+    → IsHeard s name text console command.Logoff → is_some console.user ≡ true
+    → Step s moment (input.Command name text) answer new
     → IsAborted answer ⊎ LogsOff s console answer new
 
 -- A refusal leaves board, policy and batches, and adds its row to the account.
-pub record IsRefusal (s : State) (moment : ℕ) (r : Input) (fault : Fault) (why : Option Rule) (new : State) : Type 0 where
+pub record IsRefusal (s : State) (moment : ℕ) (r : Input) (fault : Fault) (why : Option Rule) (new : State) : Type
+    0 where
   pub board : new.board ≡ s.board
   pub policy : new.policy ≡ s.policy
   pub batches : new.batches ≡ s.batches
@@ -149,16 +186,19 @@ pub record IsRefusal (s : State) (moment : ℕ) (r : Input) (fault : Fault) (why
 -- One that is aborted leaves all.
 abbrev pub RefusalsChangeNothing : Type 0
 RefusalsChangeNothing =
-    (s : State) (moment : ℕ) (r : Input) (fault : Fault) (why : Option Rule) (new : State) → Step s moment r (Refused fault why) new
+    (s : State) (moment : ℕ) (r : Input) (fault : Fault) (why : Option Rule) (new : State)
+    → Step s moment r (Refused fault why) new
     → (IsAborted (Refused fault why) × (new ≡ s)) ⊎ IsRefusal s moment r fault why new
 
 -- A request that is answered as aborted has changed nothing, not even the account.
 abbrev pub AbortsChangeNothing : Type 0
-AbortsChangeNothing = (s : State) (moment : ℕ) (r : Input) (fault : Fault) (why : Option Rule) (new : State) → IsAborted (Refused fault why) → Step s moment r (Refused fault why) new → new ≡ s
+AbortsChangeNothing = (s : State) (moment : ℕ) (r : Input) (fault : Fault) (why : Option Rule) (new : State)
+    → IsAborted (Refused fault why) → Step s moment r (Refused fault why) new → new ≡ s
 
 -- Only two answers give a request up: there was no memory, or the store failed.
 abbrev pub AbortsWithoutMemoryOrStore : Type 0
-AbortsWithoutMemoryOrStore = (answer : Answer) → IsAborted answer → (answer ≡ Refused fault.NoMemory None) ⊎ (answer ≡ Refused fault.Store None)
+AbortsWithoutMemoryOrStore = (answer : Answer) → IsAborted answer → (answer ≡ Refused fault.NoMemory None)
+    ⊎ (answer ≡ Refused fault.Store None)
 
 -- the refusals of authority
 abbrev pub IsOfAuthority : Fault → Type 0
@@ -203,8 +243,8 @@ pub record IsRuledOut (s : State) (name text : List ℕ) (why : Rule) : Type 0 w
   pub needs : need_of s.board command ≡ Some need
   pub denied : ruling s console need ≡ Denied why
 
--- The line is a LOGON of a user with the user's password, where nobody is on, and the policy of this moment does not let
--- that user on, by this rule.
+-- The line is a LOGON of a user with the user's password, where nobody is on, and the policy of this moment does not
+-- let that user on, by this rule.
 pub record IsKeptOff (s : State) (name text : List ℕ) (why : Rule) : Type 0 where
   pub console : ConsoleRow
   pub id : Operand (List ℕ)
@@ -233,7 +273,8 @@ IsDeniedBy s (input.Event e) why = ⊥
 -- A refusal of authority names its rule, and that rule denies by the policy of that moment.
 abbrev pub RefusalsOfAuthorityNameTheirRule : Type 0
 RefusalsOfAuthorityNameTheirRule =
-    (s : State) (moment : ℕ) (r : Input) (fault : Fault) (why : Option Rule) (new : State) → IsOfAuthority fault → Step s moment r (Refused fault why) new
+    (s : State) (moment : ℕ) (r : Input) (fault : Fault) (why : Option Rule) (new : State) → IsOfAuthority fault
+    → Step s moment r (Refused fault why) new
     → (rule : Rule) × (why ≡ Some rule) × IsNamedBy fault rule × IsDeniedBy s r rule
 
 -- The board is in the way of a command that the policy of this moment allows by this rule.
@@ -252,24 +293,28 @@ IsRefusedByBoard s other fault why = ⊥
 -- No refusal names another rule: one that denies, or one that allowed what the board refused.
 abbrev pub RefusalsNameNoOtherRule : Type 0
 RefusalsNameNoOtherRule =
-    (s : State) (moment : ℕ) (r : Input) (fault : Fault) (why : Rule) (new : State) → Step s moment r (Refused fault (Some why)) new
+    (s : State) (moment : ℕ) (r : Input) (fault : Fault) (why : Rule) (new : State)
+    → Step s moment r (Refused fault (Some why)) new
     → (IsNamedBy fault why × IsDeniedBy s r why) ⊎ IsRefusedByBoard s r fault why
 
--- What the policy of this moment denies, whatever was asked, is answered by that denial and that rule, unless the request
--- is aborted.
+-- What the policy of this moment denies, whatever was asked, is answered by that denial and that rule, unless the
+-- request is aborted.
 abbrev pub DenialsAreAnswered : Type 0
 DenialsAreAnswered =
-    (s : State) (moment : ℕ) (r : Input) (why : Rule) (answer : Answer) (new : State) → IsDeniedBy s r why → Step s moment r answer new
+    (s : State) (moment : ℕ) (r : Input) (why : Rule) (answer : Answer) (new : State) → IsDeniedBy s r why
+    → Step s moment r answer new
     → IsAborted answer ⊎ ((fault : Fault) × IsNamedBy fault why × (answer ≡ Refused fault (Some why)))
 
 -- Where the board is in the way of what is allowed, its fault is answered with the rule that allowed it.
 abbrev pub BoardFaultsAreAnswered : Type 0
 BoardFaultsAreAnswered =
-    (s : State) (moment : ℕ) (name text : List ℕ) (fault : Fault) (why : Rule) (answer : Answer) (new : State) → IsInTheWay s name text fault why → Step s moment (input.Command name text) answer new
+    (s : State) (moment : ℕ) (name text : List ℕ) (fault : Fault) (why : Rule) (answer : Answer) (new : State)
+    → IsInTheWay s name text fault why → Step s moment (input.Command name text) answer new
     → IsAborted answer ⊎ (answer ≡ Refused fault (Some why))
 
 -- A request of a list is a step from the state that those before it leave, and those after it go on from there.
-pub record IsJudgedInTurn (s : State) (before : List (ℕ × Input)) (r : ℕ × Input) (later : List (ℕ × Input)) (answers : List Answer) (new : State) : Type 0 where
+pub record IsJudgedInTurn (s : State) (before : List (ℕ × Input)) (r : ℕ × Input) (later : List (ℕ × Input))
+    (answers : List Answer) (new : State) : Type 0 where
   pub earlier : List Answer
   pub answer : Answer
   pub others : List Answer
@@ -282,9 +327,11 @@ pub record IsJudgedInTurn (s : State) (before : List (ℕ × Input)) (r : ℕ ×
 
 abbrev pub RequestsAreJudgedInTurn : Type 0
 RequestsAreJudgedInTurn =
-    (s : State) (before : List (ℕ × Input)) (r : ℕ × Input) (later : List (ℕ × Input)) (answers : List Answer) (new : State) → Runs s (before ++ r ∷ later) answers new
+    (s : State) (before : List (ℕ × Input)) (r : ℕ × Input) (later : List (ℕ × Input)) (answers : List Answer)
+    (new : State) → Runs s (before ++ r ∷ later) answers new
     → IsJudgedInTurn s before r later answers new
 
 -- Where nothing is asked nothing is answered, and nothing changes.
 abbrev pub NothingAskedChangesNothing : Type 0
-NothingAskedChangesNothing = (s : State) (answers : List Answer) (new : State) → Runs s [] answers new → (answers ≡ []) × (new ≡ s)
+NothingAskedChangesNothing = (s : State) (answers : List Answer) (new : State)
+    → Runs s [] answers new → (answers ≡ []) × (new ≡ s)

@@ -39,17 +39,22 @@ pub record IsBatchKept (s : State) (number : ℕ) (batch : Batch) (new : State) 
   pub known : (kept : Batch) → batch_of s.batches number ≡ Some kept → new.batches ≡ s.batches
 
 abbrev pub AreBatchesLeft : State → Input → State → Type 0
-AreBatchesLeft s (input.Import name number rows) new = IsBatchKept s number (record { number = number; rows = rows }) new
+AreBatchesLeft s (input.Import name number rows) new = IsBatchKept s number (record {
+  number = number;
+  rows = rows;
+}) new
 AreBatchesLeft s other new = new.batches ≡ s.batches
 
--- What is done leaves the account and the batches as they are. Its row is added exactly where a warning alone let it pass,
--- and an import keeps its batch.
+-- What is done leaves the account and the batches as they are. Its row is added exactly where a warning alone let it
+-- pass, and an import keeps its batch.
 pub record LeavesRest (s : State) (moment : ℕ) (r : Input) (why : Option Rule) (new : State) : Type 0 where
-  pub account : (IsWarned why × (new.account ≡ s.account ++ account_row s moment r (codes "WARN") why ∷ [])) ⊎ ((IsWarned why → ⊥) × (new.account ≡ s.account))
+  pub account : (IsWarned why × (new.account ≡ s.account ++ account_row s moment r (codes "WARN") why ∷ []))
+      ⊎ ((IsWarned why → ⊥) × (new.account ≡ s.account))
   pub batches : AreBatchesLeft s r new
 
 abbrev pub WhatIsDoneLeavesRest : Type 0
-WhatIsDoneLeavesRest = (s : State) (moment : ℕ) (r : Input) (lines : List Line) (why : Option Rule) (new : State) → Step s moment r (Done lines why) new → LeavesRest s moment r why new
+WhatIsDoneLeavesRest = (s : State) (moment : ℕ) (r : Input) (lines : List Line) (why : Option Rule) (new : State)
+    → Step s moment r (Done lines why) new → LeavesRest s moment r why new
 
 -- What the machine is asked is the request, as it was sent.
 abbrev pub IsAskedBy : Request → Input → Type 0
@@ -83,7 +88,8 @@ pub record SaysWhat (at : ℕ) (r : Input) (what : List ℕ) (why : Option Rule)
   pub rule : row.rule ≡ rule_text_or_none why
 
 abbrev pub AccountRowsSay : Type 0
-AccountRowsSay = (s : State) (moment : ℕ) (r : Input) (code : List ℕ) (why : Option Rule) → SaysWhat moment r code why (account_row s moment r code why)
+AccountRowsSay = (s : State) (moment : ℕ) (r : Input) (code : List ℕ) (why : Option Rule)
+    → SaysWhat moment r code why (account_row s moment r code why)
 
 -- An event changes the board by its effect, and nothing else; no rule decides it.
 pub record Happens (s : State) (e : Event) (act : BoardDone) (answer : Answer) (new : State) : Type 0 where
@@ -93,21 +99,25 @@ pub record Happens (s : State) (e : Event) (act : BoardDone) (answer : Answer) (
 
 abbrev pub EventsOnlyDoTheirEffect : Type 0
 EventsOnlyDoTheirEffect =
-    (s : State) (moment : ℕ) (e : Event) (lines : List Line) (why : Option Rule) (new : State) → Step s moment (input.Event e) (Done lines why) new
+    (s : State) (moment : ℕ) (e : Event) (lines : List Line) (why : Option Rule) (new : State)
+    → Step s moment (input.Event e) (Done lines why) new
     → (act : BoardDone) × Happens s e act (Done lines why) new
 
 -- It happens wherever the board lets it, unless it is aborted,
 abbrev pub EventsHappenWhereverPossible : Type 0
 EventsHappenWhereverPossible =
-    (s : State) (moment : ℕ) (e : Event) (act : BoardDone) (answer : Answer) (new : State) → event_effect s.board e ≡ Ok act → Step s moment (input.Event e) answer new
+    (s : State) (moment : ℕ) (e : Event) (act : BoardDone) (answer : Answer) (new : State)
+    → event_effect s.board e ≡ Ok act → Step s moment (input.Event e) answer new
     → IsAborted answer ⊎ Happens s e act answer new
 
 -- and is else refused by the board's fault.
 abbrev pub EventFaultsAreAnswered : Type 0
 EventFaultsAreAnswered =
-    (s : State) (moment : ℕ) (e : Event) (fault : BoardFault) (answer : Answer) (new : State) → event_effect s.board e ≡ Err fault → Step s moment (input.Event e) answer new
+    (s : State) (moment : ℕ) (e : Event) (fault : BoardFault) (answer : Answer) (new : State)
+    → event_effect s.board e ≡ Err fault → Step s moment (input.Event e) answer new
     → IsAborted answer ⊎ (answer ≡ Refused (board_fault fault) None)
 
 -- Whatever is asked and whatever happens: where an online console has AUTH MASTER, one has it afterwards.
 abbrev pub StepsKeepAMaster : Type 0
-StepsKeepAMaster = (s : State) (moment : ℕ) (r : Input) (answer : Answer) (new : State) → Step s moment r answer new → KeepsMaster s new
+StepsKeepAMaster = (s : State) (moment : ℕ) (r : Input) (answer : Answer) (new : State)
+    → Step s moment r answer new → KeepsMaster s new

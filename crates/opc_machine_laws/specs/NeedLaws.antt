@@ -46,13 +46,14 @@ entries_of auth.SysIoCons = (false, true, true, true, true)
 
 -- A console enters the command groups of its authority's row in that table, and no other.
 abbrev pub AuthoritiesEnterTheirGroups : Type 0
-AuthoritiesEnterTheirGroups = (a : Auth) → (enters a Master, enters a Info, enters a Sys, enters a Io, enters a Cons) ≡ entries_of a
+AuthoritiesEnterTheirGroups = (a : Auth)
+    → (enters a Master, enters a Info, enters a Sys, enters a Io, enters a Cons) ≡ entries_of a
 
 abbrev pub by : Group → Level → List ℕ → Option Need
 by group level resource = Some (record { resource = resource; level = level; group = group })
 
--- How a resource names a unit: a started task by its member and its name, a session by a word of its own under FORCE alone, and
--- all else as a job, also what is not on the board; 46 is the period.
+-- How a resource names a unit: a started task by its member and its name, a session by a word of its own under FORCE
+-- alone, and all else as a job, also what is not on the board; 46 is the period.
 abbrev pub of_kind : List ℕ → UnitKind → Name → List ℕ
 of_kind session Job name = codes "JOB." ++ name
 of_kind session (Stc member) name = codes "STC." ++ member ++ 46 ∷ name
@@ -69,13 +70,17 @@ need_on b (command.DisplayUnit name) = by Info Read (codes "MVS.DISPLAY.JOB")
 need_on b command.DisplayDevices = by Info Read (codes "MVS.DISPLAY.U")
 need_on b command.DisplayConsoles = by Info Read (codes "MVS.DISPLAY.CN")
 need_on b command.DisplayReplies = by Info Read (codes "MVS.DISPLAY.R")
-need_on b (command.Cancel name) = by Sys Update (codes "MVS.CANCEL." ++ of_unit (codes "JOB") (unit_at b name.value) name.value)
+need_on b (command.Cancel name) = by Sys Update
+    (codes "MVS.CANCEL." ++ of_unit (codes "JOB") (unit_at b name.value) name.value)
 need_on b (command.CancelUser user) = by Sys Update (codes "MVS.CANCEL.TSU." ++ user.value)
-need_on b (command.Force name) = by Master Control (codes "MVS.FORCE." ++ of_unit (codes "TSU") (unit_at b name.value) name.value)
+need_on b (command.Force name) = by Master Control
+    (codes "MVS.FORCE." ++ of_unit (codes "TSU") (unit_at b name.value) name.value)
 need_on b (command.Start member) = by Sys Update (codes "MVS.START.STC." ++ member.value ++ 46 ∷ member.value)
 need_on b (command.StartAs member id) = by Sys Update (codes "MVS.START.STC." ++ member.value ++ 46 ∷ id.value)
-need_on b (command.Stop name) = by Sys Update (codes "MVS.STOP." ++ of_unit (codes "JOB") (unit_at b name.value) name.value)
-need_on b (command.Modify name text) = by Sys Update (codes "MVS.MODIFY." ++ of_unit (codes "JOB") (unit_at b name.value) name.value)
+need_on b (command.Stop name) = by Sys Update
+    (codes "MVS.STOP." ++ of_unit (codes "JOB") (unit_at b name.value) name.value)
+need_on b (command.Modify name text) = by Sys Update
+    (codes "MVS.MODIFY." ++ of_unit (codes "JOB") (unit_at b name.value) name.value)
 need_on b (command.Reply id text) = by Info Read (codes "MVS.REPLY")
 need_on b (command.VaryDeviceOnline device) = by Io Update (codes "MVS.VARY.DEV")
 need_on b (command.VaryDeviceOffline device) = by Io Update (codes "MVS.VARY.DEV")

@@ -63,8 +63,9 @@ pub record HasItsPlace (fault : ReadFault) : Type 0 where
 abbrev pub LineFaultsAreDistinct : Type 0
 LineFaultsAreDistinct = (fault : ReadFault) → HasItsPlace fault
 
--- the number of every fault of a request: 1 to 6 of its line, 10 to 17 of its console and logon, 20 and 21 of the policy, 30 to
--- 45 of the board, 50 to 60 of administration, and from 90 on where it is aborted or the tables are not ours
+-- the number of every fault of a request: 1 to 6 of its line, 10 to 17 of its console and logon, 20 and 21 of the
+-- policy, 30 to 45 of the board, 50 to 60 of administration, and from 90 on where it is aborted or the tables are not
+-- ours
 abbrev pub number : Fault → ℕ
 number fault.Empty = 1
 number fault.TooLong = 2

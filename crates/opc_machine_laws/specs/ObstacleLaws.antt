@@ -1,5 +1,23 @@
 -- What is in the way of an operation of administration, to those who are refused.
-use Rattle.std.specs.Prelude.{◌≡◌, ◌⊎◌, ℕ, Bool, false, not, ◌||◌, if◌then◌else◌, is_some, List, [], ◌∷◌, Option, Some, None, Ok, Err}
+use Rattle.std.specs.Prelude.{
+  ◌≡◌,
+  ◌⊎◌,
+  ℕ,
+  Bool,
+  false,
+  not,
+  ◌||◌,
+  if◌then◌else◌,
+  is_some,
+  List,
+  [],
+  ◌∷◌,
+  Option,
+  Some,
+  None,
+  Ok,
+  Err,
+}
 use Rattle.std.specs.List.{list_any}
 use Rattle.std.specs.Option.{option_map_or}
 use Rattle.opc_names.specs.declared.class.Class.{Class}
@@ -23,24 +41,35 @@ is_defined p class pattern = is_some (profile_of p.profiles class pattern)
 
 -- whether an access list has an entry for an id, and for a console alone or, where none is given, for every console
 abbrev pub is_listed : Policy → Class → List ℕ → List ℕ → Option (List ℕ) → Bool
-is_listed p class pattern id when = option_map_or (λ (profile : Profile). list_any (is_for when id) profile.entries) (profile_of p.profiles class pattern) false
+is_listed p class pattern id when = option_map_or (λ (profile : Profile). list_any (is_for when id) profile.entries)
+    (profile_of p.profiles class pattern) false
 
 -- What may be in the way of an operation, in the order in which it is told: a name that a user or a group has already,
 -- one that is not stored, a user whom a connect, an owner or an access list names, or who is on.
 abbrev pub obstacles : State → Operation → List (Bool × Fault)
-obstacles s (operation.AddUser id special auditor digest restricted) = (has_user s.policy id || has_group s.policy id, Exists id) ∷ []
-obstacles s (operation.AltUser id special auditor revoked digest restricted) = (not (has_user s.policy id), Missing id) ∷ []
-obstacles s (operation.DelUser id) = (not (has_user s.policy id), Missing id) ∷ (is_named s.policy id || is_on id s.board, InUse id) ∷ []
+obstacles s (operation.AddUser id special auditor digest restricted) =
+    (has_user s.policy id || has_group s.policy id, Exists id) ∷ []
+obstacles s (operation.AltUser id special auditor revoked digest restricted) =
+    (not (has_user s.policy id), Missing id) ∷ []
+obstacles s (operation.DelUser id) =
+    (not (has_user s.policy id), Missing id) ∷ (is_named s.policy id || is_on id s.board, InUse id) ∷ []
 obstacles s (operation.AddGroup name) = (has_user s.policy name || has_group s.policy name, Exists name) ∷ []
 obstacles s (operation.Connect user group) =
-    (not (has_user s.policy user), Missing user) ∷ (not (has_group s.policy group), Missing group) ∷ (is_connected s.policy user group, Exists group) ∷ []
+    (not (has_user s.policy user), Missing user) ∷ (not (has_group s.policy group), Missing group)
+    ∷ (is_connected s.policy user group, Exists group) ∷ []
 obstacles s (operation.Remove user group) =
-    (not (has_user s.policy user), Missing user) ∷ (not (has_group s.policy group), Missing group) ∷ (not (is_connected s.policy user group), Missing group) ∷ []
-obstacles s (operation.RDefine class pattern owner uacc warning) = (is_defined s.policy class pattern, Exists pattern) ∷ (not (has_user s.policy owner), Missing owner) ∷ []
-obstacles s (operation.RAlter class pattern owner uacc warning) = (not (is_defined s.policy class pattern), Missing pattern) ∷ (not (has_user s.policy owner), Missing owner) ∷ []
+    (not (has_user s.policy user), Missing user) ∷ (not (has_group s.policy group), Missing group)
+    ∷ (not (is_connected s.policy user group), Missing group) ∷ []
+obstacles s (operation.RDefine class pattern owner uacc warning) =
+    (is_defined s.policy class pattern, Exists pattern) ∷ (not (has_user s.policy owner), Missing owner) ∷ []
+obstacles s (operation.RAlter class pattern owner uacc warning) =
+    (not (is_defined s.policy class pattern), Missing pattern) ∷ (not (has_user s.policy owner), Missing owner) ∷ []
 obstacles s (operation.RDelete class pattern) = (not (is_defined s.policy class pattern), Missing pattern) ∷ []
-obstacles s (operation.Permit class pattern id level when) = (not (is_defined s.policy class pattern), Missing pattern) ∷ (not (has_holder s.policy id), Missing id) ∷ []
-obstacles s (operation.PermitDelete class pattern id when) = (not (is_defined s.policy class pattern), Missing pattern) ∷ (not (is_listed s.policy class pattern id when), Missing id) ∷ []
+obstacles s (operation.Permit class pattern id level when) =
+    (not (is_defined s.policy class pattern), Missing pattern) ∷ (not (has_holder s.policy id), Missing id) ∷ []
+obstacles s (operation.PermitDelete class pattern id when) =
+    (not (is_defined s.policy class pattern), Missing pattern)
+    ∷ (not (is_listed s.policy class pattern id when), Missing id) ∷ []
 obstacles s (operation.ClassActive class active) = []
 obstacles s (operation.DefineConsole name auth mode) = []
 
@@ -50,7 +79,8 @@ first_obstacle (obstacle ∷ more) = if obstacle.0 then Some obstacle.1 else fir
 
 -- The first of these is the fault of the operation.
 abbrev pub ObstaclesAreFaults : Type 0
-ObstaclesAreFaults = (s : State) (o : Operation) (fault : Fault) → first_obstacle (obstacles s o) ≡ Some fault → changed s o ≡ Err fault
+ObstaclesAreFaults = (s : State) (o : Operation) (fault : Fault) → first_obstacle (obstacles s o) ≡ Some fault
+    → changed s o ≡ Err fault
 
 -- Without any it is done, unless the last online console with AUTH MASTER were lost by it.
 pub record IsDoneOrLastMaster (s : State) (o : Operation) : Type 0 where
@@ -59,4 +89,5 @@ pub record IsDoneOrLastMaster (s : State) (o : Operation) : Type 0 where
   pub ends : (KeepsMaster s new × (changed s o ≡ Ok new)) ⊎ ((KeepsMaster s new → ⊥) × (changed s o ≡ Err LastMaster))
 
 abbrev pub OperationsAreDoneWithoutObstacle : Type 0
-OperationsAreDoneWithoutObstacle = (s : State) (o : Operation) → first_obstacle (obstacles s o) ≡ None → IsDoneOrLastMaster s o
+OperationsAreDoneWithoutObstacle = (s : State) (o : Operation) → first_obstacle (obstacles s o) ≡ None
+    → IsDoneOrLastMaster s o

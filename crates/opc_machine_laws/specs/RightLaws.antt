@@ -26,7 +26,8 @@ changed_profile other = None
 -- The user owns that profile; an operation on something else has no owner.
 abbrev pub Owns : Policy → User → Option (Class × List ℕ) → Type 0
 Owns p user None = ⊥
-Owns p user (Some changed) = (profile : Profile) × (profile_of p.profiles changed.0 changed.1 ≡ Some profile) × (profile.owner ≡ user.id)
+Owns p user (Some changed) = (profile : Profile) × (profile_of p.profiles changed.0 changed.1 ≡ Some profile)
+    × (profile.owner ≡ user.id)
 
 -- Whoever acts has SPECIAL, or owns the profile that is changed.
 pub record MayChange (s : State) (console : ConsoleRow) (o : Operation) : Type 0 where
@@ -35,7 +36,8 @@ pub record MayChange (s : State) (console : ConsoleRow) (o : Operation) : Type 0
   pub right : (user.special ≡ true) ⊎ Owns s.policy user (changed_profile o)
 
 abbrev pub RightsAreOfSpecialAndOwners : Type 0
-RightsAreOfSpecialAndOwners = (s : State) (console : ConsoleRow) (o : Operation) → (may_change s console o ≡ true) ↔ MayChange s console o
+RightsAreOfSpecialAndOwners = (s : State) (console : ConsoleRow) (o : Operation)
+    → (may_change s console o ≡ true) ↔ MayChange s console o
 
 -- SPECIAL and AUDITOR see everything,
 abbrev pub SeesAll : User → Type 0
@@ -48,12 +50,15 @@ pub record MaySeeProfile (s : State) (console : ConsoleRow) (p : Profile) : Type
   pub right : (SeesAll user ⊎ (p.owner ≡ user.id)) ⊎ (includes (held_at s console user p) Read ≡ true)
 
 abbrev pub ProfilesAreSeenByReaders : Type 0
-ProfilesAreSeenByReaders = (s : State) (console : ConsoleRow) (p : Profile) → (profile_shown s console p ≡ true) ↔ MaySeeProfile s console p
+ProfilesAreSeenByReaders = (s : State) (console : ConsoleRow) (p : Profile)
+    → (profile_shown s console p ≡ true) ↔ MaySeeProfile s console p
 
 -- the account by nobody else,
 abbrev pub AccountIsSeenByAuditors : Type 0
-AccountIsSeenByAuditors = (s : State) (console : ConsoleRow) → (account_shown s console ≡ true) ↔ ((user : User) × (acting s console ≡ Some user) × SeesAll user)
+AccountIsSeenByAuditors = (s : State) (console : ConsoleRow)
+    → (account_shown s console ≡ true) ↔ ((user : User) × (acting s console ≡ Some user) × SeesAll user)
 
 -- and SPECIAL alone imports.
 abbrev pub ImportsAreOfSpecial : Type 0
-ImportsAreOfSpecial = (s : State) (console : ConsoleRow) → (is_special (acting s console) ≡ true) ↔ ((user : User) × (acting s console ≡ Some user) × (user.special ≡ true))
+ImportsAreOfSpecial = (s : State) (console : ConsoleRow)
+    → (is_special (acting s console) ≡ true) ↔ ((user : User) × (acting s console ≡ Some user) × (user.special ≡ true))

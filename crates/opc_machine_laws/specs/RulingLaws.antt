@@ -31,12 +31,15 @@ held_at s console user p = held p user (Some console.name) (groups_of s.policy.c
 
 -- A profile of an active class decides: it allows a user who holds what is needed, and others where it only warns. The
 -- rule names it, and tells of a warning exactly where that alone lets pass.
-pub record IsByProfile (s : State) (console : ConsoleRow) (user : User) (class : Class) (resource : List ℕ) (needed : Level) (ruled : Ruling) : Type 0 where
+pub record IsByProfile (s : State) (console : ConsoleRow) (user : User) (class : Class) (resource : List ℕ)
+    (needed : Level) (ruled : Ruling) : Type 0 where
   pub profile : Profile
   pub active : is_active s.policy.active class ≡ true
   pub decides : deciding_in s.policy class resource ≡ Some profile
   pub of_class : profile.class ≡ class
-  pub says : ruled ≡ said (includes (held_at s console user profile) needed || profile.warning) (rule.Profile profile.class profile.pattern (held_at s console user profile) needed (not (includes (held_at s console user profile) needed) && profile.warning))
+  pub says : ruled ≡ said (includes (held_at s console user profile) needed || profile.warning) (rule.Profile
+      profile.class profile.pattern (held_at s console user profile) needed
+      (not (includes (held_at s console user profile) needed) && profile.warning))
 
 -- No profile decides: the class is not active, or none covers.
 abbrev pub IsUndecided : State → Class → List ℕ → Type 0
@@ -66,7 +69,8 @@ pub record IsFree (s : State) (console : ConsoleRow) (denial : Option Rule) : Ty
   pub says : denial ≡ None
 
 abbrev pub LogonRuleSaysWhy : Type 0
-LogonRuleSaysWhy = (s : State) (console : ConsoleRow) → IsDeniedUnattended console (logon_denial s console) ⊎ (IsDeniedRevoked s console (logon_denial s console) ⊎ IsFree s console (logon_denial s console))
+LogonRuleSaysWhy = (s : State) (console : ConsoleRow) → IsDeniedUnattended console (logon_denial s console)
+    ⊎ (IsDeniedRevoked s console (logon_denial s console) ⊎ IsFree s console (logon_denial s console))
 
 -- What a command needs is ruled by the first of these that applies: the logon rule,
 pub record IsRuledByLogon (s : State) (console : ConsoleRow) (ruled : Ruling) : Type 0 where
@@ -88,12 +92,16 @@ pub record IsRuledByConsole (s : State) (console : ConsoleRow) (need : Need) (ru
   pub says : ruled ≡ said (enters console.auth need.group) (rule.ConsoleGroup need.group console.auth)
 
 abbrev pub RulingsSayWhy : Type 0
-RulingsSayWhy = (s : State) (console : ConsoleRow) (need : Need) → IsRuledByLogon s console (ruling s console need) ⊎ (IsRuledByProfile s console need (ruling s console need) ⊎ IsRuledByConsole s console need (ruling s console need))
+RulingsSayWhy = (s : State) (console : ConsoleRow) (need : Need) → IsRuledByLogon s console (ruling s console need)
+    ⊎ (IsRuledByProfile s console need (ruling s console need)
+    ⊎ IsRuledByConsole s console need (ruling s console need))
 
 -- A user who logs on is refused where revoked, then ruled on by the profile of CONSOLE that decides, and else admitted.
 pub record IsRuledAtLogon (s : State) (console : ConsoleRow) (user : User) (ruled : Ruling) : Type 0 where
   pub revoked : user.revoked ≡ true → ruled ≡ Denied rule.Revoked
-  pub trusted : user.revoked ≡ false → IsByProfile s console user Console console.name Read ruled ⊎ (IsUndecided s Console console.name × (ruled ≡ Allowed rule.NoProfile))
+  pub trusted : user.revoked ≡ false → IsByProfile s console user Console console.name Read ruled
+      ⊎ (IsUndecided s Console console.name × (ruled ≡ Allowed rule.NoProfile))
 
 abbrev pub LogonRulingsSayWhy : Type 0
-LogonRulingsSayWhy = (s : State) (console : ConsoleRow) (user : User) → IsRuledAtLogon s console user (logon_ruling s console user)
+LogonRulingsSayWhy = (s : State) (console : ConsoleRow) (user : User)
+    → IsRuledAtLogon s console user (logon_ruling s console user)

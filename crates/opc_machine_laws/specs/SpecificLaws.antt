@@ -5,8 +5,8 @@ use Rattle.opc_names.specs.declared.token.Token.TheVariants.{Literal, Percent, S
 use Rattle.opc_names.specs.Order.{Before}
 use Rattle.opc_names.specs.Patterns.{covers_text}
 
--- What a token stands for: a character for itself, `%` for any one that is no period, `*` for any number of those, and `**`
--- for any text.
+-- What a token stands for: a character for itself, `%` for any one that is no period, `*` for any number of those, and
+-- `**` for any text.
 abbrev pub StandsFor : Token → List ℕ → Type 0
 StandsFor (Literal c) text = text ≡ c ∷ []
 StandsFor Percent text = (c : ℕ) × (text ≡ c ∷ []) × (c ≢ 46)
@@ -20,20 +20,25 @@ pub record IsNarrower (t u : Token) : Type 0 where
 
 -- Where two patterns differ first, the one comes before whose token stands for less.
 abbrev pub NarrowerComesFirst : Type 0
-NarrowerComesFirst = (common rest others : List Token) (t u : Token) → IsNarrower t u → Before (common ++ t ∷ rest) (common ++ u ∷ others)
+NarrowerComesFirst = (common rest others : List Token) (t u : Token) → IsNarrower t u
+    → Before (common ++ t ∷ rest) (common ++ u ∷ others)
 
 -- Worked examples of what patterns cover, with `%`, `*` and `**` in a qualifier, at the end, and between others.
 abbrev pub covered : List (List ℕ × List ℕ)
 covered =
     (codes "A.B", codes "A.B") ∷ (codes "A.%", codes "A.B") ∷ (codes "A.B%D", codes "A.BCD")
-    ∷ (codes "A.*", codes "A.B") ∷ (codes "A.*", codes "A.B.C") ∷ (codes "A.B*", codes "A.B") ∷ (codes "A.B*", codes "A.BC.D")
-    ∷ (codes "A.*.C", codes "A.B.C") ∷ (codes "**", codes "A.B.C") ∷ (codes "A.**", codes "A") ∷ (codes "A.**", codes "A.B.C")
+    ∷ (codes "A.*", codes "A.B") ∷ (codes "A.*", codes "A.B.C") ∷ (codes "A.B*", codes "A.B")
+    ∷ (codes "A.B*", codes "A.BC.D")
+    ∷ (codes "A.*.C", codes "A.B.C") ∷ (codes "**", codes "A.B.C") ∷ (codes "A.**", codes "A")
+    ∷ (codes "A.**", codes "A.B.C")
     ∷ (codes "A.**.D", codes "A.D") ∷ (codes "A.**.D", codes "A.B.C.D") ∷ []
 
 abbrev pub uncovered : List (List ℕ × List ℕ)
 uncovered =
-    (codes "A.B", codes "A.C") ∷ (codes "A.B", codes "A.B.C") ∷ (codes "A.%", codes "A.BC") ∷ (codes "A.B%", codes "A.B")
-    ∷ (codes "A.%", codes "A") ∷ (codes "A.*", codes "A") ∷ (codes "A.B*", codes "A.C") ∷ (codes "A.*.C", codes "A.B.B.C") ∷ (codes "A.*.C", codes "A.C")
+    (codes "A.B", codes "A.C") ∷ (codes "A.B", codes "A.B.C") ∷ (codes "A.%", codes "A.BC")
+    ∷ (codes "A.B%", codes "A.B")
+    ∷ (codes "A.%", codes "A") ∷ (codes "A.*", codes "A") ∷ (codes "A.B*", codes "A.C")
+    ∷ (codes "A.*.C", codes "A.B.B.C") ∷ (codes "A.*.C", codes "A.C")
     ∷ (codes "A.**", codes "B.A") ∷ (codes "A.**.D", codes "A.D.E") ∷ []
 
 abbrev pub AreCovered : List (List ℕ × List ℕ) → Bool → Type 0

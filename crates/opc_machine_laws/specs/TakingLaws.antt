@@ -31,22 +31,74 @@ HasProfiles old profiles new = new ≡ record old { policy = record old.policy {
 -- An operation does this and nothing else. A profile that is defined or altered keeps the access list that is there.
 abbrev pub IsDoneTo : State → Operation → State → Type 0
 IsDoneTo old (operation.AddUser id special auditor digest restricted) new =
-    HasUsers old (with_user (record { id = id; special = special; auditor = auditor; revoked = false; digest = digest; restricted = restricted }) old.policy.users) new
+    HasUsers old (with_user (record {
+      id = id;
+      special = special;
+      auditor = auditor;
+      revoked = false;
+      digest = digest;
+      restricted = restricted;
+    }) old.policy.users) new
 IsDoneTo old (operation.AltUser id special auditor revoked digest restricted) new =
-    HasUsers old (with_user (record { id = id; special = special; auditor = auditor; revoked = revoked; digest = digest; restricted = restricted }) old.policy.users) new
+    HasUsers old (with_user (record {
+      id = id;
+      special = special;
+      auditor = auditor;
+      revoked = revoked;
+      digest = digest;
+      restricted = restricted;
+    }) old.policy.users) new
 IsDoneTo old (operation.DelUser id) new = HasUsers old (without_user id old.policy.users) new
-IsDoneTo old (operation.AddGroup name) new = new ≡ record old { policy = record old.policy { groups = with_group name old.policy.groups } }
-IsDoneTo old (operation.Connect user group) new = new ≡ record old { policy = record old.policy { connects = with_connect (record { user = user; group = group }) old.policy.connects } }
-IsDoneTo old (operation.Remove user group) new = new ≡ record old { policy = record old.policy { connects = without_connect (record { user = user; group = group }) old.policy.connects } }
+IsDoneTo old (operation.AddGroup name) new =
+    new ≡ record old { policy = record old.policy { groups = with_group name old.policy.groups } }
+IsDoneTo old (operation.Connect user group) new = new ≡ record old {
+  policy = record old.policy {
+    connects = with_connect (record {
+      user = user;
+      group = group;
+    }) old.policy.connects;
+  };
+}
+IsDoneTo old (operation.Remove user group) new = new ≡ record old {
+  policy = record old.policy {
+    connects = without_connect (record {
+      user = user;
+      group = group;
+    }) old.policy.connects;
+  };
+}
 IsDoneTo old (operation.RDefine class pattern owner uacc warning) new =
-    HasProfiles old (with_definition (record { class = class; pattern = pattern; owner = owner; uacc = uacc; warning = warning; entries = [] }) old.policy.profiles) new
+    HasProfiles old (with_definition (record {
+      class = class;
+      pattern = pattern;
+      owner = owner;
+      uacc = uacc;
+      warning = warning;
+      entries = [];
+    }) old.policy.profiles) new
 IsDoneTo old (operation.RAlter class pattern owner uacc warning) new =
-    HasProfiles old (with_definition (record { class = class; pattern = pattern; owner = owner; uacc = uacc; warning = warning; entries = [] }) old.policy.profiles) new
-IsDoneTo old (operation.RDelete class pattern) new = HasProfiles old (without_profile class pattern old.policy.profiles) new
-IsDoneTo old (operation.Permit class pattern id level when) new = HasProfiles old (with_permission class pattern (record { id = id; when = when; level = level }) old.policy.profiles) new
-IsDoneTo old (operation.PermitDelete class pattern id when) new = HasProfiles old (without_permission class pattern id when old.policy.profiles) new
-IsDoneTo old (operation.ClassActive class active) new = new ≡ record old { policy = record old.policy { active = with_active class active old.policy.active } }
-IsDoneTo old (operation.DefineConsole name auth mode) new = new ≡ record old { board = console_defined name auth mode old.board }
+    HasProfiles old (with_definition (record {
+      class = class;
+      pattern = pattern;
+      owner = owner;
+      uacc = uacc;
+      warning = warning;
+      entries = [];
+    }) old.policy.profiles) new
+IsDoneTo old (operation.RDelete class pattern) new =
+    HasProfiles old (without_profile class pattern old.policy.profiles) new
+IsDoneTo old (operation.Permit class pattern id level when) new =
+    HasProfiles old (with_permission class pattern (record {
+      id = id;
+      when = when;
+      level = level;
+    }) old.policy.profiles) new
+IsDoneTo old (operation.PermitDelete class pattern id when) new =
+    HasProfiles old (without_permission class pattern id when old.policy.profiles) new
+IsDoneTo old (operation.ClassActive class active) new =
+    new ≡ record old { policy = record old.policy { active = with_active class active old.policy.active } }
+IsDoneTo old (operation.DefineConsole name auth mode) new =
+    new ≡ record old { board = console_defined name auth mode old.board }
 
 abbrev pub OperationsDoWhatTheySay : Type 0
 OperationsDoWhatTheySay = (s : State) (o : Operation) (new : State) → changed s o ≡ Ok new → IsDoneTo s o new

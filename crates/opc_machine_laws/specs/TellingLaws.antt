@@ -66,8 +66,10 @@ TypedTextsSay = (typed : List ℕ) → Says typed (text_value typed)
 
 -- Worked examples of the text of each rule,
 pub record RulesReadSo : Type 0 where
-  pub profile : rule_text (rule.Profile Opercmds (codes "MVS.CANCEL.**") level.Read level.Update false) ≡ codes "PROFILE OPERCMDS MVS.CANCEL.** HELD READ NEEDED UPDATE"
-  pub warned : rule_text (rule.Profile Console (codes "C1") level.None level.Read true) ≡ codes "PROFILE CONSOLE C1 HELD NONE NEEDED READ WARNED"
+  pub profile : rule_text (rule.Profile Opercmds (codes "MVS.CANCEL.**") level.Read level.Update false) ≡ codes
+      "PROFILE OPERCMDS MVS.CANCEL.** HELD READ NEEDED UPDATE"
+  pub warned : rule_text (rule.Profile Console (codes "C1") level.None level.Read true) ≡ codes
+      "PROFILE CONSOLE C1 HELD NONE NEEDED READ WARNED"
   pub none : rule_text rule.NoProfile ≡ codes "NOPROFILE"
   pub group : rule_text (rule.ConsoleGroup group.Sys auth.SysIo) ≡ codes "GROUP SYS AUTH SYS,IO"
   pub logon : rule_text rule.LogonRequired ≡ codes "LOGONREQUIRED"
@@ -76,19 +78,72 @@ pub record RulesReadSo : Type 0 where
 
 -- of the words for levels and groups,
 pub record WordsReadSo : Type 0 where
-  pub levels : map level_text levels_up ≡ codes "NONE" ∷ codes "READ" ∷ codes "UPDATE" ∷ codes "CONTROL" ∷ codes "ALTER" ∷ []
-  pub groups : map group_text (group.Master ∷ group.Info ∷ group.Sys ∷ group.Io ∷ group.Cons ∷ []) ≡ codes "MASTER" ∷ codes "INFO" ∷ codes "SYS" ∷ codes "IO" ∷ codes "CONS" ∷ []
+  pub levels : map level_text levels_up ≡ codes "NONE" ∷ codes "READ" ∷ codes "UPDATE" ∷ codes "CONTROL" ∷ codes "ALTER"
+      ∷ []
+  pub groups : map group_text (group.Master ∷ group.Info ∷ group.Sys ∷ group.Io ∷ group.Cons ∷ []) ≡ codes "MASTER"
+      ∷ codes "INFO" ∷ codes "SYS" ∷ codes "IO" ∷ codes "CONS" ∷ []
 
 -- and of each kind of line.
 pub record LinesReadSo : Type 0 where
-  pub job : (unit_line (record { name = codes "PAY1"; kind = Job; cancelable = true; stopping = false; last_text = None })).text ≡ codes "PAY1     JOB ACTIVE"
-  pub task : (unit_line (record { name = codes "JES2"; kind = Stc (codes "JES"); cancelable = true; stopping = true; last_text = None })).text ≡ codes "JES2     STC STOPPING JES"
-  pub session : (unit_line (record { name = codes "OPERATOR"; kind = Tsu; cancelable = true; stopping = false; last_text = None })).text ≡ codes "OPERATOR TSU ACTIVE"
-  pub used : (device_line (record { number = codes "0A80"; online = true; volume = Some (codes "VOL1"); unit = Some (codes "PAY1") })).text ≡ codes "0A80 ONLINE  VOL1   PAY1"
-  pub free : (device_line (record { number = codes "0A81"; online = false; volume = None; unit = None })).text ≡ codes "0A81 OFFLINE ------ -"
-  pub attended : (console_line (record { name = codes "C1"; auth = auth.SysIo; mode = mode.Required; online = true; user = Some (codes "ANNA"); monitor = true })).text ≡ codes "C1       ONLINE  MN SYS,IO ANNA"
+  pub job : (unit_line (record {
+    name = codes "PAY1";
+    kind = Job;
+    cancelable = true;
+    stopping = false;
+    last_text = None;
+  })).text ≡ codes "PAY1     JOB ACTIVE"
+  pub task : (unit_line (record {
+    name = codes "JES2";
+    kind = Stc (codes "JES");
+    cancelable = true;
+    stopping = true;
+    last_text = None;
+  })).text ≡ codes "JES2     STC STOPPING JES"
+  pub session : (unit_line (record {
+    name = codes "OPERATOR";
+    kind = Tsu;
+    cancelable = true;
+    stopping = false;
+    last_text = None;
+  })).text ≡ codes "OPERATOR TSU ACTIVE"
+  pub used : (device_line (record {
+    number = codes "0A80";
+    online = true;
+    volume = Some (codes "VOL1");
+    unit = Some (codes "PAY1");
+  })).text ≡ codes "0A80 ONLINE  VOL1   PAY1"
+  pub free : (device_line (record {
+    number = codes "0A81";
+    online = false;
+    volume = None;
+    unit = None;
+  })).text ≡ codes "0A81 OFFLINE ------ -"
+  pub attended : (console_line (record {
+    name = codes "C1";
+    auth = auth.SysIo;
+    mode = mode.Required;
+    online = true;
+    user = Some (codes "ANNA");
+    monitor = true;
+  })).text ≡ codes "C1       ONLINE  MN SYS,IO ANNA"
   pub unattended : (console_line (record { name = codes "MASTER1"; auth = auth.Master; mode = mode.Optional; online = false; user = None; monitor = false })).text ≡ codes "MASTER1  OFFLINE -- MASTER -"
   pub reply : (reply_line 7 (codes "READY?")).text ≡ codes "07 READY?"
-  pub profile : (profile_line (record { class = Opercmds; pattern = codes "A.*"; owner = codes "FRED"; uacc = level.Read; warning = true; entries = [] })).text ≡ codes "A.* UACC READ OWNER FRED WARNING"
-  pub account : (account_line (3, record { moment = 101; console = codes "C1"; user = codes "ANNA"; code = codes "E12"; rule = codes "LOGONREQUIRED" })).text ≡ codes "3 101 C1 ANNA E12 LOGONREQUIRED"
+  pub profile : (profile_line (record {
+    class = Opercmds;
+    pattern = codes "A.*";
+    owner = codes "FRED";
+    uacc = level.Read;
+    warning = true;
+    entries = [];
+  })).text ≡ codes "A.* UACC READ OWNER FRED WARNING"
+  pub account : (account_line (
+    3,
+    record {
+      moment = 101;
+      console = codes "C1";
+      user = codes "ANNA";
+      code = codes "E12";
+      rule = codes "LOGONREQUIRED";
+    },
+  )).text ≡ codes "3 101 C1 ANNA E12 LOGONREQUIRED"
   pub batch : (batch_line 7 (codes "KEPT")).text ≡ codes "BATCH 7 KEPT"

@@ -1,10 +1,15 @@
 //! What commands and events leave on the board, to those who look at it afterwards.
 ghost use Rattle.opc_machine_laws.specs.EffectLaws.{CommandsDoWhatTheySay, EventsDoWhatTheySay};
-ghost use Rattle.opc_machine_laws.specs.HindranceLaws.{BoardObstaclesAreFaults, CommandsActWithoutObstacle, EventObstaclesAreFaults, EventsHappenWithoutObstacle};
+ghost use Rattle.opc_machine_laws.specs.HindranceLaws.{
+  BoardObstaclesAreFaults,
+  CommandsActWithoutObstacle,
+  EventObstaclesAreFaults,
+  EventsHappenWithoutObstacle,
+};
 ghost use Rattle.opc_machine_laws.specs.LeavingLaws.{StepsKeepAMaster};
 
-/// A command that is done ends, marks or moves what it names, keeps its text or halts the day, and changes nothing else on
-/// the board.
+/// A command that is done ends, marks or moves what it names, keeps its text or halts the day, and changes nothing else
+/// on the board.
 pub fn commands_do_what_they_say()
     ensures { CommandsDoWhatTheySay }
 {}
@@ -14,8 +19,8 @@ pub fn events_do_what_they_say()
     ensures { EventsDoWhatTheySay }
 {}
 
-/// A command is refused by the first of what is in its way on the board (E30 to E42), and without any acts, unless the last
-/// online console with AUTH MASTER were lost (E41).
+/// A command is refused by the first of what is in its way on the board (E30 to E42), and without any acts, unless the
+/// last online console with AUTH MASTER were lost (E41).
 pub fn commands_are_refused_by_what_is_in_their_way()
     ensures refused { BoardObstaclesAreFaults }
     ensures done { CommandsActWithoutObstacle }

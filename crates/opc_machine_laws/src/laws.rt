@@ -1,17 +1,97 @@
 //! What the access machine means to those who use it, each law as what a call without a body ensures.
-ghost use Rattle.opc_machine_laws.specs.ActingLaws.{AutoConsolesActForTheirOwn, OptionalConsolesActAlone, OtherAutoConsolesActAlone, OthersAreAccountedToNobody, RequiredConsolesActForNobody, WhoIsOnComesFirst};
-ghost use Rattle.opc_machine_laws.specs.ChangingLaws.{AccountIsPaged, AdministersOnlyWhereAllowed, AdministersWhereverAllowed, ImportsOnlyWhereAllowed, ImportsWhereverAllowed, ListsAccountOnlyWhereShown, ListsAccountWhereverShown, ListsExactlyProfilesShown, ListsProfilesWhereverAsked, MoreSpecificProfilesComeFirst, RepeatsWhereverAllowed, SameRowsAreEqual};
-ghost use Rattle.opc_machine_laws.specs.DisplayLaws.{LinesAreAboutWhatTheyList, ListsEachConsoleOnce, ListsEachUnitOnce, ListsEveryConsole, ListsEveryUnit, ListsTheUnit, ListsTheUnitOnce};
-ghost use Rattle.opc_machine_laws.specs.FaultLaws.{AdministrationFaultsAreAnswered, BadLinesAreAnswered, ChangedBatchesAreAnswered, ImportFaultsAreAnswered, LogonFaultsAreAnswered, MissingConsolesAreAnswered, MissingRightsAreAnswered, OfflineConsolesAreAnswered};
-ghost use Rattle.opc_machine_laws.specs.HoldingLaws.{ConsoleEntriesRaise, ConsolesNeverLower, EntriesCountAtTheirConsole, FirstSourceDecides, LevelsAreGiven, RestrictedUsersAreNamed};
-ghost use Rattle.opc_machine_laws.specs.Laws.{ActsOnlyWhereAllowed, ActsWhereverAllowed, BoardFaultsAreAnswered, DenialsAreAnswered, AbortsChangeNothing, AbortsWithoutMemoryOrStore, ListsExactlyWhatMayBeShown, LogsOffOnlyWhereSomebodyIsOn, LogsOffWhereverSomebodyIsOn, LogsOnOnlyWhereAllowed, LogsOnWhereverAllowed, NothingAskedChangesNothing, OnlyWhatIsHeardIsDone, RefusalsChangeNothing, RefusalsNameNoOtherRule, RefusalsOfAuthorityNameTheirRule, RequestsAreJudgedInTurn};
-ghost use Rattle.opc_machine_laws.specs.LeavingLaws.{AccountRowsSay, EventFaultsAreAnswered, EventsHappenWhereverPossible, EventsOnlyDoTheirEffect, RequestsNameTheirConsole, WhatIsDoneLeavesRest};
+ghost use Rattle.opc_machine_laws.specs.ActingLaws.{
+  AutoConsolesActForTheirOwn,
+  OptionalConsolesActAlone,
+  OtherAutoConsolesActAlone,
+  OthersAreAccountedToNobody,
+  RequiredConsolesActForNobody,
+  WhoIsOnComesFirst,
+};
+ghost use Rattle.opc_machine_laws.specs.ChangingLaws.{
+  AccountIsPaged,
+  AdministersOnlyWhereAllowed,
+  AdministersWhereverAllowed,
+  ImportsOnlyWhereAllowed,
+  ImportsWhereverAllowed,
+  ListsAccountOnlyWhereShown,
+  ListsAccountWhereverShown,
+  ListsExactlyProfilesShown,
+  ListsProfilesWhereverAsked,
+  MoreSpecificProfilesComeFirst,
+  RepeatsWhereverAllowed,
+  SameRowsAreEqual,
+};
+ghost use Rattle.opc_machine_laws.specs.DisplayLaws.{
+  LinesAreAboutWhatTheyList,
+  ListsEachConsoleOnce,
+  ListsEachUnitOnce,
+  ListsEveryConsole,
+  ListsEveryUnit,
+  ListsTheUnit,
+  ListsTheUnitOnce,
+};
+ghost use Rattle.opc_machine_laws.specs.FaultLaws.{
+  AdministrationFaultsAreAnswered,
+  BadLinesAreAnswered,
+  ChangedBatchesAreAnswered,
+  ImportFaultsAreAnswered,
+  LogonFaultsAreAnswered,
+  MissingConsolesAreAnswered,
+  MissingRightsAreAnswered,
+  OfflineConsolesAreAnswered,
+};
+ghost use Rattle.opc_machine_laws.specs.HoldingLaws.{
+  ConsoleEntriesRaise,
+  ConsolesNeverLower,
+  EntriesCountAtTheirConsole,
+  FirstSourceDecides,
+  LevelsAreGiven,
+  RestrictedUsersAreNamed,
+};
+ghost use Rattle.opc_machine_laws.specs.Laws.{
+  ActsOnlyWhereAllowed,
+  ActsWhereverAllowed,
+  BoardFaultsAreAnswered,
+  DenialsAreAnswered,
+  AbortsChangeNothing,
+  AbortsWithoutMemoryOrStore,
+  ListsExactlyWhatMayBeShown,
+  LogsOffOnlyWhereSomebodyIsOn,
+  LogsOffWhereverSomebodyIsOn,
+  LogsOnOnlyWhereAllowed,
+  LogsOnWhereverAllowed,
+  NothingAskedChangesNothing,
+  OnlyWhatIsHeardIsDone,
+  RefusalsChangeNothing,
+  RefusalsNameNoOtherRule,
+  RefusalsOfAuthorityNameTheirRule,
+  RequestsAreJudgedInTurn,
+};
+ghost use Rattle.opc_machine_laws.specs.LeavingLaws.{
+  AccountRowsSay,
+  EventFaultsAreAnswered,
+  EventsHappenWhereverPossible,
+  EventsOnlyDoTheirEffect,
+  RequestsNameTheirConsole,
+  WhatIsDoneLeavesRest,
+};
 ghost use Rattle.opc_machine_laws.specs.NeedLaws.{AuthoritiesEnterTheirGroups, NeedsAreOfTheTable};
 ghost use Rattle.opc_machine_laws.specs.NumberLaws.{BoardFaultsAreDistinct, LineFaultsAreDistinct};
 ghost use Rattle.opc_machine_laws.specs.ObstacleLaws.{ObstaclesAreFaults, OperationsAreDoneWithoutObstacle};
-ghost use Rattle.opc_machine_laws.specs.RightLaws.{AccountIsSeenByAuditors, ImportsAreOfSpecial, ProfilesAreSeenByReaders, RightsAreOfSpecialAndOwners};
+ghost use Rattle.opc_machine_laws.specs.RightLaws.{
+  AccountIsSeenByAuditors,
+  ImportsAreOfSpecial,
+  ProfilesAreSeenByReaders,
+  RightsAreOfSpecialAndOwners,
+};
 ghost use Rattle.opc_machine_laws.specs.RulingLaws.{LogonRuleSaysWhy, LogonRulingsSayWhy, RulingsSayWhy};
-ghost use Rattle.opc_machine_laws.specs.TakingLaws.{BatchesAreFoundByNumber, FirstPoliciesAreFirst, OperationsDoWhatTheySay, OperationsKeepAMaster, RowsAreTakenInTurn};
+ghost use Rattle.opc_machine_laws.specs.TakingLaws.{
+  BatchesAreFoundByNumber,
+  FirstPoliciesAreFirst,
+  OperationsDoWhatTheySay,
+  OperationsKeepAMaster,
+  RowsAreTakenInTurn,
+};
 
 /// A command acts only where the written policy of that moment allows it.
 pub fn acts_only_where_allowed()
@@ -24,7 +104,8 @@ pub fn acts_wherever_allowed()
     ensures { ActsWhereverAllowed }
 {}
 
-/// Nothing else that is typed is done: only a line that is heard, of a command that needs something, or of LOGON or LOGOFF.
+/// Nothing else that is typed is done: only a line that is heard, of a command that needs something, or of LOGON or
+/// LOGOFF.
 pub fn only_what_is_heard_is_done()
     ensures { OnlyWhatIsHeardIsDone }
 {}
@@ -54,7 +135,8 @@ pub fn lists_exactly_what_may_be_shown()
     ensures { ListsExactlyWhatMayBeShown }
 {}
 
-/// The line of a unit or a console is about it, is shown where READ on its resource is allowed, and a plain one always is.
+/// The line of a unit or a console is about it, is shown where READ on its resource is allowed, and a plain one always
+/// is.
 pub fn lines_are_about_what_they_list()
     ensures { LinesAreAboutWhatTheyList }
 {}
@@ -124,8 +206,8 @@ pub fn operations_do_what_they_say()
     ensures master { OperationsKeepAMaster }
 {}
 
-/// Each operation is refused by the first of what is in its way (E52, E53, E55), and without any is done, unless the last
-/// online console with AUTH MASTER were lost (E41).
+/// Each operation is refused by the first of what is in its way (E52, E53, E55), and without any is done, unless the
+/// last online console with AUTH MASTER were lost (E41).
 pub fn operations_are_refused_by_what_is_in_their_way()
     ensures refused { ObstaclesAreFaults }
     ensures done { OperationsAreDoneWithoutObstacle }
@@ -161,8 +243,8 @@ pub fn lists_account_wherever_shown()
     ensures { ListsAccountWhereverShown }
 {}
 
-/// The n-th line of such a list is the row that was asked for or the n-th from there, with its number; there are as many as
-/// were asked for, or as there are rows.
+/// The n-th line of such a list is the row that was asked for or the n-th from there, with its number; there are as
+/// many as were asked for, or as there are rows.
 pub fn account_is_paged()
     ensures { AccountIsPaged }
 {}
@@ -238,7 +320,8 @@ pub fn refusals_name_no_other_rule()
     ensures { RefusalsNameNoOtherRule }
 {}
 
-/// What the written policy of that moment denies is answered by that denial and its rule, unless the request is aborted.
+/// What the written policy of that moment denies is answered by that denial and its rule, unless the request is
+/// aborted.
 pub fn denials_are_answered()
     ensures { DenialsAreAnswered }
 {}
@@ -265,20 +348,20 @@ pub fn faults_are_distinct()
     ensures line { LineFaultsAreDistinct }
 {}
 
-/// A LOGON is refused where somebody is on (E15), then where the password is not the user's (E14); LOGOFF where nobody is on
-/// (E16).
+/// A LOGON is refused where somebody is on (E15), then where the password is not the user's (E14); LOGOFF where nobody
+/// is on (E16).
 pub fn logon_faults_are_answered()
     ensures { LogonFaultsAreAnswered }
 {}
 
-/// Where the right is missing, that alone is answered, whatever else is in the way: that only SPECIAL may (E50), or only the
-/// owner of the profile too (E51).
+/// Where the right is missing, that alone is answered, whatever else is in the way: that only SPECIAL may (E50), or
+/// only the owner of the profile too (E51).
 pub fn missing_rights_are_answered()
     ensures { MissingRightsAreAnswered }
 {}
 
-/// Where the right is there, what is in the way of the change or of a row is answered, and of a batch that is kept with other
-/// rows that it is (E56).
+/// Where the right is there, what is in the way of the change or of a row is answered, and of a batch that is kept with
+/// other rows that it is (E56).
 pub fn what_is_in_the_way_is_answered()
     ensures administration { AdministrationFaultsAreAnswered }
     ensures rows { ImportFaultsAreAnswered }
@@ -321,8 +404,8 @@ pub fn logon_rule_says_why()
     ensures { LogonRuleSaysWhy }
 {}
 
-/// A ruling is that of the logon rule, else that of the profile of OPERCMDS that decides on whoever acts, else that of the
-/// console's authority.
+/// A ruling is that of the logon rule, else that of the profile of OPERCMDS that decides on whoever acts, else that of
+/// the console's authority.
 pub fn rulings_say_why()
     ensures { RulingsSayWhy }
 {}
@@ -357,8 +440,8 @@ pub fn restricted_users_are_named()
     ensures { RestrictedUsersAreNamed }
 {}
 
-/// The user's own entry decides, then those for the user's groups, then that for everyone, then the universal access: the
-/// first that is there, also where it says NONE.
+/// The user's own entry decides, then those for the user's groups, then that for everyone, then the universal access:
+/// the first that is there, also where it says NONE.
 pub fn the_first_source_decides()
     ensures { FirstSourceDecides }
 {}

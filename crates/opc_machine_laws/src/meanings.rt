@@ -7,8 +7,20 @@ ghost use Rattle.opc_machine_laws.specs.NumberLaws.{FaultsHaveTheirNumbers};
 ghost use Rattle.opc_machine_laws.specs.ReadingLaws.{LinesAreReadSo};
 ghost use Rattle.opc_machine_laws.specs.RowLaws.{BatchesAreKept};
 ghost use Rattle.opc_machine_laws.specs.SpecificLaws.{NarrowerComesFirst, PatternsCoverSo};
-ghost use Rattle.opc_machine_laws.specs.StoredLaws.{ConnectsConnect, NamedIsWhoIsNamed, OnIsWhoIsOn, StoredIsWhatIsThere};
-ghost use Rattle.opc_machine_laws.specs.TellingLaws.{LinesReadSo, RulesReadSo, SpellingsReadBack, TypedTextsSay, VerbsAreSpelledSo, WordsReadSo};
+ghost use Rattle.opc_machine_laws.specs.StoredLaws.{
+  ConnectsConnect,
+  NamedIsWhoIsNamed,
+  OnIsWhoIsOn,
+  StoredIsWhatIsThere,
+};
+ghost use Rattle.opc_machine_laws.specs.TellingLaws.{
+  LinesReadSo,
+  RulesReadSo,
+  SpellingsReadBack,
+  TypedTextsSay,
+  VerbsAreSpelledSo,
+  WordsReadSo,
+};
 
 /// What each command needs: a group, a level and a resource, which names the unit that is there.
 pub fn commands_need_so()
@@ -35,8 +47,8 @@ pub fn levels_include_those_below()
     ensures { LevelsIncludeThoseBelow }
 {}
 
-/// What is taken as stored is stored: users, groups and whom entries may be for, connects and the groups of a user, who is named
-/// anywhere, and who is on.
+/// What is taken as stored is stored: users, groups and whom entries may be for, connects and the groups of a user, who
+/// is named anywhere, and who is on.
 pub fn stored_is_what_is_there()
     ensures names { StoredIsWhatIsThere }
     ensures connects { ConnectsConnect }
@@ -49,7 +61,8 @@ pub fn batches_are_kept()
     ensures { BatchesAreKept }
 {}
 
-/// A display lists what the board has, in its order, R tells the reply that it answers, and no other command tells anything.
+/// A display lists what the board has, in its order, R tells the reply that it answers, and no other command tells
+/// anything.
 pub fn commands_tell_their_lines()
     ensures { CommandsTellTheirLines }
 {}
@@ -59,8 +72,8 @@ pub fn faults_have_their_numbers()
     ensures { FaultsHaveTheirNumbers }
 {}
 
-/// Each level, class, authority and mode is read back from its text, each verb has its two words, and a typed text says what
-/// stands between its apostrophes.
+/// Each level, class, authority and mode is read back from its text, each verb has its two words, and a typed text says
+/// what stands between its apostrophes.
 pub fn what_is_read_is_what_is_written()
     ensures spellings { SpellingsReadBack }
     ensures verbs { VerbsAreSpelledSo }

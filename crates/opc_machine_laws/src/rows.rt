@@ -1,9 +1,16 @@
 //! What the rows of an import do, and operations of administration, to those who look at the policy afterwards.
 ghost use Rattle.opc_machine_laws.specs.OperationLaws.{OperationsChangeWhatTheyName};
-ghost use Rattle.opc_machine_laws.specs.RowLaws.{ConsolesAreDefined, RowObstaclesAreFaults, RowsAreTakenWithoutObstacle, RowsDoWhatTheySay, RowsKeepAMasterOrAreRefused, RowsNeverDelete};
+ghost use Rattle.opc_machine_laws.specs.RowLaws.{
+  ConsolesAreDefined,
+  RowObstaclesAreFaults,
+  RowsAreTakenWithoutObstacle,
+  RowsDoWhatTheySay,
+  RowsKeepAMasterOrAreRefused,
+  RowsNeverDelete,
+};
 
-/// A row defines or replaces what it names, and nothing else: a profile that is there keeps its access list, and a user has
-/// the flags that the row names and no other.
+/// A row defines or replaces what it names, and nothing else: a profile that is there keeps its access list, and a user
+/// has the flags that the row names and no other.
 pub fn rows_do_what_they_say()
     ensures { RowsDoWhatTheySay }
 {}
@@ -18,16 +25,16 @@ pub fn rows_never_delete()
     ensures { RowsNeverDelete }
 {}
 
-/// Rows are refused by the first thing that is in the way of the first such row (E52, E53), and where nothing is, only if
-/// the last online console with AUTH MASTER were lost by all of them (E41).
+/// Rows are refused by the first thing that is in the way of the first such row (E52, E53), and where nothing is, only
+/// if the last online console with AUTH MASTER were lost by all of them (E41).
 pub fn rows_are_refused_by_their_first_obstacle()
     ensures taken { RowsAreTakenWithoutObstacle }
     ensures refused { RowObstaclesAreFaults }
     ensures master { RowsKeepAMasterOrAreRefused }
 {}
 
-/// An operation that defines, alters or permits leaves what such a row leaves, and one that deletes nothing of what it names;
-/// all else stays.
+/// An operation that defines, alters or permits leaves what such a row leaves, and one that deletes nothing of what it
+/// names; all else stays.
 pub fn operations_change_what_they_name()
     ensures { OperationsChangeWhatTheyName }
 {}

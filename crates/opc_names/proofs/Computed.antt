@@ -1,5 +1,30 @@
 -- The relation of covering and the function that computes it.
-use Rattle.std.proofs.Common.{◌≡◌, ℕ, ◌↔◌, ◌==◌, ◌&&◌, ◌||◌, Bool, true, false, IsTrue, List, [], ◌∷◌, ◌++◌, map, refl, arith, ap, sym, ◌⊎◌, inl, inr, ⊎_elim, subst}
+use Rattle.std.proofs.Common.{
+  ◌≡◌,
+  ℕ,
+  ◌↔◌,
+  ◌==◌,
+  ◌&&◌,
+  ◌||◌,
+  Bool,
+  true,
+  false,
+  IsTrue,
+  List,
+  [],
+  ◌∷◌,
+  ◌++◌,
+  map,
+  refl,
+  arith,
+  ap,
+  sym,
+  ◌⊎◌,
+  inl,
+  inr,
+  ⊎_elim,
+  subst,
+}
 use Rattle.std.specs.List.{list_any}
 use Rattle.std.proofs.lemmas.Bool.{false≢true}
 use Rattle.std.proofs.lemmas.Bool.Decides.{nat_tests}
@@ -63,14 +88,19 @@ through : {A B C : Type 0} → A ↔ B → B ↔ C → A ↔ C
 through f g = (λ h. g.0 (f.0 h), λ h. f.1 (g.1 h))
 
 -- some suffix of a name is covered exactly where the name splits before one that is
-some_suffix : (p : List (List Token)) → ((r : List (List ℕ)) → IsTrue (covers p r) ↔ Covers p r) → (r : List (List ℕ)) → IsTrue (list_any (covers p) (suffixes r)) ↔ CoversSuffix p r
+some_suffix : (p : List (List Token)) → ((r : List (List ℕ)) → IsTrue (covers p r) ↔ Covers p r) → (r : List (List ℕ))
+    → IsTrue (list_any (covers p) (suffixes r)) ↔ CoversSuffix p r
 some_suffix p is [] = through (or_is (covers p []) false (is []) (λ h. false≢true h, λ h. absurd h)) (suffix_whole p)
 some_suffix p is (s ∷ r) = through (or_is (covers p (s ∷ r)) (list_any (covers p) (suffixes r)) (is (s ∷ r)) (some_suffix p is r)) (suffix_more p s r)
 
 -- after a qualifier other than `**`
-one_part : (q : List Token) (p : List (List Token)) (s : List ℕ) (r : List (List ℕ)) → IsTrue (covers p r) ↔ Covers p r → IsTrue (matches q s && (is_empty p && ends_in_star q || covers p r)) ↔ (Matches q s × (((p ≡ []) × EndsInStar q) ⊎ Covers p r))
+one_part : (q : List Token) (p : List (List Token)) (s : List ℕ) (r : List (List ℕ)) → IsTrue (covers p r) ↔ Covers p r
+    → IsTrue (matches q s && (is_empty p && ends_in_star q || covers p r)) ↔ (Matches q s
+    × (((p ≡ []) × EndsInStar q) ⊎ Covers p r))
 one_part q p s r rest =
-    and_is (matches q s) _ (matches_is q s) (or_is (is_empty p && ends_in_star q) (covers p r) (and_is (is_empty p) (ends_in_star q) (is_empty_is p) (ends_in_star_is q)) rest)
+    and_is (matches q s) _ (matches_is q s)
+    (or_is (is_empty p && ends_in_star q) (covers p r)
+    (and_is (is_empty p) (ends_in_star q) (is_empty_is p) (ends_in_star_is q)) rest)
 
 pub covers_computes : CoversComputes
 covers_computes [] [] = (λ h. tt, λ h. refl)

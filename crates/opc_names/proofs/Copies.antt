@@ -6,6 +6,11 @@ use Rattle.opc_names.specs.Padded.{IsPadded}
 pub copied_padded : (n : ℕ) (bytes : List ℕ) → length bytes ≤ n → IsPadded n (length bytes) (bytes ++ drop (length bytes) (replicate n 0))
 copied_padded n bytes fits = record {
   fits = fits;
-  full = omega (arith, length-append bytes (drop (length bytes) (replicate n 0)), length-drop {A = ℕ} (length bytes) (replicate n 0), length-replicate {A = ℕ} n 0);
+  full = omega (
+    arith,
+    length-append bytes (drop (length bytes) (replicate n 0)),
+    length-drop {A = ℕ} (length bytes) (replicate n 0),
+    length-replicate {A = ℕ} n 0,
+  );
   zeros = drop_at bytes _ (length bytes) refl ∙ drop-replicate (length bytes) n 0;
 }

@@ -1,5 +1,37 @@
 -- Of each suffix of a name, whether a pattern covers it.
-use Rattle.std.proofs.Common.{◌≡◌, ℕ, ◌+◌, ◌-◌, ◌<◌, ◌≤◌, Bool, true, false, not, ◌&&◌, ◌||◌, List, [], ◌∷◌, ◌++◌, map, length, replicate, take, slice_set, slice_index_or, Option, Some, None, Bor, refl, ap, sym, ◌∙◌, arith}
+use Rattle.std.proofs.Common.{
+  ◌≡◌,
+  ℕ,
+  ◌+◌,
+  ◌-◌,
+  ◌<◌,
+  ◌≤◌,
+  Bool,
+  true,
+  false,
+  not,
+  ◌&&◌,
+  ◌||◌,
+  List,
+  [],
+  ◌∷◌,
+  ◌++◌,
+  map,
+  length,
+  replicate,
+  take,
+  slice_set,
+  slice_index_or,
+  Option,
+  Some,
+  None,
+  Bor,
+  refl,
+  ap,
+  sym,
+  ◌∙◌,
+  arith,
+}
 use Rattle.std.proofs.lemmas.Grind.{common_steps}
 use Rattle.std.proofs.lemmas.List.{take_more_set, take-replicate, length-replicate}
 use borrow.Rule.Slice.PartMut.{put_mid}
@@ -14,7 +46,8 @@ use Rattle.opc_names.proofs.Parts.{qualifiers_some}
 use Rattle.opc_names.proofs.Stars.{BeginsOther}
 
 -- what a qualifier other than `**` covers with those after it
-computed_part : (q : List Token) (p : List (List Token)) (s : List ℕ) (r : List (List ℕ)) → BeginsOther q → covers (q ∷ p) (s ∷ r) ≡ (matches q s && (is_empty p && ends_in_star q || covers p r))
+computed_part : (q : List Token) (p : List (List Token)) (s : List ℕ) (r : List (List ℕ)) → BeginsOther q
+    → covers (q ∷ p) (s ∷ r) ≡ (matches q s && (is_empty p && ends_in_star q || covers p r))
 computed_part [] p s r b = refl
 computed_part (Literal c ∷ q) p s r b = refl
 computed_part (Percent ∷ q) p s r b = refl
@@ -40,7 +73,9 @@ none_is_empty (Some x) false e = some_left (qualifiers x.now) (qualifiers_some x
     some_left [] h = absurd (h refl)
     some_left (q ∷ parts) h = refl
 
-pub prepended_part : (q : List Token) (p : List (List Token)) (s : List ℕ) (r : List (List ℕ)) (old new : List Bool) (last here : Bool) → BeginsOther q → last ≡ is_empty p → old ≡ covered_suffixes p (s ∷ r) → new ≡ covered_suffixes (q ∷ p) r
+pub prepended_part : (q : List Token) (p : List (List Token)) (s : List ℕ) (r : List (List ℕ)) (old new : List Bool)
+    (last here : Bool) → BeginsOther q → last ≡ is_empty p → old ≡ covered_suffixes p (s ∷ r)
+    → new ≡ covered_suffixes (q ∷ p) r
     → here ≡ (matches q s && (last && ends_in_star q || slice_index_or old 1 false)) → here ∷ new ≡ covered_suffixes (q ∷ p) (s ∷ r)
 prepended_part q p s r old new last here b e f g h =
     let one = computed_part q p s r b in
@@ -75,6 +110,7 @@ nothing_prepended n r h =
     take_more_set (replicate n false) (length r) true short ∙ ap (λ bs. bs ++ true ∷ []) (take-replicate (length r) n false few) ∙ sym (nothing_is r)
 
 -- the first place is that of the whole name
-pub first_covers : (p : List (List Token)) (r : List (List ℕ)) (covered more : List Bool) → covered ≡ covered_suffixes p r → slice_index_or (covered ++ more) 0 false ≡ covers p r
+pub first_covers : (p : List (List Token)) (r : List (List ℕ)) (covered more : List Bool)
+    → covered ≡ covered_suffixes p r → slice_index_or (covered ++ more) 0 false ≡ covers p r
 first_covers p [] covered more e = rw e refl
 first_covers p (s ∷ r) covered more e = rw e refl

@@ -1,5 +1,35 @@
 -- What a text without fault has passed: it is a short ASCII text.
-use Rattle.std.proofs.Common.{◌≡◌, ℕ, ◌≤◌, ◌<◌, ◌+◌, Bool, true, false, not, cond, nat_lt, ◌==◌, ◌||◌, List, [], ◌∷◌, length, suc, get_or, drop, Option, Some, None, refl, ap, arith, ◌⊎◌, inl, inr}
+use Rattle.std.proofs.Common.{
+  ◌≡◌,
+  ℕ,
+  ◌≤◌,
+  ◌<◌,
+  ◌+◌,
+  Bool,
+  true,
+  false,
+  not,
+  cond,
+  nat_lt,
+  ◌==◌,
+  ◌||◌,
+  List,
+  [],
+  ◌∷◌,
+  length,
+  suc,
+  get_or,
+  drop,
+  Option,
+  Some,
+  None,
+  refl,
+  ap,
+  arith,
+  ◌⊎◌,
+  inl,
+  inr,
+}
 use Rattle.std.specs.List.{position, position_or_len, AllByRecursion}
 use Rattle.std.specs.Option.{option_map, option_or}
 use Rattle.std.specs.Str.{IsAscii, chars, bytes_eq}
@@ -11,7 +41,18 @@ use Rattle.opc_names.specs.declared.rule.Alphabet.{Alphabet}
 use Rattle.opc_names.specs.declared.rule.Alphabet.TheVariants.{NameCharacters, NoDigitFirst, Hexadecimal, Qualified, Generic}
 use Rattle.opc_names.specs.declared.rule.NameFault.TheVariants.{Empty, TooShort, TooLong, BadCharacter, BadQualifier}
 use Rattle.opc_names.specs.declared.rule.NameRule.{NameRule}
-use Rattle.opc_names.specs.Names.{may_begin, may_follow, bad_character, star_only_last, is_qualifier, bad_part, bad_qualifier, qualifiers, name_fault, pattern_rule}
+use Rattle.opc_names.specs.Names.{
+  may_begin,
+  may_follow,
+  bad_character,
+  star_only_last,
+  is_qualifier,
+  bad_part,
+  bad_qualifier,
+  qualifiers,
+  name_fault,
+  pattern_rule,
+}
 use Rattle.opc_names.specs.Walk.{StarOnlyLast, IsQualifier}
 
 follow_ascii : (a : Alphabet) (c : ℕ) → may_follow a c ≡ true → c < 128
@@ -52,8 +93,11 @@ or_none (Some x) p h = cc
 good_characters_ascii : (a : Alphabet) (text : List ℕ) → bad_character a text ≡ None → IsAscii text
 good_characters_ascii a [] h = IsAscii-nil
 good_characters_ascii a (c ∷ cs) h =
-    elim (may_begin a c) as (λ b. may_begin a c ≡ b → cond b (option_map (λ i. i + 1) (position (λ d. not (may_follow a d)) cs)) (Some 0) ≡ None → IsAscii (c ∷ cs)) [
-      | true ↦ (λ e k. let n = none_of_map (λ i. i + 1) (position (λ d. not (may_follow a d)) cs) k in IsAscii-cons c cs (follow_ascii a c (begin_follows a c e)) (all_pass (may_follow a) cs (follow_ascii a) (grind (arith, nat_tests, n))))
+    elim (may_begin a c) as (λ b. may_begin a c ≡ b
+    → cond b (option_map (λ i. i + 1) (position (λ d. not (may_follow a d)) cs)) (Some 0) ≡ None → IsAscii (c ∷ cs)) [
+      | true ↦ (λ e k. let n = none_of_map (λ i. i + 1) (position (λ d. not (may_follow a d)) cs) k in
+          IsAscii-cons c cs (follow_ascii a c (begin_follows a c e))
+          (all_pass (may_follow a) cs (follow_ascii a) (grind (arith, nat_tests, n))))
       | false ↦ (λ e k. cc)
     ] refl h
 
@@ -114,7 +158,8 @@ qualifier_is (c ∷ q) h =
 all_qualifiers : (at : ℕ) (parts : List (List ℕ)) → bad_part Generic at parts ≡ None → AllByRecursion IsQualifier parts
 all_qualifiers at [] h = tt
 all_qualifiers at (q ∷ parts) h =
-    elim (is_qualifier Generic q) as (λ b. is_qualifier Generic q ≡ b → cond b (bad_part Generic (at + length q + 1) parts) (Some at) ≡ None → AllByRecursion IsQualifier (q ∷ parts)) [
+    elim (is_qualifier Generic q) as (λ b. is_qualifier Generic q ≡ b
+    → cond b (bad_part Generic (at + length q + 1) parts) (Some at) ≡ None → AllByRecursion IsQualifier (q ∷ parts)) [
       | true ↦ (λ e k. (qualifier_is q e, all_qualifiers (at + length q + 1) parts k))
       | false ↦ (λ e k. cc)
     ] refl h
@@ -124,6 +169,7 @@ pub pattern_qualifiers : (text : List ℕ) → name_fault pattern_rule text ≡ 
 pattern_qualifiers text h = all_qualifiers 0 (qualifiers text) (name_passes pattern_rule text h).parts
 
 -- where the first may begin, the first bad character is after it
-pub good_first : (a : Alphabet) (text : List ℕ) → 0 < length text → may_begin a (get_or text 0 0) ≡ true → bad_character a text ≡ option_map (λ i. i + 1) (position (λ d. not (may_follow a d)) (drop 1 text))
+pub good_first : (a : Alphabet) (text : List ℕ) → 0 < length text → may_begin a (get_or text 0 0) ≡ true
+    → bad_character a text ≡ option_map (λ i. i + 1) (position (λ d. not (may_follow a d)) (drop 1 text))
 good_first a [] h e = absurd (omega arith)
 good_first a (c ∷ cs) h e = rw e refl

@@ -16,7 +16,8 @@ no_bad_character : (text : List ℕ) → bad_character NoDigitFirst text ≡ Non
 no_bad_character [] h = refl
 no_bad_character (c ∷ cs) h =
     let rest = option_map (λ i. i + 1) (position (λ d. not (may_follow NameCharacters d)) cs) in
-    elim (may_begin NoDigitFirst c) as (λ b. may_begin NoDigitFirst c ≡ b → cond b rest (Some 0) ≡ None → cond (may_begin NameCharacters c) rest (Some 0) ≡ None) [
+    elim (may_begin NoDigitFirst c) as (λ b. may_begin NoDigitFirst c ≡ b → cond b rest (Some 0) ≡ None
+    → cond (may_begin NameCharacters c) rest (Some 0) ≡ None) [
       | true ↦ (λ e k. subst (λ b. cond b rest (Some 0) ≡ None) (sym (begin_follows NoDigitFirst c e)) k)
       | false ↦ (λ e k. cc)
     ] refl h

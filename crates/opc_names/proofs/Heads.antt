@@ -37,7 +37,8 @@ no_stars (Percent ∷ q) t h b = refl
 no_stars (Star ∷ q) t h b = refl
 no_stars (Stars ∷ q) t h b = absurd b
 
-prefix_through : (q : List Token) (s : List ℕ) (t : List Token) (r : List ℕ) → NoPeriod q → Matches q s → EndsInStar q ⊎ IsPrefix (head t) r → IsPrefix (head (q ++ t)) (s ++ r)
+prefix_through : (q : List Token) (s : List ℕ) (t : List Token) (r : List ℕ) → NoPeriod q → Matches q s → EndsInStar q
+    ⊎ IsPrefix (head t) r → IsPrefix (head (q ++ t)) (s ++ r)
 prefix_through [] [] t r n m k = ⊎_elim (λ e. absurd e) (λ e. e) k
 prefix_through [] (c ∷ s) t r n m k = absurd m
 prefix_through (Literal a ∷ q) [] t r n m k = absurd m
@@ -51,7 +52,9 @@ prefix_through (Star ∷ q) s t r n m k = (s ++ r, refl)
 prefix_through (Stars ∷ q) s t r n m k = (s ++ r, refl)
 
 -- the head after the first qualifier, where that is not `**`
-prefix_after : (q : List Token) (p : List (List Token)) (r : List (List ℕ)) → IsPart q → ((r : List (List ℕ)) → Covers p r → IsPrefix (head (spell p)) (spell_name r)) → Covers (q ∷ p) r → BeginsOther q → IsPrefix (head (spell (q ∷ p))) (spell_name r)
+prefix_after : (q : List Token) (p : List (List Token)) (r : List (List ℕ)) → IsPart q
+    → ((r : List (List ℕ)) → Covers p r → IsPrefix (head (spell p)) (spell_name r)) → Covers (q ∷ p) r → BeginsOther q
+    → IsPrefix (head (spell (q ∷ p))) (spell_name r)
 prefix_after q p [] h more c k = absurd (covers_none q p k c)
 prefix_after q p (s ∷ r) h more c k =
     let part = (covers_part q p s r k).0 c in
@@ -85,7 +88,8 @@ heads_are_prefixes p r h c =
 
 -- two qualifiers along one of a name
 module _ (A B : Type 0) where
-  along : (q u : List Token) (s : List ℕ) (p v : List (List Token)) (opened : Bool) → NoPeriod q → NoPeriod u → Matches q s → Matches u s → EndsInStar q ⊎ A → EndsInStar u ⊎ B
+  along : (q u : List Token) (s : List ℕ) (p v : List (List Token)) (opened : Bool) → NoPeriod q → NoPeriod u
+      → Matches q s → Matches u s → EndsInStar q ⊎ A → EndsInStar u ⊎ B
       → (A → B → length (head (spell v)) < length (head (spell p)) → (o : Bool) → BeforeAfter o (spell p) (spell v))
       → length (head (u ++ spell v)) < length (head (q ++ spell p)) → BeforeAfter opened (q ++ spell p) (u ++ spell v)
   along [] [] [] p v opened n m c d (inl a) b next less = absurd a
@@ -120,8 +124,11 @@ before_stars (Star ∷ q) t w h b = inl tt
 before_stars (Stars ∷ q) t w h b = absurd b
 
 -- two patterns after a first qualifier, where that of the first is not `**`
-order_after : (x : List Token) (p q : List (List Token)) (r : List (List ℕ)) (opened : Bool) → IsPart x → AllByRecursion IsPart q → Covers (x ∷ p) r → Covers q r → length (head (spell q)) < length (head (spell (x ∷ p))) → BeginsOther x
-    → ((q : List (List Token)) (r : List (List ℕ)) → AllByRecursion IsPart q → Covers p r → Covers q r → length (head (spell q)) < length (head (spell p)) → (o : Bool) → BeforeAfter o (spell p) (spell q))
+order_after : (x : List Token) (p q : List (List Token)) (r : List (List ℕ)) (opened : Bool) → IsPart x
+    → AllByRecursion IsPart q → Covers (x ∷ p) r → Covers q r → length (head (spell q)) < length (head (spell (x ∷ p)))
+    → BeginsOther x
+    → ((q : List (List Token)) (r : List (List ℕ)) → AllByRecursion IsPart q → Covers p r → Covers q r
+    → length (head (spell q)) < length (head (spell p)) → (o : Bool) → BeforeAfter o (spell p) (spell q))
     → BeforeAfter opened (spell (x ∷ p)) (spell q)
 order_after x p q [] opened hx hq c d less k more = absurd (covers_none x p k c)
 order_after x p [] (s ∷ r) opened hx hq c d less k more = absurd d
@@ -134,12 +141,15 @@ order_after x p (y ∷ q) (s ∷ r) opened hx hq c d less k more =
           let l = rw (head_period (x ++ spell p) (no_stars x (spell p) hx.0 k), head_period (y ++ spell q) (no_stars y (spell q) hq.0.0 m)) at less in
           inr (
             refl,
-            along (Covers p r) (Covers q r) x y s p q false hx.1 hq.0.1 left.0 right.0 (⊎_elim (λ e. inl e.1) (λ e. inr e) left.1) (⊎_elim (λ e. inl e.1) (λ e. inr e) right.1)
+            along (Covers p r) (Covers q r) x y s p q false hx.1 hq.0.1 left.0 right.0
+                (⊎_elim (λ e. inl e.1) (λ e. inr e) left.1) (⊎_elim (λ e. inl e.1) (λ e. inr e) right.1)
                 (λ a b shorter o. more q r hq.1 a b shorter o) (omega (arith, l)),
           ))
     ]
 
-heads_order : (p q : List (List Token)) (r : List (List ℕ)) → AllByRecursion IsPart p → AllByRecursion IsPart q → Covers p r → Covers q r → length (head (spell q)) < length (head (spell p)) → (opened : Bool) → BeforeAfter opened (spell p) (spell q)
+heads_order : (p q : List (List Token)) (r : List (List ℕ)) → AllByRecursion IsPart p → AllByRecursion IsPart q
+    → Covers p r → Covers q r → length (head (spell q)) < length (head (spell p)) → (opened : Bool)
+    → BeforeAfter opened (spell p) (spell q)
 heads_order [] q r hp hq c d less opened = absurd (omega (arith, less))
 heads_order (x ∷ p) q r hp hq c d less opened =
     elim (begins x) [
@@ -156,8 +166,11 @@ longer_heads_come_first p q r hp hq c d less = by_stars (begins_with_stars (toke
 
     ordered : length (head (Literal 46 ∷ tokens q)) < length (head (Literal 46 ∷ tokens p)) → Before (tokens p) (tokens q)
     ordered l =
-        let shorter : length (head (spell (map tokens (qualifiers q)))) < length (head (spell (map tokens (qualifiers p)))) = rw (spelled_pattern p, spelled_pattern q) l in
-        unperiod (rw (spelled_pattern p, spelled_pattern q) at (heads_order (map tokens (qualifiers p)) (map tokens (qualifiers q)) (qualifiers r) (pattern_parts p hp) (pattern_parts q hq) c d shorter false))
+        let shorter : length (head (spell (map tokens (qualifiers q)))) < length
+        (head (spell (map tokens (qualifiers p)))) = rw (spelled_pattern p, spelled_pattern q) l in
+        unperiod (rw (spelled_pattern p, spelled_pattern q) at
+        (heads_order (map tokens (qualifiers p)) (map tokens (qualifiers q)) (qualifiers r) (pattern_parts p hp)
+        (pattern_parts q hq) c d shorter false))
 
     by_stars : (b : Bool) → begins_with_stars (tokens p) ≡ b → (e : Bool) → begins_with_stars (tokens q) ≡ e → Before (tokens p) (tokens q)
     by_stars true f e g = (let l = rw (head_of_stars (tokens p) f) at less in absurd (omega (arith, l)))

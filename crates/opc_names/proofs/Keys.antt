@@ -1,5 +1,36 @@
 -- The order of patterns, step by step, and that of sort keys.
-use Rattle.std.proofs.Common.{◌≡◌, ◌≢◌, ℕ, ◌<◌, Bool, true, false, if◌then◌else◌, ◌==◌, ◌&&◌, List, [], ◌∷◌, ◌++◌, map, length, ◌≤◌, ◌+◌, ◌↔◌, ◌⊎◌, inl, inr, ⊎_elim, refl, sym, ap, ◌∙◌, arith, suc, lit<}
+use Rattle.std.proofs.Common.{
+  ◌≡◌,
+  ◌≢◌,
+  ℕ,
+  ◌<◌,
+  Bool,
+  true,
+  false,
+  if◌then◌else◌,
+  ◌==◌,
+  ◌&&◌,
+  List,
+  [],
+  ◌∷◌,
+  ◌++◌,
+  map,
+  length,
+  ◌≤◌,
+  ◌+◌,
+  ◌↔◌,
+  ◌⊎◌,
+  inl,
+  inr,
+  ⊎_elim,
+  refl,
+  sym,
+  ap,
+  ◌∙◌,
+  arith,
+  suc,
+  lit<,
+}
 use Rattle.std.specs.Cmp.Lexicographic.{slice_cmp}
 use Rattle.std.specs.Ordering.{nat_cmp}
 use Rattle.std.specs.declared.cmp.Ordering.TheVariants.{Less, Equal, Greater}
@@ -72,7 +103,8 @@ earlier_itself Percent h = h
 earlier_itself Star h = h
 earlier_itself Stars h = h
 
-pub keys_after : (opened : Bool) (p q : List Token) → AreSmall p → AreSmall q → (slice_cmp nat_cmp (sort_key_after opened p) (sort_key_after opened q) ≡ Less) ↔ BeforeAfter opened p q
+pub keys_after : (opened : Bool) (p q : List Token) → AreSmall p → AreSmall q
+    → (slice_cmp nat_cmp (sort_key_after opened p) (sort_key_after opened q) ≡ Less) ↔ BeforeAfter opened p q
 keys_after true [] [] a b = (λ e. cc, λ e. absurd e)
 keys_after false [] [] a b = (λ e. cc, λ e. absurd e)
 keys_after true [] (u ∷ q) a b = rw (more_cmp 255 (key_byte u) (small_byte u b.0)) (λ e. cc, λ e. cc)
@@ -145,7 +177,8 @@ walk_to opened [] (t ∷ p) [] h = h
 walk_to opened [] (t ∷ p) (u ∷ q) h = inl h
 walk_to opened (t ∷ common) p q h = inr (refl, walk_to (is_open t) common p q h)
 
-walk_from : (opened : Bool) (p q : List Token) → BeforeAfter opened p q → (common p' q' : List Token) × (p ≡ common ++ p') × (q ≡ common ++ q') × DecidesBy (ends opened common) p' q'
+walk_from : (opened : Bool) (p q : List Token) → BeforeAfter opened p q → (common p' q' : List Token)
+    × (p ≡ common ++ p') × (q ≡ common ++ q') × DecidesBy (ends opened common) p' q'
 walk_from opened [] [] h = absurd h
 walk_from opened [] (u ∷ q) h = ([], [], u ∷ q, refl, refl, h)
 walk_from opened (t ∷ p) [] h = ([], t ∷ p, [], refl, refl, h)

@@ -18,7 +18,8 @@ spelled_one c =
       | inr h ↦ rw h.0 (elim (eqb_tells c 37) [ inl k ↦ rw k.0 (ap (λ n. n ∷ []) (sym k.1)) | inr k ↦ rw k.0 refl ])
     ]
 
-spelled_two : (c d : ℕ) (cs : List ℕ) → flat_map spelling (tokens cs) ≡ cs → flat_map spelling (tokens (d ∷ cs)) ≡ d ∷ cs → flat_map spelling (tokens (c ∷ (d ∷ cs))) ≡ c ∷ d ∷ cs
+spelled_two : (c d : ℕ) (cs : List ℕ) → flat_map spelling (tokens cs) ≡ cs → flat_map spelling (tokens (d ∷ cs)) ≡ d
+    ∷ cs → flat_map spelling (tokens (c ∷ (d ∷ cs))) ≡ c ∷ d ∷ cs
 spelled_two c d cs e f =
     elim (eqb_tells c 42) [
       | inl h ↦
@@ -63,4 +64,5 @@ same_text p q e = sym (spelled p) ∙ ap (flat_map spelling) e ∙ spelled q
 
 pub keys_differ : KeysDiffer
 keys_differ p q a b e =
-    same_text p q (same_tokens false (tokens p) (tokens q) (small_tokens p (name_ascii pattern_rule p a)) (small_tokens q (name_ascii pattern_rule q b)) (key_is p ∙ e ∙ sym (key_is q)))
+    same_text p q (same_tokens false (tokens p) (tokens q) (small_tokens p (name_ascii pattern_rule p a))
+    (small_tokens q (name_ascii pattern_rule q b)) (key_is p ∙ e ∙ sym (key_is q)))

@@ -11,7 +11,8 @@ qualifiers_found text at e = grind (arith, nat_tests, slice_split_first (λ c. c
 unsplit : (text : List ℕ) → length text ≤ position_or_len (λ c. c == 46) text → qualifiers text ≡ text ∷ []
 unsplit [] h = refl
 unsplit (c ∷ cs) h =
-    elim (c == 46) as (λ b. suc (length cs) ≤ cond (not b) (1 + position_or_len (λ d. d == 46) cs) 0 → cond b ([] ∷ qualifiers cs) (onto_first c (qualifiers cs)) ≡ (c ∷ cs) ∷ []) [
+    elim (c == 46) as (λ b. suc (length cs) ≤ cond (not b) (1 + position_or_len (λ d. d == 46) cs) 0
+    → cond b ([] ∷ qualifiers cs) (onto_first c (qualifiers cs)) ≡ (c ∷ cs) ∷ []) [
       | true ↦ (λ k. absurd (omega arith))
       | false ↦ (λ k. ap (onto_first c) (unsplit cs (omega arith)))
     ] h

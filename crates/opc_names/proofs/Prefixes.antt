@@ -1,5 +1,29 @@
 -- The order of bytes with zeros after them, by the numbers that their first bytes make.
-use Rattle.std.proofs.Common.{◌≡◌, ◌≢◌, ℕ, zero, ◌+◌, ◌*◌, ◌<◌, ◌≤◌, List, [], ◌∷◌, ◌++◌, suc, ◌-◌, length, take, drop, replicate, refl, sym, ◌∙◌, arith, length-append}
+use Rattle.std.proofs.Common.{
+  ◌≡◌,
+  ◌≢◌,
+  ℕ,
+  zero,
+  ◌+◌,
+  ◌*◌,
+  ◌<◌,
+  ◌≤◌,
+  List,
+  [],
+  ◌∷◌,
+  ◌++◌,
+  suc,
+  ◌-◌,
+  length,
+  take,
+  drop,
+  replicate,
+  refl,
+  sym,
+  ◌∙◌,
+  arith,
+  length-append,
+}
 use Rattle.std.proofs.lemmas.List.{take-append-drop, length-take-le, length-replicate}
 use Rattle.std.specs.List.{AllByRecursion}
 use Rattle.std.specs.Cmp.{nat_cmp_is, ranks}
@@ -16,13 +40,15 @@ rises a b [] (v ∷ vs) e h k less = absurd (omega (arith, e))
 rises a b (u ∷ us) [] e h k less = absurd (omega (arith, e))
 rises a b (u ∷ us) (v ∷ vs) e h k less = rises (a * 256 + u) (b * 256 + v) us vs (omega (arith, e)) h.1 k.1 (omega (arith, less, h.0, k.0))
 
-pub numbers_are_in_order : (a : ℕ) (us vs : List ℕ) → length us ≡ length vs → AllByRecursion IsByte us → AllByRecursion IsByte vs → nat_cmp (number_after a us) (number_after a vs) ≡ slice_cmp nat_cmp us vs
+pub numbers_are_in_order : (a : ℕ) (us vs : List ℕ) → length us ≡ length vs → AllByRecursion IsByte us
+    → AllByRecursion IsByte vs → nat_cmp (number_after a us) (number_after a vs) ≡ slice_cmp nat_cmp us vs
 numbers_are_in_order a [] [] e h k = sym (nat_cmp_is a a Equal refl)
 numbers_are_in_order a [] (v ∷ vs) e h k = absurd (omega (arith, e))
 numbers_are_in_order a (u ∷ us) [] e h k = absurd (omega (arith, e))
 numbers_are_in_order a (u ∷ us) (v ∷ vs) e h k = by (nat_cmp u v) refl (ranks u v) (numbers_are_in_order (a * 256 + v) us vs (omega (arith, e)) h.1 k.1)
   where
-    by : (r : Ordering) → nat_cmp u v ≡ r → MatchOrdering r (u < v) (u ≡ v) (v < u) → nat_cmp (number_after (a * 256 + v) us) (number_after (a * 256 + v) vs) ≡ slice_cmp nat_cmp us vs
+    by : (r : Ordering) → nat_cmp u v ≡ r → MatchOrdering r (u < v) (u ≡ v) (v < u)
+        → nat_cmp (number_after (a * 256 + v) us) (number_after (a * 256 + v) vs) ≡ slice_cmp nat_cmp us vs
         → nat_cmp (number_after (a * 256 + u) us) (number_after (a * 256 + v) vs) ≡ ordering_then (nat_cmp u v) (slice_cmp nat_cmp us vs)
     by Less r less rest = rw r (sym (nat_cmp_is _ _ Less (rises (a * 256 + u) (a * 256 + v) us vs (omega (arith, e)) h.1 k.1 (omega (arith, less)))))
     by Equal r same rest = rw r (rw same rest)
@@ -74,10 +100,16 @@ zeros_come_last (suc k) (x ∷ xs) e h = by (nat_cmp x 0) (ranks x 0) (zeros_com
     by Greater m rest n = refl
 
 -- zeros after two texts, up to one length, keep their order, where they leave one
-texts : (xs ys : List ℕ) (k j : ℕ) → length xs + k ≡ length ys + j → order (xs ++ replicate k 0) (ys ++ replicate j 0) ≢ Equal → order xs ys ≡ order (xs ++ replicate k 0) (ys ++ replicate j 0)
+texts : (xs ys : List ℕ) (k j : ℕ) → length xs + k ≡ length ys + j
+    → order (xs ++ replicate k 0) (ys ++ replicate j 0) ≢ Equal
+    → order xs ys ≡ order (xs ++ replicate k 0) (ys ++ replicate j 0)
 texts [] [] k j e h = (let same : k ≡ j = omega (arith, e) in absurd (h (rw same (zeros_are_equal j))))
-texts [] (y ∷ ys) k j e h = sym (zeros_come_first k (y ∷ ys ++ replicate j 0) (omega (arith, e, length-append ys (replicate j 0), length-replicate {A = ℕ} j 0)) h)
-texts (x ∷ xs) [] k j e h = sym (zeros_come_last j (x ∷ xs ++ replicate k 0) (omega (arith, e, length-append xs (replicate k 0), length-replicate {A = ℕ} k 0)) h)
+texts [] (y ∷ ys) k j e h =
+    sym (zeros_come_first k (y ∷ ys ++ replicate j 0)
+    (omega (arith, e, length-append ys (replicate j 0), length-replicate {A = ℕ} j 0)) h)
+texts (x ∷ xs) [] k j e h =
+    sym (zeros_come_last j (x ∷ xs ++ replicate k 0)
+    (omega (arith, e, length-append xs (replicate k 0), length-replicate {A = ℕ} k 0)) h)
 texts (x ∷ xs) (y ∷ ys) k j e h = carried (nat_cmp x y) _ _ (texts xs ys k j (omega (arith, e))) h
 
 -- what bytes with zeros after them decide, the bytes alone decide
@@ -122,7 +154,9 @@ pub record ArePrefixes (x y : ℕ) (us vs : List ℕ) : Type 0 where
   pub y_is : y ≡ number_after 0 (take 8 vs)
 
 numbers_tell : (x y : ℕ) (us vs : List ℕ) → ArePrefixes x y us vs → nat_cmp x y ≡ order (take 8 us) (take 8 vs)
-numbers_tell x y us vs h = rw (h.x_is, h.y_is) (numbers_are_in_order 0 (take 8 us) (take 8 vs) (omega (arith, length-take-le 8 us h.long, length-take-le 8 vs (omega (arith, h.long, h.lengths)))) h.ours h.theirs)
+numbers_tell x y us vs h = rw (h.x_is, h.y_is)
+    (numbers_are_in_order 0 (take 8 us) (take 8 vs)
+    (omega (arith, length-take-le 8 us h.long, length-take-le 8 vs (omega (arith, h.long, h.lengths)))) h.ours h.theirs)
 
 -- where these differ they decide the order
 pub prefixes_decide : (x y : ℕ) (us vs : List ℕ) → ArePrefixes x y us vs → x ≢ y → (nat_cmp x y ≡ order us vs) × (nat_cmp x y ≢ Equal)

@@ -1,5 +1,32 @@
 -- Resources made of words and names.
-use Rattle.std.proofs.Common.{◌≡◌, ℕ, ◌≤◌, ◌<◌, ◌+◌, Bool, true, false, not, cond, nat_lt, nat_le, ◌==◌, ◌&&◌, List, [], ◌∷◌, ◌++◌, length, suc, Some, None, refl, ap, ◌∙◌, arith}
+use Rattle.std.proofs.Common.{
+  ◌≡◌,
+  ℕ,
+  ◌≤◌,
+  ◌<◌,
+  ◌+◌,
+  Bool,
+  true,
+  false,
+  not,
+  cond,
+  nat_lt,
+  nat_le,
+  ◌==◌,
+  ◌&&◌,
+  List,
+  [],
+  ◌∷◌,
+  ◌++◌,
+  length,
+  suc,
+  Some,
+  None,
+  refl,
+  ap,
+  ◌∙◌,
+  arith,
+}
 use Rattle.std.specs.List.{position, position_or_len, list_all, onto_first}
 use Rattle.std.specs.Option.{option_map}
 use Rattle.std.specs.Str.{IsAscii}
@@ -10,7 +37,19 @@ use Rattle.std.proofs.lemmas.Str.{chars-IsAscii}
 use Rattle.opc_names.specs.declared.rule.Alphabet.{Alphabet}
 use Rattle.opc_names.specs.declared.rule.Alphabet.TheVariants.{NameCharacters, NoDigitFirst, Hexadecimal, Qualified, Generic}
 use Rattle.opc_names.specs.declared.rule.NameRule.{NameRule}
-use Rattle.opc_names.specs.Names.{may_begin, may_follow, bad_character, name_fault, resource_rule, is_plain, is_qualifier, bad_part, qualifiers, is_resource, IsResource}
+use Rattle.opc_names.specs.Names.{
+  may_begin,
+  may_follow,
+  bad_character,
+  name_fault,
+  resource_rule,
+  is_plain,
+  is_qualifier,
+  bad_part,
+  qualifiers,
+  is_resource,
+  IsResource,
+}
 use Rattle.opc_names.proofs.Faults.{all_pass, none_of_map, begin_follows, name_passes, name_short, name_long}
 use Rattle.opc_names.proofs.Parts.{qualifiers_one, qualifiers_some}
 
@@ -45,12 +84,14 @@ stand_ascii c h = grind (arith, nat_tests)
 
 fine_none : (at : ℕ) (parts : List (List ℕ)) → list_all (is_qualifier Qualified) parts ≡ true → bad_part Qualified at parts ≡ None
 fine_none at [] h = refl
-fine_none at (q ∷ parts) h = let k = both (is_qualifier Qualified q) (list_all (is_qualifier Qualified) parts) h in rw k.0 (fine_none (at + length q + 1) parts k.1)
+fine_none at (q ∷ parts) h = let k = both (is_qualifier Qualified q) (list_all (is_qualifier Qualified) parts) h in
+    rw k.0 (fine_none (at + length q + 1) parts k.1)
 
 none_fine : (at : ℕ) (parts : List (List ℕ)) → bad_part Qualified at parts ≡ None → list_all (is_qualifier Qualified) parts ≡ true
 none_fine at [] h = refl
 none_fine at (q ∷ parts) h =
-    elim (is_qualifier Qualified q) as (λ b. cond b (bad_part Qualified (at + length q + 1) parts) (Some at) ≡ None → (b && list_all (is_qualifier Qualified) parts) ≡ true) [
+    elim (is_qualifier Qualified q) as (λ b. cond b (bad_part Qualified (at + length q + 1) parts) (Some at) ≡ None
+    → (b && list_all (is_qualifier Qualified) parts) ≡ true) [
       | true ↦ (λ k. none_fine (at + length q + 1) parts k)
       | false ↦ (λ k. cc)
     ] h
@@ -95,7 +136,9 @@ no_fault text f =
 all_follow : (a : Alphabet) (cs : List ℕ) → bad_character a cs ≡ None → list_all (may_follow a) cs ≡ true
 all_follow a [] h = refl
 all_follow a (c ∷ cs) h =
-    elim (may_begin a c) as (λ b. may_begin a c ≡ b → cond b (option_map (λ i. i + 1) (position (λ d. not (may_follow a d)) cs)) (Some 0) ≡ None → list_all (may_follow a) (c ∷ cs) ≡ true) [
+    elim (may_begin a c) as (λ b. may_begin a c ≡ b
+    → cond b (option_map (λ i. i + 1) (position (λ d. not (may_follow a d)) cs)) (Some 0) ≡ None
+    → list_all (may_follow a) (c ∷ cs) ≡ true) [
       | true ↦ (λ e k. and_true _ _ (begin_follows a c e) (none_all (may_follow a) cs (none_of_map (λ i. i + 1) _ k)))
       | false ↦ (λ e k. cc)
     ] refl h
@@ -112,7 +155,8 @@ onto_append c (x ∷ xs) ys h = refl
 qualifiers_period : (a b : List ℕ) → qualifiers (a ++ 46 ∷ b) ≡ qualifiers a ++ qualifiers b
 qualifiers_period [] b = refl
 qualifiers_period (c ∷ a) b =
-    elim (c == 46) as (λ v. cond v ([] ∷ qualifiers (a ++ 46 ∷ b)) (onto_first c (qualifiers (a ++ 46 ∷ b))) ≡ cond v ([] ∷ qualifiers a) (onto_first c (qualifiers a)) ++ qualifiers b) [
+    elim (c == 46) as (λ v. cond v ([] ∷ qualifiers (a ++ 46 ∷ b)) (onto_first c (qualifiers (a ++ 46 ∷ b))) ≡ cond v
+    ([] ∷ qualifiers a) (onto_first c (qualifiers a)) ++ qualifiers b) [
       | true ↦ ap (λ t. [] ∷ t) (qualifiers_period a b)
       | false ↦ ap (onto_first c) (qualifiers_period a b) ∙ onto_append c (qualifiers a) (qualifiers b) (qualifiers_some a)
     ]
@@ -122,7 +166,8 @@ pub fine_period : (a b : List ℕ) → Fine a → Fine b → length a + length b
 fine_period a b f g few = record {
   short = omega (arith, length-append a (46 ∷ b));
   stands = list_all-append (may_follow Qualified) a (46 ∷ b) ∙ and_true _ _ f.stands g.stands;
-  parts = ap (list_all (is_qualifier Qualified)) (qualifiers_period a b) ∙ list_all-append (is_qualifier Qualified) (qualifiers a) (qualifiers b) ∙ and_true _ _ f.parts g.parts;
+  parts = ap (list_all (is_qualifier Qualified)) (qualifiers_period a b)
+      ∙ list_all-append (is_qualifier Qualified) (qualifiers a) (qualifiers b) ∙ and_true _ _ f.parts g.parts;
 }
 
 follow_stands : (a : Alphabet) (c : ℕ) → is_plain a ≡ true → may_follow a c ≡ true → (may_follow Qualified c ≡ true) × ((c == 46) ≡ false)
@@ -132,7 +177,8 @@ follow_stands Hexadecimal c p h = (grind (arith, nat_tests), grind (arith, nat_t
 follow_stands Qualified c p h = cc
 follow_stands Generic c p h = cc
 
-follow_all : (a : Alphabet) (cs : List ℕ) → is_plain a ≡ true → list_all (may_follow a) cs ≡ true → (list_all (may_follow Qualified) cs ≡ true) × (list_all (λ c. not (c == 46)) cs ≡ true)
+follow_all : (a : Alphabet) (cs : List ℕ) → is_plain a ≡ true → list_all (may_follow a) cs ≡ true
+    → (list_all (may_follow Qualified) cs ≡ true) × (list_all (λ c. not (c == 46)) cs ≡ true)
 follow_all a [] p h = (refl, refl)
 follow_all a (c ∷ cs) p h =
     let k = both (may_follow a c) (list_all (may_follow a) cs) h in

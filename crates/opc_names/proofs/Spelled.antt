@@ -1,5 +1,31 @@
 -- Patterns and names as lists of qualifiers, each after a period.
-use Rattle.std.proofs.Common.{◌≡◌, ◌≢◌, ℕ, ◌+◌, ◌==◌, ◌&&◌, cond, if◌then◌else◌, true, false, List, [], ◌∷◌, ◌++◌, map, length, refl, sym, ap, ◌∙◌, arith, inl, inr, Some, None}
+use Rattle.std.proofs.Common.{
+  ◌≡◌,
+  ◌≢◌,
+  ℕ,
+  ◌+◌,
+  ◌==◌,
+  ◌&&◌,
+  cond,
+  if◌then◌else◌,
+  true,
+  false,
+  List,
+  [],
+  ◌∷◌,
+  ◌++◌,
+  map,
+  length,
+  refl,
+  sym,
+  ap,
+  ◌∙◌,
+  arith,
+  inl,
+  inr,
+  Some,
+  None,
+}
 use Rattle.std.specs.List.{onto_first, join_with_byte, AllByRecursion}
 use Rattle.std.proofs.lemmas.List.{append-nil}
 use Rattle.std.proofs.lemmas.List.Splits.{join_with_byte-slice_split}
@@ -29,7 +55,9 @@ tokens_period (c ∷ []) ys =
       | false ↦ ap (λ ts. token_of c ∷ ts) (tokens_period [] ys)
     ]
 tokens_period (c ∷ (d ∷ x)) ys =
-    elim ((c == 42) && (d == 42)) as (λ b. (if b then Stars ∷ tokens (x ++ 46 ∷ ys) else (token_of c ∷ tokens ((d ∷ x) ++ 46 ∷ ys))) ≡ (if b then Stars ∷ tokens x else (token_of c ∷ tokens (d ∷ x))) ++ Literal 46 ∷ tokens ys) [
+    elim ((c == 42) && (d == 42)) as (λ b.
+    (if b then Stars ∷ tokens (x ++ 46 ∷ ys) else (token_of c ∷ tokens ((d ∷ x) ++ 46 ∷ ys))) ≡ (if b then Stars
+    ∷ tokens x else (token_of c ∷ tokens (d ∷ x))) ++ Literal 46 ∷ tokens ys) [
       | true ↦ ap (λ ts. Stars ∷ ts) (tokens_period x ys)
       | false ↦ ap (λ ts. token_of c ∷ ts) (tokens_period (d ∷ x) ys)
     ]
@@ -111,7 +139,9 @@ not_empty (c ∷ q) h e = cc
 are_parts : (at : ℕ) (parts : List (List ℕ)) → bad_part Generic at parts ≡ None → AllByRecursion Plain parts → AllByRecursion IsPart (map tokens parts)
 are_parts at [] h k = tt
 are_parts at (q ∷ parts) h k =
-    elim (is_qualifier Generic q) as (λ b. is_qualifier Generic q ≡ b → cond b (bad_part Generic (at + length q + 1) parts) (Some at) ≡ None → AllByRecursion IsPart (map tokens (q ∷ parts))) [
+    elim (is_qualifier Generic q) as (λ b. is_qualifier Generic q ≡ b
+    → cond b (bad_part Generic (at + length q + 1) parts) (Some at) ≡ None
+    → AllByRecursion IsPart (map tokens (q ∷ parts))) [
       | true ↦ (λ e m. ((some_tokens q (not_empty q e), no_period q k.0), are_parts (at + length q + 1) parts m k.1))
       | false ↦ (λ e m. cc)
     ] refl h

@@ -36,7 +36,8 @@ ends_one : (c : ℕ) (q : List Token) → c ≢ 42 → EndsInStar (token_of c �
 ends_one c q h =
     elim (eqb_tells c 42) [
       | inl k ↦ absurd (h k.1)
-      | inr k ↦ rw k.0 (elim (c == 37) as (λ b. EndsInStar ((if b then Percent else Literal c) ∷ q) ↔ EndsInStar q) [ true ↦ (λ e. e, λ e. e) | false ↦ (λ e. e, λ e. e) ])
+      | inr k ↦ rw k.0 (elim (c == 37) as (λ b. EndsInStar ((if b then Percent else Literal c) ∷ q) ↔ EndsInStar q)
+          [ true ↦ (λ e. e, λ e. e) | false ↦ (λ e. e, λ e. e) ])
     ]
 
 pub last_star : (q : List ℕ) → StarOnlyLast q → (slice_get q (length q - 1) ≡ Some 42) ↔ EndsInStar (tokens q)
@@ -59,7 +60,8 @@ covers_none (Percent ∷ q) p b h = h
 covers_none (Star ∷ q) p b h = h
 covers_none (Stars ∷ q) p b h = b
 
-pub covers_part : (q : List Token) (p : List (List Token)) (s : List ℕ) (r : List (List ℕ)) → BeginsOther q → Covers (q ∷ p) (s ∷ r) ↔ (Matches q s × (((p ≡ []) × EndsInStar q) ⊎ Covers p r))
+pub covers_part : (q : List Token) (p : List (List Token)) (s : List ℕ) (r : List (List ℕ)) → BeginsOther q
+    → Covers (q ∷ p) (s ∷ r) ↔ (Matches q s × (((p ≡ []) × EndsInStar q) ⊎ Covers p r))
 covers_part [] p s r b = (λ h. h, λ h. h)
 covers_part (Literal c ∷ q) p s r b = (λ h. h, λ h. h)
 covers_part (Percent ∷ q) p s r b = (λ h. h, λ h. h)

@@ -8,7 +8,18 @@ use Rattle.opc_names.specs.declared.class.Class.TheVariants.{Console, Opercmds}
 use Rattle.opc_names.specs.declared.group.Group.{Group}
 use Rattle.opc_names.specs.declared.group.Group.TheVariants as group
 use Rattle.opc_names.specs.declared.auth.Auth.{Auth}
-use Rattle.opc_names.specs.declared.auth.Auth.TheVariants.{Master, All, Info, Sys, Io, Cons, SysIo, SysCons, IoCons, SysIoCons}
+use Rattle.opc_names.specs.declared.auth.Auth.TheVariants.{
+  Master,
+  All,
+  Info,
+  Sys,
+  Io,
+  Cons,
+  SysIo,
+  SysCons,
+  IoCons,
+  SysIoCons,
+}
 
 abbrev pub level_rank : Level → ℕ
 level_rank level.None = 0

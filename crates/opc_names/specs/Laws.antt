@@ -21,11 +21,13 @@ abbrev pub BeforeIsTransitive : Type 0
 BeforeIsTransitive = (p q r : List Token) → Before p q → Before q r → Before p r
 
 abbrev pub OneIsBefore : Type 0
-OneIsBefore = (p q : List ℕ) → IsPattern p → IsPattern q → p ≢ q → Before (tokens p) (tokens q) ⊎ Before (tokens q) (tokens p)
+OneIsBefore = (p q : List ℕ) → IsPattern p → IsPattern q → p ≢ q → Before (tokens p) (tokens q)
+    ⊎ Before (tokens q) (tokens p)
 
 -- the order of sort keys is that of the patterns
 abbrev pub KeysAreInOrder : Type 0
-KeysAreInOrder = (p q : List ℕ) → IsPattern p → IsPattern q → (slice_cmp nat_cmp (sort_key p) (sort_key q) ≡ Less) ↔ Before (tokens p) (tokens q)
+KeysAreInOrder = (p q : List ℕ) → IsPattern p → IsPattern q
+    → (slice_cmp nat_cmp (sort_key p) (sort_key q) ≡ Less) ↔ Before (tokens p) (tokens q)
 
 -- different patterns have different sort keys
 abbrev pub KeysDiffer : Type 0
@@ -41,7 +43,8 @@ HeadsArePrefixes = (p r : List ℕ) → IsPattern p → CoversText p r → (rest
 -- of two patterns that cover a name, one with a longer head comes before the other
 abbrev pub LongerHeadsComeFirst : Type 0
 LongerHeadsComeFirst =
-    (p q r : List ℕ) → IsPattern p → IsPattern q → CoversText p r → CoversText q r → length (head (tokens q)) < length (head (tokens p)) → Before (tokens p) (tokens q)
+    (p q r : List ℕ) → IsPattern p → IsPattern q → CoversText p r → CoversText q r
+    → length (head (tokens q)) < length (head (tokens p)) → Before (tokens p) (tokens q)
 
 -- a text that reads as a group's name reads as a user's id
 abbrev pub GroupNamesReadAsUsers : Type 0

@@ -1,12 +1,41 @@
 -- Which texts are names, and the first fault of those that are not.
-use Rattle.std.specs.Prelude.{◌≡◌, ℕ, ◌+◌, Bool, true, false, not, ◌||◌, ◌&&◌, ◌==◌, nat_lt, nat_le, if◌then◌else◌, List, [], ◌∷◌, ◌++◌, codes, length, Option, Some, None}
+use Rattle.std.specs.Prelude.{
+  ◌≡◌,
+  ℕ,
+  ◌+◌,
+  Bool,
+  true,
+  false,
+  not,
+  ◌||◌,
+  ◌&&◌,
+  ◌==◌,
+  nat_lt,
+  nat_le,
+  if◌then◌else◌,
+  List,
+  [],
+  ◌∷◌,
+  ◌++◌,
+  codes,
+  length,
+  Option,
+  Some,
+  None,
+}
 use Rattle.std.specs.Char.{is_ascii_digit, is_ascii_uppercase}
 use Rattle.std.specs.Fmt.{decimal}
 use Rattle.std.specs.List.{position, slice_split, list_all}
 use Rattle.std.specs.Option.{option_map, option_or}
 use Rattle.std.specs.Str.{bytes_eq, chars}
 use Rattle.opc_names.specs.declared.rule.Alphabet.{Alphabet}
-use Rattle.opc_names.specs.declared.rule.Alphabet.TheVariants.{NameCharacters, NoDigitFirst, Hexadecimal, Qualified, Generic}
+use Rattle.opc_names.specs.declared.rule.Alphabet.TheVariants.{
+  NameCharacters,
+  NoDigitFirst,
+  Hexadecimal,
+  Qualified,
+  Generic,
+}
 use Rattle.opc_names.specs.declared.rule.NameFault.{NameFault}
 use Rattle.opc_names.specs.declared.rule.NameFault.TheVariants.{Empty, TooShort, TooLong, BadCharacter, BadQualifier}
 use Rattle.opc_names.specs.declared.rule.NameRule.{NameRule}
@@ -59,7 +88,8 @@ may_begin Generic c = may_follow Generic c
 -- where the first character stands that may not stand there
 abbrev pub bad_character : Alphabet → List ℕ → Option ℕ
 bad_character alphabet [] = None
-bad_character alphabet (c ∷ cs) = if may_begin alphabet c then option_map (λ i. i + 1) (position (λ d. not (may_follow alphabet d)) cs) else Some 0
+bad_character alphabet (c ∷ cs) = if may_begin alphabet c then option_map (λ i. i + 1)
+    (position (λ d. not (may_follow alphabet d)) cs) else Some 0
 
 -- the parts of a text between its periods
 abbrev pub qualifiers : List ℕ → List (List ℕ)
@@ -80,7 +110,8 @@ is_qualifier alphabet (c ∷ q) = true
 -- where the first part begins that is no qualifier, if the first of them begins at this place
 abbrev pub bad_part : Alphabet → ℕ → List (List ℕ) → Option ℕ
 bad_part alphabet at [] = None
-bad_part alphabet at (q ∷ parts) = if is_qualifier alphabet q then bad_part alphabet (at + length q + 1) parts else Some at
+bad_part alphabet at (q ∷ parts) = if is_qualifier alphabet q then bad_part alphabet (at + length q + 1) parts else Some
+    at
 
 -- where the first bad qualifier of a text begins; a name without periods is one qualifier
 abbrev pub bad_qualifier : Alphabet → List ℕ → Option ℕ
@@ -92,7 +123,8 @@ name_fault rule text =
     if length (chars text) == 0 then Some Empty else
     (if nat_lt (length (chars text)) rule.least then Some TooShort else
     (if nat_lt rule.most (length (chars text)) then Some TooLong else
-    option_or (option_map BadCharacter (bad_character rule.alphabet text)) (option_map BadQualifier (bad_qualifier rule.alphabet text))))
+    option_or (option_map BadCharacter (bad_character rule.alphabet text))
+    (option_map BadQualifier (bad_qualifier rule.alphabet text))))
 
 -- whether a name of this alphabet is one qualifier
 abbrev pub is_plain : Alphabet → Bool
@@ -104,7 +136,8 @@ is_plain Generic = false
 
 -- whether a text is a resource, as a test that computes on a literal
 abbrev pub is_resource : List ℕ → Bool
-is_resource text = nat_le (length text) 39 && (list_all (may_follow Qualified) text && list_all (is_qualifier Qualified) (qualifiers text))
+is_resource text = nat_le (length text) 39
+    && (list_all (may_follow Qualified) text && list_all (is_qualifier Qualified) (qualifiers text))
 
 -- the words for a fault
 abbrev pub fault_words : NameFault → List ℕ

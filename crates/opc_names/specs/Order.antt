@@ -1,5 +1,22 @@
 -- The order of patterns, their sort keys and their heads. A pattern that is more specific comes before.
-use Rattle.std.specs.Prelude.{◌≡◌, ℕ, ◌<◌, Bool, true, false, ◌&&◌, ◌==◌, if◌then◌else◌, List, [], ◌∷◌, ◌++◌, map, ◌⊎◌, ⊤}
+use Rattle.std.specs.Prelude.{
+  ◌≡◌,
+  ℕ,
+  ◌<◌,
+  Bool,
+  true,
+  false,
+  ◌&&◌,
+  ◌==◌,
+  if◌then◌else◌,
+  List,
+  [],
+  ◌∷◌,
+  ◌++◌,
+  map,
+  ◌⊎◌,
+  ⊤,
+}
 use Rattle.opc_names.specs.declared.token.Token.{Token}
 use Rattle.opc_names.specs.declared.token.Token.TheVariants.{Literal, Percent, Star, Stars}
 use Rattle.opc_names.specs.Patterns.{tokens}

@@ -1,5 +1,22 @@
 -- Patterns of resource names: their tokens, what they cover, and their order.
-use Rattle.std.specs.Prelude.{◌≡◌, ℕ, ◌&&◌, ◌||◌, ◌==◌, if◌then◌else◌, Bool, true, false, List, [], ◌∷◌, ◌++◌, map, ◌⊎◌, ⊤}
+use Rattle.std.specs.Prelude.{
+  ◌≡◌,
+  ℕ,
+  ◌&&◌,
+  ◌||◌,
+  ◌==◌,
+  if◌then◌else◌,
+  Bool,
+  true,
+  false,
+  List,
+  [],
+  ◌∷◌,
+  ◌++◌,
+  map,
+  ◌⊎◌,
+  ⊤,
+}
 use Rattle.std.specs.List.{list_any}
 use Rattle.opc_names.specs.Names.{qualifiers}
 use Rattle.opc_names.specs.declared.token.Token.{Token}

@@ -9,7 +9,18 @@ use Rattle.opc_names.specs.declared.class.Class.TheVariants.{Console, Opercmds}
 use Rattle.opc_names.specs.declared.group.Group.{Group}
 use Rattle.opc_names.specs.declared.group.Group.TheVariants as group
 use Rattle.opc_names.specs.declared.auth.Auth.{Auth}
-use Rattle.opc_names.specs.declared.auth.Auth.TheVariants.{Master, All, Info, Sys, Io, Cons, SysIo, SysCons, IoCons, SysIoCons}
+use Rattle.opc_names.specs.declared.auth.Auth.TheVariants.{
+  Master,
+  All,
+  Info,
+  Sys,
+  Io,
+  Cons,
+  SysIo,
+  SysCons,
+  IoCons,
+  SysIoCons,
+}
 
 -- what a table has for a text: the first that is spelled so
 abbrev pub lookup : {A : Type 0} → List (List ℕ × A) → List ℕ → Option A
@@ -24,7 +35,8 @@ level_text level.Control = codes "CONTROL"
 level_text level.Alter = codes "ALTER"
 
 abbrev pub levels : List (List ℕ × Level)
-levels = (codes "NONE", level.None) ∷ (codes "READ", level.Read) ∷ (codes "UPDATE", level.Update) ∷ (codes "CONTROL", level.Control) ∷ (codes "ALTER", level.Alter) ∷ []
+levels = (codes "NONE", level.None) ∷ (codes "READ", level.Read) ∷ (codes "UPDATE", level.Update)
+    ∷ (codes "CONTROL", level.Control) ∷ (codes "ALTER", level.Alter) ∷ []
 
 abbrev pub class_text : Class → List ℕ
 class_text Console = codes "CONSOLE"
@@ -41,7 +53,8 @@ group_text group.Io = codes "IO"
 group_text group.Cons = codes "CONS"
 
 abbrev pub groups : List (List ℕ × Group)
-groups = (codes "MASTER", group.Master) ∷ (codes "INFO", group.Info) ∷ (codes "SYS", group.Sys) ∷ (codes "IO", group.Io) ∷ (codes "CONS", group.Cons) ∷ []
+groups = (codes "MASTER", group.Master) ∷ (codes "INFO", group.Info) ∷ (codes "SYS", group.Sys) ∷ (codes "IO", group.Io)
+    ∷ (codes "CONS", group.Cons) ∷ []
 
 -- An authority is written with its groups in the order SYS, IO, CONS,
 abbrev pub auth_text : Auth → List ℕ

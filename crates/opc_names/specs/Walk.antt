@@ -1,5 +1,24 @@
 -- What a walk over a text has left. Private functions cite this page, no public contract does.
-use Rattle.std.specs.Prelude.{◌≡◌, ◌≢◌, ℕ, ◌+◌, List, [], ◌∷◌, map, Bool, true, false, if◌then◌else◌, Option, Some, None, length, ⊤, ◌⊎◌}
+use Rattle.std.specs.Prelude.{
+  ◌≡◌,
+  ◌≢◌,
+  ℕ,
+  ◌+◌,
+  List,
+  [],
+  ◌∷◌,
+  map,
+  Bool,
+  true,
+  false,
+  if◌then◌else◌,
+  Option,
+  Some,
+  None,
+  length,
+  ⊤,
+  ◌⊎◌,
+}
 use Rattle.std.specs.List.{list_any}
 use Rattle.opc_names.specs.Names.{qualifiers}
 use Rattle.opc_names.specs.Patterns.{covers, suffixes}

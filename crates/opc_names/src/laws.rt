@@ -1,5 +1,16 @@
 //! The laws of covering, of the order of patterns, their sort keys and their heads, and of the names of groups.
-ghost use Rattle.opc_names.specs.Laws.{CoversComputes, NoneIsBeforeItself, BeforeIsTransitive, OneIsBefore, KeysAreInOrder, KeysDiffer, KeysAreShort, HeadsArePrefixes, LongerHeadsComeFirst, GroupNamesReadAsUsers};
+ghost use Rattle.opc_names.specs.Laws.{
+  CoversComputes,
+  NoneIsBeforeItself,
+  BeforeIsTransitive,
+  OneIsBefore,
+  KeysAreInOrder,
+  KeysDiffer,
+  KeysAreShort,
+  HeadsArePrefixes,
+  LongerHeadsComeFirst,
+  GroupNamesReadAsUsers,
+};
 
 /// The function that computes what a pattern covers is true exactly where the pattern covers.
 pub fn covers_computes()

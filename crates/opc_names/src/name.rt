@@ -2,13 +2,30 @@
 ghost use Rattle.std.specs.Prelude.{◌≡◌, ◌≤◌, List, ℕ, length, MatchResult, Some, None};
 ghost use Rattle.std.specs.Prelude.{nat_eq, refl};
 ghost use Rattle.std.specs.Cmp.{partial_equiv_from_equiv};
-ghost use Rattle.std.specs.Cmp.Lexicographic.{pointwise, slice_cmp, nat_list_eq_equiv, nat_list_cmp_total, texts_po, texts_ties};
+ghost use Rattle.std.specs.Cmp.Lexicographic.{
+  pointwise,
+  slice_cmp,
+  nat_list_eq_equiv,
+  nat_list_cmp_total,
+  texts_po,
+  texts_ties,
+};
 ghost use Rattle.std.specs.Cmp.Rules.{hashing};
 ghost use Rattle.std.specs.Hash as fed;
 ghost use Rattle.std.specs.Ordering.{nat_cmp};
 ghost use Rattle.std.specs.Str.{IsAscii};
 ghost use Rattle.std.proofs.Common.{lit≤, rules};
-ghost use Rattle.opc_names.specs.Names.{name_fault, user_rule, unit_rule, group_rule, console_rule, volume_rule, device_rule, resource_rule, pattern_rule};
+ghost use Rattle.opc_names.specs.Names.{
+  name_fault,
+  user_rule,
+  unit_rule,
+  group_rule,
+  console_rule,
+  volume_rule,
+  device_rule,
+  resource_rule,
+  pattern_rule,
+};
 ghost use Rattle.opc_names.specs.declared.rule.NameRule.{NameRule as Rule};
 
 use crate::bytes::Bytes;

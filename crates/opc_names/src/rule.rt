@@ -2,7 +2,17 @@
 ghost use Rattle.std.specs.Prelude.{◌≡◌, ◌+◌, ◌<◌, not, length, None};
 ghost use Rattle.std.specs.List.{position};
 ghost use Rattle.std.specs.Str.{chars};
-ghost use Rattle.opc_names.specs.Names.{is_name_character, may_begin, may_follow, bad_character, name_fault, star_only_last, is_plain, is_qualifier, bad_qualifier};
+ghost use Rattle.opc_names.specs.Names.{
+  is_name_character,
+  may_begin,
+  may_follow,
+  bad_character,
+  name_fault,
+  star_only_last,
+  is_plain,
+  is_qualifier,
+  bad_qualifier,
+};
 
 use crate::qualifier::{is_stars, split_qualifier};
 use std::error::Error;

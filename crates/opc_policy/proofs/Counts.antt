@@ -1,5 +1,37 @@
 -- Counting the profiles that a search by heads reads.
-use Rattle.std.proofs.Common.{◌≡◌, ℕ, ◌+◌, ◌≤◌, Bool, true, false, cond, ◌&&◌, ◌||◌, nat_lt, nat_le, List, [], ◌∷◌, filter, take, length, count_by, refl, sym, ap, ◌∙◌, arith, ◌⊎◌, inl, inr, Some, None, length-take, add-one}
+use Rattle.std.proofs.Common.{
+  ◌≡◌,
+  ℕ,
+  ◌+◌,
+  ◌≤◌,
+  Bool,
+  true,
+  false,
+  cond,
+  ◌&&◌,
+  ◌||◌,
+  nat_lt,
+  nat_le,
+  List,
+  [],
+  ◌∷◌,
+  filter,
+  take,
+  length,
+  count_by,
+  refl,
+  sym,
+  ap,
+  ◌∙◌,
+  arith,
+  ◌⊎◌,
+  inl,
+  inr,
+  Some,
+  None,
+  length-take,
+  add-one,
+}
 use Rattle.std.specs.Str.{bytes_eq}
 use Rattle.std.proofs.lemmas.Bool.Decides.{nat_tests, leb_tells}
 use Rattle.std.proofs.lemmas.List.{length-take-le}
@@ -40,7 +72,8 @@ count_sum p q t one xs = rw (← counts p xs, ← counts q xs, ← counts t xs) 
 count_kept : {X : Type 0} (p q : X → Bool) (xs : List X) → count q (filter p xs) ≡ count (λ x. p x && q x) xs
 count_kept p q [] = refl
 count_kept {X} p q (x ∷ xs) =
-    elim (p x) as (λ a. count q (cond a (x ∷ filter p xs) (filter p xs)) ≡ cond (a && q x) (1 + count (λ (y : X). p y && q y) xs) (count (λ (y : X). p y && q y) xs)) [
+    elim (p x) as (λ a. count q (cond a (x ∷ filter p xs) (filter p xs)) ≡ cond (a && q x)
+    (1 + count (λ (y : X). p y && q y) xs) (count (λ (y : X). p y && q y) xs)) [
       | true ↦ ap (λ n. cond (q x) (1 + n) n) (count_kept p q xs)
       | false ↦ count_kept p q xs
     ]
@@ -67,11 +100,14 @@ prefix_of_take h name k fits e =
     let l : length h ≡ k = ap length e ∙ length-take-le k name fits in
     (l, (bytes_eq-Decides h (take (length h) name)).1 (rw l e))
 
-one_step : (h name : List ℕ) (k : ℕ) → k ≤ length name → OneOf (starts_with nat_eq name h && nat_lt k (length h)) (bytes_eq h (take k name)) (starts_with nat_eq name h && nat_le k (length h))
+one_step : (h name : List ℕ) (k : ℕ) → k ≤ length name
+    → OneOf (starts_with nat_eq name h && nat_lt k (length h)) (bytes_eq h (take k name))
+    (starts_with nat_eq name h && nat_le k (length h))
 one_step h name k fits = go (starts_with nat_eq name h) (bytes_eq h (take k name)) refl refl
   where
     go : (a b : Bool) → starts_with nat_eq name h ≡ a → bytes_eq h (take k name) ≡ b → OneOf (a && nat_lt k (length h)) b (a && nat_le k (length h))
-    go true true e f = let l = (prefix_of_take h name k fits ((bytes_eq-Decides h (take k name)).0 f)).0 in inr (inl (grind (arith, nat_tests), refl, grind (arith, nat_tests)))
+    go true true e f = let l = (prefix_of_take h name k fits ((bytes_eq-Decides h (take k name)).0 f)).0 in
+        inr (inl (grind (arith, nat_tests), refl, grind (arith, nat_tests)))
     go true false e f =
         let other : length h ≡ k → ⊥ = λ l. (let g : h ≡ take k name = rw l at (prefix_is h name e) in let t = (bytes_eq-Decides h (take k name)).1 g in cc) in
         elim (leb_tells (k + 1) (length h)) [
@@ -85,12 +121,17 @@ longer_or_not : (b : Bool) → OneOf b false (b || false)
 longer_or_not true = inl (refl, refl, refl)
 longer_or_not false = inr (inr (refl, refl, refl))
 
-one_last : (h name : List ℕ) (k : ℕ) (b : Bool) → k ≤ length name → OneOf (starts_with nat_eq name h && nat_lt k (length h)) (bytes_eq h (take k name) && b) (starts_with nat_eq name h && (nat_lt k (length h) || (bytes_eq h (take k name) && b)))
+one_last : (h name : List ℕ) (k : ℕ) (b : Bool) → k ≤ length name
+    → OneOf (starts_with nat_eq name h && nat_lt k (length h)) (bytes_eq h (take k name) && b)
+    (starts_with nat_eq name h && (nat_lt k (length h) || (bytes_eq h (take k name) && b)))
 one_last h name k b fits = go (starts_with nat_eq name h) (bytes_eq h (take k name)) b refl refl
   where
-    go : (a c d : Bool) → starts_with nat_eq name h ≡ a → bytes_eq h (take k name) ≡ c → OneOf (a && nat_lt k (length h)) (c && d) (a && (nat_lt k (length h) || (c && d)))
-    go true true true e f = (let l = (prefix_of_take h name k fits ((bytes_eq-Decides h (take k name)).0 f)).0 in let m : nat_lt k (length h) ≡ false = grind (arith, nat_tests) in rw m (inr (inl (refl, refl, refl))))
-    go true true false e f = (let l = (prefix_of_take h name k fits ((bytes_eq-Decides h (take k name)).0 f)).0 in let m : nat_lt k (length h) ≡ false = grind (arith, nat_tests) in rw m (inr (inr (refl, refl, refl))))
+    go : (a c d : Bool) → starts_with nat_eq name h ≡ a → bytes_eq h (take k name) ≡ c
+        → OneOf (a && nat_lt k (length h)) (c && d) (a && (nat_lt k (length h) || (c && d)))
+    go true true true e f = (let l = (prefix_of_take h name k fits ((bytes_eq-Decides h (take k name)).0 f)).0 in
+        let m : nat_lt k (length h) ≡ false = grind (arith, nat_tests) in rw m (inr (inl (refl, refl, refl))))
+    go true true false e f = (let l = (prefix_of_take h name k fits ((bytes_eq-Decides h (take k name)).0 f)).0 in
+        let m : nat_lt k (length h) ≡ false = grind (arith, nat_tests) in rw m (inr (inr (refl, refl, refl))))
     go true false d e f = longer_or_not (nat_lt k (length h))
     go false true d e f = let t = (prefix_of_take h name k fits ((bytes_eq-Decides h (take k name)).0 f)).1 in cc
     go false false d e f = inr (inr (refl, refl, refl))
@@ -102,13 +143,20 @@ longer name k profiles = count_by (λ (p : Profile). starts_with nat_eq name (he
 abbrev pub as_long : List ℕ → ℕ → List Profile → ℕ
 as_long name k profiles = count_by (λ (p : Profile). starts_with nat_eq name (head_of p) && nat_le k (length (head_of p))) profiles
 
-pub longer_more : (name : List ℕ) (k : ℕ) (profiles : List Profile) → k ≤ length name → longer name k profiles + length (with_head (take k name) profiles) ≡ as_long name k profiles
+pub longer_more : (name : List ℕ) (k : ℕ) (profiles : List Profile) → k ≤ length name
+    → longer name k profiles + length (with_head (take k name) profiles) ≡ as_long name k profiles
 longer_more name k profiles fits = rw length-filter (count_sum _ _ _ (λ p. one_step (head_of p) name k fits) profiles)
 
-pub longer_last : (name : List ℕ) (k : ℕ) (d : Profile) (profiles : List Profile) → k ≤ length name → head_of d ≡ take k name → longer name k profiles + length (read_until (Some d) (with_head (take k name) profiles)) ≡ length (examined (Some d) name profiles)
+pub longer_last : (name : List ℕ) (k : ℕ) (d : Profile) (profiles : List Profile) → k ≤ length name
+    → head_of d ≡ take k name → longer name k profiles + length
+    (read_until (Some d) (with_head (take k name) profiles)) ≡ length (examined (Some d) name profiles)
 longer_last name k d profiles fits e =
     let l : length (head_of d) ≡ k = ap length e ∙ length-take-le k name fits in
-    let read : length (read_until (Some d) (with_head (take k name) profiles)) ≡ count_by (λ (p : Profile). bytes_eq (head_of p) (take k name) && not (is_before d p)) profiles = length-filter (λ (p : Profile). not (is_before d p)) (with_head (take k name) profiles) ∙ count_filter (λ (p : Profile). bytes_eq (head_of p) (take k name)) (λ (p : Profile). not (is_before d p)) profiles in
+    let read : length (read_until (Some d) (with_head (take k name) profiles)) ≡ count_by
+    (λ (p : Profile). bytes_eq (head_of p) (take k name) && not (is_before d p)) profiles =
+    length-filter (λ (p : Profile). not (is_before d p)) (with_head (take k name) profiles)
+    ∙ count_filter (λ (p : Profile). bytes_eq (head_of p) (take k name)) (λ (p : Profile). not (is_before d p))
+    profiles in
     rw (read, length-filter, e, length-take-le k name fits) (count_sum _ _ _ (λ p. one_last (head_of p) name k (not (is_before d p)) fits) profiles)
 
 pub longer_none : (name : List ℕ) (profiles : List Profile) → longer name (length name) profiles ≡ 0
@@ -123,7 +171,9 @@ and_at_least true n = grind (arith, nat_tests)
 and_at_least false n = refl
 
 pub as_long_all : (name : List ℕ) (profiles : List Profile) → as_long name 0 profiles ≡ length (examined None name profiles)
-as_long_all name profiles = rw length-filter (ap (λ (t : Profile → Bool). count_by t profiles) (λ i p. and_at_least (starts_with nat_eq name (head_of p)) (length (head_of p)) i))
+as_long_all name profiles = rw length-filter
+    (ap (λ (t : Profile → Bool). count_by t profiles)
+    (λ i p. and_at_least (starts_with nat_eq name (head_of p)) (length (head_of p)) i))
 
 pub as_long_more : (name : List ℕ) (j : ℕ) (profiles : List Profile) → as_long name (j + 1) profiles ≡ longer name j profiles
 as_long_more name j profiles = rw add-one refl

@@ -12,11 +12,15 @@ use Rattle.opc_policy.specs.declared.ruling.Ruling.TheVariants as rulings
 use Rattle.opc_policy_members.specs.declared.user.User.{User}
 use Rattle.opc_policy.specs.declared.verdict.Verdict.TheVariants.{Allowed, Denied}
 
-by_either : (rule : Rule) (other : Ruling) (b : Bool) → by_verdict (if b then Allowed else Denied) rule other ≡ (if b then rulings.Allowed rule else rulings.Denied rule)
+by_either : (rule : Rule) (other : Ruling) (b : Bool)
+    → by_verdict (if b then Allowed else Denied) rule other ≡ (if b then rulings.Allowed rule else rulings.Denied rule)
 by_either rule other true = refl
 by_either rule other false = refl
 
 -- whatever else there is to decide
 pub ruling_by_verdict : (p : Profile) (user : User) (console : Option (List ℕ)) (groups : List (List ℕ)) (needed : Level) (other : Ruling) →
-    by_verdict (verdict true (Some p) user console groups needed) (profile_rule p user console groups needed) other ≡ profile_ruling p user console groups needed
-ruling_by_verdict p user console groups needed other = by_either (profile_rule p user console groups needed) other (includes (held p user console groups) needed || p.warning)
+    by_verdict (verdict true (Some p) user console groups needed) (profile_rule p user console groups needed)
+    other ≡ profile_ruling p user console groups needed
+ruling_by_verdict p user console groups needed other =
+    by_either (profile_rule p user console groups needed) other
+    (includes (held p user console groups) needed || p.warning)

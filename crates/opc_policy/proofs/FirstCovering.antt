@@ -1,5 +1,37 @@
 -- The first profile that covers, of a list in the order of the patterns.
-use Rattle.std.proofs.Common.{◌≡◌, ℕ, ◌≤◌, ◌+◌, Bool, true, false, not, cond, ◌&&◌, List, [], ◌∷◌, ◌++◌, length, filter, get_or, suc, Option, Some, None, refl, sym, ap, ◌∙◌, subst, arith, All, Contains, length-append, append-nil}
+use Rattle.std.proofs.Common.{
+  ◌≡◌,
+  ℕ,
+  ◌≤◌,
+  ◌+◌,
+  Bool,
+  true,
+  false,
+  not,
+  cond,
+  ◌&&◌,
+  List,
+  [],
+  ◌∷◌,
+  ◌++◌,
+  length,
+  filter,
+  get_or,
+  suc,
+  Option,
+  Some,
+  None,
+  refl,
+  sym,
+  ap,
+  ◌∙◌,
+  subst,
+  arith,
+  All,
+  Contains,
+  length-append,
+  append-nil,
+}
 use Rattle.std.specs.List.{AllPairs}
 use Rattle.std.specs.Str.{bytes_eq}
 use Rattle.std.proofs.lemmas.Bool.{false≢true}
@@ -31,7 +63,8 @@ kept_none p (x ∷ xs) h = rw (All-head (λ x. p x ≡ false) x xs h) (kept_none
 pub filter_both : {X : Type 0} (p q : X → Bool) (xs : List X) → filter q (filter p xs) ≡ filter (λ x. p x && q x) xs
 filter_both p q [] = refl
 filter_both {X} p q (x ∷ xs) =
-    elim (p x) as (λ b. filter q (cond b (x ∷ filter p xs) (filter p xs)) ≡ cond (b && q x) (x ∷ filter (λ (y : X). p y && q y) xs) (filter (λ (y : X). p y && q y) xs)) [
+    elim (p x) as (λ b. filter q (cond b (x ∷ filter p xs) (filter p xs)) ≡ cond (b && q x)
+    (x ∷ filter (λ (y : X). p y && q y) xs) (filter (λ (y : X). p y && q y) xs)) [
       | true ↦ ap (λ ys. cond (q x) (x ∷ ys) ys) (filter_both p q xs)
       | false ↦ filter_both p q xs
     ]
@@ -43,7 +76,8 @@ related_before R xs d ys h = λ k e l.
 
 related_after : {X : Type 0} (R : X → X → Type 0) (xs : List X) (d : X) (ys : List X) → AllPairs R (xs ++ d ∷ ys) → All (R d) ys
 related_after R xs d ys h = λ k e l.
-    rw (get_or-append_seam xs d ys e, get_or-append-add xs (d ∷ ys) (suc k) e) at (h (length xs) (length xs + suc k) e (omega arith) (omega (arith, l, length-append xs (d ∷ ys))))
+    rw (get_or-append_seam xs d ys e, get_or-append-add xs (d ∷ ys) (suc k) e) at
+    (h (length xs) (length xs + suc k) e (omega arith) (omega (arith, l, length-append xs (d ∷ ys))))
 
 abbrev pub AreBefore : List Profile → Type 0
 AreBefore profiles = AllPairs (λ (p q : Profile). is_before p q ≡ true) profiles
@@ -53,7 +87,8 @@ NoneCovers resource profiles = All (λ (p : Profile). covers_text p.pattern reso
 
 module _ (resource : List ℕ) (before : List Profile) (d : Profile) (after : List Profile) (order : AreBefore (before ++ d ∷ after)) where
   later : (q : Profile) → Contains after q → is_before q d ≡ false
-  later q m = ordered.one_way d q (All-contains (λ (p : Profile). is_before d p ≡ true) after q (related_after (λ (p q : Profile). is_before p q ≡ true) before d after order) m)
+  later q m = ordered.one_way d q (All-contains (λ (p : Profile). is_before d p ≡ true) after q
+      (related_after (λ (p q : Profile). is_before p q ≡ true) before d after order) m)
 
   stays : (o : Option Profile) → FirstIs (covering resource after) o → first_with d o ≡ d
   unfolding FirstIs
@@ -63,15 +98,20 @@ module _ (resource : List ℕ) (before : List Profile) (d : Profile) (after : Li
   pub found_first : NoneCovers resource before → covers_text d.pattern resource ≡ true → deciding (before ++ d ∷ after) resource ≡ Some d
   found_first none covered =
       let covers : Profile → Bool = λ p. covers_text p.pattern resource in
-      let parts : covering resource (before ++ d ∷ after) ≡ d ∷ covering resource after = filter-append covers before (d ∷ after) ∙ rw (kept_none covers before none, covered) refl in
+      let parts : covering resource (before ++ d ∷ after) ≡ d ∷ covering resource after =
+      filter-append covers before (d ∷ after) ∙ rw (kept_none covers before none, covered) refl in
       ap first_of parts ∙ ap Some (stays (first_of (covering resource after)) (first_is (covering resource after)))
 
   pub read_first : length (read_until (Some d) (before ++ d ∷ after)) ≡ length before + 1
   read_first =
       let read : Profile → Bool = λ p. not (is_before d p) in
-      let earlier : All (λ p. read p ≡ true) before = λ k e l. ap not (ordered.one_way (get_or before k e) d (related_before (λ (p q : Profile). is_before p q ≡ true) before d after order k e l)) in
+      let earlier : All (λ p. read p ≡ true) before =
+      λ k e l. ap not (ordered.one_way (get_or before k e) d
+      (related_before (λ (p q : Profile). is_before p q ≡ true) before d after order k e l)) in
       let not_later : All (λ p. read p ≡ false) after = λ k e l. ap not (related_after (λ (p q : Profile). is_before p q ≡ true) before d after order k e l) in
-      let parts : read_until (Some d) (before ++ d ∷ after) ≡ before ++ d ∷ [] = filter-append read before (d ∷ after) ∙ rw (kept_all read before earlier, not_before_itself d, kept_none read after not_later) refl in
+      let parts : read_until (Some d) (before ++ d ∷ after) ≡ before ++ d ∷ [] =
+      filter-append read before (d ∷ after)
+      ∙ rw (kept_all read before earlier, not_before_itself d, kept_none read after not_later) refl in
       ap length parts ∙ length-append before (d ∷ [])
 
 pub none_found : (resource : List ℕ) (profiles : List Profile) → NoneCovers resource profiles → deciding profiles resource ≡ None
@@ -86,12 +126,16 @@ chosen_class class (Some text) p h = same_class_is p.class class (left (same_cla
     left true b e = refl
     left false b e = absurd (false≢true e)
 
-pub chosen_order : (class : Class) (head : Option (List ℕ)) (profiles : List Profile) → AreMostSpecificFirst profiles → AreBefore (filter (is_chosen class head) profiles)
+pub chosen_order : (class : Class) (head : Option (List ℕ)) (profiles : List Profile) → AreMostSpecificFirst profiles
+    → AreBefore (filter (is_chosen class head) profiles)
 chosen_order class head profiles order = λ i j d l m.
-    AllPairs-filter (λ (p q : Profile). p.class ≡ q.class → is_before p q ≡ true) (is_chosen class head) profiles order i j d l m (of_one i d (omega (arith, l, m)) ∙ sym (of_one j d m))
+    AllPairs-filter (λ (p q : Profile). p.class ≡ q.class → is_before p q ≡ true) (is_chosen class head) profiles order
+    i j d l m (of_one i d (omega (arith, l, m)) ∙ sym (of_one j d m))
   where
     of_one : All (λ (p : Profile). p.class ≡ class) (filter (is_chosen class head) profiles)
-    of_one = All-weaker (λ (p : Profile). is_chosen class head p ≡ true) (λ (p : Profile). p.class ≡ class) (λ p h. chosen_class class head p h) (filter (is_chosen class head) profiles) (filter_passes (is_chosen class head) profiles)
+    of_one = All-weaker (λ (p : Profile). is_chosen class head p ≡ true) (λ (p : Profile). p.class ≡ class)
+        (λ p h. chosen_class class head p h) (filter (is_chosen class head) profiles)
+        (filter_passes (is_chosen class head) profiles)
 
 -- what is known while no profile that was chosen covers
 pub record Unfound (chosen : Profile → Bool) (resource : List ℕ) (done : List Profile) (rows : ℕ) : Type 0 where
@@ -113,7 +157,9 @@ module _ (chosen : Profile → Bool) (resource : List ℕ) (done : List Profile)
       let count = so_far.count in
       record {
         count = rw (more, length-append) (omega (arith, count));
-        none = subst (NoneCovers resource) (sym more) (All-push (λ (q : Profile). covers_text q.pattern resource ≡ false) (filter chosen done) p so_far.none uncovered);
+        none = subst (NoneCovers resource) (sym more)
+            (All-push (λ (q : Profile). covers_text q.pattern resource ≡ false) (filter chosen done) p so_far.none
+            uncovered);
       }
 
   module _ (all after : List Profile) (is : all ≡ done ++ p ∷ after) (order : AreBefore (filter chosen all)) (here : chosen p ≡ true) where
@@ -127,7 +173,9 @@ module _ (chosen : Profile → Bool) (resource : List ℕ) (done : List Profile)
     read_now = sym (rw (parts, so_far.count) (read_first resource (filter chosen done) p (filter chosen after) (subst AreBefore parts order)))
 
 -- fewer are read than there are
-pub few_rows : (chosen : Profile → Bool) (resource : List ℕ) (done : List Profile) (rows : ℕ) (all : List Profile) (p : Profile) (after : List Profile) → Unfound chosen resource done rows → all ≡ done ++ p ∷ after → rows + 1 ≤ length all
+pub few_rows : (chosen : Profile → Bool) (resource : List ℕ) (done : List Profile) (rows : ℕ) (all : List Profile)
+    (p : Profile) (after : List Profile) → Unfound chosen resource done rows → all ≡ done ++ p ∷ after
+    → rows + 1 ≤ length all
 few_rows chosen resource done rows all p after so_far is =
     let count = so_far.count in
     let few : length (filter chosen done) ≤ length done = rw length-filter (count_by-le-length chosen done) in

@@ -56,29 +56,38 @@ both_true true b e = (refl, e)
 both_true false b e = (cc)
 
 -- the first of a class stays the first
-first_stays : (class : Class) (resource : List ℕ) (p : Profile) (ps : List Profile) → p.class ≡ class → All (IsEarlier p) ps → first_with p (find (is_covering class resource) ps) ≡ p
+first_stays : (class : Class) (resource : List ℕ) (p : Profile) (ps : List Profile) → p.class ≡ class
+    → All (IsEarlier p) ps → first_with p (find (is_covering class resource) ps) ≡ p
 first_stays class resource p [] same h = refl
 first_stays class resource p (q ∷ qs) same h = go (is_covering class resource q) refl (first_stays class resource p qs same (all_tail (IsEarlier p) q qs h))
   where
-    go : (b : Bool) → is_covering class resource q ≡ b → first_with p (find (is_covering class resource) qs) ≡ p → first_with p (cond b (Some q) (find (is_covering class resource) qs)) ≡ p
+    go : (b : Bool) → is_covering class resource q ≡ b → first_with p (find (is_covering class resource) qs) ≡ p
+        → first_with p (cond b (Some q) (find (is_covering class resource) qs)) ≡ p
     go true at later =
         let of_class = one_class q.class class (both_true (same_class q.class class) (covers_text q.pattern resource) at).0 in
         rw (before_once p q (all_head (IsEarlier p) q qs h (same ∙ sym of_class))) refl
     go false at later = later
 
-pub find-decides : (class : Class) (resource : List ℕ) (profiles : List Profile) → AreMostSpecificFirst profiles → find (is_covering class resource) profiles ≡ deciding (of_class class profiles) resource
+pub find-decides : (class : Class) (resource : List ℕ) (profiles : List Profile) → AreMostSpecificFirst profiles
+    → find (is_covering class resource) profiles ≡ deciding (of_class class profiles) resource
 find-decides class resource [] h = refl
-find-decides class resource (p ∷ ps) h = go (same_class p.class class) (covers_text p.pattern resource) refl refl (find-decides class resource ps (pairs_tail IsEarlier p ps h))
+find-decides class resource (p ∷ ps) h =
+    go (same_class p.class class) (covers_text p.pattern resource) refl refl
+    (find-decides class resource ps (pairs_tail IsEarlier p ps h))
   where
-    go : (b c : Bool) → same_class p.class class ≡ b → covers_text p.pattern resource ≡ c → find (is_covering class resource) ps ≡ deciding (of_class class ps) resource
-        → cond (b && c) (Some p) (find (is_covering class resource) ps) ≡ first_of (filter (λ (q : Profile). covers_text q.pattern resource) (cond b (p ∷ of_class class ps) (of_class class ps)))
+    go : (b c : Bool) → same_class p.class class ≡ b → covers_text p.pattern resource ≡ c
+        → find (is_covering class resource) ps ≡ deciding (of_class class ps) resource
+        → cond (b && c) (Some p) (find (is_covering class resource) ps) ≡ first_of
+        (filter (λ (q : Profile). covers_text q.pattern resource)
+        (cond b (p ∷ of_class class ps) (of_class class ps)))
     go true true at covers later =
         rw (covers, ← later) (ap Some (sym (first_stays class resource p ps (one_class p.class class at) (pairs_head IsEarlier p ps h))))
     go true false at covers later = rw covers later
     go false c at covers later = later
 
 -- pairs of a list, as those of what each is mapped to
-pairs_map : {X Y : Type 0} (f : X → Y) (P : X → Type 0) (R : X → X → Type 0) (S : Y → Y → Type 0) → ((x y : X) → P x → P y → R x y → S (f x) (f y)) → (xs : List X) → All P xs → AllPairs R xs → AllPairs S (map f xs)
+pairs_map : {X Y : Type 0} (f : X → Y) (P : X → Type 0) (R : X → X → Type 0) (S : Y → Y → Type 0)
+    → ((x y : X) → P x → P y → R x y → S (f x) (f y)) → (xs : List X) → All P xs → AllPairs R xs → AllPairs S (map f xs)
 pairs_map f P R S join [] each pairs = λ i j d first second. absurd (omega arith)
 pairs_map f P R S join (x ∷ xs) each pairs =
     AllPairs-cons S (f x) (map f xs)
@@ -92,7 +101,9 @@ all_both : {X : Type 0} (P Q : X → Type 0) (xs : List X) → All P xs → All 
 all_both P Q xs a b k d less = (a k d less, b k d less)
 
 -- the patterns that cover are in order
-pub covering-in_order : (class : Class) (resource : List ℕ) (profiles : List Profile) → AreProfiles profiles → AreMostSpecificFirst profiles → AllPairs (λ p q. Before (tokens p) (tokens q)) (covering_patterns class resource profiles)
+pub covering-in_order : (class : Class) (resource : List ℕ) (profiles : List Profile) → AreProfiles profiles
+    → AreMostSpecificFirst profiles → AllPairs (λ p q. Before (tokens p) (tokens q))
+    (covering_patterns class resource profiles)
 covering-in_order class resource profiles are in_order =
     let covers : Profile → Bool = λ (p : Profile). covers_text p.pattern resource in
     let of : Profile → Bool = λ (p : Profile). same_class p.class class in

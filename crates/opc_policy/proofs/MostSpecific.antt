@@ -1,5 +1,39 @@
 -- The profile that is computed is the most specific one, and there is no other.
-use Rattle.std.proofs.Common.{◌≡◌, ◌≢◌, ℕ, ◌<◌, Bool, true, false, cond, List, [], ◌∷◌, length, filter, get_or, zero, suc, Option, Some, None, refl, sym, ap, ◌∙◌, subst, ◌⊎◌, inl, inr, ⊎_elim, arith, Contains, ◌↔◌, Decides, map}
+use Rattle.std.proofs.Common.{
+  ◌≡◌,
+  ◌≢◌,
+  ℕ,
+  ◌<◌,
+  Bool,
+  true,
+  false,
+  cond,
+  List,
+  [],
+  ◌∷◌,
+  length,
+  filter,
+  get_or,
+  zero,
+  suc,
+  Option,
+  Some,
+  None,
+  refl,
+  sym,
+  ap,
+  ◌∙◌,
+  subst,
+  ◌⊎◌,
+  inl,
+  inr,
+  ⊎_elim,
+  arith,
+  Contains,
+  ◌↔◌,
+  Decides,
+  map,
+}
 use Rattle.std.specs.Cmp.{IsStrictWeakOrder}
 use Rattle.std.specs.Cmp.Lexicographic.{slice_cmp, nat_list_cmp_total}
 use Rattle.std.specs.List.{AllPairs}
@@ -9,7 +43,15 @@ use Rattle.std.specs.declared.cmp.Ordering.TheVariants.{Less, Equal, Greater}
 use Rattle.std.specs.Str.{bytes_eq}
 use Rattle.std.proofs.lemmas.Bool.{false≢true, cases_order}
 use Rattle.std.proofs.lemmas.List.{get_or_default}
-use Rattle.std.proofs.lemmas.List.Elements.{All-filter, All-contains, All-contains_itself, filter_passes, Contains-append_right, Contains-append_cases, Contains-push_cases}
+use Rattle.std.proofs.lemmas.List.Elements.{
+  All-filter,
+  All-contains,
+  All-contains_itself,
+  filter_passes,
+  Contains-append_right,
+  Contains-append_cases,
+  Contains-push_cases,
+}
 use Rattle.std.proofs.lemmas.List.Kept.{AllPairs-filter}
 use Rattle.std.proofs.lemmas.List.MinMax.{ranks_by}
 use Rattle.std.proofs.lemmas.Slice.Eq.{bytes_eq-Decides}
@@ -30,7 +72,10 @@ use Rattle.opc_policy_members.specs.declared.profile.Profile.{Profile}
 
 -- what a filter keeps
 pub of_filter : {X : Type 0} (p : X → Bool) (xs : List X) (x : X) → Contains (filter p xs) x → Contains xs x × (p x ≡ true)
-of_filter p xs x h = (All-contains (Contains xs) (filter p xs) x (All-filter p (Contains xs) xs (All-contains_itself xs)) h, All-contains (λ y. p y ≡ true) (filter p xs) x (filter_passes p xs) h)
+of_filter p xs x h = (
+  All-contains (Contains xs) (filter p xs) x (All-filter p (Contains xs) xs (All-contains_itself xs)) h,
+  All-contains (λ y. p y ≡ true) (filter p xs) x (filter_passes p xs) h,
+)
 
 pub to_filter : {X : Type 0} (p : X → Bool) (xs : List X) (x : X) → Contains xs x → p x ≡ true → Contains (filter p xs) x
 to_filter p xs x h e = kept p xs x h.0 h.1 h.2 e
@@ -44,7 +89,9 @@ to_filter p xs x h e = kept p xs x h.0 h.1 h.2 e
 
 -- a member of a list is its first element or one of the rest
 member_cases : {X : Type 0} (x : X) (xs : List X) (y : X) → Contains (x ∷ xs) y → (x ≡ y) ⊎ Contains xs y
-member_cases x xs y h = ⊎_elim (λ one. ⊎_elim (λ none. absurd (omega (arith, none.1))) inl (Contains-push_cases [] x y one)) inr (Contains-append_cases (x ∷ []) xs y h)
+member_cases x xs y h =
+    ⊎_elim (λ one. ⊎_elim (λ none. absurd (omega (arith, none.1))) inl (Contains-push_cases [] x y one)) inr
+    (Contains-append_cases (x ∷ []) xs y h)
 
 no_member : {X : Type 0} (y : X) → Contains [] y → ⊥
 no_member y h = omega (arith, h.1)
@@ -67,15 +114,24 @@ FirstIs profiles (Some d) = Contains profiles d × ((q : Profile) → Contains p
 
 first_among : (p : Profile) (profiles : List Profile) (o : Option Profile) → FirstIs profiles o → FirstIs (p ∷ profiles) (Some (first_with p o))
 unfolding FirstIs
-first_among p profiles None h =
-    ((0, omega arith, refl), λ q m. ⊎_elim (λ e. subst (λ x. is_before x p ≡ false) e (not_before_itself p)) (λ n. absurd (no_member q (rw h at n))) (member_cases p profiles q m))
+first_among p profiles None h = (
+  (0, omega arith, refl),
+  λ q m. ⊎_elim (λ e. subst (λ x. is_before x p ≡ false) e (not_before_itself p))
+      (λ n. absurd (no_member q (rw h at n))) (member_cases p profiles q m),
+)
 first_among p profiles (Some d) h = go (is_before d p) refl
   where
     go : (b : Bool) → is_before d p ≡ b → FirstIs (p ∷ profiles) (Some (cond b d p))
-    go true e =
-        (Contains-append_right (p ∷ []) profiles d h.0, λ q m. ⊎_elim (λ s. subst (λ x. is_before x d ≡ false) s (ordered.one_way d p e)) (λ n. h.1 q n) (member_cases p profiles q m))
-    go false e =
-        ((0, omega arith, refl), λ q m. ⊎_elim (λ s. subst (λ x. is_before x p ≡ false) s (not_before_itself p)) (λ n. ordered.chain q d p (h.1 q n) e) (member_cases p profiles q m))
+    go true e = (
+      Contains-append_right (p ∷ []) profiles d h.0,
+      λ q m. ⊎_elim (λ s. subst (λ x. is_before x d ≡ false) s (ordered.one_way d p e)) (λ n. h.1 q n)
+          (member_cases p profiles q m),
+    )
+    go false e = (
+      (0, omega arith, refl),
+      λ q m. ⊎_elim (λ s. subst (λ x. is_before x p ≡ false) s (not_before_itself p))
+          (λ n. ordered.chain q d p (h.1 q n) e) (member_cases p profiles q m),
+    )
 
 pub first_is : (profiles : List Profile) → FirstIs profiles (first_of profiles)
 unfolding FirstIs
@@ -102,8 +158,12 @@ module _ (profiles : List Profile) (resource : List ℕ) (patterns : (q : Profil
   unfolding FirstIs
   decided_by None h = λ q m c. no_member q (rw h at (to_filter (λ (p : Profile). covers_text p.pattern resource) profiles q m ((covers_is q resource).1 c)))
   decided_by (Some d) h =
-      let found = of_filter (λ (p : Profile). covers_text p.pattern resource) profiles d h.0 in
-      (found.0, (covers_is d resource).0 found.1, λ q m c b. false≢true (sym (h.1 q (to_filter _ profiles q m ((covers_is q resource).1 c))) ∙ (before_is q d (patterns q m) (patterns d found.0)).1 b))
+      let found = of_filter (λ (p : Profile). covers_text p.pattern resource) profiles d h.0 in (
+        found.0,
+        (covers_is d resource).0 found.1,
+        λ q m c b. false≢true (sym (h.1 q (to_filter _ profiles q m ((covers_is q resource).1 c)))
+            ∙ (before_is q d (patterns q m) (patterns d found.0)).1 b),
+      )
 
   pub deciding_is : IsDeciding profiles resource (deciding profiles resource)
   deciding_is = decided_by (deciding profiles resource) (first_is (covering resource profiles))
@@ -112,7 +172,8 @@ module _ (profiles : List Profile) (resource : List ℕ) (patterns : (q : Profil
 abbrev Distinct : Profile → Profile → Type 0
 Distinct p q = p.class ≡ q.class → p.pattern ≢ q.pattern
 
-pub same_member : (profiles : List Profile) (p q : Profile) → AllPairs Distinct profiles → Contains profiles p → Contains profiles q → p.class ≡ q.class → p.pattern ≡ q.pattern → p ≡ q
+pub same_member : (profiles : List Profile) (p q : Profile) → AllPairs Distinct profiles → Contains profiles p
+    → Contains profiles q → p.class ≡ q.class → p.pattern ≡ q.pattern → p ≡ q
 same_member profiles p q distinct m n c e = go (cases_order m.0 n.0)
   where
     there : get_or profiles n.0 p ≡ q
@@ -133,7 +194,8 @@ same_member profiles p q distinct m n c e = go (cases_order m.0 n.0)
     go (inr (inr l)) = absurd (apart_too (rw (n.2, here) at (distinct n.0 m.0 q l m.1)))
 
 -- no two deciding profiles are different
-module _ (profiles : List Profile) (resource : List ℕ) (class : Class) (sound : AreProfiles profiles) (one_class : (q : Profile) → Contains profiles q → q.class ≡ class) where
+module _ (profiles : List Profile) (resource : List ℕ) (class : Class) (sound : AreProfiles profiles)
+    (one_class : (q : Profile) → Contains profiles q → q.class ≡ class) where
   pattern_of : (q : Profile) → Contains profiles q → IsPattern q.pattern
   pattern_of q m = All-contains (λ (p : Profile). IsPattern p.pattern) profiles q sound.patterns m
 
@@ -141,11 +203,14 @@ module _ (profiles : List Profile) (resource : List ℕ) (class : Class) (sound 
   one_deciding None None h k = refl
   one_deciding None (Some q) h k = absurd (h q k.0 k.1)
   one_deciding (Some p) None h k = absurd (k p h.0 h.1)
-  one_deciding (Some p) (Some q) h k = ap Some (same_member profiles p q sound.distinct h.0 k.0 (one_class p h.0 ∙ sym (one_class q k.0)) (same (bytes_eq p.pattern q.pattern) (bytes_eq-Decides p.pattern q.pattern)))
+  one_deciding (Some p) (Some q) h k = ap Some
+      (same_member profiles p q sound.distinct h.0 k.0 (one_class p h.0 ∙ sym (one_class q k.0))
+      (same (bytes_eq p.pattern q.pattern) (bytes_eq-Decides p.pattern q.pattern)))
     where
       same : (b : Bool) → Decides b (p.pattern ≡ q.pattern) → p.pattern ≡ q.pattern
       same true d = d.0 refl
-      same false d = ⊎_elim (λ b. absurd (k.2 p h.0 h.1 b)) (λ b. absurd (h.2 q k.0 k.1 b)) (one_is_before p.pattern q.pattern (pattern_of p h.0) (pattern_of q k.0) (λ e. false≢true (d.1 e)))
+      same false d = ⊎_elim (λ b. absurd (k.2 p h.0 h.1 b)) (λ b. absurd (h.2 q k.0 k.1 b))
+          (one_is_before p.pattern q.pattern (pattern_of p h.0) (pattern_of q k.0) (λ e. false≢true (d.1 e)))
 
 -- the profiles of a class
 module _ (profiles : List Profile) (class : Class) (sound : AreProfiles profiles) where
@@ -166,4 +231,6 @@ deciding_is_most_specific profiles class resource sound = deciding_is (of_class 
 
 pub one_is_deciding : OneIsDeciding
 one_is_deciding profiles class resource decided sound h =
-    one_deciding (of_class class profiles) resource class (class_profiles profiles class sound) (in_class profiles class sound) decided (deciding (of_class class profiles) resource) h (deciding_is_most_specific profiles class resource sound)
+    one_deciding (of_class class profiles) resource class (class_profiles profiles class sound)
+    (in_class profiles class sound) decided (deciding (of_class class profiles) resource) h
+    (deciding_is_most_specific profiles class resource sound)

@@ -12,19 +12,30 @@ module _ (seen : List Profile) (resource : List ℕ) (p : Profile) where
   among : (P : Profile → Type 0) → ((q : Profile) → Contains seen q → P q) → P p → (q : Profile) → Contains (seen ++ p ∷ []) q → P q
   among P old new q h = ⊎_elim (old q) (λ e. subst P e new) (Contains-push_cases seen p q h)
 
-  pub decided_without : (best : Option Profile) → (CoversText p.pattern resource → ⊥) → IsDeciding seen resource best → IsDeciding (seen ++ p ∷ []) resource best
+  pub decided_without : (best : Option Profile) → (CoversText p.pattern resource → ⊥) → IsDeciding seen resource best
+      → IsDeciding (seen ++ p ∷ []) resource best
   decided_without None uncovered h = among (λ q. CoversText q.pattern resource → ⊥) h uncovered
   decided_without (Some b) uncovered h =
       (Contains-append_left seen (p ∷ []) b h.0, h.1, among (λ q. CoversText q.pattern resource → IsBefore q b → ⊥) h.2 (λ c. absurd (uncovered c)))
 
   pub decided_first : CoversText p.pattern resource → IsDeciding seen resource None → IsDeciding (seen ++ p ∷ []) resource (Some p)
-  decided_first covered h =
-      (Contains-push seen p, covered, among (λ q. CoversText q.pattern resource → IsBefore q p → ⊥) (λ q k c. absurd (h q k c)) (λ c. before_itself (tokens p.pattern)))
+  decided_first covered h = (
+    Contains-push seen p,
+    covered,
+    among (λ q. CoversText q.pattern resource → IsBefore q p → ⊥)
+        (λ q k c. absurd (h q k c)) (λ c. before_itself (tokens p.pattern)),
+  )
 
   pub decided_still : (b : Profile) → (IsBefore p b → ⊥) → IsDeciding seen resource (Some b) → IsDeciding (seen ++ p ∷ []) resource (Some b)
   decided_still b later h =
       (Contains-append_left seen (p ∷ []) b h.0, h.1, among (λ q. CoversText q.pattern resource → IsBefore q b → ⊥) h.2 (λ c. later))
 
-  pub decided_now : (b : Profile) → CoversText p.pattern resource → IsBefore p b → IsDeciding seen resource (Some b) → IsDeciding (seen ++ p ∷ []) resource (Some p)
-  decided_now b covered earlier h =
-      (Contains-push seen p, covered, among (λ q. CoversText q.pattern resource → IsBefore q p → ⊥) (λ q k c e. h.2 q k c (before_trans _ (tokens p.pattern) _ e earlier)) (λ c. before_itself (tokens p.pattern)))
+  pub decided_now : (b : Profile) → CoversText p.pattern resource → IsBefore p b → IsDeciding seen resource (Some b)
+      → IsDeciding (seen ++ p ∷ []) resource (Some p)
+  decided_now b covered earlier h = (
+    Contains-push seen p,
+    covered,
+    among (λ q. CoversText q.pattern resource → IsBefore q p → ⊥)
+        (λ q k c e. h.2 q k c (before_trans _ (tokens p.pattern) _ e earlier))
+        (λ c. before_itself (tokens p.pattern)),
+  )

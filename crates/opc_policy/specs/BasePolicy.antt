@@ -15,7 +15,14 @@ use Rattle.opc_policy_members.specs.declared.user.User.{User}
 
 -- a user who is an operator, and one with SPECIAL
 abbrev pub operator : List ℕ → User
-operator name = record { id = name; special = false; auditor = false; revoked = false; digest = None; restricted = false }
+operator name = record {
+  id = name;
+  special = false;
+  auditor = false;
+  revoked = false;
+  digest = None;
+  restricted = false;
+}
 
 abbrev pub anna : User
 anna = operator (codes "ANNA")
@@ -27,7 +34,14 @@ abbrev pub carl : User
 carl = operator (codes "CARL")
 
 abbrev pub secadm : User
-secadm = record { id = codes "SECADM"; special = true; auditor = false; revoked = false; digest = None; restricted = false }
+secadm = record {
+  id = codes "SECADM";
+  special = true;
+  auditor = false;
+  revoked = false;
+  digest = None;
+  restricted = false;
+}
 
 -- the connect groups of ANNA, and those of BERT
 abbrev pub ops : List (List ℕ)
@@ -40,10 +54,18 @@ abbrev pub entry : List ℕ → Level → Entry
 entry id level = record { id = id; when = None; level = level }
 
 abbrev pub profile : List ℕ → Level → Bool → List Entry → Profile
-profile pattern uacc warning entries = record { class = Opercmds; pattern = pattern; owner = codes "SECADM"; uacc = uacc; warning = warning; entries = entries }
+profile pattern uacc warning entries = record {
+  class = Opercmds;
+  pattern = pattern;
+  owner = codes "SECADM";
+  uacc = uacc;
+  warning = warning;
+  entries = entries;
+}
 
 abbrev pub cancel_pay : Profile
-cancel_pay = profile (codes "MVS.CANCEL.JOB.PAY*") level.None false (entry (codes "BERT") level.Read ∷ entry (codes "NIGHT") level.Update ∷ [])
+cancel_pay = profile (codes "MVS.CANCEL.JOB.PAY*") level.None false
+    (entry (codes "BERT") level.Read ∷ entry (codes "NIGHT") level.Update ∷ [])
 
 abbrev pub cancel_jobs : Profile
 cancel_jobs = profile (codes "MVS.CANCEL.JOB.*") level.None false (entry (codes "OPS") level.Update ∷ [])
@@ -75,12 +97,14 @@ entry_at console id level = record { id = id; when = Some console; level = level
 abbrev pub cancel_pay_at_c1 : Profile
 cancel_pay_at_c1 =
     profile (codes "MVS.CANCEL.JOB.PAY*") level.None false
-    (entry_at (codes "C1") (codes "ANNA") level.Update ∷ entry (codes "BERT") level.Read ∷ entry_at (codes "C1") (codes "BERT") level.None ∷ entry (codes "NIGHT") level.Update ∷ [])
+    (entry_at (codes "C1") (codes "ANNA") level.Update ∷ entry (codes "BERT") level.Read
+    ∷ entry_at (codes "C1") (codes "BERT") level.None ∷ entry (codes "NIGHT") level.Update ∷ [])
 
 abbrev pub cancel_pay_at_c2 : Profile
 cancel_pay_at_c2 =
     profile (codes "MVS.CANCEL.JOB.PAY*") level.None false
-    (entry (codes "BERT") level.Read ∷ entry (codes "NIGHT") level.Update ∷ entry_at (codes "C2") (codes "NIGHT") level.Control ∷ [])
+    (entry (codes "BERT") level.Read ∷ entry (codes "NIGHT") level.Update
+    ∷ entry_at (codes "C2") (codes "NIGHT") level.Control ∷ [])
 
 -- a RESTRICTED user
 abbrev pub restricted_carl : User
@@ -88,11 +112,13 @@ restricted_carl = record carl { restricted = true }
 
 -- profiles of which two have one head, and one of them covers
 abbrev pub short_profiles : List Profile
-short_profiles = profile (codes "A.%") level.None false [] ∷ profile (codes "A.*.C") level.None false [] ∷ profile (codes "A.*") level.None false [] ∷ []
+short_profiles = profile (codes "A.%") level.None false [] ∷ profile (codes "A.*.C") level.None false []
+    ∷ profile (codes "A.*") level.None false [] ∷ []
 
 abbrev pub need : List ℕ → Level → Group → Need
 need resource level group = record { resource = resource; level = level; group = group }
 
 -- the ruling on a need at a console, by these profiles of an active class
 abbrev pub ruled_by : List Profile → Option User → Option (List ℕ) → List (List ℕ) → Auth → Need → Ruling
-ruled_by profiles user console groups auth need = ruling true (deciding profiles need.resource) user console groups auth need
+ruled_by profiles user console groups auth need =
+    ruling true (deciding profiles need.resource) user console groups auth need

@@ -12,7 +12,8 @@ IsBefore p q = Before (tokens p.pattern) (tokens q.pattern)
 -- covers it is before; none where none covers it (RACF guide: the most specific profile).
 abbrev pub IsDeciding : List Profile → List ℕ → Option Profile → Type 0
 IsDeciding profiles resource None = (q : Profile) → Contains profiles q → CoversText q.pattern resource → ⊥
-IsDeciding profiles resource (Some p) = Contains profiles p × CoversText p.pattern resource × ((q : Profile) → Contains profiles q → CoversText q.pattern resource → IsBefore q p → ⊥)
+IsDeciding profiles resource (Some p) = Contains profiles p × CoversText p.pattern resource
+    × ((q : Profile) → Contains profiles q → CoversText q.pattern resource → IsBefore q p → ⊥)
 
 -- The same, computed: the profiles that cover a resource,
 abbrev pub covering : List ℕ → List Profile → List Profile

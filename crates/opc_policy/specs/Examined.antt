@@ -39,7 +39,8 @@ read_until (Some d) profiles = filter (λ (p : Profile). not (is_before d p)) pr
 abbrev pub is_examined : Option Profile → List ℕ → Profile → Bool
 is_examined None name p = starts_with nat_eq name (head_of p)
 is_examined (Some d) name p =
-    starts_with nat_eq name (head_of p) && (nat_lt (length (head_of d)) (length (head_of p)) || (bytes_eq (head_of p) (head_of d) && not (is_before d p)))
+    starts_with nat_eq name (head_of p) && (nat_lt (length (head_of d)) (length (head_of p))
+    || (bytes_eq (head_of p) (head_of d) && not (is_before d p)))
 
 abbrev pub examined : Option Profile → List ℕ → List Profile → List Profile
 examined decided name profiles = filter (is_examined decided name) profiles

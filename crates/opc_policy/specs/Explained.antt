@@ -25,10 +25,13 @@ is_covering class resource profile = same_class profile.class class && covers_te
 
 -- the patterns of the profiles of a class that cover a resource
 abbrev pub covering_patterns : Class → List ℕ → List Profile → List (List ℕ)
-covering_patterns class resource profiles = map (λ (p : Profile). p.pattern) (covering resource (of_class class profiles))
+covering_patterns class resource profiles =
+    map (λ (p : Profile). p.pattern) (covering resource (of_class class profiles))
 
--- The explanation for a user, at a console if one is given: what covers, active or not; the verdict by the profile that decides; its rule.
-abbrev pub explained_to : Option User → Policy → Class → List ℕ → List ℕ → Option (List ℕ) → Level → Result Explained Fault
+-- The explanation for a user, at a console if one is given: what covers, active or not; the verdict by the profile that
+-- decides; its rule.
+abbrev pub explained_to : Option User → Policy → Class → List ℕ → List ℕ → Option (List ℕ) → Level
+    → Result Explained Fault
 explained_to None policy class resource id console needed = Err (Missing id)
 explained_to (Some user) policy class resource id console needed =
     let active = is_active policy.active class in
@@ -42,11 +45,13 @@ explained_to (Some user) policy class resource id console needed =
 
 -- the explanation for the user with an id
 abbrev pub explanation : Policy → Class → List ℕ → List ℕ → Option (List ℕ) → Level → Result Explained Fault
-explanation policy class resource id console needed = explained_to (user_of policy.users id) policy class resource id console needed
+explanation policy class resource id console needed =
+    explained_to (user_of policy.users id) policy class resource id console needed
 
 -- the line of a pattern that covers; 10 is the line feed
 abbrev pub covers_line : List ℕ → List ℕ
 covers_line pattern = codes "COVERS " ++ pattern ++ 10 ∷ []
 
 abbrev pub explained_text : Explained → List ℕ
-explained_text explained = flat_map covers_line explained.covering ++ verdict_text explained.verdict ++ codes " " ++ rule_text explained.rule ++ 10 ∷ []
+explained_text explained = flat_map covers_line explained.covering ++ verdict_text explained.verdict ++ codes " "
+    ++ rule_text explained.rule ++ 10 ∷ []

@@ -7,9 +7,11 @@ use Rattle.opc_policy_members.specs.declared.profile.Profile.{Profile}
 
 -- The profile that is computed is the most specific one of its class,
 abbrev pub DecidingIsMostSpecific : Type 0
-DecidingIsMostSpecific = (profiles : List Profile) (class : Class) (resource : List ℕ) → AreProfiles profiles → IsDeciding (of_class class profiles) resource (deciding (of_class class profiles) resource)
+DecidingIsMostSpecific = (profiles : List Profile) (class : Class) (resource : List ℕ) → AreProfiles profiles
+    → IsDeciding (of_class class profiles) resource (deciding (of_class class profiles) resource)
 
 -- and there is no other.
 abbrev pub OneIsDeciding : Type 0
 OneIsDeciding =
-    (profiles : List Profile) (class : Class) (resource : List ℕ) (decided : Option Profile) → AreProfiles profiles → IsDeciding (of_class class profiles) resource decided → decided ≡ deciding (of_class class profiles) resource
+    (profiles : List Profile) (class : Class) (resource : List ℕ) (decided : Option Profile) → AreProfiles profiles
+    → IsDeciding (of_class class profiles) resource decided → decided ≡ deciding (of_class class profiles) resource

@@ -14,20 +14,23 @@ use Rattle.opc_policy_members.specs.declared.user.User.{User}
 use Rattle.opc_policy.specs.declared.verdict.Verdict.{Verdict}
 use Rattle.opc_policy.specs.declared.verdict.Verdict.TheVariants.{Allowed, Undecided, Denied}
 
--- The verdict of a class on a user at a console and a level, by the profile that decides in it: undecided where the class is
--- inactive or none decides; allowed where the user holds the level, or the profile only warns; else denied.
+-- The verdict of a class on a user at a console and a level, by the profile that decides in it: undecided where the
+-- class is inactive or none decides; allowed where the user holds the level, or the profile only warns; else denied.
 abbrev pub verdict : Bool → Option Profile → User → Option (List ℕ) → List (List ℕ) → Level → Verdict
 verdict false decided user console groups needed = Undecided
 verdict true None user console groups needed = Undecided
-verdict true (Some p) user console groups needed = if includes (held p user console groups) needed || p.warning then Allowed else Denied
+verdict true (Some p) user console groups needed =
+    if includes (held p user console groups) needed || p.warning then Allowed else Denied
 
--- the rule of a profile for whoever holds a level in it: with a warning where the level is not enough and the profile only warns
+-- the rule of a profile for whoever holds a level in it: with a warning where the level is not enough and the profile
+-- only warns
 abbrev pub rule_at : Profile → Level → Level → Rule
 rule_at p level needed = rules.Profile p.class p.pattern level needed (not (includes level needed) && p.warning)
 
 -- the ruling of a profile on whoever holds a level in it
 abbrev pub ruling_at : Profile → Level → Level → Ruling
-ruling_at p level needed = if includes level needed || p.warning then rulings.Allowed (rule_at p level needed) else rulings.Denied (rule_at p level needed)
+ruling_at p level needed = if includes level needed
+    || p.warning then rulings.Allowed (rule_at p level needed) else rulings.Denied (rule_at p level needed)
 
 -- the rule of a profile for a user
 abbrev pub profile_rule : Profile → User → Option (List ℕ) → List (List ℕ) → Level → Rule
@@ -45,7 +48,8 @@ verdict_rule true (Some p) user console groups needed = profile_rule p user cons
 
 -- by the authority of the console and the group of the command (MVS Planning: Operations)
 abbrev pub console_ruling : Auth → Need → Ruling
-console_ruling auth need = if enters auth need.group then rulings.Allowed (rules.ConsoleGroup need.group auth) else rulings.Denied (rules.ConsoleGroup need.group auth)
+console_ruling auth need = if enters auth need.group then rulings.Allowed (rules.ConsoleGroup need.group auth) else
+    rulings.Denied (rules.ConsoleGroup need.group auth)
 
 -- a verdict that decides is final; where it is undecided something else decides
 abbrev pub by_verdict : Verdict → Rule → Ruling → Ruling
@@ -67,4 +71,5 @@ rule_of (rulings.Denied rule) = rule
 abbrev pub ruling : Bool → Option Profile → Option User → Option (List ℕ) → List (List ℕ) → Auth → Need → Ruling
 ruling active decided None console groups auth need = console_ruling auth need
 ruling active decided (Some user) console groups auth need =
-    by_verdict (verdict active decided user console groups need.level) (verdict_rule active decided user console groups need.level) (console_ruling auth need)
+    by_verdict (verdict active decided user console groups need.level)
+    (verdict_rule active decided user console groups need.level) (console_ruling auth need)

@@ -4,7 +4,27 @@ ghost use Rattle.opc_names.specs.declared.auth.Auth.TheVariants as auth;
 ghost use Rattle.opc_names.specs.declared.class.Class.TheVariants.{Opercmds};
 ghost use Rattle.opc_names.specs.declared.group.Group.TheVariants as group;
 ghost use Rattle.opc_names.specs.declared.level.Level.TheVariants as level;
-ghost use Rattle.opc_policy.specs.BasePolicy.{base_profiles, short_profiles, anna, bert, carl, secadm, ops, night_and_ops, cancel_pay, cancel_jobs, display, display_not_for_anna, cancel_pay_at_c1, cancel_pay_at_c2, restricted_carl, all_commands, profile, need, ruled_by};
+ghost use Rattle.opc_policy.specs.BasePolicy.{
+  base_profiles,
+  short_profiles,
+  anna,
+  bert,
+  carl,
+  secadm,
+  ops,
+  night_and_ops,
+  cancel_pay,
+  cancel_jobs,
+  display,
+  display_not_for_anna,
+  cancel_pay_at_c1,
+  cancel_pay_at_c2,
+  restricted_carl,
+  all_commands,
+  profile,
+  need,
+  ruled_by,
+};
 ghost use Rattle.opc_policy.specs.Deciding.{covering, deciding};
 ghost use Rattle.opc_policy.specs.Examined.{examined, head_length};
 ghost use Rattle.opc_policy_members.specs.Held.{held};
@@ -15,7 +35,8 @@ ghost use Rattle.opc_policy.specs.declared.ruling.Ruling.TheVariants.{Allowed, D
 
 /// The most specific of the profiles that cover a resource decides.
 pub fn most_specific_profiles()
-    ensures covering { covering (codes "MVS.CANCEL.JOB.PAYROLL") base_profiles ≡ cancel_pay ∷ cancel_jobs ∷ all_commands ∷ [] }
+    ensures covering { covering (codes "MVS.CANCEL.JOB.PAYROLL") base_profiles ≡ cancel_pay ∷ cancel_jobs ∷ all_commands
+        ∷ [] }
     ensures payroll { deciding base_profiles (codes "MVS.CANCEL.JOB.PAYROLL") ≡ Some cancel_pay }
     ensures backup { deciding base_profiles (codes "MVS.CANCEL.JOB.BACKUP") ≡ Some cancel_jobs }
     ensures units { deciding base_profiles (codes "MVS.DISPLAY.U") ≡ Some display }
@@ -59,22 +80,31 @@ pub fn levels_at_consoles()
 /// Who is on is ruled by the profiles, and a denial by one of them is final.
 #[tactic(auto, unfolding(opc_policy_members::specs::Held::held))]
 pub fn rulings_by_profiles()
-    ensures backup { ruled_by base_profiles (Some anna) None ops auth.Sys (need (codes "MVS.CANCEL.JOB.BACKUP") level.Update group.Sys)
+    ensures backup { ruled_by base_profiles (Some anna) None ops auth.Sys
+        (need (codes "MVS.CANCEL.JOB.BACKUP") level.Update group.Sys)
         ≡ Allowed (rule.Profile Opercmds (codes "MVS.CANCEL.JOB.*") level.Update level.Update false) }
-    ensures payroll { ruled_by base_profiles (Some anna) None ops auth.Sys (need (codes "MVS.CANCEL.JOB.PAYROLL") level.Update group.Sys)
+    ensures payroll { ruled_by base_profiles (Some anna) None ops auth.Sys
+        (need (codes "MVS.CANCEL.JOB.PAYROLL") level.Update group.Sys)
         ≡ Denied (rule.Profile Opercmds (codes "MVS.CANCEL.JOB.PAY*") level.None level.Update false) }
-    ensures own_entry { ruled_by base_profiles (Some bert) None night_and_ops auth.Sys (need (codes "MVS.CANCEL.JOB.PAYROLL") level.Update group.Sys)
+    ensures own_entry { ruled_by base_profiles (Some bert) None night_and_ops auth.Sys
+        (need (codes "MVS.CANCEL.JOB.PAYROLL") level.Update group.Sys)
         ≡ Denied (rule.Profile Opercmds (codes "MVS.CANCEL.JOB.PAY*") level.Read level.Update false) }
-    ensures special { ruled_by base_profiles (Some secadm) None [] auth.Master (need (codes "MVS.CANCEL.JOB.BACKUP") level.Update group.Sys)
+    ensures special { ruled_by base_profiles (Some secadm) None [] auth.Master
+        (need (codes "MVS.CANCEL.JOB.BACKUP") level.Update group.Sys)
         ≡ Denied (rule.Profile Opercmds (codes "MVS.CANCEL.JOB.*") level.None level.Update false) }
-    ensures warned { ruled_by base_profiles (Some carl) None [] auth.Sys (need (codes "MVS.VARY.DEV") level.Update group.Io)
+    ensures warned { ruled_by base_profiles (Some carl) None [] auth.Sys
+        (need (codes "MVS.VARY.DEV") level.Update group.Io)
         ≡ Allowed (rule.Profile Opercmds (codes "MVS.VARY.DEV") level.None level.Update true) }
 {}
 
 /// Where nobody is on, or no profile decides, the authority of the console does.
 pub fn rulings_by_consoles()
-    ensures start { ruled_by base_profiles None None [] auth.Sys (need (codes "MVS.START.STC.MONPL.MONPL") level.Update group.Sys) ≡ Allowed (rule.ConsoleGroup group.Sys auth.Sys) }
-    ensures force { ruled_by base_profiles None None [] auth.Sys (need (codes "MVS.FORCE.JOB.X") level.Control group.Master) ≡ Denied (rule.ConsoleGroup group.Master auth.Sys) }
-    ensures inactive { ruling false (Some all_commands) (Some anna) None ops auth.Master (need (codes "MVS.FORCE.JOB.X") level.Control group.Master)
+    ensures start { ruled_by base_profiles None None [] auth.Sys
+        (need (codes "MVS.START.STC.MONPL.MONPL") level.Update group.Sys) ≡ Allowed
+        (rule.ConsoleGroup group.Sys auth.Sys) }
+    ensures force { ruled_by base_profiles None None [] auth.Sys
+        (need (codes "MVS.FORCE.JOB.X") level.Control group.Master) ≡ Denied (rule.ConsoleGroup group.Master auth.Sys) }
+    ensures inactive { ruling false (Some all_commands) (Some anna) None ops auth.Master
+        (need (codes "MVS.FORCE.JOB.X") level.Control group.Master)
         ≡ Allowed (rule.ConsoleGroup group.Master auth.Master) }
 {}

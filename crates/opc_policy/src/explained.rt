@@ -64,7 +64,8 @@ pub fn explain(
     console: Option<&ConsoleName>,
     needed: Level,
 ) -> Result<Explained, Fault>
-    ensures ok { IfOk result (λ explained. explanation policy.now class resource.now id.now (option_copied console.entry) needed ≡ Ok explained) }
+    ensures ok { IfOk result (λ explained. explanation policy.now class resource.now id.now
+        (option_copied console.entry) needed ≡ Ok explained) }
     ensures in_order { IfOk result (λ explained. AllPairs (λ p q. Before (tokens p) (tokens q)) explained.covering) }
     ensures fault { IfErr result (λ fault. fault ≢ Fault.NoMemory →
         explanation policy.now class resource.now id.now (option_copied console.entry) needed ≡ Err fault) }
@@ -115,7 +116,8 @@ fn covering_patterns(
     resource: &Resource,
 ) -> Result<Patterns, AllocError>
     ensures patterns { IfOk result (λ patterns. patterns ≡ covering_patterns class resource.now profiles.now) }
-    ensures in_order { AllPairs (λ p q. Before (tokens p) (tokens q)) (covering_patterns class resource.now profiles.now) }
+    ensures in_order { AllPairs (λ p q. Before (tokens p) (tokens q))
+        (covering_patterns class resource.now profiles.now) }
 {
     let list = profiles
         .iter()

@@ -26,7 +26,8 @@ fn first_chosen(
     ensures first { IfOk result (λ taken.
         taken.profile ≡ deciding (filter (is_chosen class (option_copied head.entry)) profiles.now) resource.now) }
     ensures rows { IfOk result (λ taken.
-        taken.rows ≡ length (read_until taken.profile (filter (is_chosen class (option_copied head.entry)) profiles.now))) }
+        taken.rows ≡ length (read_until taken.profile
+        (filter (is_chosen class (option_copied head.entry)) profiles.now))) }
     ensures sound { AreProfiles profiles.now }
 {
     let mut rows = 0;
@@ -79,7 +80,8 @@ pub fn first_of_class(
     resource: &Resource,
 ) -> Result<Taken, StoreFault>
     ensures first { IfOk result (λ taken. taken.profile ≡ deciding (of_class class policy.now.profiles) resource.now) }
-    ensures rows { IfOk result (λ taken. taken.rows ≡ length (read_until taken.profile (of_class class policy.now.profiles))) }
+    ensures rows { IfOk result (λ taken. taken.rows ≡ length
+        (read_until taken.profile (of_class class policy.now.profiles))) }
     ensures fault { IsOkUnless result NoMemory }
 {
     Ok(first_chosen(&policy.profiles, class, None, resource)?)

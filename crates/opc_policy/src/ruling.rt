@@ -1,7 +1,17 @@
 //! Rulings on commands.
 ghost use Rattle.std.specs.Prelude.{◌≡◌, Some, true};
 ghost use Rattle.std.specs.Option.{option_copied};
-ghost use Rattle.opc_policy.specs.Rulings.{profile_ruling, profile_rule, rule_at, ruling_at, verdict, verdict_of, rule_of, ruling, console_ruling};
+ghost use Rattle.opc_policy.specs.Rulings.{
+  profile_ruling,
+  profile_rule,
+  rule_at,
+  ruling_at,
+  verdict,
+  verdict_of,
+  rule_of,
+  ruling,
+  console_ruling,
+};
 
 use crate::search::Found;
 use crate::verdict::Verdict;
@@ -50,7 +60,8 @@ pub fn profile_ruling(
     needed: Level,
 ) -> Ruling
     ensures ruling { result ≡ profile_ruling profile.now user.now (option_copied console.entry) groups.now needed }
-    ensures verdict { verdict_of result ≡ verdict true (Some profile.now) user.now (option_copied console.entry) groups.now needed }
+    ensures verdict { verdict_of result ≡ verdict true (Some profile.now) user.now (option_copied console.entry)
+        groups.now needed }
     ensures rule { rule_of result ≡ profile_rule profile.now user.now (option_copied console.entry) groups.now needed }
 {
     ruling_at(profile, profile.level_of(user, console, groups), needed)
@@ -91,9 +102,9 @@ pub fn console_ruling(auth: Auth, need: &Need) -> Ruling
     }
 }
 
-/// The ruling on a command at a console, where logon is no question: by the profile that decides, if the class is active and
-/// the console acts for a user, else by the authority of the console. The groups are the user's connect groups; without a
-/// user they are not looked at.
+/// The ruling on a command at a console, where logon is no question: by the profile that decides, if the class is
+/// active and the console acts for a user, else by the authority of the console. The groups are the user's connect
+/// groups; without a user they are not looked at.
 pub fn rule_on(
     found: &Found,
     active: bool,
@@ -103,7 +114,8 @@ pub fn rule_on(
     auth: Auth,
     need: &Need,
 ) -> Ruling
-    ensures { result ≡ ruling active found.now.profile (option_copied user.entry) (option_copied console.entry) groups.now auth need.now }
+    ensures { result ≡ ruling active found.now.profile (option_copied user.entry) (option_copied console.entry)
+        groups.now auth need.now }
 {
     match (user, &found.profile) {
         (Some(user), Some(profile)) if active => {

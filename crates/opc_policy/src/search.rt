@@ -31,19 +31,26 @@ pub fn search<S: ProfileSource>(
     ensures ready { S.is_ready source.new }
     ensures kept { S.is_kept source.old source.new }
     ensures answered { IfOk result (λ _. S.is_open source.new) }
-    ensures profiles { (profiles : List TheProfile) → S.has source.old profiles → S.is_faithful source.new → AreProfiles profiles }
-    ensures most_specific { (profiles : List TheProfile) → S.has source.old profiles → IfOk result (λ found. S.is_faithful source.new →
+    ensures profiles { (profiles : List TheProfile) → S.has source.old profiles → S.is_faithful source.new
+        → AreProfiles profiles }
+    ensures most_specific { (profiles : List TheProfile) → S.has source.old profiles
+        → IfOk result (λ found. S.is_faithful source.new →
         IsDeciding (of_class class profiles) resource.now found.profile) }
-    ensures deciding { (profiles : List TheProfile) → S.has source.old profiles → IfOk result (λ found. S.is_faithful source.new →
+    ensures deciding { (profiles : List TheProfile) → S.has source.old profiles
+        → IfOk result (λ found. S.is_faithful source.new →
         found.profile ≡ deciding (of_class class profiles) resource.now) }
-    ensures ranges { (profiles : List TheProfile) → S.has source.old profiles → IfOk result (λ found. S.is_faithful source.new →
+    ensures ranges { (profiles : List TheProfile) → S.has source.old profiles
+        → IfOk result (λ found. S.is_faithful source.new →
         found.ranges + head_length found.profile ≡ length resource.now + 1) }
-    ensures rows { (profiles : List TheProfile) → S.has source.old profiles → IfOk result (λ found. S.is_faithful source.new →
+    ensures rows { (profiles : List TheProfile) → S.has source.old profiles
+        → IfOk result (λ found. S.is_faithful source.new →
         found.rows ≡ length (examined found.profile resource.now (of_class class profiles))) }
     // Besides the faults of the source: the count of what was read does not fit.
-    ensures fault { (profiles : List TheProfile) → S.has source.old profiles → S.is_faithful source.new → IfErr result (λ fault.
+    ensures fault { (profiles : List TheProfile) → S.has source.old profiles → S.is_faithful source.new
+        → IfErr result (λ fault.
         S.can_fail_with fault ⊎ ((fault ≡ Store) × (2 ^ 64 ≤ length profiles))) }
-    ensures same { (profiles : List TheProfile) → S.has source.old profiles → S.is_faithful source.new → S.is_open source.new → S.has source.new profiles }
+    ensures same { (profiles : List TheProfile) → S.has source.old profiles → S.is_faithful source.new
+        → S.is_open source.new → S.has source.new profiles }
     ensures faithful { S.is_faithful source.new → S.is_faithful source.old }
 {
     let name = resource.text();

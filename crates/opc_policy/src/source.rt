@@ -40,8 +40,8 @@ pub trait ProfileSource {
     /// That it may be asked.
     ghost is_ready: { Self → Type 0 };
 
-    /// Where this holds after a call, an answer is of the profiles that were there before, and while the source is open they
-    /// are there still.
+    /// Where this holds after a call, an answer is of the profiles that were there before, and while the source is open
+    /// they are there still.
     ghost is_faithful: { Self → Type 0 };
 
     /// What asking leaves of the source as it was before, whatever comes of it.
@@ -65,13 +65,17 @@ pub trait ProfileSource {
         ensures ready { is_ready self.new }
         ensures kept { is_kept self.old self.new }
         ensures answered { IfOk result (λ _. is_open self.new) }
-        ensures profiles { (profiles : List TheProfile) → has self.old profiles → is_faithful self.new → AreProfiles profiles }
-        ensures first { (profiles : List TheProfile) → has self.old profiles → IfOk result (λ taken. is_faithful self.new →
+        ensures profiles { (profiles : List TheProfile) → has self.old profiles → is_faithful self.new
+            → AreProfiles profiles }
+        ensures first { (profiles : List TheProfile) → has self.old profiles
+            → IfOk result (λ taken. is_faithful self.new →
             taken.profile ≡ deciding (with_head head.now (of_class class profiles)) resource.now) }
-        ensures rows { (profiles : List TheProfile) → has self.old profiles → IfOk result (λ taken. is_faithful self.new →
+        ensures rows { (profiles : List TheProfile) → has self.old profiles
+            → IfOk result (λ taken. is_faithful self.new →
             taken.rows ≡ length (read_until taken.profile (with_head head.now (of_class class profiles)))) }
         ensures fault { IfErr result can_fail_with }
-        ensures same { (profiles : List TheProfile) → has self.old profiles → is_faithful self.new → is_open self.new → has self.new profiles }
+        ensures same { (profiles : List TheProfile) → has self.old profiles → is_faithful self.new → is_open self.new
+            → has self.new profiles }
         ensures faithful { is_faithful self.new → is_faithful self.old };
 
     /// Not to ask keeps the source, and so does to ask again.

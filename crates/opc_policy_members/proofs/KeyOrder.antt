@@ -33,9 +33,11 @@ in_one_class Opercmds o = refl
 
 by_key : (e f : Keyed) → IsAtItsKey e → IsAtItsKey f → key_cmp e.0 f.0 ≡ Less → InOrder e.1 f.1
 by_key e f at_e at_f less same =
-    ap is_lt (sym (in_one_class f.1.class (slice_cmp nat_cmp (sort_key e.1.pattern) (sort_key f.1.pattern))) ∙ rw (at_e.0, at_e.1, at_f.0, at_f.1, same) at less)
+    ap is_lt (sym (in_one_class f.1.class (slice_cmp nat_cmp (sort_key e.1.pattern) (sort_key f.1.pattern)))
+    ∙ rw (at_e.0, at_e.1, at_f.0, at_f.1, same) at less)
 
-after : (e : Keyed) (es : List Keyed) → IsAtItsKey e → AreByKey es → AllByRecursion (λ (k : Class × List ℕ). key_cmp e.0 k ≡ Less) (keys_of es) → All (InOrder e.1) (values_of es)
+after : (e : Keyed) (es : List Keyed) → IsAtItsKey e → AreByKey es
+    → AllByRecursion (λ (k : Class × List ℕ). key_cmp e.0 k ≡ Less) (keys_of es) → All (InOrder e.1) (values_of es)
 after e [] at all less = All-nil (InOrder e.1)
 after e (f ∷ es) at all less = All-cons (InOrder e.1) f.1 (values_of es) (by_key e f at all.0 less.0) (after e es at all.1 less.1)
 

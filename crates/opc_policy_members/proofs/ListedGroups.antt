@@ -1,5 +1,36 @@
 -- Of the groups of a user only those with an entry count.
-use Rattle.std.proofs.Common.{◌≡◌, ◌⊎◌, inl, inr, ⊎_elim, ℕ, Bool, true, false, cond, ◌||◌, ◌&&◌, List, [], ◌∷◌, Option, Some, None, Decides, filter, find, map, option_map, unwrap_or, refl, sym, ap, subst, ◌∙◌, rules}
+use Rattle.std.proofs.Common.{
+  ◌≡◌,
+  ◌⊎◌,
+  inl,
+  inr,
+  ⊎_elim,
+  ℕ,
+  Bool,
+  true,
+  false,
+  cond,
+  ◌||◌,
+  ◌&&◌,
+  List,
+  [],
+  ◌∷◌,
+  Option,
+  Some,
+  None,
+  Decides,
+  filter,
+  find,
+  map,
+  option_map,
+  unwrap_or,
+  refl,
+  sym,
+  ap,
+  subst,
+  ◌∙◌,
+  rules,
+}
 use Rattle.std.specs.Option.{option_eq, option_or}
 use Rattle.std.specs.Str.{bytes_eq}
 use Rattle.std.proofs.lemmas.Bool.{or_left, or_right}
@@ -71,17 +102,21 @@ passed : (test : List ℕ → Bool) (ids : List (List ℕ)) (group : List ℕ) �
 passed test [] group h = absurd (search (rules, h))
 passed test (x ∷ ids) group h = go (test x) refl (passed test ids group) h
   where
-    either : (b : Bool) → Decides b (group ≡ x) → test x ≡ true → (is_group (filter test ids) group ≡ true → test group ≡ true) → (b || is_group (filter test ids) group) ≡ true → test group ≡ true
+    either : (b : Bool) → Decides b (group ≡ x) → test x ≡ true
+        → (is_group (filter test ids) group ≡ true → test group ≡ true) → (b || is_group (filter test ids) group) ≡ true
+        → test group ≡ true
     either true same kept rest is = subst (λ i. test i ≡ true) (sym (same.0 refl)) kept
     either false same kept rest is = rest is
 
-    go : (k : Bool) → test x ≡ k → (is_group (filter test ids) group ≡ true → test group ≡ true) → is_group (cond k (x ∷ filter test ids) (filter test ids)) group ≡ true → test group ≡ true
+    go : (k : Bool) → test x ≡ k → (is_group (filter test ids) group ≡ true → test group ≡ true)
+        → is_group (cond k (x ∷ filter test ids) (filter test ids)) group ≡ true → test group ≡ true
     go true kept rest is = either (bytes_eq group x) (bytes_eq-Decides group x) kept rest is
     go false kept rest is = rest is
 
 module _ (entries : List Entry) (when : Option (List ℕ)) where
   -- a group that is among the groups raises their level no more
-  absorbed : (group : List ℕ) (groups : List (List ℕ)) → is_group groups group ≡ true → higher (entry_level entries when group) (highest_level entries when groups) ≡ highest_level entries when groups
+  absorbed : (group : List ℕ) (groups : List (List ℕ)) → is_group groups group ≡ true
+      → higher (entry_level entries when group) (highest_level entries when groups) ≡ highest_level entries when groups
   absorbed group [] h = absurd (search (rules, h))
   absorbed group (x ∷ groups) h = go (bytes_eq group x) (bytes_eq-Decides group x) (absorbed group groups) h
     where
@@ -91,7 +126,8 @@ module _ (entries : List Entry) (when : Option (List ℕ)) where
       rest : Option Level
       rest = highest_level entries when groups
 
-      go : (b : Bool) → Decides b (group ≡ x) → (is_group groups group ≡ true → higher (level group) rest ≡ rest) → (b || is_group groups group) ≡ true → higher (level group) (higher (level x) rest) ≡ higher (level x) rest
+      go : (b : Bool) → Decides b (group ≡ x) → (is_group groups group ≡ true → higher (level group) rest ≡ rest)
+          → (b || is_group groups group) ≡ true → higher (level group) (higher (level x) rest) ≡ higher (level x) rest
       go true same again is =
           ap (λ i. higher (level i) (higher (level x) rest)) (same.0 refl)
           ∙ sym (higher_assoc (level x) (level x) rest)
@@ -106,51 +142,65 @@ module _ (entries : List Entry) (when : Option (List ℕ)) where
   AreAmong groups others = (group : List ℕ) → is_group groups group ≡ true → (entry_level entries when group ≡ None) ⊎ (is_group others group ≡ true)
 
   -- nor do groups that are among others, or have no entry
-  covered : (groups others : List (List ℕ)) → AreAmong groups others → higher (highest_level entries when groups) (highest_level entries when others) ≡ highest_level entries when others
+  covered : (groups others : List (List ℕ)) → AreAmong groups others
+      → higher (highest_level entries when groups) (highest_level entries when others) ≡ highest_level entries when
+      others
   covered [] others h = refl
   covered (x ∷ groups) others h =
       higher_assoc (entry_level entries when x) (highest_level entries when groups) (highest_level entries when others)
       ∙ ap (higher (entry_level entries when x)) (covered groups others (λ group is. h group (later group x groups is)))
       ∙ ⊎_elim (λ none. ap (λ l. higher l (highest_level entries when others)) none) (λ is. absorbed x others is) (h x (here x groups))
 
-  highest_same : (groups others : List (List ℕ)) → AreAmong groups others → AreAmong others groups → highest_level entries when groups ≡ highest_level entries when others
+  highest_same : (groups others : List (List ℕ)) → AreAmong groups others → AreAmong others groups
+      → highest_level entries when groups ≡ highest_level entries when others
   highest_same groups others forth back =
       sym (covered others groups back)
       ∙ higher_comm (highest_level entries when others) (highest_level entries when groups)
       ∙ covered groups others forth
 
 -- a group with an entry is among those that are listed
-listed : (groups : List (List ℕ)) (when : Option (List ℕ)) (group : List ℕ) → is_group groups group ≡ true → (entries : List Entry) → (entry_level entries when group ≡ None) ⊎ (is_group (listed_groups entries groups) group ≡ true)
+listed : (groups : List (List ℕ)) (when : Option (List ℕ)) (group : List ℕ) → is_group groups group ≡ true
+    → (entries : List Entry) → (entry_level entries when group ≡ None)
+    ⊎ (is_group (listed_groups entries groups) group ≡ true)
 listed groups when group member [] = inl refl
 listed groups when group member (e ∷ entries) = go (bytes_eq e.id group) (bytes_eq-Decides e.id group) (listed groups when group member entries)
   where
-    more : (k : Bool) → is_group (listed_groups entries groups) group ≡ true → is_group (cond k (e.id ∷ listed_groups entries groups) (listed_groups entries groups)) group ≡ true
+    more : (k : Bool) → is_group (listed_groups entries groups) group ≡ true
+        → is_group (cond k (e.id ∷ listed_groups entries groups) (listed_groups entries groups)) group ≡ true
     more true is = later group e.id (listed_groups entries groups) is
     more false is = is
 
-    first : (k : Bool) → is_group groups e.id ≡ k → e.id ≡ group → is_group (cond k (e.id ∷ listed_groups entries groups) (listed_groups entries groups)) group ≡ true
+    first : (k : Bool) → is_group groups e.id ≡ k → e.id ≡ group
+        → is_group (cond k (e.id ∷ listed_groups entries groups) (listed_groups entries groups)) group ≡ true
     first true kept same = subst (λ i. is_group (i ∷ listed_groups entries groups) group ≡ true) (sym same) (here group (listed_groups entries groups))
     first false kept same = let contrary = subst (λ i. is_group groups i ≡ false) same kept in absurd (cc)
 
     go : (b : Bool) → Decides b (e.id ≡ group) → (entry_level entries when group ≡ None) ⊎ (is_group (listed_groups entries groups) group ≡ true)
-        → (option_map (λ (f : Entry). f.level) (cond (b && option_eq bytes_eq e.when when) (Some e) (find (is_for when group) entries)) ≡ None) ⊎ (is_group (listed_groups (e ∷ entries) groups) group ≡ true)
+        → (option_map (λ (f : Entry). f.level)
+        (cond (b && option_eq bytes_eq e.when when) (Some e) (find (is_for when group) entries)) ≡ None)
+        ⊎ (is_group (listed_groups (e ∷ entries) groups) group ≡ true)
     go true same rest = inr (first (is_group groups e.id) refl (same.0 refl))
     go false same (inl none) = inl none
     go false same (inr is) = inr (more (is_group groups e.id) is)
 
-highest_listed : (entries : List Entry) (when : Option (List ℕ)) (groups : List (List ℕ)) → highest_level entries when (listed_groups entries groups) ≡ highest_level entries when groups
+highest_listed : (entries : List Entry) (when : Option (List ℕ)) (groups : List (List ℕ))
+    → highest_level entries when (listed_groups entries groups) ≡ highest_level entries when groups
 highest_listed entries when groups =
     highest_same entries when (listed_groups entries groups) groups
     (λ group is. inr (passed (is_group groups) (map (λ (e : Entry). e.id) entries) group is))
     (λ group is. listed groups when group is entries)
 
-first_listed : (entries : List Entry) (when : Option (List ℕ)) (user : User) (groups : List (List ℕ)) → first_level entries when user (listed_groups entries groups) ≡ first_level entries when user groups
-first_listed entries when user groups = ap (λ l. option_or (entry_level entries when user.id) (option_or l (everyone_level entries when user))) (highest_listed entries when groups)
+first_listed : (entries : List Entry) (when : Option (List ℕ)) (user : User) (groups : List (List ℕ))
+    → first_level entries when user (listed_groups entries groups) ≡ first_level entries when user groups
+first_listed entries when user groups =
+    ap (λ l. option_or (entry_level entries when user.id) (option_or l (everyone_level entries when user)))
+    (highest_listed entries when groups)
 
 pub listed_groups_suffice : ListedGroupsSuffice
 unfolding held
 listed_groups_suffice p user console groups =
-    ap (λ l. higher_level (unwrap_or l (universal_level p user)) (conditional_level p user console (listed_groups p.entries groups))) (first_listed p.entries None user groups)
+    ap (λ l. higher_level (unwrap_or l (universal_level p user))
+    (conditional_level p user console (listed_groups p.entries groups))) (first_listed p.entries None user groups)
     ∙ ap (higher_level (plain_level p user groups)) (go console)
   where
     go : (o : Option (List ℕ)) → conditional_level p user o (listed_groups p.entries groups) ≡ conditional_level p user o groups

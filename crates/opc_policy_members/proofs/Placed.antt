@@ -18,19 +18,23 @@ use Rattle.opc_policy_members.specs.declared.entry.Entry.{Entry}
 
 module _ {X : Type 0} (cmp : X → X → Ordering) (x : X) where
   -- in the place of the one that is the same
-  pub set-place : (xs : List X) (i : ℕ) (d : X) → ((k : ℕ) → k < i → cmp x (get_or xs k d) ≡ Greater) → i < length xs → cmp x (get_or xs i d) ≡ Equal → set xs i x ≡ replace_key cmp xs x
+  pub set-place : (xs : List X) (i : ℕ) (d : X) → ((k : ℕ) → k < i → cmp x (get_or xs k d) ≡ Greater) → i < length xs
+      → cmp x (get_or xs i d) ≡ Equal → set xs i x ≡ replace_key cmp xs x
   set-place [] i d before within same = absurd (omega (arith, within))
   set-place (y ∷ ys) zero d before within same = rw same refl
   set-place (y ∷ ys) (suc i) d before within same =
       rw (before 0 (omega arith)) (ap (λ zs. y ∷ zs) (set-place ys i d (λ k l. before (suc k) (omega (arith, l))) (omega (arith, within)) same))
 
   -- between those before it and those after it
-  pub insert-place : (xs : List X) (i : ℕ) (d : X) → ((k : ℕ) → k < i → cmp x (get_or xs k d) ≡ Greater) → i ≤ length xs → (i < length xs → cmp x (get_or xs i d) ≡ Less) → insert xs i x ≡ replace_key cmp xs x
+  pub insert-place : (xs : List X) (i : ℕ) (d : X) → ((k : ℕ) → k < i → cmp x (get_or xs k d) ≡ Greater) → i ≤ length xs
+      → (i < length xs → cmp x (get_or xs i d) ≡ Less) → insert xs i x ≡ replace_key cmp xs x
   insert-place [] zero d before within after = refl
   insert-place [] (suc i) d before within after = absurd (omega (arith, within))
   insert-place (y ∷ ys) zero d before within after = rw (after (omega arith)) refl
   insert-place (y ∷ ys) (suc i) d before within after =
-      rw (before 0 (omega arith)) (ap (λ zs. y ∷ zs) (insert-place ys i d (λ k l. before (suc k) (omega (arith, l))) (omega (arith, within)) (λ l. after (omega (arith, l)))))
+      rw (before 0 (omega arith)) (ap (λ zs. y ∷ zs)
+      (insert-place ys i d (λ k l. before (suc k) (omega (arith, l))) (omega (arith, within))
+      (λ l. after (omega (arith, l)))))
 
 pub order : IsTotalOrder entry_cmp
 order = then_total (on_total (λ (e : Entry). e.id) nat_list_cmp_total) (on_total (λ (e : Entry). e.when) (options_total nat_list_cmp_total))
@@ -43,10 +47,13 @@ sorted_entries : (entries : List Entry) → AreInOrder entries → IsSortedBy (�
 sorted_entries entries h = λ k d low high. ap is_lt (turned (get_or entries k d) (get_or entries (k + 1) d) Less (h k (k + 1) d (omega arith) high))
 
 -- what a binary search by this order finds
-pub place_found : (new : Entry) (entries : List Entry) (r : Result ℕ ℕ) → AreInOrder entries → IsSearchInRange r (length entries) → IsBinarySearchResult (λ (y : Entry). entry_cmp y new) entries r → IsPlace new entries r
+pub place_found : (new : Entry) (entries : List Entry) (r : Result ℕ ℕ) → AreInOrder entries
+    → IsSearchInRange r (length entries) → IsBinarySearchResult (λ (y : Entry). entry_cmp y new) entries r
+    → IsPlace new entries r
 place_found new entries (Ok at) ordered within found = (
   within,
-  λ k d l. sym (order.congr (get_or entries at d) new (get_or entries k d) (found d)) ∙ turned (get_or entries k d) (get_or entries at d) Less (ordered k at d l within),
+  λ k d l. sym (order.congr (get_or entries at d) new (get_or entries k d) (found d))
+      ∙ turned (get_or entries k d) (get_or entries at d) Less (ordered k at d l within),
   λ d. turned (get_or entries at d) new Equal (found d),
 )
 place_found new entries (Err at) ordered within found =
@@ -82,8 +89,11 @@ stays_in_order e (x ∷ xs) h = go (entry_cmp e x) refl (stays_in_order e xs (in
     after : All (λ (y : Entry). entry_cmp x y ≡ Less) xs
     after = in_order_after x xs h
 
-    go : (o : Ordering) → entry_cmp e x ≡ o → AreInOrder (replace_key entry_cmp xs e) → AreInOrder (match_ordering o (e ∷ x ∷ xs) (e ∷ xs) (x ∷ replace_key entry_cmp xs e))
-    go Less at later = in_order_cons e (x ∷ xs) (All-cons (λ (y : Entry). entry_cmp e y ≡ Less) x xs at (λ k d l. order.trans e x (get_or xs k d) at (after k d l))) h
+    go : (o : Ordering) → entry_cmp e x ≡ o → AreInOrder (replace_key entry_cmp xs e)
+        → AreInOrder (match_ordering o (e ∷ x ∷ xs) (e ∷ xs) (x ∷ replace_key entry_cmp xs e))
+    go Less at later = in_order_cons e (x ∷ xs)
+        (All-cons (λ (y : Entry). entry_cmp e y ≡ Less) x xs at
+        (λ k d l. order.trans e x (get_or xs k d) at (after k d l))) h
     go Equal at later = in_order_cons e xs (λ k d l. order.congr e x (get_or xs k d) at ∙ after k d l) (in_order_rest x xs h)
     go Greater at later = in_order_cons x (replace_key entry_cmp xs e) (all_with (λ (y : Entry). entry_cmp x y ≡ Less) e xs (turned e x Greater at) after) later
 

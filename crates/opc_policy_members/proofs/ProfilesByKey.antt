@@ -64,18 +64,23 @@ by_class Opercmds Console o b h = refl
 by_class Opercmds Opercmds o b h = h
 
 -- the key of a class and a pattern is that of the profile of both alone
-at_key : (class : Class) (pattern : List ℕ) (e : (Class × List ℕ) × Profile) → IsPattern pattern → IsAtItsKey e → is_at (key_cmp (class, sort_key pattern)) e.0 ≡ is_of class pattern e.1
+at_key : (class : Class) (pattern : List ℕ) (e : (Class × List ℕ) × Profile) → IsPattern pattern → IsAtItsKey e
+    → is_at (key_cmp (class, sort_key pattern)) e.0 ≡ is_of class pattern e.1
 at_key class pattern e valid at =
     rw (at.0, at.1, class_order class e.1.class)
     (by_class class e.1.class (pattern_cmp pattern e.1.pattern) (bytes_eq e.1.pattern pattern) (same_keys pattern e.1.pattern valid at.2))
 
-pub lookup-profile : (class : Class) (pattern : List ℕ) (es : List ((Class × List ℕ) × Profile)) → IsPattern pattern → AreByKey es → lookup (is_at (key_cmp (class, sort_key pattern))) es ≡ profile_of (values_of es) class pattern
+pub lookup-profile : (class : Class) (pattern : List ℕ) (es : List ((Class × List ℕ) × Profile)) → IsPattern pattern
+    → AreByKey es → lookup (is_at (key_cmp (class, sort_key pattern))) es ≡ profile_of (values_of es) class pattern
 lookup-profile class pattern es valid h =
     lookup-values (is_at (key_cmp (class, sort_key pattern))) (is_of class pattern) es (All-weaker _ _ (λ e at. at_key class pattern e valid at) es h)
 
-pub values-with_profile : (profile : Profile) (es : List ((Class × List ℕ) × Profile)) → AreByKey es → values_of (insert_entry key_cmp es (profile.class, sort_key profile.pattern) profile) ≡ with_profile profile (values_of es)
+pub values-with_profile : (profile : Profile) (es : List ((Class × List ℕ) × Profile)) → AreByKey es
+    → values_of (insert_entry key_cmp es (profile.class, sort_key profile.pattern) profile) ≡ with_profile profile
+    (values_of es)
 values-with_profile profile es h =
-    values-insert key_cmp profile_cmp (profile.class, sort_key profile.pattern) profile es (All-weaker _ _ (λ e at. rw (at.0, at.1, class_order profile.class e.1.class) refl) es h)
+    values-insert key_cmp profile_cmp (profile.class, sort_key profile.pattern) profile es
+    (All-weaker _ _ (λ e at. rw (at.0, at.1, class_order profile.class e.1.class) refl) es h)
 
 false_true : false ≡ true → ⊥
 false_true e = (cc)
@@ -86,39 +91,50 @@ both_equal Console Opercmds o h = (cc)
 both_equal Opercmds Console o h = (cc)
 both_equal Opercmds Opercmds o h = (refl, h)
 
-pub AreByKey-insert : (profile : Profile) (es : List ((Class × List ℕ) × Profile)) → IsPattern profile.pattern → AreByKey es → AreByKey (insert_entry key_cmp es (profile.class, sort_key profile.pattern) profile)
+pub AreByKey-insert : (profile : Profile) (es : List ((Class × List ℕ) × Profile)) → IsPattern profile.pattern
+    → AreByKey es → AreByKey (insert_entry key_cmp es (profile.class, sort_key profile.pattern) profile)
 AreByKey-insert profile es valid h =
     All-insert IsAtItsKey key_cmp (profile.class, sort_key profile.pattern) profile es (refl, refl, valid)
-    (λ e tie. let both = both_equal profile.class e.0.0 (slice_cmp nat_cmp (sort_key profile.pattern) e.0.1) (ap (λ o. ordering_then o (slice_cmp nat_cmp (sort_key profile.pattern) e.0.1)) (sym (class_order profile.class e.0.0)) ∙ tie) in
+    (λ e tie. let both = both_equal profile.class e.0.0 (slice_cmp nat_cmp (sort_key profile.pattern) e.0.1)
+    (ap (λ o. ordering_then o (slice_cmp nat_cmp (sort_key profile.pattern) e.0.1))
+    (sym (class_order profile.class e.0.0)) ∙ tie) in
     (sym both.0, sym ((bytes_eq-Decides (sort_key profile.pattern) e.0.1).0 (texts_ties (sort_key profile.pattern) e.0.1 ∙ ap is_eq both.1)), valid))
     h
 
 same_of : (class : Class) (pattern : List ℕ) (profile : Profile) → is_of class pattern profile ≡ true → (profile.class ≡ class) × (profile.pattern ≡ pattern)
 same_of class pattern profile h = go profile.class class refl refl h
   where
-    go : (c d : Class) → profile.class ≡ c → class ≡ d → (same_class c d && bytes_eq profile.pattern pattern) ≡ true → (profile.class ≡ class) × (profile.pattern ≡ pattern)
+    go : (c d : Class) → profile.class ≡ c → class ≡ d → (same_class c d && bytes_eq profile.pattern pattern) ≡ true
+        → (profile.class ≡ class) × (profile.pattern ≡ pattern)
     go Console Console a b e = (a ∙ sym b, (bytes_eq-Decides profile.pattern pattern).0 e)
     go Console Opercmds a b e = absurd (false_true e)
     go Opercmds Console a b e = absurd (false_true e)
     go Opercmds Opercmds a b e = (a ∙ sym b, (bytes_eq-Decides profile.pattern pattern).0 e)
 
 -- what is found is of the class and the pattern
-pub profile_of-is : (class : Class) (pattern : List ℕ) (profiles : List Profile) (profile : Profile) → profile_of profiles class pattern ≡ Some profile → (profile.class ≡ class) × (profile.pattern ≡ pattern)
+pub profile_of-is : (class : Class) (pattern : List ℕ) (profiles : List Profile) (profile : Profile)
+    → profile_of profiles class pattern ≡ Some profile → (profile.class ≡ class) × (profile.pattern ≡ pattern)
 profile_of-is class pattern profiles profile found = same_of class pattern profile (passes-find (is_of class pattern) profile profiles found)
 
 -- a profile that is written where the one of its class and pattern is
-written : (class : Class) (pattern : List ℕ) (old new : Profile) (es : List ((Class × List ℕ) × Profile)) → IsPattern pattern → IsStrictlySortedBy key_cmp (keys_of es) → AreByKey es → profile_of (values_of es) class pattern ≡ Some old → new.class ≡ class → new.pattern ≡ pattern
+written : (class : Class) (pattern : List ℕ) (old new : Profile) (es : List ((Class × List ℕ) × Profile))
+    → IsPattern pattern → IsStrictlySortedBy key_cmp (keys_of es) → AreByKey es
+    → profile_of (values_of es) class pattern ≡ Some old → new.class ≡ class → new.pattern ≡ pattern
     → set_value (is_at (key_cmp (class, sort_key pattern))) es new ≡ insert_entry key_cmp es (new.class, sort_key new.pattern) new
 written class pattern old new es valid sorted h found a b =
     set-insert key_order (class, sort_key pattern) new old es sorted (lookup-profile class pattern es valid h ∙ found)
     ∙ rw (a, b) refl
 
-pub values-written : (class : Class) (pattern : List ℕ) (old new : Profile) (es : List ((Class × List ℕ) × Profile)) → IsPattern pattern → IsStrictlySortedBy key_cmp (keys_of es) → AreByKey es → profile_of (values_of es) class pattern ≡ Some old → new.class ≡ class → new.pattern ≡ pattern
+pub values-written : (class : Class) (pattern : List ℕ) (old new : Profile) (es : List ((Class × List ℕ) × Profile))
+    → IsPattern pattern → IsStrictlySortedBy key_cmp (keys_of es) → AreByKey es
+    → profile_of (values_of es) class pattern ≡ Some old → new.class ≡ class → new.pattern ≡ pattern
     → values_of (set_value (is_at (key_cmp (class, sort_key pattern))) es new) ≡ with_profile new (values_of es)
 values-written class pattern old new es valid sorted h found a b =
     ap values_of (written class pattern old new es valid sorted h found a b) ∙ values-with_profile new es h
 
-pub AreByKey-written : (class : Class) (pattern : List ℕ) (old new : Profile) (es : List ((Class × List ℕ) × Profile)) → IsPattern pattern → IsStrictlySortedBy key_cmp (keys_of es) → AreByKey es → profile_of (values_of es) class pattern ≡ Some old → new.class ≡ class → new.pattern ≡ pattern
+pub AreByKey-written : (class : Class) (pattern : List ℕ) (old new : Profile) (es : List ((Class × List ℕ) × Profile))
+    → IsPattern pattern → IsStrictlySortedBy key_cmp (keys_of es) → AreByKey es
+    → profile_of (values_of es) class pattern ≡ Some old → new.class ≡ class → new.pattern ≡ pattern
     → AreByKey (set_value (is_at (key_cmp (class, sort_key pattern))) es new)
 AreByKey-written class pattern old new es valid sorted h found a b =
     rw (written class pattern old new es valid sorted h found a b) (AreByKey-insert new es (rw b valid) h)
@@ -128,26 +144,35 @@ class_itself Console = refl
 class_itself Opercmds = refl
 
 -- a profile that is put, and then again with another access list
-pub put-twice : (profile : Profile) (entries : List Entry) (profiles : List Profile) → with_profile (record profile { entries = entries }) (with_profile profile profiles) ≡ with_profile (record profile { entries = entries }) profiles
+pub put-twice : (profile : Profile) (entries : List Entry) (profiles : List Profile)
+    → with_profile (record profile { entries = entries }) (with_profile profile profiles) ≡ with_profile
+    (record profile { entries = entries }) profiles
 put-twice profile entries profiles =
-    replaced-twice profile_cmp profile (record profile { entries = entries }) (λ x. refl) (rw (class_itself profile.class) (tied_itself nat_list_cmp_total (sort_key profile.pattern))) profiles
+    replaced-twice profile_cmp profile (record profile { entries = entries }) (λ x. refl)
+    (rw (class_itself profile.class) (tied_itself nat_list_cmp_total (sort_key profile.pattern))) profiles
 
 -- a profile with one more entry
 abbrev pub permitted : Profile → List Entry → Profile
 permitted old entries = record { class = old.class; pattern = old.pattern; owner = old.owner; uacc = old.uacc; warning = old.warning; entries = entries }
 
-pub values-permitted : (class : Class) (pattern : List ℕ) (entry : Entry) (old : Profile) (es : List ((Class × List ℕ) × Profile)) → IsPattern pattern → IsStrictlySortedBy key_cmp (keys_of es) → AreByKey es → profile_of (values_of es) class pattern ≡ Some old
-    → values_of (set_value (is_at (key_cmp (class, sort_key pattern))) es (permitted old (with_entry entry old.entries))) ≡ with_permission class pattern entry (values_of es)
+pub values-permitted : (class : Class) (pattern : List ℕ) (entry : Entry) (old : Profile)
+    (es : List ((Class × List ℕ) × Profile)) → IsPattern pattern → IsStrictlySortedBy key_cmp (keys_of es) → AreByKey es
+    → profile_of (values_of es) class pattern ≡ Some old
+    → values_of (set_value (is_at (key_cmp (class, sort_key pattern))) es
+    (permitted old (with_entry entry old.entries))) ≡ with_permission class pattern entry (values_of es)
 values-permitted class pattern entry old es valid sorted h found =
     let is = profile_of-is class pattern (values_of es) old found in
     rw found (values-written class pattern old (permitted old (with_entry entry old.entries)) es valid sorted h found is.0 is.1)
 
-pub AreByKey-permitted : (class : Class) (pattern : List ℕ) (entries : List Entry) (old : Profile) (es : List ((Class × List ℕ) × Profile)) → IsPattern pattern → IsStrictlySortedBy key_cmp (keys_of es) → AreByKey es → profile_of (values_of es) class pattern ≡ Some old
+pub AreByKey-permitted : (class : Class) (pattern : List ℕ) (entries : List Entry) (old : Profile)
+    (es : List ((Class × List ℕ) × Profile)) → IsPattern pattern → IsStrictlySortedBy key_cmp (keys_of es) → AreByKey es
+    → profile_of (values_of es) class pattern ≡ Some old
     → AreByKey (set_value (is_at (key_cmp (class, sort_key pattern))) es (permitted old entries))
 AreByKey-permitted class pattern entries old es valid sorted h found =
     let is = profile_of-is class pattern (values_of es) old found in
     AreByKey-written class pattern old (permitted old entries) es valid sorted h found is.0 is.1
 
 -- without the profile nothing changes
-pub without_profile : (class : Class) (pattern : List ℕ) (entry : Entry) (profiles : List Profile) → profile_of profiles class pattern ≡ None → profiles ≡ with_permission class pattern entry profiles
+pub without_profile : (class : Class) (pattern : List ℕ) (entry : Entry) (profiles : List Profile)
+    → profile_of profiles class pattern ≡ None → profiles ≡ with_permission class pattern entry profiles
 without_profile class pattern entry profiles found = rw found refl

@@ -16,7 +16,8 @@ lookup-user id es h =
     lookup-values (is_at (name_cmp id)) (λ (u : User). bytes_eq id u.id) es
     (All-weaker _ _ (λ e at. rw at (sym (texts_ties id e.1.id))) es h)
 
-pub values-with_user : (user : User) (es : List (List ℕ × User)) → AreById es → values_of (insert_entry name_cmp es user.id user) ≡ with_user user (values_of es)
+pub values-with_user : (user : User) (es : List (List ℕ × User)) → AreById es
+    → values_of (insert_entry name_cmp es user.id user) ≡ with_user user (values_of es)
 values-with_user user es h =
     values-insert name_cmp user_cmp user.id user es (All-weaker _ _ (λ e at. ap (name_cmp user.id) at) es h)
 

@@ -46,7 +46,8 @@ higher (Some level) (Some other) = Some (higher_level level other)
 -- the highest level among the entries for these groups
 abbrev pub highest_level : List Entry → Option (List ℕ) → List (List ℕ) → Option Level
 highest_level entries when [] = None
-highest_level entries when (group ∷ groups) = higher (entry_level entries when group) (highest_level entries when groups)
+highest_level entries when (group ∷ groups) =
+    higher (entry_level entries when group) (highest_level entries when groups)
 
 -- the level of the entry for everyone, which is none for a RESTRICTED user
 abbrev pub everyone_level : List Entry → Option (List ℕ) → User → Option Level
@@ -56,4 +57,5 @@ everyone_level entries when user = if user.restricted then None else entry_level
 -- highest entry for a connect group of the user, the entry for everyone. A source that has a level decides also
 -- where it is NONE: no later one raises it.
 abbrev pub first_level : List Entry → Option (List ℕ) → User → List (List ℕ) → Option Level
-first_level entries when user groups = option_or (entry_level entries when user.id) (option_or (highest_level entries when groups) (everyone_level entries when user))
+first_level entries when user groups = option_or (entry_level entries when user.id)
+    (option_or (highest_level entries when groups) (everyone_level entries when user))

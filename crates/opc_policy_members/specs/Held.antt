@@ -14,18 +14,21 @@ universal_level profile user = if user.restricted then level.None else profile.u
 
 -- the level by the entries that hold at every console, and last by the universal access
 abbrev pub plain_level : Profile → User → List (List ℕ) → Level
-plain_level profile user groups = unwrap_or (first_level profile.entries None user groups) (universal_level profile user)
+plain_level profile user groups = unwrap_or (first_level profile.entries None user groups)
+    (universal_level profile user)
 
 -- the level by the entries for one console alone; without a console none of them counts
 abbrev pub conditional_level : Profile → User → Option (List ℕ) → List (List ℕ) → Level
 conditional_level profile user None groups = level.None
-conditional_level profile user (Some console) groups = unwrap_or (first_level profile.entries (Some console) user groups) level.None
+conditional_level profile user (Some console) groups =
+    unwrap_or (first_level profile.entries (Some console) user groups) level.None
 
 -- The higher of both, so that an entry for a console raises a level there and never lowers one. The groups are the
 -- user's connect groups. SPECIAL, AUDITOR and WARNING give no level. (RACF guide: how access to a resource is checked;
 -- the rule of conditional entries and RESTRICTED users is this product's own.)
 unfoldable pub held : Profile → User → Option (List ℕ) → List (List ℕ) → Level
-held profile user console groups = higher_level (plain_level profile user groups) (conditional_level profile user console groups)
+held profile user console groups = higher_level (plain_level profile user groups)
+    (conditional_level profile user console groups)
 
 -- those groups that an access list has entries for, as often as it has
 abbrev pub listed_groups : List Entry → List (List ℕ) → List (List ℕ)
@@ -33,4 +36,5 @@ listed_groups entries groups = filter (is_group groups) (map (λ (e : Entry). e.
 
 -- Of a user's groups those with an entry are enough.
 abbrev pub ListedGroupsSuffice : Type 0
-ListedGroupsSuffice = (p : Profile) (user : User) (console : Option (List ℕ)) (groups : List (List ℕ)) → held p user console (listed_groups p.entries groups) ≡ held p user console groups
+ListedGroupsSuffice = (p : Profile) (user : User) (console : Option (List ℕ)) (groups : List (List ℕ))
+    → held p user console (listed_groups p.entries groups) ≡ held p user console groups

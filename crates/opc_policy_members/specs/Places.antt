@@ -12,6 +12,8 @@ IsAfter entry entries place = (k : ℕ) (d : Entry) → k < place → entry_cmp 
 -- the place of the entry for the same id and console, or the place where it would stand
 abbrev pub IsPlace : Entry → List Entry → Result ℕ ℕ → Type 0
 IsPlace entry entries (Ok place) =
-    (place < length entries) × IsAfter entry entries place × ((d : Entry) → entry_cmp entry (slice_index_or entries place d) ≡ Equal)
+    (place < length entries) × IsAfter entry entries place
+    × ((d : Entry) → entry_cmp entry (slice_index_or entries place d) ≡ Equal)
 IsPlace entry entries (Err place) =
-    (place ≤ length entries) × IsAfter entry entries place × ((d : Entry) → place < length entries → entry_cmp entry (slice_index_or entries place d) ≡ Less)
+    (place ≤ length entries) × IsAfter entry entries place
+    × ((d : Entry) → place < length entries → entry_cmp entry (slice_index_or entries place d) ≡ Less)

@@ -56,12 +56,16 @@ with_profile profile profiles = replace_key profile_cmp profiles profile
 -- the profiles with this one, which keeps the access list of one that it replaces
 abbrev pub with_definition : Profile → List Profile → List Profile
 with_definition profile profiles =
-    with_profile (record profile { entries = option_map_or (λ (p : Profile). p.entries) (profile_of profiles profile.class profile.pattern) profile.entries }) profiles
+    with_profile (record profile {
+      entries = option_map_or (λ (p : Profile). p.entries)
+          (profile_of profiles profile.class profile.pattern) profile.entries;
+    }) profiles
 
 -- the profiles with this entry in the access list of one, if it is there
 abbrev pub with_permission : Class → List ℕ → Entry → List Profile → List Profile
 with_permission class pattern entry profiles =
-    option_map_or (λ (p : Profile). with_profile (record p { entries = with_entry entry p.entries }) profiles) (profile_of profiles class pattern) profiles
+    option_map_or (λ (p : Profile). with_profile (record p { entries = with_entry entry p.entries }) profiles)
+    (profile_of profiles class pattern) profiles
 
 -- whether one profile comes before another, by their sort keys
 abbrev pub is_before : Profile → Profile → Bool

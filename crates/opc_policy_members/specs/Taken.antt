@@ -45,7 +45,8 @@ needing is_there name made = if is_there then made else Err (Missing name)
 
 -- The policy after a profile is defined, with its access list where it is new.
 abbrev pub after_definition : Profile → Policy → Result Policy Fault
-after_definition profile p = needing (has_user p profile.owner) profile.owner (Ok (record p { profiles = with_definition profile p.profiles }))
+after_definition profile p = needing (has_user p profile.owner) profile.owner
+    (Ok (record p { profiles = with_definition profile p.profiles }))
 
 -- The policy after a row, or its fault. A row defines or replaces and never deletes. A user and a group never
 -- have one name. What a row needs has to be stored, in the order in which the row lists it. A group or a connect
@@ -60,8 +61,21 @@ after_row (rows.Connect user group) p =
     (Ok (record p { connects = with_connect (record { user = user; group = group }) p.connects })))
 after_row (rows.Console name auth mode) p = Ok p
 after_row (rows.Profile class pattern uacc owner warning) p =
-    after_definition (record { class = class; pattern = pattern; owner = owner; uacc = uacc; warning = warning; entries = [] }) p
+    after_definition (record {
+      class = class;
+      pattern = pattern;
+      owner = owner;
+      uacc = uacc;
+      warning = warning;
+      entries = [];
+    }) p
 after_row (rows.Permit class pattern id level when) p =
     needing (is_some (profile_of p.profiles class pattern)) pattern
     (needing (has_holder p id) id
-    (Ok (record p { profiles = with_permission class pattern (record { id = id; when = when; level = level }) p.profiles })))
+    (Ok (record p {
+      profiles = with_permission class pattern (record {
+        id = id;
+        when = when;
+        level = level;
+      }) p.profiles;
+    })))

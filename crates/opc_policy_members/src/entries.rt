@@ -1,7 +1,15 @@
 //! Access lists.
 ghost use Rattle.std.specs.Prelude.{◌≡◌, [], OnOk, OnErr, None, if◌then◌else◌};
 ghost use Rattle.std.specs.Option.{option_copied, option_or};
-ghost use Rattle.opc_policy_members.specs.Access.{entry_level, with_entry, highest_level, higher, higher_level, first_level, AreInOrder};
+ghost use Rattle.opc_policy_members.specs.Access.{
+  entry_level,
+  with_entry,
+  highest_level,
+  higher,
+  higher_level,
+  first_level,
+  AreInOrder,
+};
 ghost use Rattle.opc_policy_members.specs.Places.{IsPlace};
 
 use crate::entry::Entry;
@@ -109,7 +117,8 @@ pub struct EntryLevels {
 impl EntryLevels {
     /// The level of the first that there is. A RESTRICTED user has nothing of the entry for everyone.
     pub fn first_level(self, user: &User) -> Option<Level>
-        ensures { result ≡ option_or self.own (option_or self.groups (if user.now.restricted then None else self.everyone)) }
+        ensures { result ≡ option_or self.own
+            (option_or self.groups (if user.now.restricted then None else self.everyone)) }
     {
         let everyone = if user.restricted { None } else { self.everyone };
         self.own.or(self.groups).or(everyone)

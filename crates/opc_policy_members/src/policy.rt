@@ -165,8 +165,10 @@ impl Policy {
 
     fn take_connect(&mut self, connect: Connect) -> Result<(), Fault>
         ensures ok { OnOk result (after_row (rows.Connect connect.user connect.group) self.old ≡ Ok self.new) }
-        ensures fault { IfErr result (λ fault. fault ≢ NoMemory → after_row (rows.Connect connect.user connect.group) self.old ≡ Err fault) }
-        ensures memory { IfErr result (λ fault. fault ≡ NoMemory → IsOk (after_row (rows.Connect connect.user connect.group) self.old)) }
+        ensures fault { IfErr result (λ fault. fault ≢ NoMemory
+            → after_row (rows.Connect connect.user connect.group) self.old ≡ Err fault) }
+        ensures memory { IfErr result (λ fault. fault ≡ NoMemory
+            → IsOk (after_row (rows.Connect connect.user connect.group) self.old)) }
         ensures unchanged { OnErr result (self.new ≡ self.old) }
     {
         if !self.users.contains(connect.user.text()) {
@@ -193,9 +195,12 @@ impl Policy {
     }
 
     fn take_permit(&mut self, class: Class, pattern: &Pattern, entry: Entry) -> Result<(), Fault>
-        ensures ok { OnOk result (after_row (rows.Permit class pattern.now entry.id entry.level entry.when) self.old ≡ Ok self.new) }
-        ensures fault { IfErr result (λ fault. fault ≢ NoMemory → after_row (rows.Permit class pattern.now entry.id entry.level entry.when) self.old ≡ Err fault) }
-        ensures memory { IfErr result (λ fault. fault ≡ NoMemory → IsOk (after_row (rows.Permit class pattern.now entry.id entry.level entry.when) self.old)) }
+        ensures ok { OnOk result (after_row (rows.Permit class pattern.now entry.id entry.level entry.when)
+            self.old ≡ Ok self.new) }
+        ensures fault { IfErr result (λ fault. fault ≢ NoMemory
+            → after_row (rows.Permit class pattern.now entry.id entry.level entry.when) self.old ≡ Err fault) }
+        ensures memory { IfErr result (λ fault. fault ≡ NoMemory
+            → IsOk (after_row (rows.Permit class pattern.now entry.id entry.level entry.when) self.old)) }
         ensures unchanged { OnErr result (self.new ≡ self.old) }
     {
         // A row that both of them are missing for names the profile.

@@ -58,7 +58,8 @@ impl Profile {
         console: Option<&ConsoleName>,
         groups: &[GroupName],
     ) -> Option<Level>
-        ensures { unwrap_or result Level.None ≡ conditional_level self.now user.now (option_copied console.entry) groups.now }
+        ensures { unwrap_or result Level.None ≡ conditional_level self.now user.now (option_copied console.entry)
+            groups.now }
     {
         if console.is_none() {
             return None;
@@ -69,7 +70,8 @@ impl Profile {
     /// The level that a user holds who has these of the entries: of those for every console, and of those for one
     /// console alone. Without an entry of the former there is the universal access.
     pub fn level_from(&self, user: &User, plain: Option<Level>, conditional: Option<Level>) -> Level
-        ensures { result ≡ higher_level (unwrap_or plain (universal_level self.now user.now)) (unwrap_or conditional Level.None) }
+        ensures { result ≡ higher_level (unwrap_or plain (universal_level self.now user.now))
+            (unwrap_or conditional Level.None) }
     {
         let plain = plain.unwrap_or(self.universal_level(user));
         higher_level(plain, conditional.unwrap_or(Level::None))

@@ -2,7 +2,14 @@
 ghost use Rattle.std.specs.Prelude.{◌≡◌, ◌<◌, ◌^◌, [], IfOk, OnOk, OnErr, is_some, length, true, Some, None};
 ghost use Rattle.std.specs.Option.{option_copied};
 ghost use Rattle.opc_names.specs.Order.{sort_key};
-ghost use Rattle.opc_policy_members.specs.Profiles.{AreProfiles, AreMostSpecificFirst, profile_of, with_profile, with_definition, with_permission};
+ghost use Rattle.opc_policy_members.specs.Profiles.{
+  AreProfiles,
+  AreMostSpecificFirst,
+  profile_of,
+  with_profile,
+  with_definition,
+  with_permission,
+};
 
 use crate::entry::Entry;
 use crate::profile::Profile;

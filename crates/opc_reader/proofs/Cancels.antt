@@ -51,7 +51,11 @@ cancel_found s c h = by_word (word (codes "U=") s) refl h where
   by_word : (read : Option Stretch) → word (codes "U=") s ≡ read → cancel_after read s ≡ Some c → Gives verb.Cancel s c
   by_word (Some rest) e k =
       let found = bind_some (last_name user_rule rest) (λ user. Some (CancelUser user)) c k in
-      gives verb.Cancel s (CancelUser found.0) c (same_Some _ _ found.2) (record { verb = refl; typed = back_word (codes "U=") (Name user_rule found.0 ∷ []) s rest e (back_last_name user_rule found.0 rest found.1); meant = tt })
+      gives verb.Cancel s (CancelUser found.0) c (same_Some _ _ found.2) (record {
+        verb = refl;
+        typed = back_word (codes "U=") (Name user_rule found.0 ∷ []) s rest e (back_last_name user_rule found.0 rest found.1);
+        meant = tt;
+      })
   by_word None e k =
       let found = bind_some (last_name unit_rule s) (λ name. Some (Cancel name)) c k in
       gives verb.Cancel s (Cancel found.0) c (same_Some _ _ found.2) (record { verb = refl; typed = back_last_name unit_rule found.0 s found.1; meant = tt })

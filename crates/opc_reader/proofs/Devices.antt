@@ -24,7 +24,13 @@ mount_found s c h =
     let device = bind_some (name device_rule s) _ c h in
     let comma = bind_some (word (codes ",VOL=") device.0.1) _ c device.2 in
     let volume = bind_some (last_name volume_rule comma.0) _ c comma.2 in
-    gives verb.Mount s (Mount device.0.0 volume.0) c (same_Some _ _ volume.2) (record { verb = refl; typed = back_name device_rule device.0.0 (Word (codes ",VOL=") ∷ Name volume_rule volume.0 ∷ []) s device.0.1 device.1 (back_word (codes ",VOL=") (Name volume_rule volume.0 ∷ []) device.0.1 comma.0 comma.1 (back_last_name volume_rule volume.0 comma.0 volume.1)); meant = tt })
+    gives verb.Mount s (Mount device.0.0 volume.0) c (same_Some _ _ volume.2) (record {
+      verb = refl;
+      typed = back_name device_rule device.0.0 (Word (codes ",VOL=") ∷ Name volume_rule volume.0 ∷ []) s device.0.1
+          device.1 (back_word (codes ",VOL=") (Name volume_rule volume.0 ∷ []) device.0.1 comma.0 comma.1
+          (back_last_name volume_rule volume.0 comma.0 volume.1));
+      meant = tt;
+    })
 
 pub unloaded : (device : Operand (List ℕ)) (s : Stretch) → AreTyped (parts (Unload device)) s → unload s ≡ Some (Unload device)
 unfolding unload
@@ -49,4 +55,10 @@ swap_found s c h =
     let from = bind_some (name device_rule s) _ c h in
     let comma = bind_some (word (codes ",") from.0.1) _ c from.2 in
     let to = bind_some (last_name device_rule comma.0) _ c comma.2 in
-    gives verb.Swap s (Swap from.0.0 to.0) c (same_Some _ _ to.2) (record { verb = refl; typed = back_name device_rule from.0.0 (Word (codes ",") ∷ Name device_rule to.0 ∷ []) s from.0.1 from.1 (back_word (codes ",") (Name device_rule to.0 ∷ []) from.0.1 comma.0 comma.1 (back_last_name device_rule to.0 comma.0 to.1)); meant = tt })
+    gives verb.Swap s (Swap from.0.0 to.0) c (same_Some _ _ to.2) (record {
+      verb = refl;
+      typed = back_name device_rule from.0.0 (Word (codes ",") ∷ Name device_rule to.0 ∷ []) s from.0.1 from.1
+          (back_word (codes ",") (Name device_rule to.0 ∷ []) from.0.1 comma.0 comma.1
+          (back_last_name device_rule to.0 comma.0 to.1));
+      meant = tt;
+    })

@@ -50,7 +50,9 @@ display_word w s h = back_last (Word w) s (bytes_same _ _ h)
 pub display_found : (s : Stretch) (c : Command) → display s ≡ Some c → Gives verb.Display s c
 unfolding display
 display_found s c h = first (cond_cases (bytes_eq (folded s.text) (codes "A,L")) _ _ _ h) where
-  unit_found : (bytes_eq (folded s.text) (codes "A,L") ≡ false) → (word (codes "A,") s >>= λ rest. last_name unit_rule rest >>= λ name. Some (DisplayUnit name)) ≡ Some c → Gives verb.Display s c
+  unit_found : (bytes_eq (folded s.text) (codes "A,L") ≡ false)
+      → (word (codes "A,") s >>= λ rest. last_name unit_rule rest >>= λ name. Some (DisplayUnit name)) ≡ Some c
+      → Gives verb.Display s c
   unit_found isnt k =
       let opened = bind_some (word (codes "A,") s) _ c k in
       let name = bind_some (last_name unit_rule opened.0) (λ x. Some (DisplayUnit x)) c opened.2 in
@@ -58,20 +60,36 @@ display_found s c h = first (cond_cases (bytes_eq (folded s.text) (codes "A,L"))
       gives verb.Display s (DisplayUnit name.0) c (same_Some _ _ name.2) (record {
         verb = refl;
         typed = typed;
-        meant = λ e. absurd (false≢true (sym isnt ∙ ap (λ t. bytes_eq t (codes "A,L")) (display_text name.0 s typed ∙ ap (λ x. 65 ∷ 44 ∷ x) e) ∙ bytes_refl (codes "A,L")));
+        meant = λ e. absurd (false≢true (sym isnt
+            ∙ ap (λ t. bytes_eq t (codes "A,L")) (display_text name.0 s typed ∙ ap (λ x. 65 ∷ 44 ∷ x) e)
+            ∙ bytes_refl (codes "A,L")));
       })
 
-  fourth : (bytes_eq (folded s.text) (codes "A,L") ≡ false) → ((bytes_eq (folded s.text) (codes "R") ≡ true) × (Some DisplayReplies ≡ Some c)) ⊎ ((bytes_eq (folded s.text) (codes "R") ≡ false) × ((word (codes "A,") s >>= λ rest. last_name unit_rule rest >>= λ name. Some (DisplayUnit name)) ≡ Some c)) → Gives verb.Display s c
+  fourth : (bytes_eq (folded s.text) (codes "A,L") ≡ false)
+      → ((bytes_eq (folded s.text) (codes "R") ≡ true) × (Some DisplayReplies ≡ Some c))
+      ⊎ ((bytes_eq (folded s.text) (codes "R") ≡ false)
+      × ((word (codes "A,") s >>= λ rest. last_name unit_rule rest >>= λ name. Some (DisplayUnit name)) ≡ Some c))
+      → Gives verb.Display s c
   fourth isnt (inl (e, k)) = gives verb.Display s DisplayReplies c (same_Some _ _ k) (record { verb = refl; typed = display_word (codes "R") s e; meant = tt })
   fourth isnt (inr (e, k)) = unit_found isnt k
 
-  third : (bytes_eq (folded s.text) (codes "A,L") ≡ false) → (cond (bytes_eq (folded s.text) (codes "C")) (Some DisplayConsoles) (cond (bytes_eq (folded s.text) (codes "R")) (Some DisplayReplies) (word (codes "A,") s >>= λ rest. last_name unit_rule rest >>= λ name. Some (DisplayUnit name)))) ≡ Some c → Gives verb.Display s c
+  third : (bytes_eq (folded s.text) (codes "A,L") ≡ false)
+      → (cond (bytes_eq (folded s.text) (codes "C")) (Some DisplayConsoles)
+      (cond (bytes_eq (folded s.text) (codes "R")) (Some DisplayReplies)
+      (word (codes "A,") s >>= λ rest. last_name unit_rule rest >>= λ name. Some (DisplayUnit name)))) ≡ Some c
+      → Gives verb.Display s c
   third isnt k = elim (cond_cases (bytes_eq (folded s.text) (codes "C")) _ _ _ k) [
     | inl e ↦ gives verb.Display s DisplayConsoles c (same_Some _ _ e.1) (record { verb = refl; typed = display_word (codes "C") s e.0; meant = tt })
     | inr e ↦ fourth isnt (cond_cases (bytes_eq (folded s.text) (codes "R")) _ _ _ e.1)
   ]
 
-  first : ((bytes_eq (folded s.text) (codes "A,L") ≡ true) × (Some DisplayUnits ≡ Some c)) ⊎ ((bytes_eq (folded s.text) (codes "A,L") ≡ false) × (cond (bytes_eq (folded s.text) (codes "U")) (Some DisplayDevices) (cond (bytes_eq (folded s.text) (codes "C")) (Some DisplayConsoles) (cond (bytes_eq (folded s.text) (codes "R")) (Some DisplayReplies) (word (codes "A,") s >>= λ rest. last_name unit_rule rest >>= λ name. Some (DisplayUnit name)))) ≡ Some c)) → Gives verb.Display s c
+  first : ((bytes_eq (folded s.text) (codes "A,L") ≡ true) × (Some DisplayUnits ≡ Some c))
+      ⊎ ((bytes_eq (folded s.text) (codes "A,L") ≡ false)
+      × (cond (bytes_eq (folded s.text) (codes "U")) (Some DisplayDevices)
+      (cond (bytes_eq (folded s.text) (codes "C")) (Some DisplayConsoles)
+      (cond (bytes_eq (folded s.text) (codes "R")) (Some DisplayReplies)
+      (word (codes "A,") s >>= λ rest. last_name unit_rule rest >>= λ name. Some (DisplayUnit name)))) ≡ Some c))
+      → Gives verb.Display s c
   first (inl (e, k)) = gives verb.Display s DisplayUnits c (same_Some _ _ k) (record { verb = refl; typed = display_word (codes "A,L") s e; meant = tt })
   first (inr (isnt, k)) = elim (cond_cases (bytes_eq (folded s.text) (codes "U")) _ _ _ k) [
     | inl e ↦ gives verb.Display s DisplayDevices c (same_Some _ _ e.1) (record { verb = refl; typed = display_word (codes "U") s e.0; meant = tt })

@@ -1,5 +1,40 @@
 -- A line is read as a command exactly where the definition has one.
-use Rattle.std.proofs.Common.{◌≡◌, ℕ, ◌+◌, ◌-◌, ◌≤◌, ◌&&◌, Bool, true, false, not, cond, nat_lt, List, [], ◌∷◌, ◌++◌, length, take, drop, Option, Some, None, Result, Ok, Err, refl, sym, ap, ◌∙◌, arith, suc, subst, inl, inr}
+use Rattle.std.proofs.Common.{
+  ◌≡◌,
+  ℕ,
+  ◌+◌,
+  ◌-◌,
+  ◌≤◌,
+  ◌&&◌,
+  Bool,
+  true,
+  false,
+  not,
+  cond,
+  nat_lt,
+  List,
+  [],
+  ◌∷◌,
+  ◌++◌,
+  length,
+  take,
+  drop,
+  Option,
+  Some,
+  None,
+  Result,
+  Ok,
+  Err,
+  refl,
+  sym,
+  ap,
+  ◌∙◌,
+  arith,
+  suc,
+  subst,
+  inl,
+  inr,
+}
 use Rattle.std.specs.List.{prefix_len, suffix_len, list_all, position, position_or_len}
 use Rattle.std.specs.Str.{chars}
 use Rattle.std.proofs.lemmas.Bool.Decides.{nat_tests}
@@ -14,7 +49,20 @@ use Rattle.opc_names.specs.Spellings.{lookup}
 use Rattle.opc_reader.specs.Verbs.{verbs}
 use Rattle.opc_reader.specs.Forms.{verb_of, parts, AreTyped}
 use Rattle.opc_reader.specs.Reading.{command, outcome, outcome_of, reading}
-use Rattle.opc_reader.specs.Lines.{is_space, is_typeable, Reads, trimmed, verb_place, operands_place, span, open_place, some_fault, quote_fault, early_fault, IsReadFault}
+use Rattle.opc_reader.specs.Lines.{
+  is_space,
+  is_typeable,
+  Reads,
+  trimmed,
+  verb_place,
+  operands_place,
+  span,
+  open_place,
+  some_fault,
+  quote_fault,
+  early_fault,
+  IsReadFault,
+}
 use Rattle.opc_reader.proofs.Forms.{complete, sound}
 use Rattle.opc_reader.proofs.Opens.{no_open}
 use Rattle.opc_reader.proofs.Steps.{Gives}
@@ -36,9 +84,13 @@ trimmed_is : (line : List ℕ) (c : Command) (r : Reads line c) → trimmed line
 trimmed_is line c r = ap trimmed r.whole ∙ scan r.before r.verb r.gap r.operands r.after (laid_of line c r)
 
 verb_is : (line : List ℕ) (c : Command) (r : Reads line c) → (verb_place (trimmed line)).text ≡ r.verb
-verb_is line c r = ap (λ s. (verb_place s).text) (trimmed_is line c r) ∙ ap (λ s. s.text) (scan_verb r.before r.verb r.gap r.operands r.after (length r.before) (laid_of line c r))
+verb_is line c r = ap (λ s. (verb_place s).text) (trimmed_is line c r)
+    ∙ ap (λ s. s.text) (scan_verb r.before r.verb r.gap r.operands r.after (length r.before) (laid_of line c r))
 
-operands_are : (line : List ℕ) (c : Command) (r : Reads line c) → operands_place (trimmed line) ≡ record { text = r.operands; from = length r.before + length r.verb + length r.gap }
+operands_are : (line : List ℕ) (c : Command) (r : Reads line c) → operands_place (trimmed line) ≡ record {
+  text = r.operands;
+  from = length r.before + length r.verb + length r.gap;
+}
 operands_are line c r = ap operands_place (trimmed_is line c r) ∙ scan_operands r.before r.verb r.gap r.operands r.after (length r.before) (laid_of line c r)
 
 -- such a line has no earlier fault
@@ -63,7 +115,8 @@ not_blank line c r = by_test (list_all is_space line) refl where
 typeable_run : (xs : List ℕ) → list_all is_typeable xs ≡ true → position_or_len (λ c. not (is_typeable c)) xs ≡ length xs
 typeable_run [] h = refl
 typeable_run (c ∷ cs) h =
-    elim (is_typeable c) as (λ b. (b && list_all is_typeable cs) ≡ true → cond (not (not b)) (1 + position_or_len (λ d. not (is_typeable d)) cs) 0 ≡ suc (length cs)) [
+    elim (is_typeable c) as (λ b. (b && list_all is_typeable cs) ≡ true
+    → cond (not (not b)) (1 + position_or_len (λ d. not (is_typeable d)) cs) 0 ≡ suc (length cs)) [
       | true ↦ (λ k. let rest = typeable_run cs k in omega (arith, rest))
       | false ↦ (λ k. cc)
     ] h
@@ -71,7 +124,8 @@ typeable_run (c ∷ cs) h =
 run_typeable : (xs : List ℕ) → length xs ≤ position_or_len (λ c. not (is_typeable c)) xs → list_all is_typeable xs ≡ true
 run_typeable [] h = refl
 run_typeable (c ∷ cs) h =
-    elim (is_typeable c) as (λ b. suc (length cs) ≤ cond (not (not b)) (1 + position_or_len (λ d. not (is_typeable d)) cs) 0 → (b && list_all is_typeable cs) ≡ true) [
+    elim (is_typeable c) as (λ b. suc (length cs) ≤ cond (not (not b))
+    (1 + position_or_len (λ d. not (is_typeable d)) cs) 0 → (b && list_all is_typeable cs) ≡ true) [
       | true ↦ (λ k. run_typeable cs (omega arith))
       | false ↦ (λ k. absurd (omega arith))
     ] h
@@ -81,15 +135,18 @@ no_early line c r =
     let short : nat_lt 126 (length (chars line)) ≡ false = grind (arith, nat_tests, r.short) in
     let run = typeable_run line r.typeable in
     let none : position (λ x. not (is_typeable x)) line ≡ None = grind (arith, nat_tests, run) in
-    let spelled : lookup verbs (folded (verb_place (trimmed line)).text) ≡ Some (verb_of c) = ap (λ w. lookup verbs (folded w)) (verb_is line c r) ∙ r.spelled in
+    let spelled : lookup verbs (folded (verb_place (trimmed line)).text) ≡ Some (verb_of c) =
+    ap (λ w. lookup verbs (folded w)) (verb_is line c r) ∙ r.spelled in
     let quote : open_place (verb_of c) (operands_place (trimmed line)) ≡ None = ap (open_place (verb_of c)) (operands_are line c r) ∙ no_open c _ r.typed in
     rw (not_blank line c r, short, none, spelled, quote) refl
 
 -- what is a command is read as it
 pub reads_so : (line : List ℕ) (c : Command) → Reads line c → reading line ≡ Ok c
 reads_so line c r =
-    let spelled : lookup verbs (folded (verb_place (trimmed line)).text) ≡ Some (verb_of c) = ap (λ w. lookup verbs (folded w)) (verb_is line c r) ∙ r.spelled in
-    let found : command (verb_of c) (operands_place (trimmed line)) ≡ Some c = ap (command (verb_of c)) (operands_are line c r) ∙ complete c _ r.typed r.meant in
+    let spelled : lookup verbs (folded (verb_place (trimmed line)).text) ≡ Some (verb_of c) =
+    ap (λ w. lookup verbs (folded w)) (verb_is line c r) ∙ r.spelled in
+    let found : command (verb_of c) (operands_place (trimmed line)) ≡ Some c =
+    ap (command (verb_of c)) (operands_are line c r) ∙ complete c _ r.typed r.meant in
     rw (no_early line c r, spelled, found) refl
 
 both_zero : (xs : List ℕ) → prefix_len is_space xs ≡ 0 → prefix_len no_space xs ≡ 0 → xs ≡ []
@@ -126,7 +183,9 @@ passed line h =
     }
 
 -- the parts that a scan finds make up the line
-from_scan : (line : List ℕ) (c : Command) → Passed line → lookup verbs (folded (verb_place (trimmed line)).text) ≡ Some (verb_of c) → Gives (verb_of c) (operands_place (trimmed line)) c → Reads line c
+from_scan : (line : List ℕ) (c : Command) → Passed line
+    → lookup verbs (folded (verb_place (trimmed line)).text) ≡ Some (verb_of c)
+    → Gives (verb_of c) (operands_place (trimmed line)) c → Reads line c
 from_scan line c pass spelled found = record {
   before = before;
   verb = verb;
@@ -181,7 +240,8 @@ from_scan line c pass spelled found = record {
   prefix_is : prefix_text ≡ before ++ (verb ++ (gap ++ operands))
   prefix_is =
       sym (take-append-drop (prefix_len is_space prefix_text) prefix_text) ∙
-      ap (λ t. before ++ t) (sym (take-append-drop (prefix_len no_space body) body) ∙ ap (λ t. verb ++ t) (sym (take-append-drop (prefix_len is_space rest) rest)))
+      ap (λ t. before ++ t) (sym (take-append-drop (prefix_len no_space body) body)
+      ∙ ap (λ t. verb ++ t) (sym (take-append-drop (prefix_len is_space rest) rest)))
 
   whole : line ≡ before ++ (verb ++ (gap ++ (operands ++ after)))
   whole = sym (take-append-drop n line) ∙ ap (λ t. t ++ after) prefix_is ∙ regroup before verb gap operands after where
@@ -228,7 +288,9 @@ outcome_ok (Some d) s c h = cc
 -- and what is read is a command
 pub so_reads : (line : List ℕ) (c : Command) → reading line ≡ Ok c → Reads line c
 so_reads line c h = by_fault (early_fault line) refl (lookup verbs (folded (verb_place (trimmed line)).text)) refl h where
-  by_fault : (fault : Option ReadFault) → early_fault line ≡ fault → (v : Option Verb) → lookup verbs (folded (verb_place (trimmed line)).text) ≡ v → outcome_of fault v (operands_place (trimmed line)) ≡ Ok c → Reads line c
+  by_fault : (fault : Option ReadFault) → early_fault line ≡ fault → (v : Option Verb)
+      → lookup verbs (folded (verb_place (trimmed line)).text) ≡ v
+      → outcome_of fault v (operands_place (trimmed line)) ≡ Ok c → Reads line c
   by_fault (Some fault) e v f k = absurd (no k) where
     no : Err fault ≡ Ok c → ⊥
     no x = absurd (subst IsErrAt x tt) where
@@ -256,7 +318,8 @@ ok_err c fault x = absurd (subst IsOkAt x tt) where
 pub fault_so : (line : List ℕ) (fault : ReadFault) → IsReadFault line fault → reading line ≡ Err fault
 fault_so line fault (inl e) = rw e refl
 fault_so line fault (inr (e, none, same)) = by_verb (lookup verbs (folded (verb_place (trimmed line)).text)) refl where
-  by_command : (v : Verb) (o : Option Command) → lookup verbs (folded (verb_place (trimmed line)).text) ≡ Some v → command v (operands_place (trimmed line)) ≡ o → reading line ≡ Err fault
+  by_command : (v : Verb) (o : Option Command) → lookup verbs (folded (verb_place (trimmed line)).text) ≡ Some v
+      → command v (operands_place (trimmed line)) ≡ o → reading line ≡ Err fault
   by_command v None f g = rw (e, f, g) (ap Err (sym same))
   by_command v (Some c) f g = absurd (none c (so_reads line c (rw (e, f, g) refl)))
 

@@ -3,7 +3,37 @@ use Rattle.std.proofs.Common.{◌≡◌, Some, refl, codes}
 use Rattle.opc_reader.specs.declared.verb.Verb.{Verb}
 use Rattle.opc_reader.specs.declared.verb.Verb.TheVariants as verb
 use Rattle.opc_reader_commands.specs.declared.command.Command.{Command}
-use Rattle.opc_reader_commands.specs.declared.command.Command.TheVariants.{DisplayUnits, DisplayUnit, DisplayDevices, DisplayConsoles, DisplayReplies, Cancel, CancelUser, Force, Start, StartAs, Stop, Modify, Reply, VaryDeviceOnline, VaryDeviceOffline, VaryConsoleOnline, VaryConsoleOffline, VaryConsoleAuth, Mount, Unload, Swap, ResetConsole, Send, Log, Monitor, StopMonitor, Halt, Logon, Logoff}
+use Rattle.opc_reader_commands.specs.declared.command.Command.TheVariants.{
+  DisplayUnits,
+  DisplayUnit,
+  DisplayDevices,
+  DisplayConsoles,
+  DisplayReplies,
+  Cancel,
+  CancelUser,
+  Force,
+  Start,
+  StartAs,
+  Stop,
+  Modify,
+  Reply,
+  VaryDeviceOnline,
+  VaryDeviceOffline,
+  VaryConsoleOnline,
+  VaryConsoleOffline,
+  VaryConsoleAuth,
+  Mount,
+  Unload,
+  Swap,
+  ResetConsole,
+  Send,
+  Log,
+  Monitor,
+  StopMonitor,
+  Halt,
+  Logon,
+  Logoff,
+}
 use Rattle.opc_reader.specs.Forms.{verb_of, parts, IsMeant, AreTyped}
 use Rattle.opc_reader.specs.Reading.{command}
 use Rattle.opc_reader_commands.specs.Stretches.{Stretch}
@@ -67,8 +97,20 @@ sound verb.Swap s c h = Devices.swap_found s c h
 sound verb.Reset s c h = Resets.reset_found s c h
 sound verb.Send s c h = Messages.send_found s c h
 sound verb.Log s c h = Messages.log_found s c h
-sound verb.Monitor s c h = let found = fixed_found (codes "JOBNAMES") Monitor c s h in gives verb.Monitor s Monitor c found.0 (record { verb = refl; typed = found.1; meant = tt })
-sound verb.StopMonitor s c h = let found = fixed_found (codes "JOBNAMES") StopMonitor c s h in gives verb.StopMonitor s StopMonitor c found.0 (record { verb = refl; typed = found.1; meant = tt })
-sound verb.Halt s c h = let found = fixed_found (codes "EOD") Halt c s h in gives verb.Halt s Halt c found.0 (record { verb = refl; typed = found.1; meant = tt })
+sound verb.Monitor s c h = let found = fixed_found (codes "JOBNAMES") Monitor c s h in gives verb.Monitor s Monitor c found.0 (record {
+  verb = refl;
+  typed = found.1;
+  meant = tt;
+})
+sound verb.StopMonitor s c h = let found = fixed_found (codes "JOBNAMES") StopMonitor c s h in gives verb.StopMonitor s StopMonitor c found.0 (record {
+  verb = refl;
+  typed = found.1;
+  meant = tt;
+})
+sound verb.Halt s c h = let found = fixed_found (codes "EOD") Halt c s h in gives verb.Halt s Halt c found.0 (record {
+  verb = refl;
+  typed = found.1;
+  meant = tt;
+})
 sound verb.Logon s c h = Users.logon_found s c h
 sound verb.Logoff s c h = let end = only_found Logoff c s h in gives verb.Logoff s Logoff c end.0 (record { verb = refl; typed = end.1; meant = tt })

@@ -10,7 +10,25 @@ use Rattle.opc_reader_commands.specs.declared.command.Command.TheVariants.{Modif
 use Rattle.opc_reader.specs.Forms.{Part, Word, Name, AnyText, parts, AreTyped}
 use Rattle.opc_reader.specs.Reading.{name, number_prefix, quoted_text, quoted_prefix, any_text, modify, reply, send, log}
 use Rattle.opc_reader_commands.specs.Stretches.{Stretch, word}
-use Rattle.opc_reader.proofs.Steps.{over_word, back_word, over_name, back_name, over_number, back_number, over_text, back_text, over_quoted, back_quoted, over_quoted_prefix, back_quoted_prefix, only_read, only_found, bind_some, Gives, gives}
+use Rattle.opc_reader.proofs.Steps.{
+  over_word,
+  back_word,
+  over_name,
+  back_name,
+  over_number,
+  back_number,
+  over_text,
+  back_text,
+  over_quoted,
+  back_quoted,
+  over_quoted_prefix,
+  back_quoted_prefix,
+  only_read,
+  only_found,
+  bind_some,
+  Gives,
+  gives,
+}
 
 pub modified : (name : Operand (List ℕ)) (text : Text) (s : Stretch) → AreTyped (parts (Modify name text)) s → modify s ≡ Some (Modify name text)
 unfolding modify
@@ -25,7 +43,12 @@ modify_found s c h =
     let unit = bind_some (name unit_rule s) _ c h in
     let comma = bind_some (word (codes ",") unit.0.1) _ c unit.2 in
     let text = bind_some (any_text comma.0) _ c comma.2 in
-    gives verb.Modify s (Modify unit.0.0 text.0) c (same_Some _ _ text.2) (record { verb = refl; typed = back_name unit_rule unit.0.0 (Word (codes ",") ∷ AnyText text.0 ∷ []) s unit.0.1 unit.1 (back_word (codes ",") (AnyText text.0 ∷ []) unit.0.1 comma.0 comma.1 (back_text text.0 comma.0 text.1)); meant = tt })
+    gives verb.Modify s (Modify unit.0.0 text.0) c (same_Some _ _ text.2) (record {
+      verb = refl;
+      typed = back_name unit_rule unit.0.0 (Word (codes ",") ∷ AnyText text.0 ∷ []) s unit.0.1 unit.1
+          (back_word (codes ",") (AnyText text.0 ∷ []) unit.0.1 comma.0 comma.1 (back_text text.0 comma.0 text.1));
+      meant = tt;
+    })
 
 pub replied : (id : Operand ℕ) (text : Text) (s : Stretch) → AreTyped (parts (Reply id text)) s → reply s ≡ Some (Reply id text)
 unfolding reply
@@ -40,7 +63,12 @@ reply_found s c h =
     let id = bind_some (number_prefix s) _ c h in
     let comma = bind_some (word (codes ",") id.0.1) _ c id.2 in
     let text = bind_some (any_text comma.0) _ c comma.2 in
-    gives verb.Reply s (Reply id.0.0 text.0) c (same_Some _ _ text.2) (record { verb = refl; typed = back_number id.0.0 (Word (codes ",") ∷ AnyText text.0 ∷ []) s id.0.1 id.1 (back_word (codes ",") (AnyText text.0 ∷ []) id.0.1 comma.0 comma.1 (back_text text.0 comma.0 text.1)); meant = tt })
+    gives verb.Reply s (Reply id.0.0 text.0) c (same_Some _ _ text.2) (record {
+      verb = refl;
+      typed = back_number id.0.0 (Word (codes ",") ∷ AnyText text.0 ∷ []) s id.0.1 id.1
+          (back_word (codes ",") (AnyText text.0 ∷ []) id.0.1 comma.0 comma.1 (back_text text.0 comma.0 text.1));
+      meant = tt;
+    })
 
 pub sent : (text : Text) (user : Operand (List ℕ)) (s : Stretch) → AreTyped (parts (Send text user)) s → send s ≡ Some (Send text user)
 unfolding send
@@ -60,7 +88,14 @@ send_found s c h =
     let close = bind_some (word (codes ")") user.0.1) _ c user.2 in
     let end = only_found (Send quote.0.0 user.0.0) c close.0 close.2 in
     let ps : List Part = Word (codes ")") ∷ [] in
-    gives verb.Send s (Send quote.0.0 user.0.0) c end.0 (record { verb = refl; typed = back_quoted_prefix quote.0.0 (Word (codes ",USER=(") ∷ Name user_rule user.0.0 ∷ ps) s quote.0.1 quote.1 (back_word (codes ",USER=(") (Name user_rule user.0.0 ∷ ps) quote.0.1 opened.0 opened.1 (back_name user_rule user.0.0 ps opened.0 user.0.1 user.1 (back_word (codes ")") [] user.0.1 close.0 close.1 end.1))); meant = tt })
+    gives verb.Send s (Send quote.0.0 user.0.0) c end.0 (record {
+      verb = refl;
+      typed = back_quoted_prefix quote.0.0 (Word (codes ",USER=(") ∷ Name user_rule user.0.0 ∷ ps) s quote.0.1 quote.1
+          (back_word (codes ",USER=(") (Name user_rule user.0.0 ∷ ps) quote.0.1 opened.0 opened.1
+          (back_name user_rule user.0.0 ps opened.0 user.0.1 user.1
+          (back_word (codes ")") [] user.0.1 close.0 close.1 end.1)));
+      meant = tt;
+    })
 
 pub logged : (text : Text) (s : Stretch) → AreTyped (parts (Log text)) s → log s ≡ Some (Log text)
 unfolding log

@@ -13,7 +13,13 @@ same_ok c d h = cc
 pub one_way : (line : List ℕ) → ReadsInOneWay line
 one_way line = by_reading (reading line) refl where
   by_reading : (r : Result Command ReadFault) → reading line ≡ r → ReadsInOneWay line
-  by_reading (Ok c) e = inl (c, so_reads line c e, (λ d h. same_ok d c (sym (reads_so line d h) ∙ e)), (λ fault h. ok_err c fault (sym e ∙ fault_so line fault h)))
+  by_reading (Ok c) e =
+      inl (
+        c,
+        so_reads line c e,
+        (λ d h. same_ok d c (sym (reads_so line d h) ∙ e)),
+        (λ fault h. ok_err c fault (sym e ∙ fault_so line fault h)),
+      )
   by_reading (Err f) e = inr (f, so_fault line f e, (λ g h. same_err g f (sym (fault_so line g h) ∙ e)), (λ c h. ok_err c f (sym (reads_so line c h) ∙ e)))
 
 pub commands : (line : List ℕ) (result : Result Command ReadFault) → result ≡ reading line → (c : Command) → (result ≡ Ok c) ↔ Reads line c

@@ -1,5 +1,34 @@
 -- What is typed as a command has no quoted text that isn't closed.
-use Rattle.std.proofs.Common.{◌≡◌, ℕ, ◌+◌, ◌==◌, ◌&&◌, Bool, true, false, not, cond, List, [], ◌∷◌, ◌++◌, length, drop, Option, Some, None, refl, sym, ap, ◌∙◌, arith, suc, codes, inl, inr}
+use Rattle.std.proofs.Common.{
+  ◌≡◌,
+  ℕ,
+  ◌+◌,
+  ◌==◌,
+  ◌&&◌,
+  Bool,
+  true,
+  false,
+  not,
+  cond,
+  List,
+  [],
+  ◌∷◌,
+  ◌++◌,
+  length,
+  drop,
+  Option,
+  Some,
+  None,
+  refl,
+  sym,
+  ap,
+  ◌∙◌,
+  arith,
+  suc,
+  codes,
+  inl,
+  inr,
+}
 use Rattle.std.specs.Option.{option_map, is_none}
 use Rattle.std.specs.List.{prefix_len, position, position_or_len}
 use Rattle.std.specs.Char.{to_ascii_uppercase, is_ascii_digit}
@@ -9,7 +38,37 @@ use Rattle.std.proofs.Math.Seq.{drop-append_seam}
 use Rattle.opc_names.specs.Names.{name_fault, user_rule, unit_rule}
 use Rattle.opc_reader_commands.specs.declared.command.Text.{Text}
 use Rattle.opc_reader_commands.specs.declared.command.Command.{Command}
-use Rattle.opc_reader_commands.specs.declared.command.Command.TheVariants.{DisplayUnits, DisplayUnit, DisplayDevices, DisplayConsoles, DisplayReplies, Cancel, CancelUser, Force, Start, StartAs, Stop, Modify, Reply, VaryDeviceOnline, VaryDeviceOffline, VaryConsoleOnline, VaryConsoleOffline, VaryConsoleAuth, Mount, Unload, Swap, ResetConsole, Send, Log, Monitor, StopMonitor, Halt, Logon, Logoff}
+use Rattle.opc_reader_commands.specs.declared.command.Command.TheVariants.{
+  DisplayUnits,
+  DisplayUnit,
+  DisplayDevices,
+  DisplayConsoles,
+  DisplayReplies,
+  Cancel,
+  CancelUser,
+  Force,
+  Start,
+  StartAs,
+  Stop,
+  Modify,
+  Reply,
+  VaryDeviceOnline,
+  VaryDeviceOffline,
+  VaryConsoleOnline,
+  VaryConsoleOffline,
+  VaryConsoleAuth,
+  Mount,
+  Unload,
+  Swap,
+  ResetConsole,
+  Send,
+  Log,
+  Monitor,
+  StopMonitor,
+  Halt,
+  Logon,
+  Logoff,
+}
 use Rattle.opc_reader.specs.Forms.{Word, Name, QuotedText, AnyText, verb_of, parts, IsTyped, AreTyped}
 use Rattle.opc_reader.specs.Lines.{open_after, open_place}
 use Rattle.opc_reader.specs.Operands.{in_name}
@@ -58,31 +117,39 @@ one_comma (c ∷ []) h = let same : to_ascii_uppercase c ≡ 44 = cc in ap (λ v
 one_comma (c ∷ (d ∷ x)) h = cc
 
 -- the text after the first comma is closed
-closed_after : (p : ℕ → Bool) (a b : List ℕ) (n : ℕ) (text : Text) (s : Stretch) → p 44 ≡ false → prefix_len p a ≡ length a → s.text ≡ a ++ b → AreTyped (Word (codes ",") ∷ AnyText text ∷ []) (record { text = b; from = n }) → open_after (position (λ c. c == 44) s.text) s ≡ None
+closed_after : (p : ℕ → Bool) (a b : List ℕ) (n : ℕ) (text : Text) (s : Stretch) → p 44 ≡ false
+    → prefix_len p a ≡ length a → s.text ≡ a ++ b → AreTyped (Word (codes ",") ∷ AnyText text ∷ []) (record {
+      text = b;
+      from = n;
+    }) → open_after (position (λ c. c == 44) s.text) s ≡ None
 closed_after p a b n text s none run e (a', b', e', comma, rest) =
     let word : a' ≡ 44 ∷ [] = one_comma a' comma in
     let whole : s.text ≡ a ++ 44 ∷ b' = e ∙ ap (λ x. a ++ x) (e' ∙ ap (λ x. x ++ b') word) in
     let at : position_or_len (λ c. c == 44) s.text ≡ length a = ap (position_or_len (λ c. c == 44)) whole ∙ comma_first p a b' none run in
     let count : length s.text ≡ length a + suc (length b') = ap length whole ∙ length-append a (44 ∷ b') in
     let place : position (λ c. c == 44) s.text ≡ Some (length a) = grind (arith, nat_tests, at, count) in
-    let after_it : drop (length a + 1) s.text ≡ b' = ap (drop (length a + 1)) (whole ∙ sym (append_assoc a (44 ∷ []) b')) ∙ ap (λ n. drop n ((a ++ 44 ∷ []) ++ b')) (sym (length-append a (44 ∷ []))) ∙ drop-append_seam (a ++ 44 ∷ []) b' in
+    let after_it : drop (length a + 1) s.text ≡ b' =
+    ap (drop (length a + 1)) (whole ∙ sym (append_assoc a (44 ∷ []) b'))
+    ∙ ap (λ n. drop n ((a ++ 44 ∷ []) ++ b')) (sym (length-append a (44 ∷ [])))
+    ∙ drop-append_seam (a ++ 44 ∷ []) b' in
     rw (place, after_it, text_closed text _ (over_last (AnyText text) _ rest)) refl
 
 -- a quoted text at the start is closed
 closed_prefix : (t : Text) (s r : Stretch) → quoted_prefix s ≡ Some (t, r) → is_open s.text ≡ false
 unfolding quoted_prefix
-closed_prefix t s r h = let found = map_some (λ n. (record { typed = prefix n s }, after n s)) (quoted_len s.text) (t, r) h in counted s.text found.0 found.1 where
-  none_left : (o : Option ℕ) (n : ℕ) → option_map (λ m. m + 1) o ≡ Some n → is_none o ≡ false
-  none_left None n k = cc
-  none_left (Some m) n k = refl
+closed_prefix t s r h = let found = map_some (λ n. (record { typed = prefix n s }, after n s)) (quoted_len s.text)
+    (t, r) h in counted s.text found.0 found.1 where
+      none_left : (o : Option ℕ) (n : ℕ) → option_map (λ m. m + 1) o ≡ Some n → is_none o ≡ false
+      none_left None n k = cc
+      none_left (Some m) n k = refl
 
-  counted : (text : List ℕ) (n : ℕ) → quoted_len text ≡ Some n → is_open text ≡ false
-  counted [] n k = refl
-  counted (c ∷ cs) n k =
-      elim (c == 39) as (λ v. cond v (option_map (λ m. m + 1) (closing_len cs)) None ≡ Some n → (v && is_none (closing_len cs)) ≡ false) [
-        | true ↦ (λ g. none_left (closing_len cs) n g)
-        | false ↦ (λ g. refl)
-      ] k
+      counted : (text : List ℕ) (n : ℕ) → quoted_len text ≡ Some n → is_open text ≡ false
+      counted [] n k = refl
+      counted (c ∷ cs) n k =
+          elim (c == 39) as (λ v. cond v (option_map (λ m. m + 1) (closing_len cs)) None ≡ Some n → (v && is_none (closing_len cs)) ≡ false) [
+            | true ↦ (λ g. none_left (closing_len cs) n g)
+            | false ↦ (λ g. refl)
+          ] k
 
 pub no_open : (c : Command) (s : Stretch) → AreTyped (parts c) s → open_place (verb_of c) s ≡ None
 no_open DisplayUnits s t = refl

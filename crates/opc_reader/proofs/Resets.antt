@@ -25,4 +25,10 @@ reset_found s c h =
     let found = bind_some (name console_rule opened.0) _ c opened.2 in
     let close = bind_some (word (codes ")") found.0.1) _ c found.2 in
     let end = only_found (ResetConsole found.0.0) c close.0 close.2 in
-    gives verb.Reset s (ResetConsole found.0.0) c end.0 (record { verb = refl; typed = back_word (codes "CN(") (Name console_rule found.0.0 ∷ Word (codes ")") ∷ []) s opened.0 opened.1 (back_name console_rule found.0.0 (Word (codes ")") ∷ []) opened.0 found.0.1 found.1 (back_word (codes ")") [] found.0.1 close.0 close.1 end.1)); meant = tt })
+    gives verb.Reset s (ResetConsole found.0.0) c end.0 (record {
+      verb = refl;
+      typed = back_word (codes "CN(") (Name console_rule found.0.0 ∷ Word (codes ")") ∷ []) s opened.0 opened.1
+          (back_name console_rule found.0.0 (Word (codes ")") ∷ []) opened.0 found.0.1 found.1
+          (back_word (codes ")") [] found.0.1 close.0 close.1 end.1));
+      meant = tt;
+    })

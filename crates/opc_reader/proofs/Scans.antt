@@ -1,5 +1,34 @@
 -- What the parts of a line are.
-use Rattle.std.proofs.Common.{◌≡◌, ℕ, ◌+◌, ◌-◌, ◌<◌, ◌&&◌, ◌↔◌, Bool, true, false, not, cond, nat_lt, List, [], ◌∷◌, ◌++◌, length, take, drop, reverse, Some, refl, sym, ap, ◌∙◌, arith, suc}
+use Rattle.std.proofs.Common.{
+  ◌≡◌,
+  ℕ,
+  ◌+◌,
+  ◌-◌,
+  ◌<◌,
+  ◌&&◌,
+  ◌↔◌,
+  Bool,
+  true,
+  false,
+  not,
+  cond,
+  nat_lt,
+  List,
+  [],
+  ◌∷◌,
+  ◌++◌,
+  length,
+  take,
+  drop,
+  reverse,
+  Some,
+  refl,
+  sym,
+  ap,
+  ◌∙◌,
+  arith,
+  suc,
+}
 use Rattle.std.specs.List.{prefix_len, suffix_len, list_all}
 use Rattle.std.specs.Str.{bytes_eq}
 use Rattle.std.specs.Char.{to_ascii_uppercase}
@@ -30,7 +59,8 @@ unspaced (c ∷ cs) = ap (λ b. not b && list_all no_space (folded cs)) (space_u
 abbrev pub is_word : List ℕ → Bool
 is_word w = nat_lt 0 (length w) && list_all no_space w
 
-table_words : {V : Type 0} (table : List (List ℕ × V)) (w : List ℕ) (v : V) → list_all (λ e. is_word e.0) table ≡ true → lookup table w ≡ Some v → is_word w ≡ true
+table_words : {V : Type 0} (table : List (List ℕ × V)) (w : List ℕ) (v : V) → list_all (λ e. is_word e.0) table ≡ true
+    → lookup table w ≡ Some v → is_word w ≡ true
 table_words [] w v h k = cc
 table_words (e ∷ table) w v h k =
     let both = both_true (is_word e.0) (list_all (λ x. is_word x.0) table) h in
@@ -103,7 +133,11 @@ gap_stops (c ∷ gap) operands h none =
     ] refl h
 
 -- the places that a scan of the line finds
-pub scan : (before verb gap operands after : List ℕ) → Laid before verb gap operands after → trimmed (before ++ (verb ++ (gap ++ (operands ++ after)))) ≡ record { text = verb ++ (gap ++ operands); from = length before }
+pub scan : (before verb gap operands after : List ℕ) → Laid before verb gap operands after
+    → trimmed (before ++ (verb ++ (gap ++ (operands ++ after)))) ≡ record {
+      text = verb ++ (gap ++ operands);
+      from = length before;
+    }
 scan before verb gap operands after laid =
     let body : List ℕ = verb ++ (gap ++ operands) in
     let line : List ℕ = before ++ (verb ++ (gap ++ (operands ++ after))) in
@@ -120,22 +154,34 @@ scan before verb gap operands after laid =
     let text_is : take (length line - suffix_len is_space line) line ≡ before ++ body =
     ap (λ n. take n line) n_is ∙ ap (take (length (before ++ body))) whole ∙ take-append_seam (before ++ body) after in
     let begins : prefix_len is_space body ≡ 0 = no_run verb (gap ++ operands) laid.word.run laid.word.some in
-    let lead : prefix_len is_space (before ++ body) ≡ length before = grind (arith, nat_tests, prefix_len-append is_space before body, begins, laid.before_run) in
+    let lead : prefix_len is_space (before ++ body) ≡ length before =
+    grind (arith, nat_tests, prefix_len-append is_space before body, begins, laid.before_run) in
     let make : List ℕ → ℕ → Stretch = λ t k. record { text = drop k t; from = 0 + k } in
     let last : List ℕ → ℕ → Stretch = λ t k. record { text = t; from = k } in
-    ap (λ t. make t (prefix_len is_space t)) text_is ∙ ap (make (before ++ body)) lead ∙ ap (λ t. last t (0 + length before)) (drop-append_seam before body) ∙ ap (last body) (omega arith)
+    ap (λ t. make t (prefix_len is_space t)) text_is ∙ ap (make (before ++ body)) lead
+    ∙ ap (λ t. last t (0 + length before)) (drop-append_seam before body) ∙ ap (last body) (omega arith)
 
-pub scan_verb : (before verb gap operands after : List ℕ) (n : ℕ) → Laid before verb gap operands after → verb_place (record { text = verb ++ (gap ++ operands); from = n }) ≡ record { text = verb; from = n }
+pub scan_verb : (before verb gap operands after : List ℕ) (n : ℕ) → Laid before verb gap operands after
+    → verb_place (record { text = verb ++ (gap ++ operands); from = n }) ≡ record {
+      text = verb;
+      from = n;
+    }
 scan_verb before verb gap operands after n laid =
     let stops = gap_stops gap operands laid.gap_run laid.separated.1 in
-    let run : prefix_len no_space (verb ++ (gap ++ operands)) ≡ length verb = grind (arith, nat_tests, prefix_len-append no_space verb (gap ++ operands), stops, laid.word.run) in
+    let run : prefix_len no_space (verb ++ (gap ++ operands)) ≡ length verb =
+    grind (arith, nat_tests, prefix_len-append no_space verb (gap ++ operands), stops, laid.word.run) in
     let last : List ℕ → Stretch = λ t. record { text = t; from = n } in
     ap (λ k. last (take k (verb ++ (gap ++ operands)))) run ∙ ap last (take-append_seam verb (gap ++ operands))
 
-pub scan_operands : (before verb gap operands after : List ℕ) (n : ℕ) → Laid before verb gap operands after → operands_place (record { text = verb ++ (gap ++ operands); from = n }) ≡ record { text = operands; from = n + length verb + length gap }
+pub scan_operands : (before verb gap operands after : List ℕ) (n : ℕ) → Laid before verb gap operands after
+    → operands_place (record { text = verb ++ (gap ++ operands); from = n }) ≡ record {
+      text = operands;
+      from = n + length verb + length gap;
+    }
 scan_operands before verb gap operands after n laid =
     let stops = gap_stops gap operands laid.gap_run laid.separated.1 in
-    let run : prefix_len no_space (verb ++ (gap ++ operands)) ≡ length verb = grind (arith, nat_tests, prefix_len-append no_space verb (gap ++ operands), stops, laid.word.run) in
+    let run : prefix_len no_space (verb ++ (gap ++ operands)) ≡ length verb =
+    grind (arith, nat_tests, prefix_len-append no_space verb (gap ++ operands), stops, laid.word.run) in
     let bare : prefix_len is_space operands ≡ 0 = laid.bare.0 in
     let skip : prefix_len is_space (gap ++ operands) ≡ length gap = grind (arith, nat_tests, prefix_len-append is_space gap operands, bare, laid.gap_run) in
     let last : List ℕ → ℕ → Stretch = λ t k. record { text = t; from = k } in

@@ -12,13 +12,18 @@ slice_of : (line x t y : List ℕ) → line ≡ x ++ (t ++ y) → IsSliceOf line
 slice_of line x t y e = (
   omega (arith, ap length e, length-append x (t ++ y), length-append t y),
   let count : (length x + length t) - length x ≡ length t = omega arith in
-      ap (λ n. take n (drop (length x) line)) count ∙ ap (λ l. take (length t) (drop (length x) l)) e ∙ ap (take (length t)) (drop-append_seam x (t ++ y)) ∙ take-append_seam t y,
+      ap (λ n. take n (drop (length x) line)) count ∙ ap (λ l. take (length t) (drop (length x) l)) e
+      ∙ ap (take (length t)) (drop-append_seam x (t ++ y)) ∙ take-append_seam t y,
 )
 
-slices : (ps : List Part) (s : Stretch) (line x y : List ℕ) → line ≡ x ++ (s.text ++ y) → s.from ≡ length x → AreTyped ps s → AllByRecursion (IsSliceOf line) (flat_map typed_of ps)
+slices : (ps : List Part) (s : Stretch) (line x y : List ℕ) → line ≡ x ++ (s.text ++ y) → s.from ≡ length x
+    → AreTyped ps s → AllByRecursion (IsSliceOf line) (flat_map typed_of ps)
 slices [] s line x y e at t = tt
 slices (p ∷ ps) s line x y e at (a, b, whole, typed, rest) =
-    with_prefix p typed (slices ps (record { text = b; from = s.from + length a }) line (x ++ a) y (here ∙ sym (append_assoc x a (b ++ y))) (omega (arith, at, length-append x a)) rest) where
+    with_prefix p typed (slices ps (record {
+      text = b;
+      from = s.from + length a;
+    }) line (x ++ a) y (here ∙ sym (append_assoc x a (b ++ y))) (omega (arith, at, length-append x a)) rest) where
       here : line ≡ x ++ (a ++ (b ++ y))
       here = e ∙ ap (λ t. x ++ (t ++ y)) whole ∙ ap (λ t. x ++ t) (append_assoc a b y)
 
@@ -28,7 +33,10 @@ slices (p ∷ ps) s line x y e at (a, b, whole, typed, rest) =
       typed_place : (o : Stretch) → o ≡ record { text = a; from = s.from } → IsSliceOf line o
       typed_place o f = subst (IsSliceOf line) (sym f) place
 
-      with_prefix : (q : Part) → IsTyped q (record { text = a; from = s.from }) → AllByRecursion (IsSliceOf line) (flat_map typed_of ps) → AllByRecursion (IsSliceOf line) (flat_map typed_of (q ∷ ps))
+      with_prefix : (q : Part) → IsTyped q (record {
+        text = a;
+        from = s.from;
+      }) → AllByRecursion (IsSliceOf line) (flat_map typed_of ps) → AllByRecursion (IsSliceOf line) (flat_map typed_of (q ∷ ps))
       with_prefix (Word w) k others = others
       with_prefix (Name rule o) k others = (typed_place o.typed k.0, others)
       with_prefix (Number o) k others = (typed_place o.typed k.0, others)

@@ -1,5 +1,41 @@
 -- The step over one part of a form, in both directions: what is typed so is read, and what is read is typed so.
-use Rattle.std.proofs.Common.{◌≡◌, ◌≢◌, ℕ, ◌+◌, ◌<◌, ◌≤◌, ◌==◌, ◌&&◌, ◌-◌, ◌*◌, Bool, true, false, cond, List, [], ◌∷◌, ◌++◌, length, take, drop, Option, Some, None, refl, sym, ap, ◌∙◌, subst, arith, suc, inl, inr, codes, ◌⊎◌}
+use Rattle.std.proofs.Common.{
+  ◌≡◌,
+  ◌≢◌,
+  ℕ,
+  ◌+◌,
+  ◌<◌,
+  ◌≤◌,
+  ◌==◌,
+  ◌&&◌,
+  ◌-◌,
+  ◌*◌,
+  Bool,
+  true,
+  false,
+  cond,
+  List,
+  [],
+  ◌∷◌,
+  ◌++◌,
+  length,
+  take,
+  drop,
+  Option,
+  Some,
+  None,
+  refl,
+  sym,
+  ap,
+  ◌∙◌,
+  subst,
+  arith,
+  suc,
+  inl,
+  inr,
+  codes,
+  ◌⊎◌,
+}
 use Rattle.std.specs.Prelude.{⊤}
 use Rattle.std.specs.Option.{option_map}
 use Rattle.std.specs.List.{prefix_len}
@@ -66,7 +102,10 @@ pub record WordSteps (read : Option Stretch) (ps : List Part) : Type 0 where
 
 pub over_word : (w : List ℕ) (ps : List Part) (s : Stretch) → AreTyped (Word w ∷ ps) s → WordSteps (word w s) ps
 over_word w ps s (a, b, e, typed, rest) =
-    let at_text : word (folded a) (joined a b s.from) ≡ word w s = let f : List ℕ → List ℕ → Option Stretch = λ v t. word v (record { text = t; from = s.from }) in ap (λ v. f v (a ++ b)) typed ∙ ap (f w) (sym e) in
+    let at_text : word (folded a) (joined a b s.from) ≡ word w s = let f : List ℕ → List ℕ → Option Stretch = λ v t. word v (record {
+      text = t;
+      from = s.from;
+    }) in ap (λ v. f v (a ++ b)) typed ∙ ap (f w) (sym e) in
     record { rest = after_part a b s.from; read_is = sym at_text ∙ word_read a b s.from; typed = rest }
 
 pub back_word : (w : List ℕ) (ps : List Part) (s r : Stretch) → word w s ≡ Some r → AreTyped ps r → AreTyped (Word w ∷ ps) s
@@ -80,18 +119,26 @@ operand_is {V} o v s e f =
     let make : V → Stretch → Operand V = λ x t. record { value = x; typed = t } in
     sym (ap (λ x. make x o.typed) f ∙ ap (make v) e)
 
-pub over_name : (rule : NameRule) (o : Operand (List ℕ)) (ps : List Part) (s : Stretch) → is_plain rule.alphabet ≡ true → Stops ps → AreTyped (Name rule o ∷ ps) s → Steps (name rule s) o ps
+pub over_name : (rule : NameRule) (o : Operand (List ℕ)) (ps : List Part) (s : Stretch) → is_plain rule.alphabet ≡ true
+    → Stops ps → AreTyped (Name rule o ∷ ps) s → Steps (name rule s) o ps
 over_name rule o ps s p h (a, b, e, (typed, value, fine), rest) =
     let fault : name_fault rule (folded a) ≡ None = rw (← value) fine in
-    let at_text : name rule (joined a b s.from) ≡ name rule s = let f : List ℕ → Option (Operand (List ℕ) × Stretch) = λ t. name rule (record { text = t; from = s.from }) in ap f (sym e) in
+    let at_text : name rule (joined a b s.from) ≡ name rule s = let f : List ℕ → Option (Operand (List ℕ) × Stretch) = λ t. name rule (record {
+      text = t;
+      from = s.from;
+    }) in ap f (sym e) in
     let pair : Operand (List ℕ) → Option (Operand (List ℕ) × Stretch) = λ x. Some (x, after_part a b s.from) in
     record {
       rest = after_part a b s.from;
-      read_is = sym at_text ∙ name_read rule a b s.from p fault (stops ps _ h rest) ∙ ap pair (operand_is o (folded a) (record { text = a; from = s.from }) typed value);
+      read_is = sym at_text ∙ name_read rule a b s.from p fault (stops ps _ h rest) ∙ ap pair (operand_is o (folded a) (record {
+        text = a;
+        from = s.from;
+      }) typed value);
       typed = rest;
     }
 
-pub back_name : (rule : NameRule) (o : Operand (List ℕ)) (ps : List Part) (s r : Stretch) → name rule s ≡ Some (o, r) → AreTyped ps r → AreTyped (Name rule o ∷ ps) s
+pub back_name : (rule : NameRule) (o : Operand (List ℕ)) (ps : List Part) (s r : Stretch) → name rule s ≡ Some (o, r)
+    → AreTyped ps r → AreTyped (Name rule o ∷ ps) s
 back_name rule o ps s r h t =
     let found = name_found rule s r o h in
     let P : Stretch → Type 0 = AreTyped ps in
@@ -126,7 +173,8 @@ pub bind_some : {A B : Type 0} (o : Option A) (f : A → Option B) (y : B) → (
 bind_some None f y h = cc
 bind_some (Some x) f y h = (x, refl, h)
 
-pub over_last_name : (rule : NameRule) (o : Operand (List ℕ)) (s : Stretch) → is_plain rule.alphabet ≡ true → AreTyped (Name rule o ∷ []) s → last_name rule s ≡ Some o
+pub over_last_name : (rule : NameRule) (o : Operand (List ℕ)) (s : Stretch) → is_plain rule.alphabet ≡ true
+    → AreTyped (Name rule o ∷ []) s → last_name rule s ≡ Some o
 unfolding last_name
 over_last_name rule o s p t = let step = over_name rule o [] s p tt t in rw step.read_is (only_read o step.rest step.typed)
 
@@ -138,7 +186,8 @@ back_last_name rule o s h =
     let P : Operand (List ℕ) → Type 0 = λ x. AreTyped (Name rule x ∷ []) s in
     subst P end.0 (back_name rule step.0.0 [] s step.0.1 step.1 end.1)
 
-valued_is : {V : Type 0} (table : List (List ℕ × V)) (s : Stretch) (o : Operand V) → o.typed ≡ s → lookup table (folded s.text) ≡ Some o.value → valued s (lookup table (folded s.text)) ≡ Some o
+valued_is : {V : Type 0} (table : List (List ℕ × V)) (s : Stretch) (o : Operand V) → o.typed ≡ s
+    → lookup table (folded s.text) ≡ Some o.value → valued s (lookup table (folded s.text)) ≡ Some o
 valued_is table s o e f = rw f (ap Some (operand_is o o.value s e refl))
 
 valued_found : {V : Type 0} (s : Stretch) (found : Option V) (o : Operand V) → valued s found ≡ Some o → (o.typed ≡ s) × (found ≡ Some o.value)
@@ -200,7 +249,9 @@ back_text t s h = back_last (AnyText t) s (by_kind (opens_quote s.text) refl h) 
     bad m = cc
   plain false e k = let same : record { typed = s } ≡ t = cc in (sym (ap (λ x. x.typed) same), length_some s.text e)
 
-  by_kind : (b : Bool) → opens_quote s.text ≡ b → cond b (quoted_text s) (cond ((length s.text == 0)) None (Some (record { typed = s }))) ≡ Some t → IsTyped (AnyText t) s
+  by_kind : (b : Bool) → opens_quote s.text ≡ b
+      → cond b (quoted_text s) (cond ((length s.text == 0)) None (Some (record { typed = s }))) ≡ Some t
+      → IsTyped (AnyText t) s
   by_kind true e k = let found = quoted_text_found t s k in (found.0, inl found.1)
   by_kind false e k = let found = plain ((length s.text == 0)) refl k in (found.0, inr (opens_not s.text e, found.1))
 
@@ -219,7 +270,8 @@ number_digits (x ∷ (y ∷ [])) v h =
     rw (both.0, both.1) refl
 number_digits (x ∷ (y ∷ (z ∷ a))) v h = cc
 
-pub over_number : (o : Operand ℕ) (ps : List Part) (s : Stretch) → AreTyped (Number o ∷ Word (codes ",") ∷ ps) s → Steps (number_prefix s) o (Word (codes ",") ∷ ps)
+pub over_number : (o : Operand ℕ) (ps : List Part) (s : Stretch) → AreTyped (Number o ∷ Word (codes ",") ∷ ps) s
+    → Steps (number_prefix s) o (Word (codes ",") ∷ ps)
 unfolding number_prefix
 over_number o ps s (a, b, e, (typed, value), rest) =
     let none : prefix_len is_ascii_digit b ≡ 0 = rw rest.2 (digit_stops rest.0 rest.1 rest.3) in
@@ -291,7 +343,8 @@ no_quote c w (d ∷ a) b h e =
           let upper : c ≡ 39 = sym f ∙ ap to_ascii_uppercase code in
           absurd (false≢true (sym h ∙ ap (λ x. x == 39) upper))
 
-pub over_quoted_prefix : (t : Text) (w : List ℕ) (c : ℕ) (ps : List Part) (s : Stretch) → (c == 39) ≡ false → AreTyped (QuotedText t ∷ Word (c ∷ w) ∷ ps) s → Steps (quoted_prefix s) t (Word (c ∷ w) ∷ ps)
+pub over_quoted_prefix : (t : Text) (w : List ℕ) (c : ℕ) (ps : List Part) (s : Stretch) → (c == 39) ≡ false
+    → AreTyped (QuotedText t ∷ Word (c ∷ w) ∷ ps) s → Steps (quoted_prefix s) t (Word (c ∷ w) ∷ ps)
 unfolding quoted_prefix
 over_quoted_prefix t w c ps s other (a, b, e, (typed, (text, quote)), rest) =
     let stops_there : opens_quote b ≡ false = rw rest.2 (no_quote c w rest.0 rest.1 other rest.3) in
@@ -313,19 +366,32 @@ back_quoted_prefix t ps s r h typed =
     let both = some_pair_parts _ _ _ _ (ap Some found.2) in
     let quote = prefix_is s.text found.0 found.1 in
     let count : found.0 ≡ length (take found.0 s.text) = sym (length-take-le found.0 s.text quote.0) in
-    let left : after found.0 s ≡ after_part (take found.0 s.text) (drop found.0 s.text) s.from = ap (λ k. record { text = drop found.0 s.text; from = s.from + k }) count in
-    let P : Stretch → Type 0 = AreTyped ps in
-    (take found.0 s.text, drop found.0 s.text, sym (take-append-drop found.0 s.text), (sym (ap (λ x. x.typed) both.0), quote.1), subst P (sym both.1 ∙ left) typed) where
+    let left : after found.0 s ≡ after_part (take found.0 s.text) (drop found.0 s.text) s.from = ap (λ k. record {
+      text = drop found.0 s.text;
+      from = s.from + k;
+    }) count in
+    let P : Stretch → Type 0 = AreTyped ps in (
+      take found.0 s.text,
+      drop found.0 s.text,
+      sym (take-append-drop found.0 s.text),
+      (sym (ap (λ x. x.typed) both.0), quote.1),
+      subst P (sym both.1 ∙ left) typed,
+    ) where
       prefix_is : (text : List ℕ) (n : ℕ) → quoted_len text ≡ Some n → (n ≤ length text) × IsQuoted (take n text)
       prefix_is [] n k = cc
       prefix_is (c ∷ cs) n k =
-          elim (c == 39) as (λ v. (c == 39) ≡ v → cond v (option_map (λ m. m + 1) (closing_len cs)) None ≡ Some n → (n ≤ suc (length cs)) × IsQuoted (take n (c ∷ cs))) [
+          elim (c == 39) as (λ v. (c == 39) ≡ v → cond v (option_map (λ m. m + 1) (closing_len cs)) None ≡ Some n
+          → (n ≤ suc (length cs)) × IsQuoted (take n (c ∷ cs))) [
             | true ↦ (λ f g.
                 let m = map_some (λ i. i + 1) (closing_len cs) n g in
                 let found = prefix_found cs m.0 m.1 in
                 let typed_text : List ℕ = 39 ∷ (doubled found.text ++ 39 ∷ []) in
-                let whole : c ∷ cs ≡ typed_text ++ found.rest = ap (λ x. x ∷ cs) (same_code c 39 f) ∙ ap (λ x. 39 ∷ x) (found.whole ∙ sym (append_assoc (doubled found.text) (39 ∷ []) found.rest)) in
-                let count : length typed_text ≡ n = omega (arith, length-append (doubled found.text) (39 ∷ []), found.count, m.2) in
-                (omega (arith, ap length whole, length-append typed_text found.rest, count), (found.text, ap (take n) whole ∙ take_at typed_text found.rest n count)))
+                let whole : c ∷ cs ≡ typed_text ++ found.rest =
+                ap (λ x. x ∷ cs) (same_code c 39 f)
+                ∙ ap (λ x. 39 ∷ x) (found.whole ∙ sym (append_assoc (doubled found.text) (39 ∷ []) found.rest)) in
+                let count : length typed_text ≡ n = omega (arith, length-append (doubled found.text) (39 ∷ []), found.count, m.2) in (
+                  omega (arith, ap length whole, length-append typed_text found.rest, count),
+                  (found.text, ap (take n) whole ∙ take_at typed_text found.rest n count),
+                ))
             | false ↦ (λ f g. absurd (none-some n g))
           ] refl k

@@ -24,4 +24,10 @@ logon_found s c h =
     let user = bind_some (name user_rule s) _ c h in
     let comma = bind_some (word (codes ",") user.0.1) _ c user.2 in
     let password = bind_some (last_name user_rule comma.0) _ c comma.2 in
-    gives verb.Logon s (Logon user.0.0 password.0) c (same_Some _ _ password.2) (record { verb = refl; typed = back_name user_rule user.0.0 (Word (codes ",") ∷ Name user_rule password.0 ∷ []) s user.0.1 user.1 (back_word (codes ",") (Name user_rule password.0 ∷ []) user.0.1 comma.0 comma.1 (back_last_name user_rule password.0 comma.0 password.1)); meant = tt })
+    gives verb.Logon s (Logon user.0.0 password.0) c (same_Some _ _ password.2) (record {
+      verb = refl;
+      typed = back_name user_rule user.0.0 (Word (codes ",") ∷ Name user_rule password.0 ∷ []) s user.0.1 user.1
+          (back_word (codes ",") (Name user_rule password.0 ∷ []) user.0.1 comma.0 comma.1
+          (back_last_name user_rule password.0 comma.0 password.1));
+      meant = tt;
+    })

@@ -2,7 +2,18 @@
 -- twice. `SYS` and `(SYS)` are the same.
 use Rattle.std.specs.Prelude.{ℕ, List, [], ◌∷◌, codes}
 use Rattle.opc_names.specs.declared.auth.Auth.{Auth}
-use Rattle.opc_names.specs.declared.auth.Auth.TheVariants.{Master, All, Info, Sys, Io, Cons, SysIo, SysCons, IoCons, SysIoCons}
+use Rattle.opc_names.specs.declared.auth.Auth.TheVariants.{
+  Master,
+  All,
+  Info,
+  Sys,
+  Io,
+  Cons,
+  SysIo,
+  SysCons,
+  IoCons,
+  SysIoCons,
+}
 
 abbrev pub authorities : List (List ℕ × Auth)
 authorities =

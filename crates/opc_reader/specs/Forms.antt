@@ -9,7 +9,37 @@ use Rattle.opc_reader.specs.declared.verb.Verb.TheVariants as verb
 use Rattle.opc_reader_commands.specs.declared.command.Operand.{Operand}
 use Rattle.opc_reader_commands.specs.declared.command.Text.{Text}
 use Rattle.opc_reader_commands.specs.declared.command.Command.{Command}
-use Rattle.opc_reader_commands.specs.declared.command.Command.TheVariants.{DisplayUnits, DisplayUnit, DisplayDevices, DisplayConsoles, DisplayReplies, Cancel, CancelUser, Force, Start, StartAs, Stop, Modify, Reply, VaryDeviceOnline, VaryDeviceOffline, VaryConsoleOnline, VaryConsoleOffline, VaryConsoleAuth, Mount, Unload, Swap, ResetConsole, Send, Log, Monitor, StopMonitor, Halt, Logon, Logoff}
+use Rattle.opc_reader_commands.specs.declared.command.Command.TheVariants.{
+  DisplayUnits,
+  DisplayUnit,
+  DisplayDevices,
+  DisplayConsoles,
+  DisplayReplies,
+  Cancel,
+  CancelUser,
+  Force,
+  Start,
+  StartAs,
+  Stop,
+  Modify,
+  Reply,
+  VaryDeviceOnline,
+  VaryDeviceOffline,
+  VaryConsoleOnline,
+  VaryConsoleOffline,
+  VaryConsoleAuth,
+  Mount,
+  Unload,
+  Swap,
+  ResetConsole,
+  Send,
+  Log,
+  Monitor,
+  StopMonitor,
+  Halt,
+  Logon,
+  Logoff,
+}
 use Rattle.opc_reader.specs.Authorities.{authorities}
 use Rattle.opc_reader.specs.Operands.{number}
 use Rattle.opc_reader_commands.specs.Quotes.{OpensQuote, IsQuoted}
@@ -75,7 +105,8 @@ parts (VaryDeviceOnline device) = Name device_rule device ∷ Word (codes ",ONLI
 parts (VaryDeviceOffline device) = Name device_rule device ∷ Word (codes ",OFFLINE") ∷ []
 parts (VaryConsoleOnline console) = Word (codes "CN(") ∷ Name console_rule console ∷ Word (codes "),ONLINE") ∷ []
 parts (VaryConsoleOffline console) = Word (codes "CN(") ∷ Name console_rule console ∷ Word (codes "),OFFLINE") ∷ []
-parts (VaryConsoleAuth console auth) = Word (codes "CN(") ∷ Name console_rule console ∷ Word (codes "),AUTH=") ∷ Authority auth ∷ []
+parts (VaryConsoleAuth console auth) = Word (codes "CN(") ∷ Name console_rule console ∷ Word (codes "),AUTH=")
+    ∷ Authority auth ∷ []
 parts (Mount device volume) = Name device_rule device ∷ Word (codes ",VOL=") ∷ Name volume_rule volume ∷ []
 parts (Unload device) = Name device_rule device ∷ []
 parts (Swap from to) = Name device_rule from ∷ Word (codes ",") ∷ Name device_rule to ∷ []
@@ -107,4 +138,7 @@ IsTyped (AnyText t) s = (t.typed ≡ s) × (IsQuoted s.text ⊎ ((OpensQuote s.t
 abbrev pub AreTyped : List Part → Stretch → Type 0
 AreTyped [] s = s.text ≡ []
 AreTyped (p ∷ ps) s =
-    (a b : List ℕ) × (s.text ≡ a ++ b) × IsTyped p (record { text = a; from = s.from }) × AreTyped ps (record { text = b; from = s.from + length a })
+    (a b : List ℕ) × (s.text ≡ a ++ b) × IsTyped p (record {
+      text = a;
+      from = s.from;
+    }) × AreTyped ps (record { text = b; from = s.from + length a })

@@ -1,5 +1,31 @@
 -- Which lines are commands, and the first fault of those that are none.
-use Rattle.std.specs.Prelude.{◌≡◌, ◌≤◌, ◌+◌, ◌-◌, ◌==◌, ◌&&◌, ℕ, Bool, not, ◌⊎◌, ◌↔◌, List, [], ◌∷◌, ◌++◌, Option, Some, None, true, if◌then◌else◌, length, nat_lt, nat_le, drop, codes}
+use Rattle.std.specs.Prelude.{
+  ◌≡◌,
+  ◌≤◌,
+  ◌+◌,
+  ◌-◌,
+  ◌==◌,
+  ◌&&◌,
+  ℕ,
+  Bool,
+  not,
+  ◌⊎◌,
+  ◌↔◌,
+  List,
+  [],
+  ◌∷◌,
+  ◌++◌,
+  Option,
+  Some,
+  None,
+  true,
+  if◌then◌else◌,
+  length,
+  nat_lt,
+  nat_le,
+  drop,
+  codes,
+}
 use Rattle.std.specs.Fmt.{decimal}
 use Rattle.std.specs.Option.{option_map}
 use Rattle.std.specs.List.{list_all, position, prefix_len, suffix_len, slice_range, flat_map, AllByRecursion}
@@ -10,8 +36,27 @@ use Rattle.opc_reader.specs.declared.verb.Verb.{Verb}
 use Rattle.opc_reader.specs.declared.verb.Verb.TheVariants as verb
 use Rattle.opc_reader_commands.specs.declared.command.Command.{Command}
 use Rattle.opc_reader.specs.declared.line.ReadFault.{ReadFault}
-use Rattle.opc_reader.specs.declared.line.ReadFault.TheVariants.{Empty, TooLong, BadCharacter, UnknownVerb, OpenQuote, BadOperand}
-use Rattle.opc_reader.specs.Forms.{Part, Word, Name, Number, Authority, QuotedText, AnyText, verb_of, parts, IsMeant, AreTyped}
+use Rattle.opc_reader.specs.declared.line.ReadFault.TheVariants.{
+  Empty,
+  TooLong,
+  BadCharacter,
+  UnknownVerb,
+  OpenQuote,
+  BadOperand,
+}
+use Rattle.opc_reader.specs.Forms.{
+  Part,
+  Word,
+  Name,
+  Number,
+  Authority,
+  QuotedText,
+  AnyText,
+  verb_of,
+  parts,
+  IsMeant,
+  AreTyped,
+}
 use Rattle.opc_reader_commands.specs.Quotes.{is_open}
 use Rattle.opc_reader_commands.specs.Stretches.{Stretch, folded, prefix, after}
 use Rattle.opc_reader.specs.Verbs.{verbs}
@@ -105,7 +150,8 @@ early_fault line =
 abbrev pub IsReadFault : List ℕ → ReadFault → Type 0
 IsReadFault line fault =
     (early_fault line ≡ Some fault) ⊎
-    ((early_fault line ≡ None) × ((c : Command) → Reads line c → ⊥) × (fault ≡ BadOperand (span (operands_place (trimmed line)))))
+    ((early_fault line ≡ None) × ((c : Command) → Reads line c → ⊥)
+    × (fault ≡ BadOperand (span (operands_place (trimmed line)))))
 
 -- the words for a fault
 abbrev pub span_words : Span → List ℕ
@@ -122,8 +168,10 @@ fault_words (OpenQuote at) = codes "open quote at " ++ decimal at
 -- each line is one command, or has one fault, and not both
 abbrev pub ReadsInOneWay : List ℕ → Type 0
 ReadsInOneWay line =
-    ((c : Command) × Reads line c × ((d : Command) → Reads line d → d ≡ c) × ((fault : ReadFault) → IsReadFault line fault → ⊥)) ⊎
-    ((fault : ReadFault) × IsReadFault line fault × ((other : ReadFault) → IsReadFault line other → other ≡ fault) × ((c : Command) → Reads line c → ⊥))
+    ((c : Command) × Reads line c × ((d : Command) → Reads line d → d ≡ c)
+    × ((fault : ReadFault) → IsReadFault line fault → ⊥)) ⊎
+    ((fault : ReadFault) × IsReadFault line fault × ((other : ReadFault) → IsReadFault line other → other ≡ fault)
+    × ((c : Command) → Reads line c → ⊥))
 
 -- where a part was typed, if it is an operand
 abbrev pub typed_of : Part → List Stretch

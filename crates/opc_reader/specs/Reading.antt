@@ -13,7 +13,37 @@ use Rattle.opc_reader.specs.declared.verb.Verb.TheVariants as verb
 use Rattle.opc_reader_commands.specs.declared.command.Operand.{Operand}
 use Rattle.opc_reader_commands.specs.declared.command.Text.{Text}
 use Rattle.opc_reader_commands.specs.declared.command.Command.{Command}
-use Rattle.opc_reader_commands.specs.declared.command.Command.TheVariants.{DisplayUnits, DisplayUnit, DisplayDevices, DisplayConsoles, DisplayReplies, Cancel, CancelUser, Force, Start, StartAs, Stop, Modify, Reply, VaryDeviceOnline, VaryDeviceOffline, VaryConsoleOnline, VaryConsoleOffline, VaryConsoleAuth, Mount, Unload, Swap, ResetConsole, Send, Log, Monitor, StopMonitor, Halt, Logon, Logoff}
+use Rattle.opc_reader_commands.specs.declared.command.Command.TheVariants.{
+  DisplayUnits,
+  DisplayUnit,
+  DisplayDevices,
+  DisplayConsoles,
+  DisplayReplies,
+  Cancel,
+  CancelUser,
+  Force,
+  Start,
+  StartAs,
+  Stop,
+  Modify,
+  Reply,
+  VaryDeviceOnline,
+  VaryDeviceOffline,
+  VaryConsoleOnline,
+  VaryConsoleOffline,
+  VaryConsoleAuth,
+  Mount,
+  Unload,
+  Swap,
+  ResetConsole,
+  Send,
+  Log,
+  Monitor,
+  StopMonitor,
+  Halt,
+  Logon,
+  Logoff,
+}
 use Rattle.opc_reader.specs.declared.line.ReadFault.{ReadFault}
 use Rattle.opc_reader.specs.declared.line.ReadFault.TheVariants.{BadOperand}
 use Rattle.opc_reader.specs.Authorities.{authorities}
@@ -39,7 +69,13 @@ fixed w x s = if bytes_eq (folded s.text) w then Some x else None
 -- A name is the run of name characters, and what stands after it begins with no other.
 abbrev pub name_operand : NameRule → ℕ → Stretch → Option (Operand (List ℕ) × Stretch)
 name_operand rule n s =
-    if is_none (name_fault rule (folded (take n s.text))) then Some (record { value = folded (take n s.text); typed = prefix n s }, after n s) else None
+    if is_none (name_fault rule (folded (take n s.text))) then Some (
+      record {
+        value = folded (take n s.text);
+        typed = prefix n s;
+      },
+      after n s,
+    ) else None
 
 unfoldable pub name : NameRule → Stretch → Option (Operand (List ℕ) × Stretch)
 name rule s = name_operand rule (prefix_len in_name s.text) s
@@ -70,7 +106,8 @@ unfoldable pub quoted_prefix : Stretch → Option (Text × Stretch)
 quoted_prefix s = option_map (λ n. (record { typed = prefix n s }, after n s)) (quoted_len s.text)
 
 unfoldable pub any_text : Stretch → Option Text
-any_text s = if opens_quote s.text then quoted_text s else (if length s.text == 0 then None else Some (record { typed = s }))
+any_text s = if opens_quote s.text then quoted_text s else
+    (if length s.text == 0 then None else Some (record { typed = s }))
 
 unfoldable pub display : Stretch → Option Command
 display s =
@@ -240,4 +277,5 @@ outcome_of None None s = outcome None s
 outcome_of None (Some v) s = outcome (command v s) s
 
 abbrev pub reading : List ℕ → Result Command ReadFault
-reading line = outcome_of (early_fault line) (lookup verbs (folded (verb_place (trimmed line)).text)) (operands_place (trimmed line))
+reading line = outcome_of (early_fault line) (lookup verbs (folded (verb_place (trimmed line)).text))
+    (operands_place (trimmed line))

@@ -1,7 +1,27 @@
 -- The verbs, in full and by their one abbreviation. FORCE, LOGON and LOGOFF have none.
 use Rattle.std.specs.Prelude.{ℕ, List, [], ◌∷◌, codes}
 use Rattle.opc_reader.specs.declared.verb.Verb.{Verb}
-use Rattle.opc_reader.specs.declared.verb.Verb.TheVariants.{Display, Cancel, Force, Start, Stop, Modify, Reply, Vary, Mount, Unload, Swap, Reset, Send, Log, Monitor, StopMonitor, Halt, Logon, Logoff}
+use Rattle.opc_reader.specs.declared.verb.Verb.TheVariants.{
+  Display,
+  Cancel,
+  Force,
+  Start,
+  Stop,
+  Modify,
+  Reply,
+  Vary,
+  Mount,
+  Unload,
+  Swap,
+  Reset,
+  Send,
+  Log,
+  Monitor,
+  StopMonitor,
+  Halt,
+  Logon,
+  Logoff,
+}
 
 abbrev pub verbs : List (List ℕ × Verb)
 verbs =

@@ -1,6 +1,27 @@
 //! The operands of each verb.
 ghost use Rattle.std.specs.Prelude.{◌≡◌};
-ghost use Rattle.opc_reader.specs.Reading.{fixed, only, display, cancel, force, start, stop, modify, reply, vary_device, vary_console, vary, mount, unload, swap, reset, send, log, logon, command};
+ghost use Rattle.opc_reader.specs.Reading.{
+  fixed,
+  only,
+  display,
+  cancel,
+  force,
+  start,
+  stop,
+  modify,
+  reply,
+  vary_device,
+  vary_console,
+  vary,
+  mount,
+  unload,
+  swap,
+  reset,
+  send,
+  log,
+  logon,
+  command,
+};
 
 use crate::operand::{
     any_text, authority, last_name, name, number_prefix, quoted_prefix, quoted_text,

@@ -1,11 +1,36 @@
 //! Command lines.
-ghost use Rattle.std.specs.Prelude.{◌≡◌, ◌≤◌, ◌<◌, ◌==◌, ◌↔◌, false, nat_lt, not, length, option_map, Some, IfSome, IfNone, IfOk};
+ghost use Rattle.std.specs.Prelude.{
+  ◌≡◌,
+  ◌≤◌,
+  ◌<◌,
+  ◌==◌,
+  ◌↔◌,
+  false,
+  nat_lt,
+  not,
+  length,
+  option_map,
+  Some,
+  IfSome,
+  IfNone,
+  IfOk,
+};
 ghost use Rattle.std.specs.List.{list_all, position, prefix_len, suffix_len};
 ghost use Rattle.std.specs.Str.{chars, IsAscii};
 ghost use Rattle.opc_reader_commands.specs.declared.command.Command.{Command as TheCommand};
 ghost use Rattle.opc_reader.specs.declared.line.ReadFault.{ReadFault as TheFault};
 ghost use Rattle.opc_reader.specs.declared.line.ReadFault.TheVariants.{OpenQuote};
-ghost use Rattle.opc_reader.specs.Lines.{Reads, IsReadFault, OperandsAreSlices, is_space, is_typeable, trimmed, skip_spaces, open_at, open_place};
+ghost use Rattle.opc_reader.specs.Lines.{
+  Reads,
+  IsReadFault,
+  OperandsAreSlices,
+  is_space,
+  is_typeable,
+  trimmed,
+  skip_spaces,
+  open_at,
+  open_place,
+};
 ghost use Rattle.opc_reader.specs.Reading.{outcome_of, reading};
 
 use crate::form::command;

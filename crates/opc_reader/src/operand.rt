@@ -5,7 +5,15 @@ ghost use Rattle.std.specs.Char.{is_ascii_digit};
 ghost use Rattle.opc_names.specs.Spellings.{lookup};
 ghost use Rattle.opc_reader.specs.Authorities.{authorities};
 ghost use Rattle.opc_reader.specs.Operands.{in_name, number};
-ghost use Rattle.opc_reader.specs.Reading.{name, last_name, number_prefix, authority, quoted_text, quoted_prefix, any_text};
+ghost use Rattle.opc_reader.specs.Reading.{
+  name,
+  last_name,
+  number_prefix,
+  authority,
+  quoted_text,
+  quoted_prefix,
+  any_text,
+};
 
 use opc_names::auth::Auth;
 use opc_names::name::{Name, NameKind};

@@ -1,5 +1,32 @@
 -- A quoted text is read in one way.
-use Rattle.std.proofs.Common.{◌≡◌, ℕ, ◌+◌, ◌==◌, ◌&&◌, Bool, true, false, cond, List, [], ◌∷◌, ◌++◌, length, Option, Some, None, refl, sym, ap, ◌∙◌, arith, Result, Ok, Err, IfOk}
+use Rattle.std.proofs.Common.{
+  ◌≡◌,
+  ℕ,
+  ◌+◌,
+  ◌==◌,
+  ◌&&◌,
+  Bool,
+  true,
+  false,
+  cond,
+  List,
+  [],
+  ◌∷◌,
+  ◌++◌,
+  length,
+  Option,
+  Some,
+  None,
+  refl,
+  sym,
+  ap,
+  ◌∙◌,
+  arith,
+  Result,
+  Ok,
+  Err,
+  IfOk,
+}
 use Rattle.std.specs.Option.{option_map}
 use Rattle.opc_reader_commands.specs.Stretches.{folded}
 use Rattle.std.proofs.lemmas.Option.{none-some}
@@ -20,7 +47,9 @@ doubled_other c text e = rw e refl
 pub quote_read : (text : List ℕ) → closing_len (doubled text ++ 39 ∷ []) ≡ Some (length (doubled text ++ 39 ∷ []))
 quote_read [] = refl
 quote_read (c ∷ text) =
-    elim (c == 39) as (λ b. (c == 39) ≡ b → closing_len (cond b (39 ∷ (39 ∷ doubled text)) (c ∷ doubled text) ++ 39 ∷ []) ≡ Some (length (cond b (39 ∷ (39 ∷ doubled text)) (c ∷ doubled text) ++ 39 ∷ []))) [
+    elim (c == 39) as (λ b. (c == 39) ≡ b
+    → closing_len (cond b (39 ∷ (39 ∷ doubled text)) (c ∷ doubled text) ++ 39 ∷ []) ≡ Some
+    (length (cond b (39 ∷ (39 ∷ doubled text)) (c ∷ doubled text) ++ 39 ∷ []))) [
       | true ↦ (λ e. rw (quote_read text) (ap Some (omega arith)))
       | false ↦ (λ e. quote_other c (doubled text ++ 39 ∷ []) e ∙ rw (quote_read text) (ap Some (omega arith)))
     ] refl
@@ -38,14 +67,19 @@ quote_found (c ∷ []) n h all =
       | false ↦ (λ e k. cc)
     ] refl h
 quote_found (c ∷ (d ∷ cs)) n h all =
-    elim (c == 39) as (λ b. (c == 39) ≡ b → cond b (cond (d == 39) (option_map (λ m. m + 2) (closing_len cs)) (Some 1)) (option_map (λ m. m + 1) (closing_len (d ∷ cs))) ≡ Some n → (text : List ℕ) × (c ∷ (d ∷ cs) ≡ doubled text ++ 39 ∷ [])) [
-      | true ↦ (λ e. elim (d == 39) as (λ v. (d == 39) ≡ v → cond v (option_map (λ m. m + 2) (closing_len cs)) (Some 1) ≡ Some n → (text : List ℕ) × (c ∷ (d ∷ cs) ≡ doubled text ++ 39 ∷ [])) [
-        | true ↦ (λ f k.
-            let m = some_of_map (closing_len cs) 2 n k in
-            let rest = quote_found cs m.0 m.1 (omega (arith, m.2)) in
-            (39 ∷ rest.0, rw (same_code c 39 e, same_code d 39 f) (ap (λ x. 39 ∷ (39 ∷ x)) rest.1)))
-        | false ↦ (λ f k. absurd (let one : 1 ≡ n = cc in omega arith))
-      ] refl)
+    elim (c == 39) as (λ b. (c == 39) ≡ b
+    → cond b (cond (d == 39) (option_map (λ m. m + 2) (closing_len cs)) (Some 1))
+    (option_map (λ m. m + 1) (closing_len (d ∷ cs))) ≡ Some n → (text : List ℕ)
+    × (c ∷ (d ∷ cs) ≡ doubled text ++ 39 ∷ [])) [
+      | true ↦ (λ e. elim (d == 39) as (λ v. (d == 39) ≡ v
+          → cond v (option_map (λ m. m + 2) (closing_len cs)) (Some 1) ≡ Some n → (text : List ℕ)
+          × (c ∷ (d ∷ cs) ≡ doubled text ++ 39 ∷ [])) [
+            | true ↦ (λ f k.
+                let m = some_of_map (closing_len cs) 2 n k in
+                let rest = quote_found cs m.0 m.1 (omega (arith, m.2)) in
+                (39 ∷ rest.0, rw (same_code c 39 e, same_code d 39 f) (ap (λ x. 39 ∷ (39 ∷ x)) rest.1)))
+            | false ↦ (λ f k. absurd (let one : 1 ≡ n = cc in omega arith))
+          ] refl)
       | false ↦ (λ e k.
           let m = some_of_map (closing_len (d ∷ cs)) 1 n k in
           let rest = quote_found (d ∷ cs) m.0 m.1 (omega (arith, m.2)) in
@@ -117,7 +151,8 @@ says t value e = record {
   plain = λ h. e ∙ plain_value t h;
 }
 
-pub said : {S E : Type 0} (bytes_of : S → List ℕ) (r : Result S E) (t b : List ℕ) → b ≡ t → IfOk r (λ v. bytes_of v ≡ text_value b) → IfOk r (λ v. Says t (bytes_of v))
+pub said : {S E : Type 0} (bytes_of : S → List ℕ) (r : Result S E) (t b : List ℕ) → b ≡ t
+    → IfOk r (λ v. bytes_of v ≡ text_value b) → IfOk r (λ v. Says t (bytes_of v))
 said bytes_of (Ok v) t b e h = says t (bytes_of v) (h ∙ ap text_value e)
 said bytes_of (Err x) t b e h = tt
 
@@ -126,7 +161,9 @@ pub quote_prefix : (text rest : List ℕ) → opens_quote rest ≡ false → clo
 quote_prefix [] [] h = refl
 quote_prefix [] (d ∷ rest) h = rw h refl
 quote_prefix (c ∷ text) rest h =
-    elim (c == 39) as (λ b. (c == 39) ≡ b → closing_len (cond b (39 ∷ (39 ∷ doubled text)) (c ∷ doubled text) ++ 39 ∷ rest) ≡ Some (length (cond b (39 ∷ (39 ∷ doubled text)) (c ∷ doubled text)) + 1)) [
+    elim (c == 39) as (λ b. (c == 39) ≡ b
+    → closing_len (cond b (39 ∷ (39 ∷ doubled text)) (c ∷ doubled text) ++ 39 ∷ rest) ≡ Some
+    (length (cond b (39 ∷ (39 ∷ doubled text)) (c ∷ doubled text)) + 1)) [
       | true ↦ (λ e. rw (quote_prefix text rest h) (ap Some (omega arith)))
       | false ↦ (λ e. quote_other c (doubled text ++ 39 ∷ rest) e ∙ rw (quote_prefix text rest h) (ap Some (omega arith)))
     ] refl
@@ -148,16 +185,30 @@ prefix_found (c ∷ []) n h =
       | false ↦ (λ e k. absurd (none-some n k))
     ] refl h
 prefix_found (c ∷ (d ∷ cs)) n h =
-    elim (c == 39) as (λ b. (c == 39) ≡ b → cond b (cond (d == 39) (option_map (λ m. m + 2) (closing_len cs)) (Some 1)) (option_map (λ m. m + 1) (closing_len (d ∷ cs))) ≡ Some n → Prefix (c ∷ (d ∷ cs)) n) [
+    elim (c == 39) as (λ b. (c == 39) ≡ b
+    → cond b (cond (d == 39) (option_map (λ m. m + 2) (closing_len cs)) (Some 1))
+    (option_map (λ m. m + 1) (closing_len (d ∷ cs))) ≡ Some n → Prefix (c ∷ (d ∷ cs)) n) [
       | true ↦ (λ e. elim (d == 39) as (λ v. (d == 39) ≡ v → cond v (option_map (λ m. m + 2) (closing_len cs)) (Some 1) ≡ Some n → Prefix (c ∷ (d ∷ cs)) n) [
         | true ↦ (λ f k.
             let m = some_of_map (closing_len cs) 2 n k in
             let found = prefix_found cs m.0 m.1 in
-            record { text = 39 ∷ found.text; rest = found.rest; whole = ap (λ x. x ∷ (d ∷ cs)) (same_code c 39 e) ∙ ap (λ x. 39 ∷ (x ∷ cs)) (same_code d 39 f) ∙ ap (λ x. 39 ∷ (39 ∷ x)) found.whole; count = omega (arith, m.2, found.count); ends = found.ends })
+            record {
+              text = 39 ∷ found.text;
+              rest = found.rest;
+              whole = ap (λ x. x ∷ (d ∷ cs)) (same_code c 39 e) ∙ ap (λ x. 39 ∷ (x ∷ cs)) (same_code d 39 f) ∙ ap (λ x. 39 ∷ (39 ∷ x)) found.whole;
+              count = omega (arith, m.2, found.count);
+              ends = found.ends;
+            })
         | false ↦ (λ f k. record { text = []; rest = d ∷ cs; whole = ap (λ x. x ∷ (d ∷ cs)) (same_code c 39 e); count = cc; ends = f })
       ] refl)
       | false ↦ (λ e k.
           let m = some_of_map (closing_len (d ∷ cs)) 1 n k in
           let found = prefix_found (d ∷ cs) m.0 m.1 in
-          record { text = c ∷ found.text; rest = found.rest; whole = ap (λ x. c ∷ x) found.whole ∙ ap (λ x. x ++ 39 ∷ found.rest) (sym (doubled_other c found.text e)); count = omega (arith, m.2, found.count, ap length (doubled_other c found.text e)); ends = found.ends })
+          record {
+            text = c ∷ found.text;
+            rest = found.rest;
+            whole = ap (λ x. c ∷ x) found.whole ∙ ap (λ x. x ++ 39 ∷ found.rest) (sym (doubled_other c found.text e));
+            count = omega (arith, m.2, found.count, ap length (doubled_other c found.text e));
+            ends = found.ends;
+          })
     ] refl h

@@ -1,5 +1,22 @@
 -- Quoted text.
-use Rattle.std.specs.Prelude.{ℕ, ◌+◌, ◌≡◌, ◌==◌, ◌&&◌, Bool, false, List, [], ◌∷◌, ◌++◌, Option, Some, None, if◌then◌else◌, length}
+use Rattle.std.specs.Prelude.{
+  ℕ,
+  ◌+◌,
+  ◌≡◌,
+  ◌==◌,
+  ◌&&◌,
+  Bool,
+  false,
+  List,
+  [],
+  ◌∷◌,
+  ◌++◌,
+  Option,
+  Some,
+  None,
+  if◌then◌else◌,
+  length,
+}
 use Rattle.std.specs.Option.{option_map, is_none}
 use Rattle.opc_reader_commands.specs.Stretches.{folded}
 

@@ -2,7 +2,16 @@
 ghost use Rattle.std.specs.Prelude.{◌≡◌, ◌≤◌, ◌++◌, length, IfSome, IfOk, OnOk, string_bytes};
 ghost use Rattle.std.specs.Str.{IsAscii};
 ghost use Rattle.opc_reader_commands.specs.Stretches.{folded};
-ghost use Rattle.opc_reader_commands.specs.Quotes.{closing_len, quoted_len, is_quoted, is_open, opens_quote, unquoted, text_value, Says};
+ghost use Rattle.opc_reader_commands.specs.Quotes.{
+  closing_len,
+  quoted_len,
+  is_quoted,
+  is_open,
+  opens_quote,
+  unquoted,
+  text_value,
+  Says,
+};
 
 use crate::command::Text;
 use std::alloc::{AllocError, Global};

@@ -10,10 +10,12 @@ IsChangedUpTo becomes (suc n) (x ∷ xs) [] = ⊥
 IsChangedUpTo becomes (suc n) (x ∷ xs) (y ∷ ys) = becomes x y × IsChangedUpTo becomes n xs ys
 
 module _ {A : Type 0} (becomes : A → A → Type 0) where
-  pub one_further : (n : ℕ) (xs ys : List A) (d z : A) → n < length xs → IsChangedUpTo becomes n xs ys → becomes (get_or ys n d) z → IsChangedUpTo becomes (suc n) xs (set ys n z)
+  pub one_further : (n : ℕ) (xs ys : List A) (d z : A) → n < length xs → IsChangedUpTo becomes n xs ys
+      → becomes (get_or ys n d) z → IsChangedUpTo becomes (suc n) xs (set ys n z)
   one_further n [] ys d z within changed made = absurd (omega arith)
   one_further zero (x ∷ xs) ys d z within changed made =
-      subst (λ (l : List A). IsChangedUpTo becomes 1 (x ∷ xs) (set l zero z)) (sym changed) (subst (λ (l : List A). becomes (get_or l zero d) z) changed made, refl)
+      subst (λ (l : List A). IsChangedUpTo becomes 1 (x ∷ xs) (set l zero z)) (sym changed)
+      (subst (λ (l : List A). becomes (get_or l zero d) z) changed made, refl)
   one_further (suc n) (x ∷ xs) [] d z within changed made = absurd changed
   one_further (suc n) (x ∷ xs) (y ∷ ys) d z within changed made = (changed.0, one_further n xs ys d z (omega arith) changed.1 made)
 

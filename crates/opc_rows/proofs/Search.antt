@@ -1,5 +1,38 @@
 -- What a search finds among rows in the order of their keys.
-use Rattle.std.proofs.Common.{zero, suc, ◌≡◌, ℕ, ◌+◌, ◌<◌, ◌≤◌, Bool, true, false, not, cond, ltb, List, [], ◌∷◌, Some, None, get_or, length, refl, ap, arith, sym, subst, ◌∙◌, Result, Ok, Err, MatchResult, filter, Ordering}
+use Rattle.std.proofs.Common.{
+  zero,
+  suc,
+  ◌≡◌,
+  ℕ,
+  ◌+◌,
+  ◌<◌,
+  ◌≤◌,
+  Bool,
+  true,
+  false,
+  not,
+  cond,
+  ltb,
+  List,
+  [],
+  ◌∷◌,
+  Some,
+  None,
+  get_or,
+  length,
+  refl,
+  ap,
+  arith,
+  sym,
+  subst,
+  ◌∙◌,
+  Result,
+  Ok,
+  Err,
+  MatchResult,
+  filter,
+  Ordering,
+}
 use Rattle.std.specs.declared.cmp.Ordering.TheVariants.{Less, Equal, Greater}
 use Rattle.std.specs.Cmp.{IsTotalOrder}
 use Rattle.std.specs.Ordering.{is_lt, is_eq, ordering_index, ordering_reverse}
@@ -18,7 +51,8 @@ all_at P (x ∷ xs) zero d all within = all.0
 all_at P (x ∷ xs) (suc k) d all within = all_at P xs k d all.1 (omega arith)
 
 -- an element stands in order to each later one
-later : {A : Type 0} (before : A → A → Bool) (xs : List A) (i j : ℕ) (d : A) → Ascends before xs → i < j → j < length xs → before (get_or xs i d) (get_or xs j d) ≡ true
+later : {A : Type 0} (before : A → A → Bool) (xs : List A) (i j : ℕ) (d : A) → Ascends before xs → i < j → j < length xs
+    → before (get_or xs i d) (get_or xs j d) ≡ true
 later before [] i j d order lt within = absurd (omega arith)
 later before (x ∷ xs) i zero d order lt within = absurd (omega arith)
 later before (x ∷ xs) zero (suc j) d order lt within = all_at (λ y. before x y ≡ true) xs j d order.0 (omega arith)
@@ -34,10 +68,12 @@ nowhere p (x ∷ xs) fails =
 -- no row is dropped or changed where none is found
 pub filter_nowhere : {A : Type 0} (p : A → Bool) (xs : List A) → find p xs ≡ None → xs ≡ filter (λ x. not (p x)) xs
 filter_nowhere p [] = λ none. refl
-filter_nowhere p (x ∷ xs) = elim (p x) as (λ b. cond b (Some x) (find p xs) ≡ None → x ∷ xs ≡ cond (not b) (x ∷ filter (λ x. not (p x)) xs) (filter (λ x. not (p x)) xs)) [
-  | true ↦ λ none. absurd (cc)
-  | false ↦ λ none. ap (λ ws. x ∷ ws) (filter_nowhere p xs none)
-]
+filter_nowhere p (x ∷ xs) = elim (p x) as
+    (λ b. cond b (Some x) (find p xs) ≡ None → x
+    ∷ xs ≡ cond (not b) (x ∷ filter (λ x. not (p x)) xs) (filter (λ x. not (p x)) xs)) [
+      | true ↦ λ none. absurd (cc)
+      | false ↦ λ none. ap (λ ws. x ∷ ws) (filter_nowhere p xs none)
+    ]
 
 pub changed_nowhere : {A : Type 0} (p : A → Bool) (f : A → A) (xs : List A) → find p xs ≡ None → xs ≡ changed p f xs
 changed_nowhere p f [] = λ none. refl
@@ -47,9 +83,12 @@ changed_nowhere p f (x ∷ xs) = elim (p x) as (λ b. cond b (Some x) (find p xs
 ]
 
 -- an element put after all that it isn't before
-pub insert_after : {A : Type 0} (before : A → A → Bool) (x : A) (xs : List A) (at : ℕ) → at ≤ length xs → IsPartitionPoint (λ y. before x y ≡ false) (λ y. before x y ≡ true) xs at → insert xs at x ≡ put before x xs
+pub insert_after : {A : Type 0} (before : A → A → Bool) (x : A) (xs : List A) (at : ℕ) → at ≤ length xs
+    → IsPartitionPoint (λ y. before x y ≡ false) (λ y. before x y ≡ true) xs at → insert xs at x ≡ put before x xs
 insert_after before x xs at within split =
-    let first : position_or_len (before x) xs ≡ at = position_or_len_is (before x) xs at x within (λ k lt. split.0 k x (omega arith) lt) (λ lt. split.1 at x (omega arith) lt) in
+    let first : position_or_len (before x) xs ≡ at =
+    position_or_len_is (before x) xs at x within (λ k lt. split.0 k x (omega arith) lt)
+    (λ lt. split.1 at x (omega arith) lt) in
     subst (λ (n : ℕ). insert xs n x ≡ put before x xs) first (insert_first before x xs)
 
 less_is : (o : Ordering) → is_lt o ≡ true → o ≡ Less
@@ -57,7 +96,8 @@ less_is Less e = refl
 less_is Equal e = absurd (cc)
 less_is Greater e = absurd (cc)
 
-module _ {K R : Type 0} (cmp : K → K → Ordering) (total : IsTotalOrder cmp) (eq : K → K → Bool) (ties : (x y : K) → eq x y ≡ is_eq (cmp x y)) (key_of : R → K) where
+module _ {K R : Type 0} (cmp : K → K → Ordering) (total : IsTotalOrder cmp) (eq : K → K → Bool)
+    (ties : (x y : K) → eq x y ≡ is_eq (cmp x y)) (key_of : R → K) where
   mirrored : (x y : K) → cmp x y ≡ Less → cmp y x ≡ Greater
   mirrored x y e = total.antisymm y x ∙ ap ordering_reverse e
 
@@ -82,11 +122,13 @@ module _ {K R : Type 0} (cmp : K → K → Ordering) (total : IsTotalOrder cmp) 
     where
       sorted : IsSortedBy (λ a b. is_lt (cmp (key_of a) (key_of b))) xs
       sorted k d low lt =
-          let here : comes_before cmp key_of (get_or xs k d) (get_or xs (k + 1) d) ≡ true = later (comes_before cmp key_of) xs k (k + 1) d order (omega arith) lt in
+          let here : comes_before cmp key_of (get_or xs k d) (get_or xs (k + 1) d) ≡ true =
+          later (comes_before cmp key_of) xs k (k + 1) d order (omega arith) lt in
           ap is_lt (mirrored _ _ (less_is _ here))
 
   -- the row that a binary search ends at is the first of its key, and where it ends at none there is none
-  pub searched : (xs : List R) (key : K) (r : Result ℕ ℕ) → IsInKeyOrder cmp key_of xs → IsSearchInRange r (length xs) → IsBinarySearchResult (λ row. cmp (key_of row) key) xs r
+  pub searched : (xs : List R) (key : K) (r : Result ℕ ℕ) → IsInKeyOrder cmp key_of xs → IsSearchInRange r (length xs)
+      → IsBinarySearchResult (λ row. cmp (key_of row) key) xs r
       → MatchResult r (λ at. position (λ row. eq (key_of row) key) xs ≡ Some at) (λ _. find (λ row. eq (key_of row) key) xs ≡ None)
   searched [] key (Ok at) order within equal = absurd (omega arith)
   searched (x ∷ xs) key (Ok at) order within equal =
@@ -96,7 +138,9 @@ module _ {K R : Type 0} (cmp : K → K → Ordering) (total : IsTotalOrder cmp) 
       let below : cmp (key_of (get_or (x ∷ xs) k x)) (key_of row) ≡ Less = less_is _ (later (comes_before cmp key_of) (x ∷ xs) k at x order lt within) in
       let above : cmp key (key_of (get_or (x ∷ xs) k x)) ≡ Greater = sym (total.congr _ _ _ here) ∙ mirrored _ _ below in
       ties _ key ∙ ap is_eq (total.antisymm _ key ∙ ap ordering_reverse above) in
-      let first : position_or_len (λ row. eq (key_of row) key) (x ∷ xs) ≡ at = position_or_len_is (λ row. eq (key_of row) key) (x ∷ xs) at x (omega arith) none_before (λ lt. ties _ key ∙ ap is_eq here) in
+      let first : position_or_len (λ row. eq (key_of row) key) (x ∷ xs) ≡ at =
+      position_or_len_is (λ row. eq (key_of row) key) (x ∷ xs) at x (omega arith) none_before
+      (λ lt. ties _ key ∙ ap is_eq here) in
       placed _ _ _ first within
     where
       placed : (n i len : ℕ) → n ≡ i → i < len → cond (ltb n len) (Some n) None ≡ Some i
@@ -115,7 +159,8 @@ module _ {K R : Type 0} (cmp : K → K → Ordering) (total : IsTotalOrder cmp) 
         | false ↦ λ here. refl
         | true ↦ λ here. elim (ltb i j) as (λ b. ltb i j ≡ b → false ≡ true) [
           | true ↦ λ lt.
-              let after : cmp (key_of (get_or xs i d)) (key_of (get_or xs j d)) ≡ Less = less_is _ (later (comes_before cmp key_of) xs i j d order (grind (arith, nat_tests, lt)) within) in
+              let after : cmp (key_of (get_or xs i d)) (key_of (get_or xs j d)) ≡ Less =
+              less_is _ (later (comes_before cmp key_of) xs i j d order (grind (arith, nat_tests, lt)) within) in
               let there : is_lt (cmp key (key_of (get_or xs j d))) ≡ true = ap is_lt (total.trans key _ _ (less_is _ here) after) in
               rw there at passes
           | false ↦ λ same. let at : i ≡ j = grind (arith, nat_tests, same) in
@@ -125,7 +170,9 @@ module _ {K R : Type 0} (cmp : K → K → Ordering) (total : IsTotalOrder cmp) 
       ] refl
 
   -- where the rows begin that a key is less than
-  pub cut_by_key : (xs : List R) (key : K) (at : ℕ) → IsPartitionPoint (λ row. not (is_lt (cmp key (key_of row))) ≡ true) (λ row. not (is_lt (cmp key (key_of row))) ≡ false) xs at
+  pub cut_by_key : (xs : List R) (key : K) (at : ℕ)
+      → IsPartitionPoint (λ row. not (is_lt (cmp key (key_of row))) ≡ true)
+      (λ row. not (is_lt (cmp key (key_of row))) ≡ false) xs at
       → IsPartitionPoint (λ row. is_lt (cmp key (key_of row)) ≡ false) (λ row. is_lt (cmp key (key_of row)) ≡ true) xs at
   cut_by_key xs key at split = (λ k d low lt. fails _ (split.0 k d low lt), λ k d le lt. passes _ (split.1 k d le lt))
     where

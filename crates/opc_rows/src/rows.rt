@@ -1,5 +1,25 @@
 //! A list of rows under keys.
-ghost use Rattle.std.specs.Prelude.{◌≡◌, ◌≤◌, ◌++◌, ◌∷◌, [], Some, None, filter, find, length, map, not, position, false, true, IfOk, OnErr, OnOk, MatchResult};
+ghost use Rattle.std.specs.Prelude.{
+  ◌≡◌,
+  ◌≤◌,
+  ◌++◌,
+  ◌∷◌,
+  [],
+  Some,
+  None,
+  filter,
+  find,
+  length,
+  map,
+  not,
+  position,
+  false,
+  true,
+  IfOk,
+  OnErr,
+  OnOk,
+  MatchResult,
+};
 ghost use Rattle.std.specs.List.{IsAllAdjacentAnswer};
 ghost use Rattle.std.specs.List.Sorted.{IsPartitionPoint};
 ghost use Rattle.std.specs.Fn.{FnReturns};
@@ -78,7 +98,8 @@ impl<R: Copy + Drop> Rows<R> {
 impl<R: Keyed + Drop> Rows<R> {
     /// Whether each row's key is below the next one's.
     pub fn is_ascending(&self) -> bool
-        ensures { IsAllAdjacentAnswer (λ row other below. below ≡ comes_before R.Key.cmp R.key_of row other) self.now result }
+        ensures { IsAllAdjacentAnswer (λ row other below. below ≡ comes_before R.Key.cmp R.key_of row other) self.now
+            result }
     {
         self.items
             .is_sorted_by(|row, other| row.key() < other.key())
@@ -142,7 +163,8 @@ impl<R: Keyed + Drop> Rows<R> {
         F: Drop,
         requires { F.IsAlwaysCallable change }
         ensures each { IsChangedAtEach (λ old new. FnReturns F.Fn change (old, tt) new) self.old self.new }
-        ensures computed { (after : R → R) → ((old new : R) → FnReturns F.Fn change (old, tt) new → new ≡ after old) → self.new ≡ map after self.old }
+        ensures computed { (after : R → R) → ((old new : R) → FnReturns F.Fn change (old, tt) new → new ≡ after old)
+            → self.new ≡ map after self.old }
     {
         for row in self.items.iter_mut() {
             *row = change(*row);

@@ -1,5 +1,29 @@
 -- What stands at a key of a list, after rows are put, removed and left out.
-use Rattle.std.proofs.Common.{◌≡◌, Bool, true, false, cond, not, List, [], ◌∷◌, filter, Option, Some, None, is_some, Ordering, Less, Equal, Greater, refl, sym, ap, ap₂, ◌∙◌}
+use Rattle.std.proofs.Common.{
+  ◌≡◌,
+  Bool,
+  true,
+  false,
+  cond,
+  not,
+  List,
+  [],
+  ◌∷◌,
+  filter,
+  Option,
+  Some,
+  None,
+  is_some,
+  Ordering,
+  Less,
+  Equal,
+  Greater,
+  refl,
+  sym,
+  ap,
+  ap₂,
+  ◌∙◌,
+}
 use Rattle.std.specs.BTreeSet.{replace_key}
 use Rattle.std.specs.Cmp.{IsTotalOrder, tied_back}
 use Rattle.std.specs.List.{AllByRecursion, find}
@@ -82,7 +106,8 @@ module _ {R : Type 0} (cmp : R → R → Ordering) (total : IsTotalOrder cmp) (i
               alike_left : (x y z : R) → cmp x y ≡ Equal → is_at y z ≡ is_at x z
               alike_left x y z t = ties y z ∙ ap is_eq (sym (total.congr x y z t)) ∙ sym (ties x z)
 
-      after : (a b : Bool) → is_at q k ≡ a → is_at r k ≡ b → cmp r q ≡ Greater → cond a (Some q) (cond b (Some r) (at k rows)) ≡ cond b (Some r) (cond a (Some q) (at k rows))
+      after : (a b : Bool) → is_at q k ≡ a → is_at r k ≡ b → cmp r q ≡ Greater
+          → cond a (Some q) (cond b (Some r) (at k rows)) ≡ cond b (Some r) (cond a (Some q) (at k rows))
       after false b f e more = refl
       after true false f e more = refl
       after true true f e more = let same : cmp r q ≡ Equal = met r q k e f in absurd (cc)
@@ -115,7 +140,8 @@ module _ {R : Type 0} (cmp : R → R → Ordering) (total : IsTotalOrder cmp) (i
   -- the rows that pass a test, in order
   pub all_of : (P : R → Type 0) (p : R → Bool) (rows : List R) → AllByRecursion P rows → AllByRecursion P (filter p rows)
   all_of P p [] h = tt
-  all_of P p (r ∷ rows) h = elim (p r) as (λ b. AllByRecursion P (cond b (r ∷ filter p rows) (filter p rows))) [ true ↦ (h.0, all_of P p rows h.1) | false ↦ all_of P p rows h.1 ]
+  all_of P p (r ∷ rows) h = elim (p r) as (λ b. AllByRecursion P (cond b (r ∷ filter p rows) (filter p rows)))
+      [ true ↦ (h.0, all_of P p rows h.1) | false ↦ all_of P p rows h.1 ]
 
   pub in_order_of : (p : R → Bool) (rows : List R) → Ascends before rows → Ascends before (filter p rows)
   in_order_of p [] order = tt
@@ -164,7 +190,8 @@ module _ {R : Type 0} (cmp : R → R → Ordering) (total : IsTotalOrder cmp) (i
   all_put P r [] p h = (p, tt)
   all_put P r (q ∷ rows) p h = go (cmp r q) (all_put P r rows p h.1)
     where
-      go : (o : Ordering) → AllByRecursion P (replace_key cmp rows r) → AllByRecursion P (match_ordering o (r ∷ q ∷ rows) (r ∷ rows) (q ∷ replace_key cmp rows r))
+      go : (o : Ordering) → AllByRecursion P (replace_key cmp rows r)
+          → AllByRecursion P (match_ordering o (r ∷ q ∷ rows) (r ∷ rows) (q ∷ replace_key cmp rows r))
       go Less more = (p, h)
       go Equal more = (p, h.1)
       go Greater more = (h.0, more)
@@ -181,7 +208,8 @@ module _ {R : Type 0} (cmp : R → R → Ordering) (total : IsTotalOrder cmp) (i
   put_in_order r [] order = (tt, tt)
   put_in_order r (q ∷ rows) order = go (cmp r q) refl (put_in_order r rows order.1)
     where
-      go : (o : Ordering) → cmp r q ≡ o → Ascends before (replace_key cmp rows r) → Ascends before (match_ordering o (r ∷ q ∷ rows) (r ∷ rows) (q ∷ replace_key cmp rows r))
+      go : (o : Ordering) → cmp r q ≡ o → Ascends before (replace_key cmp rows r)
+          → Ascends before (match_ordering o (r ∷ q ∷ rows) (r ∷ rows) (q ∷ replace_key cmp rows r))
       go Less e more = ((ap is_lt e, raised r q rows e order.0), order)
       go Equal e more = (levelled r q rows e order.0, order.1)
       go Greater e more = (all_put (λ x. before q x ≡ true) r rows (ap is_lt (total.antisymm q r ∙ ap ordering_reverse e)) order.0, more)
@@ -209,7 +237,8 @@ module _ {R : Type 0} (cmp : R → R → Ordering) (total : IsTotalOrder cmp) (i
   first_is r rows = ap (λ b. cond b (Some r) (at r rows)) (here_itself r)
 
   misses : (r q : R) (rows : List R) → cmp r q ≡ Less → AllByRecursion (λ x. before q x ≡ true) rows → at r (q ∷ rows) ≡ None
-  misses r q rows less after = ap (λ b. cond b (Some q) (at r rows)) (apart r q r (ap is_lt less) (here_itself r)) ∙ none_after r r rows (here_itself r) (raised r q rows less after)
+  misses r q rows less after = ap (λ b. cond b (Some q) (at r rows)) (apart r q r (ap is_lt less) (here_itself r))
+      ∙ none_after r r rows (here_itself r) (raised r q rows less after)
 
   -- lists in order with the same row at each key are the same
   pub same_at_each : (xs ys : List R) → Ascends before xs → Ascends before ys → ((k : R) → at k xs ≡ at k ys) → xs ≡ ys
@@ -250,7 +279,8 @@ module _ {R : Type 0} (cmp : R → R → Ordering) (total : IsTotalOrder cmp) (i
   each_found [] order = tt
   each_found (r ∷ rows) order = (first_is r rows, all_after rows order.0 (each_found rows order.1))
     where
-      all_after : (later : List R) → AllByRecursion (λ q. before r q ≡ true) later → AllByRecursion (λ q. at q rows ≡ Some q) later → AllByRecursion (λ q. at q (r ∷ rows) ≡ Some q) later
+      all_after : (later : List R) → AllByRecursion (λ q. before r q ≡ true) later
+          → AllByRecursion (λ q. at q rows ≡ Some q) later → AllByRecursion (λ q. at q (r ∷ rows) ≡ Some q) later
       all_after [] after found = tt
       all_after (q ∷ later) after found = (ap (λ b. cond b (Some r) (at q rows)) (elsewhere r q after.0) ∙ found.0, all_after later after.1 found.1)
         where
@@ -281,12 +311,14 @@ in_new false new comes = absurd (cc)
 
 -- ---- one list becomes another
 
-module _ {R : Type 0} (cmp : R → R → Ordering) (total : IsTotalOrder cmp) (is_at is_same : R → R → Bool) (ties : (q r : R) → is_at q r ≡ is_eq (cmp q r)) (same : (q r : R) → is_same q r ≡ true → q ≡ r) where
+module _ {R : Type 0} (cmp : R → R → Ordering) (total : IsTotalOrder cmp) (is_at is_same : R → R → Bool)
+    (ties : (q r : R) → is_at q r ≡ is_eq (cmp q r)) (same : (q r : R) → is_same q r ≡ true → q ≡ r) where
   abbrev find_at : R → List R → Option R
   find_at k rows = find (λ q. is_at q k) rows
 
   settled : (k : R) (old new : List R) (n o : Option R) → find_at k new ≡ n → find_at k old ≡ o
-      → option_or (passing cmp total is_at ties (λ r. not (as_it_was is_same (find_at r old) r)) n) (cond (is_some (passing cmp total is_at ties (λ r. is_none (find_at r new)) o)) None o) ≡ n
+      → option_or (passing cmp total is_at ties (λ r. not (as_it_was is_same (find_at r old) r)) n)
+      (cond (is_some (passing cmp total is_at ties (λ r. is_none (find_at r new)) o)) None o) ≡ n
   settled k old new None None at_new at_old = refl
   settled k old new None (Some o) at_new at_old =
       let key : is_at o k ≡ true = found_at cmp total is_at ties k o old at_old in
@@ -297,17 +329,21 @@ module _ {R : Type 0} (cmp : R → R → Ordering) (total : IsTotalOrder cmp) (i
   settled k old new (Some n) (Some o) at_new at_old =
       let new_key : is_at n k ≡ true = found_at cmp total is_at ties k n new at_new in
       let old_key : is_at o k ≡ true = found_at cmp total is_at ties k o old at_old in
-      let was : not (as_it_was is_same (find_at n old) n) ≡ not (is_same o n) = ap (λ z. not (as_it_was is_same z n)) (at_alike cmp total is_at ties n k old new_key ∙ at_old) in
+      let was : not (as_it_was is_same (find_at n old) n) ≡ not (is_same o n) =
+      ap (λ z. not (as_it_was is_same z n)) (at_alike cmp total is_at ties n k old new_key ∙ at_old) in
       in_both (not (as_it_was is_same (find_at n old) n)) (is_none (find_at o new)) n o
       (ap is_none (at_alike cmp total is_at ties o k new old_key ∙ at_new)) (λ stale. same o n (not_false _ (sym was ∙ stale)))
 
   pub becomes : (old new : List R) → Ascends (λ q r. is_lt (cmp q r)) old → Ascends (λ q r. is_lt (cmp q r)) new
       → with_all cmp (fresh is_at is_same old new) (without_all is_at (gone is_at old new) old) ≡ new
-  becomes old new was now = same_at_each cmp total is_at ties _ new (with_in_order cmp total is_at ties (fresh is_at is_same old new) _ (without_in_order cmp total is_at ties (gone is_at old new) old was)) now each
+  becomes old new was now = same_at_each cmp total is_at ties _ new
+      (with_in_order cmp total is_at ties (fresh is_at is_same old new) _
+      (without_in_order cmp total is_at ties (gone is_at old new) old was)) now each
     where
       each : (k : R) → find_at k (with_all cmp (fresh is_at is_same old new) (without_all is_at (gone is_at old new) old)) ≡ find_at k new
       each k =
-          let ordered : Ascends (λ q r. is_lt (cmp q r)) (fresh is_at is_same old new) = in_order_of cmp total is_at ties (λ r. not (as_it_was is_same (find_at r old) r)) new now in
+          let ordered : Ascends (λ q r. is_lt (cmp q r)) (fresh is_at is_same old new) =
+          in_order_of cmp total is_at ties (λ r. not (as_it_was is_same (find_at r old) r)) new now in
           at_with cmp total is_at ties (fresh is_at is_same old new) k (without_all is_at (gone is_at old new) old) ordered
           ∙ ap₂ (λ a b. option_or a b)
           (at_passing cmp total is_at ties (λ r. not (as_it_was is_same (find_at r old) r)) k new now)
@@ -317,8 +353,11 @@ module _ {R : Type 0} (cmp : R → R → Ordering) (total : IsTotalOrder cmp) (i
 
   -- a list doesn't differ from itself
   pub none_gone : (rows : List R) → Ascends (λ q r. is_lt (cmp q r)) rows → gone is_at rows rows ≡ []
-  none_gone rows order = none_pass (λ r. find_at r rows ≡ Some r) (λ r. is_none (find_at r rows)) (λ r found. ap is_none found) rows (each_found cmp total is_at ties rows order)
+  none_gone rows order = none_pass (λ r. find_at r rows ≡ Some r) (λ r. is_none (find_at r rows))
+      (λ r found. ap is_none found) rows (each_found cmp total is_at ties rows order)
 
   pub none_fresh : ((r : R) → is_same r r ≡ true) → (rows : List R) → Ascends (λ q r. is_lt (cmp q r)) rows → fresh is_at is_same rows rows ≡ []
   none_fresh itself rows order =
-      none_pass (λ r. find_at r rows ≡ Some r) (λ r. not (as_it_was is_same (find_at r rows) r)) (λ r found. ap (λ z. not (as_it_was is_same z r)) found ∙ ap not (itself r)) rows (each_found cmp total is_at ties rows order)
+      none_pass (λ r. find_at r rows ≡ Some r) (λ r. not (as_it_was is_same (find_at r rows) r))
+      (λ r found. ap (λ z. not (as_it_was is_same z r)) found ∙ ap not (itself r)) rows
+      (each_found cmp total is_at ties rows order)

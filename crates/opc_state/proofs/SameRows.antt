@@ -18,7 +18,19 @@ use Rattle.opc_board.specs.declared.rows.UnitKind.{UnitKind}
 use Rattle.opc_board.specs.declared.rows.UnitKind.TheVariants.{Job, Stc, Tsu}
 use Rattle.opc_board.specs.declared.rows.UnitRow.{UnitRow}
 use Rattle.opc_state.specs.Members.{unit_cmp, device_cmp, console_cmp, reply_cmp}
-use Rattle.opc_state.specs.Difference.{unit_at, device_at, console_at, reply_at, same_flag, same_text, same_kind, same_unit, same_device, same_console, same_reply}
+use Rattle.opc_state.specs.Difference.{
+  unit_at,
+  device_at,
+  console_at,
+  reply_at,
+  same_flag,
+  same_text,
+  same_kind,
+  same_unit,
+  same_device,
+  same_console,
+  same_reply,
+}
 
 pub unit_total : IsTotalOrder unit_cmp
 unit_total = on_total (λ (u : UnitRow). u.name) nat_list_cmp_total
@@ -166,13 +178,18 @@ kind_itself (Stc m) = name_itself m
 kind_itself Tsu = refl
 
 pub unit_itself : (u : UnitRow) → same_unit u u ≡ true
-unit_itself u = both _ _ (name_itself u.name) (both _ _ (kind_itself u.kind) (both _ _ (flag_itself u.cancelable) (both _ _ (flag_itself u.stopping) (text_itself u.last_text))))
+unit_itself u = both _ _ (name_itself u.name)
+    (both _ _ (kind_itself u.kind) (both _ _ (flag_itself u.cancelable)
+    (both _ _ (flag_itself u.stopping) (text_itself u.last_text))))
 
 pub device_itself : (d : DeviceRow) → same_device d d ≡ true
 device_itself d = both _ _ (name_itself d.number) (both _ _ (flag_itself d.online) (both _ _ (text_itself d.volume) (text_itself d.unit)))
 
 pub console_itself : (c : ConsoleRow) → same_console c c ≡ true
-console_itself c = both _ _ (name_itself c.name) (both _ _ (name_itself (auth_text c.auth)) (both _ _ (name_itself (mode_text c.mode)) (both _ _ (flag_itself c.online) (both _ _ (text_itself c.user) (flag_itself c.monitor)))))
+console_itself c = both _ _ (name_itself c.name)
+    (both _ _ (name_itself (auth_text c.auth))
+    (both _ _ (name_itself (mode_text c.mode))
+    (both _ _ (flag_itself c.online) (both _ _ (text_itself c.user) (flag_itself c.monitor)))))
 
 pub reply_itself : (r : ReplyRow) → same_reply r r ≡ true
 reply_itself r = both _ _ (eq-eqb r.id r.id refl) (name_itself r.text)

@@ -20,7 +20,22 @@ use Rattle.opc_state.specs.declared.change.Batch.{Batch}
 use Rattle.opc_state.specs.declared.change.Change.{Change}
 use Rattle.opc_state.specs.declared.change.Edit.{Edit}
 use Rattle.opc_state.specs.declared.change.Edit.TheVariants as edit
-use Rattle.opc_state.specs.Members.{with_unit, with_device, with_console, with_reply, with_batch, without_group, without_user, without_connect, without_profile, without_permission, without_unit, without_device, without_console, without_reply}
+use Rattle.opc_state.specs.Members.{
+  with_unit,
+  with_device,
+  with_console,
+  with_reply,
+  with_batch,
+  without_group,
+  without_user,
+  without_connect,
+  without_profile,
+  without_permission,
+  without_unit,
+  without_device,
+  without_console,
+  without_reply,
+}
 use Rattle.opc_state.specs.State.{State}
 
 -- the state with another part
@@ -82,7 +97,8 @@ edited (edit.RemoveConnect connect) s = with_connects (without_connect connect s
 edited (edit.PutProfile profile) s = with_profiles (with_definition profile s.policy.profiles) s
 edited (edit.RemoveProfile class pattern) s = with_profiles (without_profile class pattern s.policy.profiles) s
 edited (edit.PutEntry class pattern entry) s = with_profiles (with_permission class pattern entry s.policy.profiles) s
-edited (edit.RemoveEntry class pattern id when) s = with_profiles (without_permission class pattern id when s.policy.profiles) s
+edited (edit.RemoveEntry class pattern id when) s =
+    with_profiles (without_permission class pattern id when s.policy.profiles) s
 edited (edit.PutUnit unit) s = with_units (with_unit unit s.board.units) s
 edited (edit.RemoveUnit name) s = with_units (without_unit name s.board.units) s
 edited (edit.PutDevice device) s = with_devices (with_device device s.board.devices) s
@@ -121,7 +137,8 @@ abbrev pub is_nothing : Change → Bool
 is_nothing c = no_edits c.edits.items && is_none c.account
 
 -- Nothing was changed between these two: not the state, nor what a crash may leave.
-pub record IsKept {T : Type 0} (is_sure : T → Type 0) (represents may_leave : T → State → Type 0) (old new : T) : Type 0 where
+pub record IsKept {T : Type 0} (is_sure : T → Type 0) (represents may_leave : T → State → Type 0) (old new : T) : Type
+    0 where
   pub sure : is_sure new → is_sure old
   pub same : is_sure new → (s : State) → represents old s → represents new s
   pub crash : (s : State) → may_leave new s → may_leave old s

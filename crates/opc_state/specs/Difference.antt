@@ -1,5 +1,23 @@
 -- The edits by which one board becomes another.
-use Rattle.std.specs.Prelude.{◌==◌, ◌&&◌, ℕ, Bool, true, false, not, List, [], ◌∷◌, ◌++◌, Option, Some, None, filter, find, map}
+use Rattle.std.specs.Prelude.{
+  ◌==◌,
+  ◌&&◌,
+  ℕ,
+  Bool,
+  true,
+  false,
+  not,
+  List,
+  [],
+  ◌∷◌,
+  ◌++◌,
+  Option,
+  Some,
+  None,
+  filter,
+  find,
+  map,
+}
 use Rattle.std.specs.Option.{is_none}
 use Rattle.std.specs.Str.{bytes_eq}
 use Rattle.opc_names.specs.Spellings.{auth_text}
@@ -28,8 +46,10 @@ abbrev pub fresh : {R : Type 0} → (R → R → Bool) → (R → R → Bool) �
 fresh is_at is_same old new = filter (λ r. not (as_it_was is_same (find (λ q. is_at q r) old) r)) new
 
 -- what is gone is removed, and what is fresh is put
-abbrev pub part_difference : {R : Type 0} → (R → R → Bool) → (R → R → Bool) → (R → Edit) → (R → Edit) → List R → List R → List Edit
-part_difference is_at is_same removal put old new = map removal (gone is_at old new) ++ map put (fresh is_at is_same old new)
+abbrev pub part_difference : {R : Type 0} → (R → R → Bool) → (R → R → Bool) → (R → Edit) → (R → Edit) → List R → List R
+    → List Edit
+part_difference is_at is_same removal put old new =
+    map removal (gone is_at old new) ++ map put (fresh is_at is_same old new)
 
 -- which rows have one key
 abbrev pub unit_at : UnitRow → UnitRow → Bool
@@ -67,14 +87,17 @@ same_kind Tsu (Stc n) = false
 same_kind Tsu Tsu = true
 
 abbrev pub same_unit : UnitRow → UnitRow → Bool
-same_unit u v = bytes_eq u.name v.name && (same_kind u.kind v.kind && (same_flag u.cancelable v.cancelable && (same_flag u.stopping v.stopping && same_text u.last_text v.last_text)))
+same_unit u v = bytes_eq u.name v.name && (same_kind u.kind v.kind
+    && (same_flag u.cancelable v.cancelable && (same_flag u.stopping v.stopping && same_text u.last_text v.last_text)))
 
 abbrev pub same_device : DeviceRow → DeviceRow → Bool
-same_device d e = bytes_eq d.number e.number && (same_flag d.online e.online && (same_text d.volume e.volume && same_text d.unit e.unit))
+same_device d e = bytes_eq d.number e.number
+    && (same_flag d.online e.online && (same_text d.volume e.volume && same_text d.unit e.unit))
 
 abbrev pub same_console : ConsoleRow → ConsoleRow → Bool
 same_console c d =
-    bytes_eq c.name d.name && (bytes_eq (auth_text c.auth) (auth_text d.auth) && (bytes_eq (mode_text c.mode) (mode_text d.mode)
+    bytes_eq c.name d.name && (bytes_eq (auth_text c.auth) (auth_text d.auth)
+    && (bytes_eq (mode_text c.mode) (mode_text d.mode)
     && (same_flag c.online d.online && (same_text c.user d.user && same_flag c.monitor d.monitor))))
 
 abbrev pub same_reply : ReplyRow → ReplyRow → Bool

@@ -49,4 +49,5 @@ pub record IsKeyed (s : State) : Type 0 where
   pub board : IsInOrder s.board
   pub users : Ascends (λ (u v : User). is_lt (user_cmp u v)) s.policy.users
   pub profiles : Ascends (λ (q r : Profile). is_lt (profile_cmp q r)) s.policy.profiles
-  pub entries : AllByRecursion (λ (q : Profile). Ascends (λ (e f : Entry). is_lt (entry_cmp e f)) q.entries) s.policy.profiles
+  pub entries : AllByRecursion (λ (q : Profile). Ascends (λ (e f : Entry). is_lt (entry_cmp e f)) q.entries)
+      s.policy.profiles

@@ -52,7 +52,8 @@ has_entry id p = list_any (λ (e : Entry). bytes_eq e.id id) p.entries
 
 -- whether a connect, an owner or an access list names a user
 abbrev pub is_named : Policy → List ℕ → Bool
-is_named p id = list_any (λ (c : Connect). bytes_eq c.user id) p.connects || list_any (λ (q : Profile). bytes_eq q.owner id || has_entry id q) p.profiles
+is_named p id = list_any (λ (c : Connect). bytes_eq c.user id) p.connects
+    || list_any (λ (q : Profile). bytes_eq q.owner id || has_entry id q) p.profiles
 
 -- the rows of the account with their numbers
 abbrev pub numbered : List AccountRow → List (ℕ × AccountRow)

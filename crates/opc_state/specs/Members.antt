@@ -70,7 +70,8 @@ without_entry id when entries = filter (λ (e : Entry). not (is_for when id e)) 
 -- the profiles without this entry in the access list of one, if it is there
 abbrev pub without_permission : Class → List ℕ → List ℕ → Option (List ℕ) → List Profile → List Profile
 without_permission class pattern id when profiles =
-    option_map_or (λ (p : Profile). with_profile (record p { entries = without_entry id when p.entries }) profiles) (profile_of profiles class pattern) profiles
+    option_map_or (λ (p : Profile). with_profile (record p { entries = without_entry id when p.entries }) profiles)
+    (profile_of profiles class pattern) profiles
 
 abbrev pub without_unit : List ℕ → List UnitRow → List UnitRow
 without_unit name units = filter (λ (u : UnitRow). not (bytes_eq u.name name)) units

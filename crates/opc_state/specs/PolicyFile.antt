@@ -38,8 +38,8 @@ row_of_entry class pattern e = row.Permit class pattern e.id e.level e.when
 abbrev pub permits_of : Profile → List Row
 permits_of p = map (row_of_entry p.class p.pattern) p.entries
 
--- Kind by kind, each in the order in which the policy and the board have it: the classes, the groups, the users, the connects, the
--- consoles, the profiles, and the access list of each profile.
+-- Kind by kind, each in the order in which the policy and the board have it: the classes, the groups, the users, the
+-- connects, the consoles, the profiles, and the access list of each profile.
 abbrev pub rows_of : Policy → List ConsoleRow → List Row
 rows_of p consoles =
     rows_of_classes p.active

@@ -20,8 +20,23 @@ pub record State : Type 0 where
 -- nothing is kept, no class is active, and the day is not halted
 abbrev pub empty : State
 empty = record {
-  policy = record { users = []; groups = []; connects = []; profiles = []; active = record { console = false; opercmds = false } };
-  board = record { units = []; devices = []; consoles = []; replies = []; answered = []; log = []; messages = []; halted = false };
+  policy = record {
+    users = [];
+    groups = [];
+    connects = [];
+    profiles = [];
+    active = record { console = false; opercmds = false };
+  };
+  board = record {
+    units = [];
+    devices = [];
+    consoles = [];
+    replies = [];
+    answered = [];
+    log = [];
+    messages = [];
+    halted = false;
+  };
   account = [];
   batches = [];
 }

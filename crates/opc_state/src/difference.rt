@@ -8,7 +8,14 @@ ghost use Rattle.opc_board.specs.declared.board.BoardRows.{BoardRows};
 ghost use Rattle.opc_state.specs.State.{State};
 ghost use Rattle.opc_state.specs.Footprints.{AreFootprints};
 ghost use Rattle.opc_state.specs.Changes.{all_edited, with_board};
-ghost use Rattle.opc_state.specs.Difference.{as_it_was, board_difference, fresh, gone, halted_difference, part_difference};
+ghost use Rattle.opc_state.specs.Difference.{
+  as_it_was,
+  board_difference,
+  fresh,
+  gone,
+  halted_difference,
+  part_difference,
+};
 
 use crate::change::Edit;
 use crate::member::{Member, Past};
@@ -72,7 +79,8 @@ fn remove_gone<R: Member>(
     new: &Rows<R>,
 ) -> Result<(), AllocError>
     requires { IsInKeyOrder R.Key.cmp R.key_of new.now }
-    ensures { OnOk result (edits.new.items ≡ edits.old.items ++ map R.removal (gone (λ q r. R.Key.eq (R.key_of q) (R.key_of r)) old.now new.now)) }
+    ensures { OnOk result (edits.new.items ≡ edits.old.items
+        ++ map R.removal (gone (λ q r. R.Key.eq (R.key_of q) (R.key_of r)) old.now new.now)) }
 {
     for row in old.as_slice() {
         if lacks(new, row) {
@@ -90,7 +98,8 @@ fn put_fresh<R: Member>(
     new: &Rows<R>,
 ) -> Result<(), AllocError>
     requires { IsInKeyOrder R.Key.cmp R.key_of old.now }
-    ensures { OnOk result (edits.new.items ≡ edits.old.items ++ map R.put (fresh (λ q r. R.Key.eq (R.key_of q) (R.key_of r)) R.is_same old.now new.now)) }
+    ensures { OnOk result (edits.new.items ≡ edits.old.items
+        ++ map R.put (fresh (λ q r. R.Key.eq (R.key_of q) (R.key_of r)) R.is_same old.now new.now)) }
 {
     for row in new.as_slice() {
         if !is_as_it_was(old, row) {
@@ -108,7 +117,8 @@ fn add_part<R: Member>(
 ) -> Result<(), AllocError>
     requires old { IsInKeyOrder R.Key.cmp R.key_of old.now }
     requires new { IsInKeyOrder R.Key.cmp R.key_of new.now }
-    ensures { OnOk result (edits.new.items ≡ edits.old.items ++ part_difference (λ q r. R.Key.eq (R.key_of q) (R.key_of r)) R.is_same R.removal R.put old.now new.now) }
+    ensures { OnOk result (edits.new.items ≡ edits.old.items
+        ++ part_difference (λ q r. R.Key.eq (R.key_of q) (R.key_of r)) R.is_same R.removal R.put old.now new.now) }
 {
     remove_gone(edits, old, new)?;
     put_fresh(alloc, edits, old, new)
@@ -153,8 +163,10 @@ fn parts(alloc: Global, old: &BoardRows, new: &BoardRows) -> Result<Vec<Edit>, A
 /// added to theirs. Members that stay as they are are not among the edits; so there are none where a state stays as it
 /// is.
 pub fn difference(alloc: Global, old: &Board, new: &Board) -> Result<Vec<Edit>, AllocError>
-    ensures becomes { IfOk result (λ edits. (s : State) → (whole : BoardRows) → AreFootprints old.now new.now s whole → all_edited edits.items s ≡ with_board whole s) }
-    ensures idle { IfOk result (λ edits. (s : State) → (whole : BoardRows) → AreFootprints old.now new.now s whole → all_edited edits.items s ≡ s → edits.items ≡ []) }
+    ensures becomes { IfOk result (λ edits. (s : State) → (whole : BoardRows) → AreFootprints old.now new.now s whole
+        → all_edited edits.items s ≡ with_board whole s) }
+    ensures idle { IfOk result (λ edits. (s : State) → (whole : BoardRows) → AreFootprints old.now new.now s whole
+        → all_edited edits.items s ≡ s → edits.items ≡ []) }
 {
     let edits = parts(alloc, old.rows(), new.rows())?;
     Ok(edits)

@@ -1,8 +1,28 @@
 //! The rows of a board as members of the state.
 ghost use Rattle.std.specs.Prelude.{◌≡◌, Bool, IfOk};
 ghost use Rattle.opc_state.specs.declared.change.Edit.{Edit as TheEdit};
-ghost use Rattle.opc_state.specs.declared.change.Edit.TheVariants.{PutUnit, PutDevice, PutConsole, PutReply, AddAnswered, AddLog, AddMessage};
-ghost use Rattle.opc_state.specs.Difference.{same_flag, same_text, same_kind, same_unit, same_device, same_console, same_reply, unit_removal, device_removal, console_removal, reply_removal};
+ghost use Rattle.opc_state.specs.declared.change.Edit.TheVariants.{
+  PutUnit,
+  PutDevice,
+  PutConsole,
+  PutReply,
+  AddAnswered,
+  AddLog,
+  AddMessage,
+};
+ghost use Rattle.opc_state.specs.Difference.{
+  same_flag,
+  same_text,
+  same_kind,
+  same_unit,
+  same_device,
+  same_console,
+  same_reply,
+  unit_removal,
+  device_removal,
+  console_removal,
+  reply_removal,
+};
 
 use crate::change::Edit;
 use opc_board::rows::{ConsoleRow, DeviceRow, MessageRow, ReplyRow, UnitKind, UnitRow};

@@ -7,7 +7,18 @@ ghost use Rattle.opc_policy_members.specs.Members.{user_of, groups_of};
 ghost use Rattle.opc_policy_members.specs.Taken.{has_group, has_user, is_active};
 ghost use Rattle.opc_state.specs.Asked.{Answers};
 ghost use Rattle.opc_state.specs.Invariants.{IsKeyed};
-ghost use Rattle.opc_state.specs.Loads.{access_list, asked_for, bare, batch_rows, consoles_of, devices_of, is_connected, is_named, level_for, masters};
+ghost use Rattle.opc_state.specs.Loads.{
+  access_list,
+  asked_for,
+  bare,
+  batch_rows,
+  consoles_of,
+  devices_of,
+  is_connected,
+  is_named,
+  level_for,
+  masters,
+};
 ghost use Rattle.opc_state.specs.PolicyFile.{rows_of};
 ghost use Rattle.opc_state.specs.State.{State, Fits, deciding_in, has_users};
 ghost use Rattle.opc_state.specs.Changes.{IsKept, changed_by};
@@ -44,7 +55,8 @@ pub trait Tables {
     /// The console of a name.
     fn console(&mut self, name: &ConsoleName) -> Result<Option<ConsoleRow>, StoreFault>
         ensures kept { IsKept is_sure represents may_leave self.old self.new }
-        ensures console { Answers (is_sure self.new) (represents self.old) result (λ s row. row ≡ console_at s.board name.now) }
+        ensures console { Answers (is_sure self.new) (represents self.old) result
+            (λ s row. row ≡ console_at s.board name.now) }
         ensures keyed { Answers (is_sure self.new) (represents self.old) result (λ s _. IsKeyed s) };
 
     /// The unit of work of a name.
@@ -55,7 +67,8 @@ pub trait Tables {
     /// The device of a number.
     fn device(&mut self, number: &Device) -> Result<Option<DeviceRow>, StoreFault>
         ensures kept { IsKept is_sure represents may_leave self.old self.new }
-        ensures device { Answers (is_sure self.new) (represents self.old) result (λ s row. row ≡ device_at s.board number.now) };
+        ensures device { Answers (is_sure self.new) (represents self.old) result
+            (λ s row. row ≡ device_at s.board number.now) };
 
     /// The open reply of a number.
     fn reply(&mut self, id: ReplyId) -> Result<Option<ReplyRow>, StoreFault>
@@ -71,17 +84,21 @@ pub trait Tables {
     /// The devices that a unit has, in order.
     fn devices_of(&mut self, alloc: Global, unit: &UnitName) -> Result<Rows<DeviceRow>, StoreFault>
         ensures kept { IsKept is_sure represents may_leave self.old self.new }
-        ensures devices { Answers (is_sure self.new) (represents self.old) result (λ s rows. rows ≡ devices_of s.board unit.now) };
+        ensures devices { Answers (is_sure self.new) (represents self.old) result
+            (λ s rows. rows ≡ devices_of s.board unit.now) };
 
     /// The consoles where a user is on, in order.
     fn consoles_of(&mut self, alloc: Global, user: &UserId) -> Result<Rows<ConsoleRow>, StoreFault>
         ensures kept { IsKept is_sure represents may_leave self.old self.new }
-        ensures consoles { Answers (is_sure self.new) (represents self.old) result (λ s rows. rows ≡ consoles_of s.board user.now) };
+        ensures consoles { Answers (is_sure self.new) (represents self.old) result
+            (λ s rows. rows ≡ consoles_of s.board user.now) };
 
-    /// The online consoles with AUTH MASTER, in order, two at most: with two, at least one is not the console that is named.
+    /// The online consoles with AUTH MASTER, in order, two at most: with two, at least one is not the console that is
+    /// named.
     fn masters(&mut self, alloc: Global) -> Result<Rows<ConsoleRow>, StoreFault>
         ensures kept { IsKept is_sure represents may_leave self.old self.new }
-        ensures masters { Answers (is_sure self.new) (represents self.old) result (λ s rows. rows ≡ take 2 (masters s.board)) };
+        ensures masters { Answers (is_sure self.new) (represents self.old) result
+            (λ s rows. rows ≡ take 2 (masters s.board)) };
 
     /// All units of work, in order.
     fn units(&mut self, alloc: Global) -> Result<Rows<UnitRow>, StoreFault>
@@ -106,7 +123,8 @@ pub trait Tables {
     /// The user of an id.
     fn user(&mut self, alloc: Global, id: &UserId) -> Result<Option<User>, StoreFault>
         ensures kept { IsKept is_sure represents may_leave self.old self.new }
-        ensures user { Answers (is_sure self.new) (represents self.old) result (λ s user. user ≡ user_of s.policy.users id.now) };
+        ensures user { Answers (is_sure self.new) (represents self.old) result
+            (λ s user. user ≡ user_of s.policy.users id.now) };
 
     /// The groups that a user is connected to, as many as asked for at most, in order.
     fn groups_of(
@@ -116,12 +134,14 @@ pub trait Tables {
         most: u32,
     ) -> Result<Vec<GroupName>, StoreFault>
         ensures kept { IsKept is_sure represents may_leave self.old self.new }
-        ensures groups { Answers (is_sure self.new) (represents self.old) result (λ s groups. groups.items ≡ take most (groups_of s.policy.connects user.now)) };
+        ensures groups { Answers (is_sure self.new) (represents self.old) result
+            (λ s groups. groups.items ≡ take most (groups_of s.policy.connects user.now)) };
 
     /// Whether a class is active.
     fn is_active(&mut self, class: Class) -> Result<bool, StoreFault>
         ensures kept { IsKept is_sure represents may_leave self.old self.new }
-        ensures active { Answers (is_sure self.new) (represents self.old) result (λ s active. active ≡ is_active s.policy.active class) };
+        ensures active { Answers (is_sure self.new) (represents self.old) result
+            (λ s active. active ≡ is_active s.policy.active class) };
 
     /// The profile of a class that decides a resource, as a search finds it, but for its access list.
     fn deciding(
@@ -131,7 +151,8 @@ pub trait Tables {
         resource: &Resource,
     ) -> Result<Found, StoreFault>
         ensures kept { IsKept is_sure represents may_leave self.old self.new }
-        ensures found { Answers (is_sure self.new) (represents self.old) result (λ s found. found.profile ≡ option_map bare (deciding_in s.policy class resource.now)) }
+        ensures found { Answers (is_sure self.new) (represents self.old) result
+            (λ s found. found.profile ≡ option_map bare (deciding_in s.policy class resource.now)) }
         ensures keyed { Answers (is_sure self.new) (represents self.old) result (λ s _. IsKeyed s) };
 
     /// The access list of a profile, as many entries as asked for at most.
@@ -143,7 +164,8 @@ pub trait Tables {
         most: u32,
     ) -> Result<Entries, StoreFault>
         ensures kept { IsKept is_sure represents may_leave self.old self.new }
-        ensures entries { Answers (is_sure self.new) (represents self.old) result (λ s entries. entries ≡ take most (access_list s.policy class pattern.now)) };
+        ensures entries { Answers (is_sure self.new) (represents self.old) result
+            (λ s entries. entries ≡ take most (access_list s.policy class pattern.now)) };
 
     /// The level of the entry of a profile for an id, at one console or, where none is given, at every console.
     fn level_for(
@@ -154,27 +176,32 @@ pub trait Tables {
         when: Option<&ConsoleName>,
     ) -> Result<Option<Level>, StoreFault>
         ensures kept { IsKept is_sure represents may_leave self.old self.new }
-        ensures level { Answers (is_sure self.new) (represents self.old) result (λ s level. level ≡ level_for s.policy class pattern.now id.now (option_copied when.entry)) };
+        ensures level { Answers (is_sure self.new) (represents self.old) result
+            (λ s level. level ≡ level_for s.policy class pattern.now id.now (option_copied when.entry)) };
 
     /// Whether a user is connected to a group of this name.
     fn is_connected(&mut self, user: &UserId, group: &str) -> Result<bool, StoreFault>
         ensures kept { IsKept is_sure represents may_leave self.old self.new }
-        ensures connected { Answers (is_sure self.new) (represents self.old) result (λ s connected. connected ≡ is_connected s.policy user.now group.now) };
+        ensures connected { Answers (is_sure self.new) (represents self.old) result
+            (λ s connected. connected ≡ is_connected s.policy user.now group.now) };
 
     /// Whether a user has this name.
     fn has_user(&mut self, name: &str) -> Result<bool, StoreFault>
         ensures kept { IsKept is_sure represents may_leave self.old self.new }
-        ensures there { Answers (is_sure self.new) (represents self.old) result (λ s there. there ≡ has_user s.policy name.now) };
+        ensures there { Answers (is_sure self.new) (represents self.old) result
+            (λ s there. there ≡ has_user s.policy name.now) };
 
     /// Whether a group has this name.
     fn has_group(&mut self, name: &str) -> Result<bool, StoreFault>
         ensures kept { IsKept is_sure represents may_leave self.old self.new }
-        ensures there { Answers (is_sure self.new) (represents self.old) result (λ s there. there ≡ has_group s.policy name.now) };
+        ensures there { Answers (is_sure self.new) (represents self.old) result
+            (λ s there. there ≡ has_group s.policy name.now) };
 
     /// Whether a connect, an owner or an access list names this user.
     fn is_named(&mut self, user: &UserId) -> Result<bool, StoreFault>
         ensures kept { IsKept is_sure represents may_leave self.old self.new }
-        ensures named { Answers (is_sure self.new) (represents self.old) result (λ s named. named ≡ is_named s.policy user.now) };
+        ensures named { Answers (is_sure self.new) (represents self.old) result
+            (λ s named. named ≡ is_named s.policy user.now) };
 
     /// The profile of a class and a pattern, but for its access list.
     fn definition(
@@ -184,17 +211,20 @@ pub trait Tables {
         pattern: &Pattern,
     ) -> Result<Option<Profile>, StoreFault>
         ensures kept { IsKept is_sure represents may_leave self.old self.new }
-        ensures definition { Answers (is_sure self.new) (represents self.old) result (λ s profile. profile ≡ option_map bare (profile_of s.policy.profiles class pattern.now)) };
+        ensures definition { Answers (is_sure self.new) (represents self.old) result
+            (λ s profile. profile ≡ option_map bare (profile_of s.policy.profiles class pattern.now)) };
 
     /// The profiles of a class, in the order of their patterns, but for their access lists.
     fn definitions(&mut self, alloc: Global, class: Class) -> Result<Vec<Profile>, StoreFault>
         ensures kept { IsKept is_sure represents may_leave self.old self.new }
-        ensures definitions { Answers (is_sure self.new) (represents self.old) result (λ s profiles. profiles.items ≡ map bare (of_class class s.policy.profiles)) };
+        ensures definitions { Answers (is_sure self.new) (represents self.old) result
+            (λ s profiles. profiles.items ≡ map bare (of_class class s.policy.profiles)) };
 
     /// The profiles of a class, in the order of their patterns.
     fn profiles(&mut self, alloc: Global, class: Class) -> Result<Vec<Profile>, StoreFault>
         ensures kept { IsKept is_sure represents may_leave self.old self.new }
-        ensures profiles { Answers (is_sure self.new) (represents self.old) result (λ s profiles. profiles.items ≡ of_class class s.policy.profiles) };
+        ensures profiles { Answers (is_sure self.new) (represents self.old) result
+            (λ s profiles. profiles.items ≡ of_class class s.policy.profiles) };
 
     /// The rows of the account from a number on, as many as asked for at most, with their numbers, which begin at 1.
     fn account(
@@ -204,12 +234,14 @@ pub trait Tables {
         count: u32,
     ) -> Result<Vec<(u64, AccountRow)>, StoreFault>
         ensures kept { IsKept is_sure represents may_leave self.old self.new }
-        ensures account { Answers (is_sure self.new) (represents self.old) result (λ s rows. rows.items ≡ asked_for from count s.account) };
+        ensures account { Answers (is_sure self.new) (represents self.old) result
+            (λ s rows. rows.items ≡ asked_for from count s.account) };
 
     /// The rows of the batch of a number, if it is kept.
     fn batch(&mut self, alloc: Global, number: u32) -> Result<Option<Rows<Row>>, StoreFault>
         ensures kept { IsKept is_sure represents may_leave self.old self.new }
-        ensures batch { Answers (is_sure self.new) (represents self.old) result (λ s rows. rows ≡ batch_rows s.batches number) };
+        ensures batch { Answers (is_sure self.new) (represents self.old) result
+            (λ s rows. rows ≡ batch_rows s.batches number) };
 
     /// Whether a user is stored.
     fn has_users(&mut self) -> Result<bool, StoreFault>
@@ -224,15 +256,20 @@ pub trait Tables {
     /// The policy and the consoles, as the rows of a policy file.
     fn written(&mut self, alloc: Global) -> Result<Vec<Row>, StoreFault>
         ensures kept { IsKept is_sure represents may_leave self.old self.new }
-        ensures rows { Answers (is_sure self.new) (represents self.old) result (λ s rows. rows.items ≡ rows_of s.policy s.board.consoles) };
+        ensures rows { Answers (is_sure self.new) (represents self.old) result
+            (λ s rows. rows.items ≡ rows_of s.policy s.board.consoles) };
 
     /// Writes all of a change, or nothing. A crash leaves the state before or after it; once it is acknowledged, the
     /// state after it alone.
     fn commit(&mut self, alloc: Global, change: &Change) -> Result<(), StoreFault>
         ensures sure { is_sure self.new → is_sure self.old }
-        ensures done { is_sure self.new → (s : State) → represents self.old s → OnOk result (represents self.new (changed_by change.now s)) }
-        ensures fits { is_sure self.new → (s : State) → represents self.old s → OnOk result (Fits s → Fits (changed_by change.now s)) }
+        ensures done { is_sure self.new → (s : State) → represents self.old s
+            → OnOk result (represents self.new (changed_by change.now s)) }
+        ensures fits { is_sure self.new → (s : State) → represents self.old s
+            → OnOk result (Fits s → Fits (changed_by change.now s)) }
         ensures failed { is_sure self.new → (s : State) → represents self.old s → OnErr result (represents self.new s) }
-        ensures acknowledged { is_sure self.new → (s : State) → represents self.old s → OnOk result ((left : State) → may_leave self.new left → left ≡ changed_by change.now s) }
-        ensures crash { is_sure self.new → (s : State) → represents self.old s → (left : State) → may_leave self.new left → may_leave self.old left ⊎ (left ≡ changed_by change.now s) };
+        ensures acknowledged { is_sure self.new → (s : State) → represents self.old s
+            → OnOk result ((left : State) → may_leave self.new left → left ≡ changed_by change.now s) }
+        ensures crash { is_sure self.new → (s : State) → represents self.old s → (left : State)
+            → may_leave self.new left → may_leave self.old left ⊎ (left ≡ changed_by change.now s) };
 }

@@ -56,7 +56,9 @@ module _ (s : State) (k : IsKeyed s) where
   IsListed q = Ascends (λ (e f : Entry). is_lt (entry_cmp e f)) q.entries
 
   -- one profile is put where one of its name is
-  put_stays : (new old : Profile) (test : Profile → Bool) → find test s.policy.profiles ≡ Some old → name_of new ≡ name_of old → IsListed new → Stays s (with_profiles (replace_key profile_cmp s.policy.profiles new) s)
+  put_stays : (new old : Profile) (test : Profile → Bool) → find test s.policy.profiles ≡ Some old
+      → name_of new ≡ name_of old → IsListed new
+      → Stays s (with_profiles (replace_key profile_cmp s.policy.profiles new) s)
   put_stays new old test found same listed = record {
     keyed = record {
       board = k.board;
@@ -77,19 +79,23 @@ module _ (s : State) (k : IsKeyed s) where
   definition_stays d there = go (profile_of s.policy.profiles d.class d.pattern) refl there
     where
       go : (o : Option Profile) → profile_of s.policy.profiles d.class d.pattern ≡ o → is_none o ≡ false
-          → Stays s (with_profiles (replace_key profile_cmp s.policy.profiles (record d { entries = option_map_or (λ (p : Profile). p.entries) o d.entries })) s)
+          → Stays s (with_profiles (replace_key profile_cmp s.policy.profiles
+          (record d { entries = option_map_or (λ (p : Profile). p.entries) o d.entries })) s)
       go None found h = absurd (search (rules, h))
       go (Some q) found h =
           let passes : is_of d.class d.pattern q ≡ true = found_passes (is_of d.class d.pattern) q s.policy.profiles found in
           let of_class : q.class ≡ d.class = same_class_is q.class d.class (first (same_class q.class d.class) (bytes_eq q.pattern d.pattern) passes) in
           let of_pattern : q.pattern ≡ d.pattern = names q.pattern d.pattern (rest (same_class q.class d.class) (bytes_eq q.pattern d.pattern) passes) in
-          put_stays (record d { entries = q.entries }) q (is_of d.class d.pattern) found (λ i. (sym of_class i, sym of_pattern i)) (listed_at (is_of d.class d.pattern) q found)
+          put_stays (record d { entries = q.entries }) q (is_of d.class d.pattern) found
+          (λ i. (sym of_class i, sym of_pattern i)) (listed_at (is_of d.class d.pattern) q found)
 
   permission_stays : (class : Class) (pattern : List ℕ) (e : Entry) → Stays s (edited (edit.PutEntry class pattern e) s)
   permission_stays class pattern e = go (profile_of s.policy.profiles class pattern) refl
     where
       go : (o : Option Profile) → profile_of s.policy.profiles class pattern ≡ o
-          → Stays s (with_profiles (option_map_or (λ (p : Profile). replace_key profile_cmp s.policy.profiles (record p { entries = with_entry e p.entries })) o s.policy.profiles) s)
+          → Stays s (with_profiles (option_map_or
+          (λ (p : Profile). replace_key profile_cmp s.policy.profiles
+          (record p { entries = with_entry e p.entries })) o s.policy.profiles) s)
       go None found = profiles_stay
       go (Some q) found =
           put_stays (record q { entries = with_entry e q.entries }) q (is_of class pattern) found refl
@@ -99,7 +105,9 @@ module _ (s : State) (k : IsKeyed s) where
   removal_stays class pattern id when = go (profile_of s.policy.profiles class pattern) refl
     where
       go : (o : Option Profile) → profile_of s.policy.profiles class pattern ≡ o
-          → Stays s (with_profiles (option_map_or (λ (p : Profile). replace_key profile_cmp s.policy.profiles (record p { entries = without_entry id when p.entries })) o s.policy.profiles) s)
+          → Stays s (with_profiles (option_map_or
+          (λ (p : Profile). replace_key profile_cmp s.policy.profiles
+          (record p { entries = without_entry id when p.entries })) o s.policy.profiles) s)
       go None found = profiles_stay
       go (Some q) found =
           put_stays (record q { entries = without_entry id when q.entries }) q (is_of class pattern) found refl
@@ -109,9 +117,18 @@ module _ (s : State) (k : IsKeyed s) where
   users_stay users up = record { keyed = record { board = k.board; users = up; profiles = k.profiles; entries = k.entries }; named = refl }
 
   abbrev BoardStays : List UnitRow → List DeviceRow → List ConsoleRow → List ReplyRow → Type 0
-  BoardStays units devices consoles replies = Stays s (record s { board = record s.board { units = units; devices = devices; consoles = consoles; replies = replies } })
+  BoardStays units devices consoles replies = Stays s (record s {
+    board = record s.board {
+      units = units;
+      devices = devices;
+      consoles = consoles;
+      replies = replies;
+    };
+  })
 
-  board_stays : (units : List UnitRow) (devices : List DeviceRow) (consoles : List ConsoleRow) (replies : List ReplyRow) → Ascends unit_before units → Ascends device_before devices → Ascends console_before consoles → Ascends reply_before replies
+  board_stays : (units : List UnitRow) (devices : List DeviceRow) (consoles : List ConsoleRow) (replies : List ReplyRow)
+      → Ascends unit_before units → Ascends device_before devices → Ascends console_before consoles
+      → Ascends reply_before replies
       → BoardStays units devices consoles replies
   board_stays units devices consoles replies u d c r = record {
     keyed = record { board = record { units = u; devices = d; consoles = c; replies = r }; users = k.users; profiles = k.profiles; entries = k.entries };
@@ -127,14 +144,31 @@ edit_stays (edit.PutEntry class pattern e) s k h = permission_stays s k class pa
 edit_stays (edit.RemoveEntry class pattern id when) s k h = removal_stays s k class pattern id when
 edit_stays (edit.PutUser user) s k h = users_stay s k _ (put_ascends user_cmp user_total user s.policy.users k.users)
 edit_stays (edit.RemoveUser id) s k h = users_stay s k _ (ascends_filter _ (λ (u : User). not (bytes_eq u.id id)) s.policy.users k.users)
-edit_stays (edit.PutUnit unit) s k h = board_stays s k _ _ _ _ (put_ascends unit_cmp unit_total unit s.board.units k.board.units) k.board.devices k.board.consoles k.board.replies
-edit_stays (edit.RemoveUnit name) s k h = board_stays s k _ _ _ _ (ascends_filter _ (λ (u : UnitRow). not (bytes_eq u.name name)) s.board.units k.board.units) k.board.devices k.board.consoles k.board.replies
-edit_stays (edit.PutDevice device) s k h = board_stays s k _ _ _ _ k.board.units (put_ascends device_cmp device_total device s.board.devices k.board.devices) k.board.consoles k.board.replies
-edit_stays (edit.RemoveDevice number) s k h = board_stays s k _ _ _ _ k.board.units (ascends_filter _ (λ (d : DeviceRow). not (bytes_eq d.number number)) s.board.devices k.board.devices) k.board.consoles k.board.replies
-edit_stays (edit.PutConsole console) s k h = board_stays s k _ _ _ _ k.board.units k.board.devices (put_ascends console_cmp console_total console s.board.consoles k.board.consoles) k.board.replies
-edit_stays (edit.RemoveConsole name) s k h = board_stays s k _ _ _ _ k.board.units k.board.devices (ascends_filter _ (λ (c : ConsoleRow). not (bytes_eq c.name name)) s.board.consoles k.board.consoles) k.board.replies
-edit_stays (edit.PutReply reply) s k h = board_stays s k _ _ _ _ k.board.units k.board.devices k.board.consoles (put_ascends reply_cmp reply_total reply s.board.replies k.board.replies)
-edit_stays (edit.RemoveReply id) s k h = board_stays s k _ _ _ _ k.board.units k.board.devices k.board.consoles (ascends_filter _ _ s.board.replies k.board.replies)
+edit_stays (edit.PutUnit unit) s k h = board_stays s k _ _ _ _
+    (put_ascends unit_cmp unit_total unit s.board.units k.board.units) k.board.devices k.board.consoles k.board.replies
+edit_stays (edit.RemoveUnit name) s k h =
+    board_stays s k _ _ _ _ (ascends_filter _ (λ (u : UnitRow). not (bytes_eq u.name name)) s.board.units k.board.units)
+    k.board.devices k.board.consoles k.board.replies
+edit_stays (edit.PutDevice device) s k h =
+    board_stays s k _ _ _ _ k.board.units (put_ascends device_cmp device_total device s.board.devices k.board.devices)
+    k.board.consoles k.board.replies
+edit_stays (edit.RemoveDevice number) s k h =
+    board_stays s k _ _ _ _ k.board.units
+    (ascends_filter _ (λ (d : DeviceRow). not (bytes_eq d.number number)) s.board.devices k.board.devices)
+    k.board.consoles k.board.replies
+edit_stays (edit.PutConsole console) s k h =
+    board_stays s k _ _ _ _ k.board.units k.board.devices
+    (put_ascends console_cmp console_total console s.board.consoles k.board.consoles) k.board.replies
+edit_stays (edit.RemoveConsole name) s k h =
+    board_stays s k _ _ _ _ k.board.units k.board.devices
+    (ascends_filter _ (λ (c : ConsoleRow). not (bytes_eq c.name name)) s.board.consoles k.board.consoles)
+    k.board.replies
+edit_stays (edit.PutReply reply) s k h =
+    board_stays s k _ _ _ _ k.board.units k.board.devices k.board.consoles
+    (put_ascends reply_cmp reply_total reply s.board.replies k.board.replies)
+edit_stays (edit.RemoveReply id) s k h =
+    board_stays s k _ _ _ _ k.board.units k.board.devices k.board.consoles
+    (ascends_filter _ _ s.board.replies k.board.replies)
 edit_stays other s k h = record {
   keyed = record {
     board = record { units = k.board.units; devices = k.board.devices; consoles = k.board.consoles; replies = k.board.replies };
@@ -162,7 +196,8 @@ none_stay : (edits : List Edit) (s : State) → IsKeyed s → list_any redefines
 none_stay [] s k h = record { keyed = k; named = refl }
 none_stay (e ∷ edits) s k h =
     let one : Stays s (edited e s) = edit_stays e s k (alone_too s.policy e (left_false (redefines e) (list_any redefines edits) h)) in
-    let more : Stays (edited e s) (all_edited edits (edited e s)) = none_stay edits (edited e s) one.keyed (right_false (redefines e) (list_any redefines edits) h) in
+    let more : Stays (edited e s) (all_edited edits (edited e s)) =
+    none_stay edits (edited e s) one.keyed (right_false (redefines e) (list_any redefines edits) h) in
     record { keyed = more.keyed; named = more.named ∙ one.named }
 
 pub edits_stay : (edits : List Edit) (s : State) → IsKeyed s → invalidates s.policy edits ≡ false → Stays s (all_edited edits s)

@@ -1,5 +1,28 @@
 -- What stays in the order of the keys, and what is found by them then.
-use Rattle.std.proofs.Common.{◌≡◌, ℕ, Bool, true, false, cond, ◌&&◌, List, [], ◌∷◌, Option, Some, None, Decides, IfSome, filter, refl, sym, ap, subst, ◌∙◌, is_eq}
+use Rattle.std.proofs.Common.{
+  ◌≡◌,
+  ℕ,
+  Bool,
+  true,
+  false,
+  cond,
+  ◌&&◌,
+  List,
+  [],
+  ◌∷◌,
+  Option,
+  Some,
+  None,
+  Decides,
+  IfSome,
+  filter,
+  refl,
+  sym,
+  ap,
+  subst,
+  ◌∙◌,
+  is_eq,
+}
 use Rattle.std.specs.BTreeSet.{replace_key}
 use Rattle.std.specs.Cmp.{IsTotalOrder, tied_itself}
 use Rattle.std.specs.Cmp.Lexicographic.{nat_list_cmp_total}
@@ -59,7 +82,8 @@ all_two P Q R turn [] ps qs = tt
 all_two P Q R turn (x ∷ xs) ps qs = (turn x ps.0 qs.0, all_two P Q R turn xs ps.1 qs.1)
 
 -- those that pass a test, by what the test says
-all_passing : {A : Type 0} (P Q : A → Type 0) (test : A → Bool) → ((a : A) → test a ≡ true → P a → Q a) → (xs : List A) → AllByRecursion P xs → AllByRecursion Q (filter test xs)
+all_passing : {A : Type 0} (P Q : A → Type 0) (test : A → Bool) → ((a : A) → test a ≡ true → P a → Q a) → (xs : List A)
+    → AllByRecursion P xs → AllByRecursion Q (filter test xs)
 all_passing P Q test turn [] ps = tt
 all_passing {A} P Q test turn (x ∷ xs) ps = go (test x) refl (all_passing P Q test turn xs ps.1)
   where
@@ -88,7 +112,8 @@ apart x p before = go x.class p.class (bytes_eq x.pattern p.pattern) (bytes_eq-D
     never : x.pattern ≡ p.pattern → is_lt (pattern_cmp x.pattern p.pattern) ≡ true → true ≡ false
     never same before = sym (sym (ap is_lt (tie same)) ∙ before)
 
-    go : (c d : Class) (b : Bool) → Decides b (x.pattern ≡ p.pattern) → is_lt (ordering_then (class_cmp c d) (pattern_cmp x.pattern p.pattern)) ≡ true → (same_class c d && b) ≡ false
+    go : (c d : Class) (b : Bool) → Decides b (x.pattern ≡ p.pattern)
+        → is_lt (ordering_then (class_cmp c d) (pattern_cmp x.pattern p.pattern)) ≡ true → (same_class c d && b) ≡ false
     go Console Console true same h = never (same.0 refl) h
     go Console Console false same h = refl
     go Console Opercmds b same h = refl
@@ -118,7 +143,9 @@ each_found (x ∷ profiles) rise = (
       profiles rise.0 (each_found profiles rise.1),
 )
 
-pub deciding_found : (profiles : List Profile) (class : Class) (resource : List ℕ) → Ascends (λ (q r : Profile). is_lt (profile_cmp q r)) profiles → IfSome (deciding (of_class class profiles) resource) (IsFoundIn profiles class)
+pub deciding_found : (profiles : List Profile) (class : Class) (resource : List ℕ)
+    → Ascends (λ (q r : Profile). is_lt (profile_cmp q r)) profiles
+    → IfSome (deciding (of_class class profiles) resource) (IsFoundIn profiles class)
 deciding_found profiles class resource rise =
     all_first (IsFoundIn profiles class) (covering resource (of_class class profiles))
     (all_passing (IsFoundIn profiles class) (IsFoundIn profiles class) _ (λ p passes found. found) (of_class class profiles)

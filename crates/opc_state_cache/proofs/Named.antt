@@ -29,7 +29,8 @@ first_name n (Some m) = cond (is_lt (slice_cmp nat_cmp (sort_key m.1) (sort_key 
 
 abbrev decided : Class → List ℕ → List Name → Option Name
 decided class resource [] = None
-decided class resource (n ∷ ns) = cond (same_class n.0 class && covers_text n.1 resource) (Some (first_name n (decided class resource ns))) (decided class resource ns)
+decided class resource (n ∷ ns) = cond (same_class n.0 class && covers_text n.1 resource)
+    (Some (first_name n (decided class resource ns))) (decided class resource ns)
 
 first_named : (p : Profile) (o : Option Profile) → name_of (first_with p o) ≡ first_name (name_of p) (option_map name_of o)
 first_named p None = refl
@@ -39,7 +40,8 @@ first_named p (Some q) = go (is_before q p)
     go true = refl
     go false = refl
 
-decided_is : (class : Class) (resource : List ℕ) (ps : List Profile) → option_map name_of (deciding (of_class class ps) resource) ≡ decided class resource (map name_of ps)
+decided_is : (class : Class) (resource : List ℕ) (ps : List Profile)
+    → option_map name_of (deciding (of_class class ps) resource) ≡ decided class resource (map name_of ps)
 decided_is class resource [] = refl
 decided_is class resource (p ∷ ps) = go (same_class p.class class) (decided_is class resource ps)
   where
@@ -51,7 +53,9 @@ decided_is class resource (p ∷ ps) = go (same_class p.class class) (decided_is
 
     go : (b : Bool) → option_map name_of (deciding (of_class class ps) resource) ≡ decided class resource (map name_of ps)
         → option_map name_of (first_of (covering resource (cond b (p ∷ of_class class ps) (of_class class ps))))
-        ≡ cond (b && covers_text p.pattern resource) (Some (first_name (name_of p) (decided class resource (map name_of ps)))) (decided class resource (map name_of ps))
+        ≡ cond (b && covers_text p.pattern resource)
+        (Some (first_name (name_of p) (decided class resource (map name_of ps))))
+        (decided class resource (map name_of ps))
     go true later = covered (covers_text p.pattern resource) later
     go false later = later
 
@@ -85,7 +89,8 @@ some_is x y h = search (rules, h)
 by_name : (q r x : Profile) → name_of q ≡ name_of r → profile_cmp q x ≡ profile_cmp r x
 by_name q r x same = ap (λ (n : Name). ordering_then (class_cmp n.0 x.class) (pattern_cmp n.1 x.pattern)) same
 
-pub put_named : (new old : Profile) (test : Profile → Bool) (ps : List Profile) → name_of new ≡ name_of old → Ascends (λ (q r : Profile). is_lt (profile_cmp q r)) ps → find test ps ≡ Some old
+pub put_named : (new old : Profile) (test : Profile → Bool) (ps : List Profile) → name_of new ≡ name_of old
+    → Ascends (λ (q r : Profile). is_lt (profile_cmp q r)) ps → find test ps ≡ Some old
     → map name_of (replace_key profile_cmp ps new) ≡ map name_of ps
 put_named new old test [] same order found = absurd (search (rules, found))
 put_named new old test (x ∷ xs) same order found = go (test x) found (put_named new old test xs same order.1)
@@ -94,11 +99,15 @@ put_named new old test (x ∷ xs) same order found = go (test x) found (put_name
         → map name_of (replace_key profile_cmp (x ∷ xs) new) ≡ map name_of (x ∷ xs)
     go true f later =
         let here : x ≡ old = some_is x old f in
-        let compares_equal : profile_cmp new x ≡ Equal = by_name new old x same ∙ ap (λ y. profile_cmp old y) here ∙ itself (profile_cmp old old) (profile_total.antisymm old old) in
+        let compares_equal : profile_cmp new x ≡ Equal =
+        by_name new old x same ∙ ap (λ y. profile_cmp old y) here
+        ∙ itself (profile_cmp old old) (profile_total.antisymm old old) in
         ap (λ o. map name_of (match_ordering o (new ∷ x ∷ xs) (new ∷ xs) (x ∷ replace_key profile_cmp xs new))) compares_equal
         ∙ ap (λ n. n ∷ map name_of xs) (same ∙ ap name_of (sym here))
     go false f later =
         let before : is_lt (profile_cmp x old) ≡ true = all_found (λ y. is_lt (profile_cmp x y) ≡ true) test old xs f order.0 in
-        let after : profile_cmp new x ≡ Greater = by_name new old x same ∙ profile_total.antisymm old x ∙ ap ordering_reverse (is_less (profile_cmp x old) before) in
+        let after : profile_cmp new x ≡ Greater =
+        by_name new old x same ∙ profile_total.antisymm old x
+        ∙ ap ordering_reverse (is_less (profile_cmp x old) before) in
         ap (λ o. map name_of (match_ordering o (new ∷ x ∷ xs) (new ∷ xs) (x ∷ replace_key profile_cmp xs new))) after
         ∙ ap (λ ns. name_of x ∷ ns) (later f)

@@ -1,5 +1,38 @@
 -- What is cached stays right.
-use Rattle.std.proofs.Common.{◌≡◌, ◌<◌, ◌≤◌, ℕ, Bool, true, false, cond, ◌&&◌, IfSome, List, [], ◌∷◌, length, Option, Some, None, Result, Ok, Err, Contains, IfOk, OnErr, OnOk, refl, sym, ap, subst, ◌∙◌, inl, inr, arith}
+use Rattle.std.proofs.Common.{
+  ◌≡◌,
+  ◌<◌,
+  ◌≤◌,
+  ℕ,
+  Bool,
+  true,
+  false,
+  cond,
+  ◌&&◌,
+  IfSome,
+  List,
+  [],
+  ◌∷◌,
+  length,
+  Option,
+  Some,
+  None,
+  Result,
+  Ok,
+  Err,
+  Contains,
+  IfOk,
+  OnErr,
+  OnOk,
+  refl,
+  sym,
+  ap,
+  subst,
+  ◌∙◌,
+  inl,
+  inr,
+  arith,
+}
 use Rattle.std.specs.List.{list_any}
 use Rattle.std.specs.Map.{lookup}
 use Rattle.std.specs.Option.{option_and_then, option_map}
@@ -24,7 +57,19 @@ use Rattle.opc_state.specs.Invariants.{IsKeyed}
 use Rattle.opc_state.specs.Loads.{bare}
 use Rattle.opc_state.specs.State.{State, deciding_in}
 use Rattle.opc_state.proofs.SameRows.{first, names, rest}
-use Rattle.opc_state_cache.specs.Cache.{Entries, IsCached, IsKeptWith, IsRight, Name, deciding_pattern, invalidates, pattern_of, redefines, remembered, same_name}
+use Rattle.opc_state_cache.specs.Cache.{
+  Entries,
+  IsCached,
+  IsKeptWith,
+  IsRight,
+  Name,
+  deciding_pattern,
+  invalidates,
+  pattern_of,
+  redefines,
+  remembered,
+  same_name,
+}
 use Rattle.opc_state_cache.specs.declared.cached.Cached.{Cached}
 use Rattle.opc_state_cache.proofs.Keyed.{IsFoundIn, deciding_found}
 use Rattle.opc_state_cache.proofs.Named.{same_pattern}
@@ -52,12 +97,14 @@ promoted_holds name entries s h = record {
   keyed = λ e there. h.keyed e (Contains-promoted (same_name name) entries e there);
 }
 
-pub hit_keyed : (name : Name) (entries : Entries) (s : State) (pattern : Option (List ℕ)) → Holds entries s → lookup (same_name name) entries ≡ Some pattern → IsKeyed s
+pub hit_keyed : (name : Name) (entries : Entries) (s : State) (pattern : Option (List ℕ)) → Holds entries s
+    → lookup (same_name name) entries ≡ Some pattern → IsKeyed s
 hit_keyed name entries s pattern h found =
     let there = Contains-lookup (same_name name) entries pattern found in
     h.keyed (there.0, pattern) there.1
 
-hit_right : (name : Name) (entries : Entries) (s : State) (pattern : Option (List ℕ)) → Holds entries s → lookup (same_name name) entries ≡ Some pattern → pattern ≡ deciding_pattern s.policy name
+hit_right : (name : Name) (entries : Entries) (s : State) (pattern : Option (List ℕ)) → Holds entries s
+    → lookup (same_name name) entries ≡ Some pattern → pattern ≡ deciding_pattern s.policy name
 hit_right name entries s pattern h found =
     let there = Contains-lookup (same_name name) entries pattern found in
     h.right (there.0, pattern) there.1 ∙ ap (deciding_pattern s.policy) (sym (same_is name there.0 there.2))
@@ -68,13 +115,15 @@ hit_decides name entries s pattern h found =
     ap (option_and_then (profile_of s.policy.profiles name.0)) (hit_right name entries s pattern h found)
     ∙ go (deciding_in s.policy name.0 name.1) (deciding_found s.policy.profiles name.0 name.1 (hit_keyed name entries s pattern h found).profiles)
   where
-    go : (o : Option Profile) → IfSome o (IsFoundIn s.policy.profiles name.0) → option_and_then (profile_of s.policy.profiles name.0) (option_map pattern_of o) ≡ o
+    go : (o : Option Profile) → IfSome o (IsFoundIn s.policy.profiles name.0)
+        → option_and_then (profile_of s.policy.profiles name.0) (option_map pattern_of o) ≡ o
     go None is = refl
     go (Some d) is = is
 
 -- ---- a miss
 
-pub put_holds : (entries : Entries) (s : State) (name : Name) (pattern : Option (List ℕ)) → Holds entries s → IsKeyed s → pattern ≡ deciding_pattern s.policy name → Holds (put_entries same_name (lru_cache entries 256) name pattern) s
+pub put_holds : (entries : Entries) (s : State) (name : Name) (pattern : Option (List ℕ)) → Holds entries s → IsKeyed s
+    → pattern ≡ deciding_pattern s.policy name → Holds (put_entries same_name (lru_cache entries 256) name pattern) s
 put_holds entries s name pattern h ordered is = record {
   right = λ e there. elim (Contains-put_entries same_name (lru_cache entries 256) name pattern e there) [
     | inl was ↦ h.right e was
@@ -87,21 +136,24 @@ bare_pattern : (o : Option Profile) → option_map pattern_of (option_map bare o
 bare_pattern None = refl
 bare_pattern (Some p) = refl
 
-pub kept_with_holds : (old new : Entries) (s : State) (name : Name) (profile : Option Profile) → Holds old s → IsKeyed s → profile ≡ option_map bare (deciding_in s.policy name.0 name.1)
+pub kept_with_holds : (old new : Entries) (s : State) (name : Name) (profile : Option Profile) → Holds old s → IsKeyed s
+    → profile ≡ option_map bare (deciding_in s.policy name.0 name.1)
     → IsKeptWith old new name (option_map pattern_of profile) → Holds new s
 kept_with_holds old new s name profile h ordered is (inl same) = subst (λ entries. Holds entries s) (sym same) h
 kept_with_holds old new s name profile h ordered is (inr put) =
     subst (λ entries. Holds entries s) (sym put)
     (put_holds old s name (option_map pattern_of profile) h ordered (ap (option_map pattern_of) is ∙ bare_pattern (deciding_in s.policy name.0 name.1)))
 
-pub searched_holds : (r : Result Found StoreFault) (old new : Entries) (s : State) (name : Name) → Holds old s → IfOk r (λ found. found.profile ≡ option_map bare (deciding_in s.policy name.0 name.1)) → IfOk r (λ _. IsKeyed s)
+pub searched_holds : (r : Result Found StoreFault) (old new : Entries) (s : State) (name : Name) → Holds old s
+    → IfOk r (λ found. found.profile ≡ option_map bare (deciding_in s.policy name.0 name.1)) → IfOk r (λ _. IsKeyed s)
     → IfOk r (λ found. IsKeptWith old new name (option_map pattern_of found.profile)) → OnErr r (new ≡ old) → Holds new s
 searched_holds (Ok found) old new s name h is ordered keeps failed = kept_with_holds old new s name found.profile h ordered is keeps
 searched_holds (Err fault) old new s name h is ordered keeps failed = subst (λ entries. Holds entries s) (sym failed) h
 
 -- ---- a change
 
-edits_hold : (c : Change) (s : State) (entries : Entries) → Holds entries s → (b : Bool) → invalidates s.policy c.edits.items ≡ b → Holds (cond b [] entries) (changed_by c s)
+edits_hold : (c : Change) (s : State) (entries : Entries) → Holds entries s → (b : Bool)
+    → invalidates s.policy c.edits.items ≡ b → Holds (cond b [] entries) (changed_by c s)
 edits_hold c s entries h true is = nothing_holds (changed_by c s)
 edits_hold c s entries h false is =
     let stays : IsKeyed s → Stays s (changed_by c s) = λ k. account_stays c.account s (all_edited c.edits.items s) (edits_stay c.edits.items s k is) in
@@ -129,8 +181,10 @@ module _ {T : Type 0} (is_sure : T → Type 0) (represents may_leave : T → Sta
   pub with_cache : (tables : T) (entries : Entries) (s : State) → represents tables s → Holds entries s → IsCached represents tables entries s
   with_cache tables entries s represented h = record { represented = represented; right = h.right; keyed = h.keyed }
 
-  pub cached_kept : (old new : Cached T) → IsKept is_sure represents may_leave old.tables new.tables → (is_sure new.tables → (s : State) → represents old.tables s → Holds old.recent s → Holds new.recent s)
-      → IsKept (λ (c : Cached T). is_sure c.tables) (λ (c : Cached T) s. IsCached represents c.tables c.recent s) (λ (c : Cached T) s. may_leave c.tables s) old new
+  pub cached_kept : (old new : Cached T) → IsKept is_sure represents may_leave old.tables new.tables
+      → (is_sure new.tables → (s : State) → represents old.tables s → Holds old.recent s → Holds new.recent s)
+      → IsKept (λ (c : Cached T). is_sure c.tables) (λ (c : Cached T) s. IsCached represents c.tables c.recent s)
+      (λ (c : Cached T) s. may_leave c.tables s) old new
   cached_kept old new kept holds = record {
     sure = kept.sure;
     same = λ sure s h. with_cache new.tables new.recent s (kept.same sure s h.represented) (holds sure s h.represented (held old.tables old.recent s h));
@@ -181,7 +235,10 @@ same_classes Opercmds Opercmds = refl
 same_keys : is_key ≡ same_name
 same_keys = λ i n m. same_classes n.0 m.0 i && bytes_eq n.1 m.1
 
-pub put_or_not : {V E : Type 0} (r : Result V E) (old new : LruCache Name (Option (List ℕ))) (entries : Entries) (name : Name) (pattern : Option (List ℕ)) → old ≡ lru_cache entries 256
+pub put_or_not : {V E : Type 0} (r : Result V E) (old new : LruCache Name (Option (List ℕ))) (entries : Entries)
+    (name : Name) (pattern : Option (List ℕ)) → old ≡ lru_cache entries 256
     → OnOk r (new ≡ lru_cache (put_entries is_key old name pattern) old.cap) → OnErr r (new ≡ old) → IsKeptWith entries new.entries name pattern
-put_or_not (Ok v) old new entries name pattern was ok err = inr (ap (λ c. c.entries) ok ∙ ap (λ is. put_entries is old name pattern) same_keys ∙ ap (λ c. put_entries same_name c name pattern) was)
+put_or_not (Ok v) old new entries name pattern was ok err =
+    inr (ap (λ c. c.entries) ok ∙ ap (λ is. put_entries is old name pattern) same_keys
+    ∙ ap (λ c. put_entries same_name c name pattern) was)
 put_or_not (Err e) old new entries name pattern was ok err = inl (ap (λ c. c.entries) err ∙ ap (λ c. c.entries) was)

@@ -36,9 +36,10 @@ deciding_pattern p name = option_map pattern_of (deciding_in p name.0 name.1)
 abbrev pub IsRight : Policy → Entries → Type 0
 IsRight p entries = (e : Name × Option (List ℕ)) → Contains entries e → e.1 ≡ deciding_pattern p e.0
 
--- Tables represent a state, and what is cached of it is right. Where anything is cached the state is in the order of its
--- keys, so that its profiles are found by their patterns.
-pub record IsCached {T : Type 0} (represents : T → State → Type 0) (tables : T) (entries : Entries) (s : State) : Type 0 where
+-- Tables represent a state, and what is cached of it is right. Where anything is cached the state is in the order of
+-- its keys, so that its profiles are found by their patterns.
+pub record IsCached {T : Type 0} (represents : T → State → Type 0) (tables : T) (entries : Entries) (s : State) : Type
+    0 where
   pub represented : represents tables s
   pub right : IsRight s.policy entries
   pub keyed : (e : Name × Option (List ℕ)) → Contains entries e → IsKeyed s

@@ -9,7 +9,14 @@ ghost use Rattle.opc_state.specs.Changes.{IsKept};
 ghost use Rattle.opc_state.specs.Invariants.{IsKeyed};
 ghost use Rattle.opc_state.specs.Loads.{bare};
 ghost use Rattle.opc_state.specs.State.{deciding_in};
-ghost use Rattle.opc_state_cache.specs.Cache.{IsKeptWith, invalidates, pattern_of, redefines, adds_or_removes_profile, remembered};
+ghost use Rattle.opc_state_cache.specs.Cache.{
+  IsKeptWith,
+  invalidates,
+  pattern_of,
+  redefines,
+  adds_or_removes_profile,
+  remembered,
+};
 
 use crate::deciding_cache::DecidingCache;
 use opc_names::class::Class;
@@ -65,9 +72,11 @@ impl<T: Tables> Cached<T> {
         resource: &Resource,
     ) -> Result<Found, StoreFault>
         ensures kept { IsKept T.is_sure T.represents T.may_leave self.old.tables self.new.tables }
-        ensures found { Answers (T.is_sure self.new.tables) (T.represents self.old.tables) result (λ s found. found.profile ≡ option_map bare (deciding_in s.policy class resource.now)) }
+        ensures found { Answers (T.is_sure self.new.tables) (T.represents self.old.tables) result
+            (λ s found. found.profile ≡ option_map bare (deciding_in s.policy class resource.now)) }
         ensures keyed { Answers (T.is_sure self.new.tables) (T.represents self.old.tables) result (λ s _. IsKeyed s) }
-        ensures keeps { IfOk result (λ found. IsKeptWith self.old.recent self.new.recent (class, resource.now) (option_map pattern_of found.profile)) }
+        ensures keeps { IfOk result (λ found. IsKeptWith self.old.recent self.new.recent (class, resource.now)
+            (option_map pattern_of found.profile)) }
         ensures failed { OnErr result (self.new.recent ≡ self.old.recent) }
     {
         let found = self.tables.deciding(alloc, class, resource)?;
@@ -83,7 +92,8 @@ impl<T: Tables> Cached<T> {
         change: &Change,
     ) -> Result<(), StoreFault>
         ensures kept { IsKept T.is_sure T.represents T.may_leave self.old.tables self.new.tables }
-        ensures forgets { Answers (T.is_sure self.new.tables) (T.represents self.old.tables) result (λ s _. self.new.recent ≡ remembered s.policy change.now.edits.items self.old.recent) }
+        ensures forgets { Answers (T.is_sure self.new.tables) (T.represents self.old.tables) result
+            (λ s _. self.new.recent ≡ remembered s.policy change.now.edits.items self.old.recent) }
         ensures failed { OnErr result (self.new.recent ≡ self.old.recent) }
     {
         if invalidates(&mut self.tables, alloc, change.edits.as_slice())? {
@@ -111,7 +121,8 @@ pub(crate) fn cached_pattern<T: Tables>(
     pattern: Option<Pattern>,
 ) -> Result<Found, StoreFault>
     ensures kept { IsKept T.is_sure T.represents T.may_leave tables.old tables.new }
-    ensures found { Answers (T.is_sure tables.new) (T.represents tables.old) result (λ s found. found.profile ≡ option_map bare (option_and_then (profile_of s.policy.profiles class) pattern)) }
+    ensures found { Answers (T.is_sure tables.new) (T.represents tables.old) result
+        (λ s found. found.profile ≡ option_map bare (option_and_then (profile_of s.policy.profiles class) pattern)) }
 {
     let profile = match pattern {
         Some(pattern) => tables.definition(alloc, class, &pattern)?,
@@ -146,7 +157,8 @@ fn adds_or_removes_profile<T: Tables>(
     edit: &Edit,
 ) -> Result<bool, StoreFault>
     ensures kept { IsKept T.is_sure T.represents T.may_leave tables.old tables.new }
-    ensures redefines { Answers (T.is_sure tables.new) (T.represents tables.old) result (λ s redefines. redefines ≡ adds_or_removes_profile s.policy edit.now) }
+    ensures redefines { Answers (T.is_sure tables.new) (T.represents tables.old) result
+        (λ s redefines. redefines ≡ adds_or_removes_profile s.policy edit.now) }
 {
     let Edit::PutProfile(profile) = edit else {
         return Ok(redefines(edit));
@@ -161,7 +173,8 @@ fn adds_or_removes_profile<T: Tables>(
 // it puts is there is one look-up by its key. A change without a profile asks nothing.
 fn invalidates<T: Tables>(tables: &mut T, alloc: Global, edits: &[Edit]) -> Result<bool, StoreFault>
     ensures kept { IsKept T.is_sure T.represents T.may_leave tables.old tables.new }
-    ensures redecides { Answers (T.is_sure tables.new) (T.represents tables.old) result (λ s redecides. redecides ≡ invalidates s.policy edits.now) }
+    ensures redecides { Answers (T.is_sure tables.new) (T.represents tables.old) result
+        (λ s redecides. redecides ≡ invalidates s.policy edits.now) }
 {
     match edits {
         [] => Ok(false),

@@ -59,7 +59,8 @@ impl DecidingCache {
 
     /// Keeps a name, in the place of the least recently used one where there are too many; not where memory is refused.
     pub(crate) fn put(&mut self, class: Class, resource: &Resource, pattern: Option<Pattern>)
-        ensures { (self.new ≡ self.old) ⊎ (self.new ≡ put_entries same_name (lru_cache self.old 256) (class, resource.now) pattern) }
+        ensures { (self.new ≡ self.old) ⊎
+            (self.new ≡ put_entries same_name (lru_cache self.old 256) (class, resource.now) pattern) }
     {
         let _refused = self.cache.put((class, *resource), pattern);
     }

@@ -43,12 +43,14 @@ both_err : {X Y : Type 0} (r : Result X Y) (P R Q : Y → Type 0) → ((y : Y) �
 both_err (Ok x) P R Q f p q = tt
 both_err (Err y) P R Q f p q = f y p q
 
-module _ {S : Type 0} (g : Ghosts S) (version : ℕ) (old asked : Held S) (live : IsLive (state g old)) (looks : (let r : Result ℕ Error = Ok version in Looks g old asked r)) where
+module _ {S : Type 0} (g : Ghosts S) (version : ℕ) (old asked : Held S) (live : IsLive (state g old))
+    (looks : (let r : Result ℕ Error = Ok version in Looks g old asked r)) where
   -- asked for its version, the database is what it was
   begun : HasCleanDisk (state g asked) → (v : Older) (s : State) → AreOldTablesOf v (state g old).now.trees s → RepresentsOld v (state g asked).now s
   begun clean v s are =
       let is_open = looks.opened clean in
-      subst (λ (d : Database). RepresentsOld v d s) (sym (looks.same clean is_open)) (found_old v (state g old).now s (live (looks.was_open clean is_open)).0 are)
+      subst (λ (d : Database). RepresentsOld v d s) (sym (looks.same clean is_open))
+      (found_old v (state g old).now s (live (looks.was_open clean is_open)).0 are)
 
   -- what a copy leaves
   abbrev Leaves : Held S → Type 0
@@ -58,41 +60,66 @@ module _ {S : Type 0} (g : Ghosts S) (version : ℕ) (old asked : Held S) (live 
   early new left clean = omega (arith, left.clean)
 
   module _ {E : Type 0} (r : Result (Held S) E) (fault : E → OpenFault) (conn : E → Held S) where
-    pub copied : IfOk r Leaves → IfOk r (λ store. HasCleanDisk (state g store) → (v : Older) → (s : State) → RepresentsOld v (state g asked).now s → Represents (state g store).now s)
-        → IfOk r (λ store. HasCleanDisk (state g store) → IsTrue (state g old).is_open → (v : Older) → (s : State) → AreOldTablesOf v (state g old).now.trees s → Represents (state g store).now s)
+    pub copied : IfOk r Leaves → IfOk r (λ store. HasCleanDisk (state g store) → (v : Older) → (s : State)
+        → RepresentsOld v (state g asked).now s → Represents (state g store).now s)
+        → IfOk r (λ store. HasCleanDisk (state g store) → IsTrue (state g old).is_open → (v : Older) → (s : State)
+        → AreOldTablesOf v (state g old).now.trees s → Represents (state g store).now s)
     copied = both_ok r Leaves _ _ (λ store left made clean is_open v s are. made clean v s (begun (early store left clean) v s are))
 
-    pub unharmed : IfErr r (λ e. Leaves (conn e)) → IfErr r (λ e. HasCleanDisk (state g (conn e)) → IsTrue (state g (conn e)).is_open → (state g (conn e)).now ≡ (state g asked).now)
-        → IfErr r (λ e. HasCleanDisk (state g (conn e)) → IsTrue (state g old).is_open → IsTrue (state g (conn e)).is_open → (state g (conn e)).now ≡ (state g old).now)
-    unharmed = both_err r (λ e. Leaves (conn e)) _ _ (λ e left same clean was_open is_open. let first = early (conn e) left clean in same clean is_open ∙ looks.same first (looks.opened first))
+    pub unharmed : IfErr r (λ e. Leaves (conn e))
+        → IfErr r (λ e. HasCleanDisk (state g (conn e)) → IsTrue (state g (conn e)).is_open
+        → (state g (conn e)).now ≡ (state g asked).now)
+        → IfErr r (λ e. HasCleanDisk (state g (conn e)) → IsTrue (state g old).is_open
+        → IsTrue (state g (conn e)).is_open → (state g (conn e)).now ≡ (state g old).now)
+    unharmed = both_err r (λ e. Leaves (conn e)) _ _
+        (λ e left same clean was_open is_open. let first = early (conn e) left clean in same clean is_open
+        ∙ looks.same first (looks.opened first))
 
-    pub unnamed : IsTrue (has_our_name (state g old).now.schema) → IfOk r (λ store. HasCleanDisk (state g store) → IsFalse (has_our_name (state g old).now.schema) → AreMadeOver g old (state g store).now.trees)
-    unnamed named = any_ok r (λ store. HasCleanDisk (state g store) → IsFalse (has_our_name (state g old).now.schema) → AreMadeOver g old (state g store).now.trees) (λ store clean none. absurd cc)
+    pub unnamed : IsTrue (has_our_name (state g old).now.schema)
+        → IfOk r (λ store. HasCleanDisk (state g store) → IsFalse (has_our_name (state g old).now.schema)
+        → AreMadeOver g old (state g store).now.trees)
+    unnamed named = any_ok r (λ store. HasCleanDisk (state g store) → IsFalse (has_our_name (state g old).now.schema)
+        → AreMadeOver g old (state g store).now.trees) (λ store clean none. absurd cc)
 
     module _ (older : IsOlder version) (names : HasCleanDisk (state g asked) → NamesVersion version (state g old) (state g asked)) where
       was_older : HasCleanDisk (state g asked) → WasOlder g (state g old)
       was_older clean = (asked, version, names clean, older)
 
       pub found : IfOk r Leaves → (HasCleanDisk (state g asked) → (s : State) → Represents (state g old).now s → version ≡ 3)
-          → IfOk r (λ store. HasCleanDisk (state g store) → IsTrue (state g old).is_open → (s : State) → AreTablesOf (state g old).now.trees s → Represents (state g store).now s)
+          → IfOk r (λ store. HasCleanDisk (state g store) → IsTrue (state g old).is_open → (s : State)
+          → AreTablesOf (state g old).now.trees s → Represents (state g store).now s)
       found left ours =
-          both_ok r Leaves Leaves (λ store. HasCleanDisk (state g store) → IsTrue (state g old).is_open → (s : State) → AreTablesOf (state g old).now.trees s → Represents (state g store).now s)
-          (λ store it _ clean is_open s alone. older_never version older (ours (early store it clean) s (found_again (state g old).now s (live is_open).0 alone))) left left
+          both_ok r Leaves Leaves (λ store. HasCleanDisk (state g store) → IsTrue (state g old).is_open → (s : State)
+          → AreTablesOf (state g old).now.trees s → Represents (state g store).now s)
+          (λ store it _ clean is_open s alone. older_never version older
+          (ours (early store it clean) s (found_again (state g old).now s (live is_open).0 alone))) left left
 
-      pub known : IfOk r Leaves → IfOk r (λ store. HasCleanDisk (state g store) → IsTrue (has_our_name (state g old).now.schema) → IsKnown g (state g old) (state g store))
+      pub known : IfOk r Leaves → IfOk r
+          (λ store. HasCleanDisk (state g store) → IsTrue (has_our_name (state g old).now.schema)
+          → IsKnown g (state g old) (state g store))
       known left =
-          both_ok r Leaves Leaves (λ store. HasCleanDisk (state g store) → IsTrue (has_our_name (state g old).now.schema) → IsKnown g (state g old) (state g store))
+          both_ok r Leaves Leaves (λ store. HasCleanDisk (state g store)
+          → IsTrue (has_our_name (state g old).now.schema) → IsKnown g (state g old) (state g store))
           (λ store it _ clean named. inr (was_older (early store it clean))) left left
 
       pub refused : IfErr r (λ e. Leaves (conn e)) → IfErr r (λ e. IsNoVersion (fault e))
-          → IfErr r (λ e. HasCleanDisk (state g (conn e)) → IsTrue (has_our_name (state g old).now.schema) → IsRefused g (fault e) (state g old) (state g (conn e)))
+          → IfErr r (λ e. HasCleanDisk (state g (conn e)) → IsTrue (has_our_name (state g old).now.schema)
+          → IsRefused g (fault e) (state g old) (state g (conn e)))
       refused =
-          both_err r (λ e. Leaves (conn e)) (λ e. IsNoVersion (fault e)) (λ e. HasCleanDisk (state g (conn e)) → IsTrue (has_our_name (state g old).now.schema) → IsRefused g (fault e) (state g old) (state g (conn e)))
-          (λ e left returned clean named. elim returned [ inl memory ↦ inr (inr (inl memory)) | inr store ↦ inr (inr (inr (store, was_older (early (conn e) left clean)))) ])
+          both_err r (λ e. Leaves (conn e)) (λ e. IsNoVersion (fault e))
+          (λ e. HasCleanDisk (state g (conn e)) → IsTrue (has_our_name (state g old).now.schema)
+          → IsRefused g (fault e) (state g old) (state g (conn e)))
+          (λ e left returned clean named. elim returned [
+            | inl memory ↦ inr (inr (inl memory))
+            | inr store ↦ inr
+                (inr (inr (store, was_older (early (conn e) left clean))))
+          ])
 
       crashes : IsTrue (has_our_name (state g old).now.schema) → (new : Held S) → Leaves new → Survives (state g old) (state g new) (MayLeave g old)
       crashes named new left =
-          survives_then (state g old) (state g asked) (state g new) (λ _. ⊥) (λ db. (v : Older) → (s : State) → RepresentsOld v (state g asked).now s → AreTablesOf db s) (MayLeave g old) (λ _ db none. absurd none)
+          survives_then (state g old) (state g asked) (state g new) (λ _. ⊥)
+          (λ db. (v : Older) → (s : State) → RepresentsOld v (state g asked).now s → AreTablesOf db s)
+          (MayLeave g old) (λ _ db none. absurd none)
           (λ clean db h. let first = early new left clean in inr (named, was_older first, λ v s are. h v s (begun first v s are))) looks.survives left
 
       pub crash : IsTrue (has_our_name (state g old).now.schema) → IfOk r Leaves → IfOk r (λ store. Survives (state g old) (state g store) (MayLeave g old))
@@ -102,5 +129,7 @@ module _ {S : Type 0} (g : Ghosts S) (version : ℕ) (old asked : Held S) (live 
       pub crash_at_fault : IsTrue (has_our_name (state g old).now.schema) → IfErr r (λ e. Leaves (conn e)) → IfErr r (λ e. IsNoVersion (fault e))
           → IfErr r (λ e. Survives (state g old) (state g (conn e)) (λ db. IsNoVersion (fault e) × MayLeave g old db))
       crash_at_fault named =
-          both_err r (λ e. Leaves (conn e)) (λ e. IsNoVersion (fault e)) (λ e. Survives (state g old) (state g (conn e)) (λ db. IsNoVersion (fault e) × MayLeave g old db))
-          (λ e left returned. survives_weaker (state g old) (state g (conn e)) (MayLeave g old) (λ db. IsNoVersion (fault e) × MayLeave g old db) (λ _ db h. (returned, h)) (crashes named (conn e) left))
+          both_err r (λ e. Leaves (conn e)) (λ e. IsNoVersion (fault e))
+          (λ e. Survives (state g old) (state g (conn e)) (λ db. IsNoVersion (fault e) × MayLeave g old db))
+          (λ e left returned. survives_weaker (state g old) (state g (conn e)) (MayLeave g old)
+          (λ db. IsNoVersion (fault e) × MayLeave g old db) (λ _ db h. (returned, h)) (crashes named (conn e) left))

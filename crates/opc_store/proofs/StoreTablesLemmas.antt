@@ -47,7 +47,8 @@ module _ {S : Type 0} (g : Ghosts S) where
       before s left (inr none) = absurd none
 
   -- what it found
-  pub found : {X E : Type 0} (P : State → X → Type 0) (a b : Held S) (r : Result X E) → Looks g a b r → (HasCleanDisk (state g b) → (s : State) → Represents (state g a).now s → IfOk r (P s))
+  pub found : {X E : Type 0} (P : State → X → Type 0) (a b : Held S) (r : Result X E) → Looks g a b r
+      → (HasCleanDisk (state g b) → (s : State) → Represents (state g a).now s → IfOk r (P s))
       → IsSure g b → (s : State) → RepresentsIfOpen g a s → IfOk r (P s)
   found P a b (Err e) h tells clean s was = tt
   found P a b (Ok x) h tells clean s was = tells clean s (was (h.was_open clean (h.opened clean)))
@@ -58,8 +59,11 @@ module _ {S : Type 0} (g : Ghosts S) where
   keyed a b (Ok x) h clean s was = let tables = was (h.was_open clean (h.opened clean)) in is_keyed s tables.ordered
 
   -- a load that gave a value leaves tables that are open, and represent the state
-  pub stands : {X E : Type 0} (x : X) (a b : Held S) → (let q : Result X E = Ok x in Looks g a b q) → IsSure g b → (s : State) → RepresentsIfOpen g a s → Represents (state g b).now s
-  stands x a b h clean s was = let is_open = h.opened clean in subst (λ (db : Database). Represents db s) (sym (h.same clean is_open)) (was (h.was_open clean is_open))
+  pub stands : {X E : Type 0} (x : X) (a b : Held S) → (let q : Result X E = Ok x in Looks g a b q) → IsSure g b
+      → (s : State) → RepresentsIfOpen g a s → Represents (state g b).now s
+  stands x a b h clean s was = let is_open =
+      h.opened clean in subst (λ (db : Database). Represents db s) (sym (h.same clean is_open))
+      (was (h.was_open clean is_open))
 
   -- a load that gave a value, and then a commit
   module _ {X Y E : Type 0} (x : X) (a b c : Held S) (change : Change) (r : Result Y E) (looks : let q : Result X E = Ok x in Looks g a b q) where
@@ -87,10 +91,14 @@ module _ {S : Type 0} (g : Ghosts S) where
         pub commit_fits : OnOk r (Becomes (changed_by change) (state g b).now (state g c).now) → OnOk r (Fits s → Fits (changed_by change s))
         commit_fits = on_ok_weaker r (λ becomes fits. fits_of (state g c).now (changed_by change s) (becomes s mid))
 
-        pub commit_failed : (IsTrue (state g c).is_open → OnErr r ((s : State) → Represents (state g b).now s → Represents (state g c).now s)) → OnErr r (RepresentsIfOpen g c s)
+        pub commit_failed : (IsTrue (state g c).is_open
+            → OnErr r ((s : State) → Represents (state g b).now s → Represents (state g c).now s))
+            → OnErr r (RepresentsIfOpen g c s)
         commit_failed h = on_err_weaker r (λ keeps is_open. keeps is_open s mid) (if_open _ _ r h)
 
-        pub commit_acknowledged : OnOk r ((db : Trees) → (state g c).may_leave db → (s : State) → Represents (state g b).now s → AreTablesOf db (changed_by change s))
+        pub commit_acknowledged : OnOk r
+            ((db : Trees) → (state g c).may_leave db → (s : State) → Represents (state g b).now s
+            → AreTablesOf db (changed_by change s))
             → OnOk r ((left : State) → MayLeave g c left → left ≡ changed_by change s)
         commit_acknowledged = on_ok_weaker r (λ returned left it. sym (it.3 (changed_by change s) (returned it.1 it.2 s mid)))
 

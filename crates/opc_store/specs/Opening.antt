@@ -1,5 +1,21 @@
 -- Why a database is not opened, and what a new file holds.
-use Rattle.std.specs.Prelude.{◌≡◌, ◌≢◌, ◌⊎◌, ℕ, Bool, true, false, [], Option, None, Result, IfErr, IfSome, IsTrue, IsFalse}
+use Rattle.std.specs.Prelude.{
+  ◌≡◌,
+  ◌≢◌,
+  ◌⊎◌,
+  ℕ,
+  Bool,
+  true,
+  false,
+  [],
+  Option,
+  None,
+  Result,
+  IfErr,
+  IfSome,
+  IsTrue,
+  IsFalse,
+}
 use Rattle.sqlite_disk.specs.declared.Disk as disk
 use Rattle.sqlite_disk.specs.declared.Files.{Files}
 use Rattle.sqlite_store.specs.declared.store.FileStore.{FileStore}
@@ -64,23 +80,27 @@ WasOlder {S} g old = (asked : Held S) × (version : ℕ) × NamesVersion version
 abbrev pub IsKnown : {S : Type 0} → Ghosts S → State → State → Type 0
 IsKnown g old new = NamesVersion 3 old new ⊎ WasOlder g old
 
--- Why a database with names of ours is not opened: its version is none that is known, or it cannot be asked for it, or it is out
--- of memory, or its tables are older and the copy fails.
+-- Why a database with names of ours is not opened: its version is none that is known, or it cannot be asked for it, or
+-- it is out of memory, or its tables are older and the copy fails.
 abbrev pub IsRefused : {S : Type 0} → Ghosts S → OpenFault → State → State → Type 0
 IsRefused g returned old new =
-    ((version : ℕ) × NamesVersion version old new × (¬ IsOlder version) × (version ≢ 3) × (returned ≡ fault.NotOurs version))
-    ⊎ (((error : Error) × FailsToQuery version_query [] old new error × (returned ≡ unasked error)) ⊎ ((returned ≡ fault.NoMemory) ⊎ ((returned ≡ fault.Store) × WasOlder g old)))
+    ((version : ℕ) × NamesVersion version old new × (¬ IsOlder version) × (version ≢ 3)
+    × (returned ≡ fault.NotOurs version))
+    ⊎ (((error : Error) × FailsToQuery version_query [] old new error × (returned ≡ unasked error))
+    ⊎ ((returned ≡ fault.NoMemory) ⊎ ((returned ≡ fault.Store) × WasOlder g old)))
 
 -- the fault says nothing of a version
 abbrev pub IsNoVersion : OpenFault → Type 0
 IsNoVersion returned = (returned ≡ fault.NoMemory) ⊎ (returned ≡ fault.Store)
 
--- What a crash may leave of an opening, besides what it might have left before: where no name is ours, the tables beside what was there, and
--- those of the empty state where nothing was defined; where the tables were older, those of the same state in this version.
+-- What a crash may leave of an opening, besides what it might have left before: where no name is ours, the tables
+-- beside what was there, and those of the empty state where nothing was defined; where the tables were older, those of
+-- the same state in this version.
 abbrev pub MayLeave : {S : Type 0} → Ghosts S → Held S → Trees → Type 0
 MayLeave g old db =
     (IsFalse (has_our_name old.schema) × AreMadeOver g old db × (old.schema ≡ no_schema → AreTablesOf db empty))
-    ⊎ (IsTrue (has_our_name old.schema) × WasOlder g (state g old) × ((version : Older) (s : TheState) → AreOldTablesOf version (state g old).now.trees s → AreTablesOf db s))
+    ⊎ (IsTrue (has_our_name old.schema) × WasOlder g (state g old)
+    × ((version : Older) (s : TheState) → AreOldTablesOf version (state g old).now.trees s → AreTablesOf db s))
 
 -- What the files held was opened, and a store adopted it.
 pub record Adopts {S : Type 0} (g : Ghosts S) (image : Image) (opened adopted : Held S) : Type 0 where
@@ -99,21 +119,25 @@ IsAdopted {D = D} {g = g} image store = (opened : Held (FileStore D g)) × Adopt
 abbrev pub LeavesItself : State → Type 0
 LeavesItself s = HasCleanDisk s → (db : Trees) → s.may_leave db → db ≡ s.now.trees
 
--- The files were not opened: the system refused them or is out of memory, and nothing is left; or `left` is what an opening that
--- meets this error leaves of `files`.
+-- The files were not opened: the system refused them or is out of memory, and nothing is left; or `left` is what an
+-- opening that meets this error leaves of `files`.
 abbrev pub FailsToOpen : {D : Type 0} (g : disk.Ghosts D) → (Bool → D → Type 0) → OpenFault → Type 0
 FailsToOpen {D} g is_fresh returned =
     (error : Error) × (rest : Option (Leftover D g)) × (returned ≡ open_fault error)
-    × (rest ≡ None → (error ≡ SqliteFailure CannotOpen) ⊎ ((error ≡ SqliteFailure OutOfMemory) ⊎ (error ≡ SqliteFailure DatabaseBusy)))
-    × IfSome rest (λ left. (files : Files D) × is_fresh true files.log × is_fresh false files.db × (IsCleanLeft left → FailsToOpenFiles files left error × LeavesFiles files left))
+    × (rest ≡ None → (error ≡ SqliteFailure CannotOpen)
+    ⊎ ((error ≡ SqliteFailure OutOfMemory) ⊎ (error ≡ SqliteFailure DatabaseBusy)))
+    × IfSome rest (λ left. (files : Files D) × is_fresh true files.log × is_fresh false files.db
+    × (IsCleanLeft left → FailsToOpenFiles files left error × LeavesFiles files left))
 
 -- What the files held was opened, and no store adopted it; `left` is the connection that was let go.
-pub record FailsToAdopt {S : Type 0} (g : Ghosts S) (image : Image) (returned : OpenFault) (opened left : Held S) : Type 0 where
+pub record FailsToAdopt {S : Type 0} (g : Ghosts S) (image : Image) (returned : OpenFault) (opened left : Held S) : Type
+    0 where
   pub opens : HasCleanDisk (state g left) → Opens (state g opened) × IsLive (state g opened)
   pub found : HasCleanDisk (state g left) → FindsIn image (state g opened)
   -- without a name of ours it would get the tables
   pub unmade : IsFalse (has_our_name (state g opened).now.schema) → IsNoVersion returned
-  pub refused : HasCleanDisk (state g left) → IsTrue (has_our_name (state g opened).now.schema) → IsRefused g returned (state g opened) (state g left)
+  pub refused : HasCleanDisk (state g left) → IsTrue (has_our_name (state g opened).now.schema)
+      → IsRefused g returned (state g opened) (state g left)
   pub unharmed : HasCleanDisk (state g left) → IsTrue (state g left).is_open → (state g left).now ≡ (state g opened).now
   -- where a version is told, a crash leaves what it would have left before the question
   pub survives : Survives (state g opened) (state g left) (λ db. IsNoVersion returned × MayLeave g opened db)
@@ -121,7 +145,9 @@ pub record FailsToAdopt {S : Type 0} (g : Ghosts S) (image : Image) (returned : 
 -- Why an opening at a path fails: the files are not opened, or what they held is not adopted.
 abbrev pub IsNotOpened : {D : Type 0} (g : disk.Ghosts D) → (Bool → D → Type 0) → Image → OpenFault → Type 0
 IsNotOpened {D} g is_fresh image returned =
-    FailsToOpen g is_fresh returned ⊎ ((opened : Held (FileStore D g)) × (left : Held (FileStore D g)) × FailsToAdopt over_files image returned opened left)
+    FailsToOpen g is_fresh returned ⊎ ((opened : Held (FileStore D g)) × (left : Held (FileStore D g))
+    × FailsToAdopt over_files image returned opened left)
 
-abbrev pub FailsAtPath : {D : Type 0} {g : disk.Ghosts D} → (Bool → D → Type 0) → Image → Result (Held (FileStore D g)) OpenFault → Type 0
+abbrev pub FailsAtPath : {D : Type 0} {g : disk.Ghosts D} → (Bool → D → Type 0) → Image
+    → Result (Held (FileStore D g)) OpenFault → Type 0
 FailsAtPath {g = g} is_fresh image result = IfErr result (IsNotOpened g is_fresh image)

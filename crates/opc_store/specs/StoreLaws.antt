@@ -1,5 +1,5 @@
--- What a crash leaves of tables, beneath the states that it may leave; what a store is as a source of profiles; and what closed
--- tables answer.
+-- What a crash leaves of tables, beneath the states that it may leave; what a store is as a source of profiles; and
+-- what closed tables answer.
 use Rattle.std.specs.Prelude.{◌≡◌, ◌≢◌, List, Result, IsErr}
 use Rattle.sqlite_trees.specs.declared.store.Store.{Ghosts}
 use Rattle.sqlite_trees.specs.Tree.{Trees}
@@ -13,7 +13,8 @@ use Rattle.opc_store.specs.Opening.{LeavesItself}
 use Rattle.opc_store.specs.StoreTables.{IsShut, IsSure, RepresentsIfOpen}
 
 module _ {S : Type 0} (g : Ghosts S) (may_leave : Held S → State → Type 0) where
-  -- Where a crash leaves one state alone, whatever trees it may leave are tables of that: none are of another state, or of none.
+  -- Where a crash leaves one state alone, whatever trees it may leave are tables of that: none are of another state, or
+  -- of none.
   abbrev pub LeavesTables : Type 0
   LeavesTables = (h : Held S) (s : State) → ((left : State) → may_leave h left → left ≡ s) → IsSure g h
       → (trees : Trees) → (state g h).may_leave trees → ¬ ¬ AreTablesOf trees s
@@ -23,9 +24,10 @@ module _ {S : Type 0} (g : Ghosts S) (may_leave : Held S → State → Type 0) w
   LeavesWhatIsThere = (h : Held S) (s : State) → LeavesItself (state g h) → Represents (state g h).now s
       → (left : State) → may_leave h left → left ≡ s
 
--- A source over tables may be asked at any time. It has the profiles of the state that they represent, and what it answers counts
--- where the disk returned what was written.
-pub record IsSourceOfState {S : Type 0} (g : Ghosts S) (has : Held S → List Profile → Type 0) (is_ready is_faithful : Held S → Type 0) : Type 0 where
+-- A source over tables may be asked at any time. It has the profiles of the state that they represent, and what it
+-- answers counts where the disk returned what was written.
+pub record IsSourceOfState {S : Type 0} (g : Ghosts S) (has : Held S → List Profile → Type 0)
+    (is_ready is_faithful : Held S → Type 0) : Type 0 where
   pub ready : (h : Held S) → is_ready h
   pub profiles : (h : Held S) (s : State) → Represents (state g h).now s → has h s.policy.profiles
   pub faithful : (h : Held S) → IsSure g h → is_faithful h
@@ -33,10 +35,12 @@ pub record IsSourceOfState {S : Type 0} (g : Ghosts S) (has : Held S → List Pr
 module _ {S : Type 0} (g : Ghosts S) where
   -- A load of closed tables answers a fault, and they stay closed: what it keeps says so,
   abbrev pub ShutTablesGiveNothing : (V E : Type 0) → Type 0
-  ShutTablesGiveNothing V E = (old new : Held S) (result : Result V E) → Looks g old new result → IsSure g new → IsShut g old → IsErr result × IsShut g new
+  ShutTablesGiveNothing V E = (old new : Held S) (result : Result V E) → Looks g old new result → IsSure g new
+      → IsShut g old → IsErr result × IsShut g new
 
   -- and so does what it answers, where two states differ in what is asked: closed tables count as those of both.
   abbrev pub ShutTablesTellNothing : (V W E : Type 0) → Type 0
   ShutTablesTellNothing V W E =
-      (old new : Held S) (result : Result V E) (part : V → W) (asked : State → W) → Answers (IsSure g new) (RepresentsIfOpen g old) result (λ s v. part v ≡ asked s)
+      (old new : Held S) (result : Result V E) (part : V → W) (asked : State → W)
+      → Answers (IsSure g new) (RepresentsIfOpen g old) result (λ s v. part v ≡ asked s)
       → IsSure g new → IsShut g old → (s t : State) → asked s ≢ asked t → IsErr result

@@ -1,6 +1,12 @@
-//! What a crash leaves of a store, what it is as a source of profiles, and what it answers once it is closed; each law as what a
-//! call without a body ensures.
-ghost use Rattle.opc_store.specs.StoreLaws.{IsSourceOfState, LeavesTables, LeavesWhatIsThere, ShutTablesGiveNothing, ShutTablesTellNothing};
+//! What a crash leaves of a store, what it is as a source of profiles, and what it answers once it is closed; each law
+//! as what a call without a body ensures.
+ghost use Rattle.opc_store.specs.StoreLaws.{
+  IsSourceOfState,
+  LeavesTables,
+  LeavesWhatIsThere,
+  ShutTablesGiveNothing,
+  ShutTablesTellNothing,
+};
 
 use crate::store::Store;
 use opc_policy::source::ProfileSource;
@@ -20,7 +26,8 @@ pub fn what_is_there_is_left_alone<S: Alter>()
 /// A store may be searched at any time: it has the profiles of the state that its tables represent, and what it answers
 /// counts where the disk returned what was written.
 pub fn a_store_has_the_profiles_of_its_state<S: Alter>()
-    ensures { IsSourceOfState S.Store ⟦<Store<S> as ProfileSource>⟧.has ⟦<Store<S> as ProfileSource>⟧.is_ready ⟦<Store<S> as ProfileSource>⟧.is_faithful }
+    ensures { IsSourceOfState S.Store ⟦<Store<S> as ProfileSource>⟧.has ⟦<Store<S> as ProfileSource>⟧.is_ready
+        ⟦<Store<S> as ProfileSource>⟧.is_faithful }
 {}
 
 /// Once a fault of the disk has closed the tables, each load answers a fault, and they stay closed.

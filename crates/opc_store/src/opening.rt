@@ -16,7 +16,18 @@ ghost use Rattle.opc_store_schema.specs.Making.{AreMadeOver};
 ghost use Rattle.opc_store_schema.specs.Represented.{Represents, AreTablesOf};
 ghost use Rattle.opc_store_schema.specs.Ours.{has_our_name};
 ghost use Rattle.opc_store_old_tables.specs.Old.{AreOldTablesOf, RepresentsOld};
-ghost use Rattle.opc_store.specs.Opening.{new_files, open_fault, unasked, IsKnown, IsAdopted, IsNoVersion, IsRefused, LeavesItself, MayLeave, FailsAtPath};
+ghost use Rattle.opc_store.specs.Opening.{
+  new_files,
+  open_fault,
+  unasked,
+  IsKnown,
+  IsAdopted,
+  IsNoVersion,
+  IsRefused,
+  LeavesItself,
+  MayLeave,
+  FailsAtPath,
+};
 ghost use Rattle.opc_store.specs.declared.opening.OpenFault.TheVariants as TheFault;
 
 use crate::store::Store;
@@ -97,11 +108,16 @@ impl<S: Alter> Store<S> {
     // Tables of version 1 or 2 become those of this version, of the same state.
     fn copied(alloc: Global, mut conn: Connection<S>) -> Result<Self, (OpenFault, Connection<S>)>
         requires { conn.in_transaction ≡ false }
-        ensures copied { IfOk result (λ store. HasCleanDisk (state S.Store store) → (version : _) → (s : _) → RepresentsOld version (state S.Store conn).now s → Represents (state S.Store store).now s) }
-        ensures unharmed { IfErr result (λ e. HasCleanDisk (state S.Store e.1) → IsTrue (state S.Store e.1).is_open → (state S.Store e.1).now ≡ (state S.Store conn).now) }
+        ensures copied { IfOk result (λ store. HasCleanDisk (state S.Store store) → (version : _) → (s : _)
+            → RepresentsOld version (state S.Store conn).now s → Represents (state S.Store store).now s) }
+        ensures unharmed { IfErr result (λ e. HasCleanDisk (state S.Store e.1) → IsTrue (state S.Store e.1).is_open
+            → (state S.Store e.1).now ≡ (state S.Store conn).now) }
         ensures returned { IfErr result (λ e. IsNoVersion e.0) }
-        ensures crash { IfOk result (λ store. Survives (state S.Store conn) (state S.Store store) (λ db. (version : _) → (s : _) → RepresentsOld version (state S.Store conn).now s → AreTablesOf db s)) }
-        ensures crash_at_fault { IfErr result (λ e. Survives (state S.Store conn) (state S.Store e.1) (λ db. (version : _) → (s : _) → RepresentsOld version (state S.Store conn).now s → AreTablesOf db s)) }
+        ensures crash { IfOk result (λ store. Survives (state S.Store conn) (state S.Store store)
+            (λ db. (version : _) → (s : _) → RepresentsOld version (state S.Store conn).now s → AreTablesOf db s)) }
+        ensures crash_at_fault { IfErr result
+            (λ e. Survives (state S.Store conn) (state S.Store e.1)
+            (λ db. (version : _) → (s : _) → RepresentsOld version (state S.Store conn).now s → AreTablesOf db s)) }
         ensures outside { IfErr result (λ e. e.1.in_transaction ≡ false) }
         ensures settled { IfOk result (λ store. LeavesItself (state S.Store store)) }
     {
@@ -112,23 +128,34 @@ impl<S: Alter> Store<S> {
     }
 
     /// Adopts a connection. A database without a table or an index of our names gets the tables, in one transaction.
-    /// One with such a name has tables of this version; or they are of version 1 or 2, and are copied to this version, in
-    /// one transaction; or it is `NotOurs`, with the version that it names, or with 0. A fault hands the connection back.
+    /// One with such a name has tables of this version; or they are of version 1 or 2, and are copied to this version,
+    /// in one transaction; or it is `NotOurs`, with the version that it names, or with 0. A fault hands the connection
+    /// back.
     pub fn open_files(
         alloc: Global,
         mut conn: Connection<S>,
     ) -> Result<Self, (OpenFault, Connection<S>)>
         requires { conn.in_transaction ≡ false }
-        ensures found { IfOk result (λ store. HasCleanDisk (state S.Store store) → IsTrue (state S.Store conn).is_open → (s : _) → AreTablesOf (state S.Store conn).now.trees s → Represents (state S.Store store).now s) }
-        ensures copied { IfOk result (λ store. HasCleanDisk (state S.Store store) → IsTrue (state S.Store conn).is_open → (version : _) → (s : _) → AreOldTablesOf version (state S.Store conn).now.trees s → Represents (state S.Store store).now s) }
-        ensures ours { IfOk result (λ store. HasCleanDisk (state S.Store store) → IsTrue (has_our_name conn.schema) → IsKnown S.Store (state S.Store conn) (state S.Store store)) }
-        ensures refused { IfErr result (λ e. HasCleanDisk (state S.Store e.1) → IsTrue (has_our_name conn.schema) → IsRefused S.Store e.0 (state S.Store conn) (state S.Store e.1)) }
-        ensures unmade { IfErr result (λ e. IsFalse (has_our_name conn.schema) → (e.0 ≡ TheFault.NoMemory) ⊎ (e.0 ≡ TheFault.Store)) }
-        ensures unnamed { IfOk result (λ store. HasCleanDisk (state S.Store store) → IsFalse (has_our_name conn.schema) → AreMadeOver S.Store conn (state S.Store store).now.trees) }
-        ensures made { IfOk result (λ store. HasCleanDisk (state S.Store store) → (state S.Store conn).now.schema ≡ no_schema → Represents (state S.Store store).now empty) }
-        ensures unharmed { IfErr result (λ e. HasCleanDisk (state S.Store e.1) → IsTrue (state S.Store conn).is_open → IsTrue (state S.Store e.1).is_open → (state S.Store e.1).now ≡ (state S.Store conn).now) }
+        ensures found { IfOk result (λ store. HasCleanDisk (state S.Store store) → IsTrue (state S.Store conn).is_open
+            → (s : _) → AreTablesOf (state S.Store conn).now.trees s → Represents (state S.Store store).now s) }
+        ensures copied { IfOk result (λ store. HasCleanDisk (state S.Store store) → IsTrue (state S.Store conn).is_open
+            → (version : _) → (s : _) → AreOldTablesOf version (state S.Store conn).now.trees s
+            → Represents (state S.Store store).now s) }
+        ensures ours { IfOk result (λ store. HasCleanDisk (state S.Store store) → IsTrue (has_our_name conn.schema)
+            → IsKnown S.Store (state S.Store conn) (state S.Store store)) }
+        ensures refused { IfErr result (λ e. HasCleanDisk (state S.Store e.1) → IsTrue (has_our_name conn.schema)
+            → IsRefused S.Store e.0 (state S.Store conn) (state S.Store e.1)) }
+        ensures unmade { IfErr result (λ e. IsFalse (has_our_name conn.schema) → (e.0 ≡ TheFault.NoMemory)
+            ⊎ (e.0 ≡ TheFault.Store)) }
+        ensures unnamed { IfOk result (λ store. HasCleanDisk (state S.Store store) → IsFalse (has_our_name conn.schema)
+            → AreMadeOver S.Store conn (state S.Store store).now.trees) }
+        ensures made { IfOk result (λ store. HasCleanDisk (state S.Store store)
+            → (state S.Store conn).now.schema ≡ no_schema → Represents (state S.Store store).now empty) }
+        ensures unharmed { IfErr result (λ e. HasCleanDisk (state S.Store e.1) → IsTrue (state S.Store conn).is_open
+            → IsTrue (state S.Store e.1).is_open → (state S.Store e.1).now ≡ (state S.Store conn).now) }
         ensures crash { IfOk result (λ store. Survives (state S.Store conn) (state S.Store store) (MayLeave S.Store conn)) }
-        ensures crash_at_fault { IfErr result (λ e. Survives (state S.Store conn) (state S.Store e.1) (λ db. IsNoVersion e.0 × MayLeave S.Store conn db)) }
+        ensures crash_at_fault { IfErr result
+            (λ e. Survives (state S.Store conn) (state S.Store e.1) (λ db. IsNoVersion e.0 × MayLeave S.Store conn db)) }
         ensures outside { IfErr result (λ e. e.1.in_transaction ≡ false) }
         ensures settled { IfOk result (λ store. LeavesItself (state S.Store store)) }
     {
@@ -156,9 +183,14 @@ impl<S: Start> Store<FileStore<FileFrom<S>>> {
     /// files hold, and says what a torn write may leave. After a fault the files were not opened, or what they held was
     /// not adopted and a crash may leave what `open_files` says. `NotOurs` is told only of what was opened.
     pub fn open_at(rt: &HostRuntime, path: &str, start: S) -> Result<Self, OpenFault>
-        ensures found { IfOk result (λ store. HasCleanDisk (file_state store) → (db : Trees) → HoldsDatabase (image_at S.Start) db → (s : _) → AreTablesOf db s → Represents (file_state store).now s) }
-        ensures copied { IfOk result (λ store. HasCleanDisk (file_state store) → (db : Trees) → HoldsDatabase (image_at S.Start) db → (version : _) → (s : _) → AreOldTablesOf version db s → Represents (file_state store).now s) }
-        ensures made { IfOk result (λ store. HasCleanDisk (file_state store) → (trees : Trees) × AreFoundIn (image_at S.Start) trees × (Lists (trees catalog_tree) no_schema → Represents (file_state store).now empty)) }
+        ensures found { IfOk result (λ store. HasCleanDisk (file_state store) → (db : Trees)
+            → HoldsDatabase (image_at S.Start) db → (s : _) → AreTablesOf db s → Represents (file_state store).now s) }
+        ensures copied { IfOk result (λ store. HasCleanDisk (file_state store) → (db : Trees)
+            → HoldsDatabase (image_at S.Start) db → (version : _) → (s : _) → AreOldTablesOf version db s
+            → Represents (file_state store).now s) }
+        ensures made { IfOk result (λ store. HasCleanDisk (file_state store) → (trees : Trees)
+            × AreFoundIn (image_at S.Start) trees
+            × (Lists (trees catalog_tree) no_schema → Represents (file_state store).now empty)) }
         ensures settled { IfOk result (λ store. LeavesItself (file_state store)) }
         ensures adopted { IfOk result (λ store. HasCleanDisk (file_state store) → IsAdopted (image_at S.Start) store) }
         ensures failed { FailsAtPath IsFresh (image_at S.Start) result }
@@ -179,9 +211,14 @@ impl Store<FileStore<FileFrom<Wary>>> {
     /// The clauses speak of a file that is new, for which `Wary` stands; what is found in one that is not, `open_at`
     /// says, for any contents.
     pub fn open_from(rt: &HostRuntime, path: &str) -> Result<Self, OpenFault>
-        ensures found { IfOk result (λ store. HasCleanDisk (file_state store) → (db : Trees) → HoldsDatabase new_files db → (s : _) → AreTablesOf db s → Represents (file_state store).now s) }
-        ensures copied { IfOk result (λ store. HasCleanDisk (file_state store) → (db : Trees) → HoldsDatabase new_files db → (version : _) → (s : _) → AreOldTablesOf version db s → Represents (file_state store).now s) }
-        ensures made { IfOk result (λ store. HasCleanDisk (file_state store) → (trees : Trees) × AreFoundIn new_files trees × (Lists (trees catalog_tree) no_schema → Represents (file_state store).now empty)) }
+        ensures found { IfOk result (λ store. HasCleanDisk (file_state store) → (db : Trees)
+            → HoldsDatabase new_files db → (s : _) → AreTablesOf db s → Represents (file_state store).now s) }
+        ensures copied { IfOk result (λ store. HasCleanDisk (file_state store) → (db : Trees)
+            → HoldsDatabase new_files db → (version : _) → (s : _) → AreOldTablesOf version db s
+            → Represents (file_state store).now s) }
+        ensures made { IfOk result (λ store. HasCleanDisk (file_state store) → (trees : Trees)
+            × AreFoundIn new_files trees
+            × (Lists (trees catalog_tree) no_schema → Represents (file_state store).now empty)) }
         ensures settled { IfOk result (λ store. LeavesItself (file_state store)) }
         ensures adopted { IfOk result (λ store. HasCleanDisk (file_state store) → IsAdopted new_files store) }
         ensures failed { FailsAtPath IsFresh new_files result }
@@ -204,7 +241,8 @@ impl<D: Disk + Drop> Store<FileStore<D>> {
 
     /// Closes the store and opens its files again: they represent the state that was committed last.
     pub fn reopen(self, alloc: Global, options: Options) -> Option<Self>
-        ensures { IfSome result (λ again. HasCleanDisk (file_state again) → (s : _) → Represents (file_state self).committed s → Represents (file_state again).now s) }
+        ensures { IfSome result (λ again. HasCleanDisk (file_state again) → (s : _)
+            → Represents (file_state self).committed s → Represents (file_state again).now s) }
     {
         let Ok(files) = self.close() else {
             return None;

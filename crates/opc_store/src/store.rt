@@ -117,7 +117,8 @@ impl<S: Alter> Store<S> {
         class: Class,
         pattern: &Pattern,
     ) -> Result<Option<Profile>, StoreFault>
-        ensures found { Finds S.Store self.old self.new result (λ s v. v ≡ profile_of s.policy.profiles class pattern.now) }
+        ensures found { Finds S.Store self.old self.new result
+            (λ s v. v ≡ profile_of s.policy.profiles class pattern.now) }
         ensures keeps { Looks S.Store self.old self.new result }
     {
         profile_at(alloc, &mut self.conn, class, pattern)
@@ -161,7 +162,8 @@ impl<S: Alter> Store<S> {
         profiles_of_on(alloc, &mut self.conn, class)
     }
 
-    /// The first profile of a class that covers a resource, in the order of the patterns, and how many were read for it.
+    /// The first profile of a class that covers a resource, in the order of the patterns, and how many were read for
+    /// it.
     pub fn first(
         &mut self,
         alloc: Global,

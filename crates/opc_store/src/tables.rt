@@ -59,16 +59,21 @@ impl<S: Alter> Store<S> {
         }
     }
 
-    /// Writes all of a change, or nothing, as the gate asks it of tables. Those that a fault of the disk has closed take
-    /// none.
+    /// Writes all of a change, or nothing, as the gate asks it of tables. Those that a fault of the disk has closed
+    /// take none.
     pub fn commit(&mut self, alloc: Global, change: &Change) -> Result<(), StoreFault>
         ensures open { IsSure S.Store self.new → OnOk result (IsTrue (state S.Store self.old).is_open) }
         ensures sure { IsSure S.Store self.new → IsSure S.Store self.old }
-        ensures done { IsSure S.Store self.new → (s : State) → RepresentsIfOpen S.Store self.old s → OnOk result (RepresentsIfOpen S.Store self.new (changed_by change.now s)) }
-        ensures fits { IsSure S.Store self.new → (s : State) → RepresentsIfOpen S.Store self.old s → OnOk result (Fits s → Fits (changed_by change.now s)) }
-        ensures failed { IsSure S.Store self.new → (s : State) → RepresentsIfOpen S.Store self.old s → OnErr result (RepresentsIfOpen S.Store self.new s) }
-        ensures acknowledged { IsSure S.Store self.new → (s : State) → RepresentsIfOpen S.Store self.old s → OnOk result ((left : State) → MayLeave S.Store self.new left → left ≡ changed_by change.now s) }
-        ensures crash { IsSure S.Store self.new → (s : State) → RepresentsIfOpen S.Store self.old s → (left : State) → MayLeave S.Store self.new left → MayLeave S.Store self.old left ⊎ (left ≡ changed_by change.now s) }
+        ensures done { IsSure S.Store self.new → (s : State) → RepresentsIfOpen S.Store self.old s
+            → OnOk result (RepresentsIfOpen S.Store self.new (changed_by change.now s)) }
+        ensures fits { IsSure S.Store self.new → (s : State) → RepresentsIfOpen S.Store self.old s
+            → OnOk result (Fits s → Fits (changed_by change.now s)) }
+        ensures failed { IsSure S.Store self.new → (s : State) → RepresentsIfOpen S.Store self.old s
+            → OnErr result (RepresentsIfOpen S.Store self.new s) }
+        ensures acknowledged { IsSure S.Store self.new → (s : State) → RepresentsIfOpen S.Store self.old s
+            → OnOk result ((left : State) → MayLeave S.Store self.new left → left ≡ changed_by change.now s) }
+        ensures crash { IsSure S.Store self.new → (s : State) → RepresentsIfOpen S.Store self.old s → (left : State)
+            → MayLeave S.Store self.new left → MayLeave S.Store self.old left ⊎ (left ≡ changed_by change.now s) }
     {
         self.see_open()?;
         commit_on(alloc, &mut self.conn, change)

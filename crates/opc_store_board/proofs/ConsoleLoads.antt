@@ -31,15 +31,24 @@ use Rattle.opc_store_board.proofs.Holders.{equals_holder, the_holder}
 -- ---- all of them
 
 abbrev pub consoles : Asked
-consoles = record { schema = the_schema; text = codes "SELECT name, auth, mode, online, usr, monitor FROM consoles ORDER BY name"; tree = consoles_at.tree; tests = []; project = columns 1 6; order = by_columns 1 1 }
+consoles = record {
+  schema = the_schema;
+  text = codes "SELECT name, auth, mode, online, usr, monitor FROM consoles ORDER BY name";
+  tree = consoles_at.tree;
+  tests = [];
+  project = columns 1 6;
+  order = by_columns 1 1;
+}
 
 pub consoles_asked : IsAsked consoles
 unfolding understood everything
 consoles_asked = record { selects = refl; unlisted = refl; plain = (refl, refl); shows = λ schema base. refl }
 
-pub consoles_told : (old new : SqlState) (s : State) → Represents old.now s → (rows : List Row) → Shown consoles.text [] old new rows → rows ≡ map console_row s.board.consoles
+pub consoles_told : (old new : SqlState) (s : State) → Represents old.now s → (rows : List Row)
+    → Shown consoles.text [] old new rows → rows ≡ map console_row s.board.consoles
 consoles_told old new s was =
-    told_all consoles [] refl console_row console_cmp (λ _. refl) (λ x y h. rw (value_cmp-Text x.name y.name, h)) (λ _. refl) consoles_asked old new was.rows.schema s.board.consoles was.ordered.consoles was.rows.holds.consoles
+    told_all consoles [] refl console_row console_cmp (λ _. refl) (λ x y h. rw (value_cmp-Text x.name y.name, h))
+    (λ _. refl) consoles_asked old new was.rows.schema s.board.consoles was.ordered.consoles was.rows.holds.consoles
 
 -- ---- that of a name
 
@@ -50,9 +59,14 @@ pub console_asked : IsAsked console
 unfolding understood everything
 console_asked = record { selects = refl; unlisted = refl; plain = (refl, refl); shows = λ schema base. refl }
 
-pub console_told : (old new : SqlState) (s : State) → Represents old.now s → (name : List ℕ) (rows : List Row) → Shown console.text (Text name ∷ []) old new rows → rows ≡ map console_row (filter (λ (c : ConsoleRow). bytes_eq c.name name) s.board.consoles)
+pub console_told : (old new : SqlState) (s : State) → Represents old.now s → (name : List ℕ) (rows : List Row)
+    → Shown console.text (Text name ∷ []) old new rows
+    → rows ≡ map console_row (filter (λ (c : ConsoleRow). bytes_eq c.name name) s.board.consoles)
 console_told old new s was name =
-    told console (Text name ∷ []) refl console_row console_cmp (λ _. refl) (λ x y h. rw (value_cmp-Text x.name y.name, h)) (λ c. bytes_eq c.name name) (λ c. and_true _ ∙ same_texts c.name name) console_asked old new was.rows.schema s.board.consoles was.ordered.consoles was.rows.holds.consoles
+    told console (Text name ∷ []) refl console_row console_cmp (λ _. refl)
+    (λ x y h. rw (value_cmp-Text x.name y.name, h)) (λ c. bytes_eq c.name name)
+    (λ c. and_true _ ∙ same_texts c.name name) console_asked old new was.rows.schema s.board.consoles
+    was.ordered.consoles was.rows.holds.consoles
 
 -- ---- those where a user is on
 
@@ -71,9 +85,11 @@ consoles_of_asked = record { selects = refl; unlisted = refl; plain = (refl, ref
 abbrev with_user : List ℕ → ConsoleRow → Row
 with_user user c = console_row (record c { user = Some user })
 
-pub consoles_of_told : (old new : SqlState) (s : State) → Represents old.now s → (user : List ℕ) (rows : List Row) → Shown consoles_of.text (Text user ∷ []) old new rows → rows ≡ map console_row (consoles_of_user s.board user)
+pub consoles_of_told : (old new : SqlState) (s : State) → Represents old.now s → (user : List ℕ) (rows : List Row)
+    → Shown consoles_of.text (Text user ∷ []) old new rows → rows ≡ map console_row (consoles_of_user s.board user)
 consoles_of_told old new s was user rows h =
     told_fixed consoles_of (Text user ∷ []) refl console_row (with_user user) console_cmp (λ _. refl)
     (λ x y h. rw (value_cmp-Text user user, tied_itself text_total user, value_cmp-Text x.name y.name, h))
-    (λ c. is_holder user c.user) (λ c. and_true _ ∙ equals_holder user c.user) (λ c h. ap (λ (u : Option (List ℕ)). console_row (record c { user = u })) (the_holder user c.user h))
+    (λ c. is_holder user c.user) (λ c. and_true _ ∙ equals_holder user c.user)
+    (λ c h. ap (λ (u : Option (List ℕ)). console_row (record c { user = u })) (the_holder user c.user h))
     old new was.rows.schema s.board.consoles was.ordered.consoles was.rows.holds.consoles rows h consoles_of_asked

@@ -63,18 +63,22 @@ keyed = record {
   picks = λ x y. and_true _ ∙ equal_texts y.name x.name;
 }
 
-pub console_put : {S : Type 0} (g : Ghosts S) (old new : Held S) (s : State) → Represents (state g old).now s → (console : ConsoleRow) → Puts g consoles.update consoles.insert (console_row console) old new
+pub console_put : {S : Type 0} (g : Ghosts S) (old new : Held S) (s : State) → Represents (state g old).now s
+    → (console : ConsoleRow) → Puts g consoles.update consoles.insert (console_row console) old new
     → Represents (state g new).now (with_consoles (with_console console s.board.consoles) s)
 console_put g old new s was console h =
     let it = puts g consoles keyed old new was.rows.schema s.board.consoles was.ordered.consoles was.rows.holds.consoles console h in
     record { ordered = with_console_ordered s was.ordered console; rows = spares_consoles _ _ _ was.rows it.spares _ it.rows }
 
-pub console_removed : (old new : SqlState) (count : ℕ) (s : State) → Represents old.now s → (name : List ℕ) → Executes consoles.delete (Text name ∷ []) old new (Ok count)
+pub console_removed : (old new : SqlState) (count : ℕ) (s : State) → Represents old.now s → (name : List ℕ)
+    → Executes consoles.delete (Text name ∷ []) old new (Ok count)
     → Represents new.now (with_consoles (without_console name s.board.consoles) s)
 console_removed old new count s was name h =
     let console : ConsoleRow = record { name = name; auth = Info; mode = Optional; online = false; user = None; monitor = false } in
     let it = removes consoles keyed console old new count was.rows.schema s.board.consoles was.ordered.consoles was.rows.holds.consoles h in
     record {
       ordered = without_console_ordered s was.ordered name;
-      rows = subst (λ (l : List ConsoleRow). Tabulates new.now (with_consoles l s)) (filter_same _ _ (λ x. ap not (is_eq-slice_cmp x.name name)) s.board.consoles) (spares_consoles _ _ _ was.rows it.spares _ it.rows);
+      rows = subst (λ (l : List ConsoleRow). Tabulates new.now (with_consoles l s))
+          (filter_same _ _ (λ x. ap not (is_eq-slice_cmp x.name name)) s.board.consoles)
+          (spares_consoles _ _ _ was.rows it.spares _ it.rows);
     }

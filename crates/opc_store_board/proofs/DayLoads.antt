@@ -11,7 +11,14 @@ use Rattle.opc_store_schema.specs.Tables.{the_schema}
 use Rattle.opc_store_schema.specs.Represented.{Represents, flag, halted_row}
 
 abbrev pub day : Asked
-day = record { schema = the_schema; text = codes "SELECT halted FROM board ORDER BY halted"; tree = board_at.tree; tests = []; project = columns 1 1; order = by_columns 1 1 }
+day = record {
+  schema = the_schema;
+  text = codes "SELECT halted FROM board ORDER BY halted";
+  tree = board_at.tree;
+  tests = [];
+  project = columns 1 1;
+  order = by_columns 1 1;
+}
 
 pub day_asked : IsAsked day
 unfolding understood everything
@@ -20,5 +27,7 @@ day_asked = record { selects = refl; unlisted = refl; plain = (refl, refl); show
 abbrev halted_cmp : Bool → Bool → Ordering
 halted_cmp x y = value_cmp (flag x) (flag y)
 
-pub day_told : (old new : SqlState) (s : State) → Represents old.now s → (rows : List Row) → Shown day.text [] old new rows → rows ≡ map halted_row (s.board.halted ∷ [])
-day_told old new s was = told_all day [] refl halted_row halted_cmp (λ _. refl) (λ x y h. rw h) (λ _. refl) day_asked old new was.rows.schema (s.board.halted ∷ []) (tt, tt) was.rows.holds.board
+pub day_told : (old new : SqlState) (s : State) → Represents old.now s → (rows : List Row)
+    → Shown day.text [] old new rows → rows ≡ map halted_row (s.board.halted ∷ [])
+day_told old new s was = told_all day [] refl halted_row halted_cmp (λ _. refl) (λ x y h. rw h) (λ _. refl) day_asked
+    old new was.rows.schema (s.board.halted ∷ []) (tt, tt) was.rows.holds.board

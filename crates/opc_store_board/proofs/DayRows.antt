@@ -43,11 +43,17 @@ idle_board : (olds news : List Row) → works the_schema Enforced 0 board_at.tre
 unfolding same_name joined
 idle_board olds news = go (length news == 0)
   where
-    go : (b : Bool) → flat_map (λ (child : Table). filter_map (λ (ref : Reference). work_by 0 board_at.tree (pairs olds news) child ref (deed_for Enforced b ref) (parent_key the_schema.tables ref)) child.references) the_schema.tables ≡ []
+    go : (b : Bool)
+        → flat_map (λ (child : Table). filter_map
+        (λ (ref : Reference). work_by 0 board_at.tree (pairs olds news) child ref (deed_for Enforced b ref)
+        (parent_key the_schema.tables ref)) child.references) the_schema.tables ≡ []
     go true = refl
     go false = refl
 
-pub sets_halted : (old new : SqlState) (count : ℕ) (s : State) → Tabulates old.now s → (halted : Bool) → Executes update_halted (halted_row halted) old new (Ok count) → Tabulates new.now (with_halted halted s)
+pub sets_halted : (old new : SqlState) (count : ℕ) (s : State) → Tabulates old.now s → (halted : Bool)
+    → Executes update_halted (halted_row halted) old new (Ok count) → Tabulates new.now (with_halted halted s)
 sets_halted old new count s was halted h =
-    let it = sets the_schema update_halted 9 board_at (halted_row halted) set_plain refl old new was.schema count [] (λ _. true) one set_is (λ r. refl) (halted_row halted) (λ r. ap₂ (λ a (l : Row). a ∷ l) (cast_int _) refl) idle_board h in
+    let it = sets the_schema update_halted 9 board_at (halted_row halted) set_plain refl old new was.schema count []
+    (λ _. true) one set_is (λ r. refl) (halted_row halted) (λ r. ap₂ (λ a (l : Row). a ∷ l) (cast_int _) refl)
+    idle_board h in
     with_board (contents_of s) old.now new.now was it.spares _ (it.rows (halted_row s.board.halted ∷ []) was.holds.board)

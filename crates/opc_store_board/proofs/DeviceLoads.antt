@@ -31,15 +31,24 @@ use Rattle.opc_store_board.proofs.Holders.{equals_holder, the_holder}
 -- ---- all of them
 
 abbrev pub devices : Asked
-devices = record { schema = the_schema; text = codes "SELECT number, online, volume, unit FROM devices ORDER BY number"; tree = devices_at.tree; tests = []; project = columns 1 4; order = by_columns 1 1 }
+devices = record {
+  schema = the_schema;
+  text = codes "SELECT number, online, volume, unit FROM devices ORDER BY number";
+  tree = devices_at.tree;
+  tests = [];
+  project = columns 1 4;
+  order = by_columns 1 1;
+}
 
 pub devices_asked : IsAsked devices
 unfolding understood everything
 devices_asked = record { selects = refl; unlisted = refl; plain = (refl, refl); shows = λ schema base. refl }
 
-pub devices_told : (old new : SqlState) (s : State) → Represents old.now s → (rows : List Row) → Shown devices.text [] old new rows → rows ≡ map device_row s.board.devices
+pub devices_told : (old new : SqlState) (s : State) → Represents old.now s → (rows : List Row)
+    → Shown devices.text [] old new rows → rows ≡ map device_row s.board.devices
 devices_told old new s was =
-    told_all devices [] refl device_row device_cmp (λ _. refl) (λ x y h. rw (value_cmp-Text x.number y.number, h)) (λ _. refl) devices_asked old new was.rows.schema s.board.devices was.ordered.devices was.rows.holds.devices
+    told_all devices [] refl device_row device_cmp (λ _. refl) (λ x y h. rw (value_cmp-Text x.number y.number, h))
+    (λ _. refl) devices_asked old new was.rows.schema s.board.devices was.ordered.devices was.rows.holds.devices
 
 -- ---- that of a number
 
@@ -50,9 +59,14 @@ pub device_asked : IsAsked device
 unfolding understood everything
 device_asked = record { selects = refl; unlisted = refl; plain = (refl, refl); shows = λ schema base. refl }
 
-pub device_told : (old new : SqlState) (s : State) → Represents old.now s → (number : List ℕ) (rows : List Row) → Shown device.text (Text number ∷ []) old new rows → rows ≡ map device_row (filter (λ (d : DeviceRow). bytes_eq d.number number) s.board.devices)
+pub device_told : (old new : SqlState) (s : State) → Represents old.now s → (number : List ℕ) (rows : List Row)
+    → Shown device.text (Text number ∷ []) old new rows
+    → rows ≡ map device_row (filter (λ (d : DeviceRow). bytes_eq d.number number) s.board.devices)
 device_told old new s was number =
-    told device (Text number ∷ []) refl device_row device_cmp (λ _. refl) (λ x y h. rw (value_cmp-Text x.number y.number, h)) (λ d. bytes_eq d.number number) (λ d. and_true _ ∙ same_texts d.number number) device_asked old new was.rows.schema s.board.devices was.ordered.devices was.rows.holds.devices
+    told device (Text number ∷ []) refl device_row device_cmp (λ _. refl)
+    (λ x y h. rw (value_cmp-Text x.number y.number, h)) (λ d. bytes_eq d.number number)
+    (λ d. and_true _ ∙ same_texts d.number number) device_asked old new was.rows.schema s.board.devices
+    was.ordered.devices was.rows.holds.devices
 
 -- ---- those that a unit has
 
@@ -71,9 +85,11 @@ devices_of_asked = record { selects = refl; unlisted = refl; plain = (refl, refl
 abbrev held : List ℕ → DeviceRow → Row
 held unit d = device_row (record d { unit = Some unit })
 
-pub devices_of_told : (old new : SqlState) (s : State) → Represents old.now s → (unit : List ℕ) (rows : List Row) → Shown devices_of.text (Text unit ∷ []) old new rows → rows ≡ map device_row (devices_of_unit s.board unit)
+pub devices_of_told : (old new : SqlState) (s : State) → Represents old.now s → (unit : List ℕ) (rows : List Row)
+    → Shown devices_of.text (Text unit ∷ []) old new rows → rows ≡ map device_row (devices_of_unit s.board unit)
 devices_of_told old new s was unit rows h =
     told_fixed devices_of (Text unit ∷ []) refl device_row (held unit) device_cmp (λ _. refl)
     (λ x y h. rw (value_cmp-Text unit unit, tied_itself text_total unit, value_cmp-Text x.number y.number, h))
-    (λ d. is_holder unit d.unit) (λ d. and_true _ ∙ equals_holder unit d.unit) (λ d h. ap (λ (u : Option (List ℕ)). device_row (record d { unit = u })) (the_holder unit d.unit h))
+    (λ d. is_holder unit d.unit) (λ d. and_true _ ∙ equals_holder unit d.unit)
+    (λ d h. ap (λ (u : Option (List ℕ)). device_row (record d { unit = u })) (the_holder unit d.unit h))
     old new was.rows.schema s.board.devices was.ordered.devices was.rows.holds.devices rows h devices_of_asked

@@ -61,18 +61,22 @@ keyed = record {
   picks = λ x y. and_true _ ∙ equal_texts y.number x.number;
 }
 
-pub device_put : {S : Type 0} (g : Ghosts S) (old new : Held S) (s : State) → Represents (state g old).now s → (device : DeviceRow) → Puts g devices.update devices.insert (device_row device) old new
+pub device_put : {S : Type 0} (g : Ghosts S) (old new : Held S) (s : State) → Represents (state g old).now s
+    → (device : DeviceRow) → Puts g devices.update devices.insert (device_row device) old new
     → Represents (state g new).now (with_devices (with_device device s.board.devices) s)
 device_put g old new s was device h =
     let it = puts g devices keyed old new was.rows.schema s.board.devices was.ordered.devices was.rows.holds.devices device h in
     record { ordered = with_device_ordered s was.ordered device; rows = spares_devices _ _ _ was.rows it.spares _ it.rows }
 
-pub device_removed : (old new : SqlState) (count : ℕ) (s : State) → Represents old.now s → (number : List ℕ) → Executes devices.delete (Text number ∷ []) old new (Ok count)
+pub device_removed : (old new : SqlState) (count : ℕ) (s : State) → Represents old.now s → (number : List ℕ)
+    → Executes devices.delete (Text number ∷ []) old new (Ok count)
     → Represents new.now (with_devices (without_device number s.board.devices) s)
 device_removed old new count s was number h =
     let device : DeviceRow = record { number = number; online = false; volume = None; unit = None } in
     let it = removes devices keyed device old new count was.rows.schema s.board.devices was.ordered.devices was.rows.holds.devices h in
     record {
       ordered = without_device_ordered s was.ordered number;
-      rows = subst (λ (l : List DeviceRow). Tabulates new.now (with_devices l s)) (filter_same _ _ (λ x. ap not (is_eq-slice_cmp x.number number)) s.board.devices) (spares_devices _ _ _ was.rows it.spares _ it.rows);
+      rows = subst (λ (l : List DeviceRow). Tabulates new.now (with_devices l s))
+          (filter_same _ _ (λ x. ap not (is_eq-slice_cmp x.number number)) s.board.devices)
+          (spares_devices _ _ _ was.rows it.spares _ it.rows);
     }

@@ -86,9 +86,12 @@ same_master c h =
     let both = and_parts c.online (is_master_auth c.auth) h in
     ap₂ (λ (a : Auth) (online : Bool). console_row (record c { auth = a; online = online })) (the_master c.auth both.1) (sym both.0)
 
-pub masters_told : (old new : SqlState) (s : State) → Represents old.now s → (rows : List Row) → Shown masters.text [] old new rows → rows ≡ map console_row (take 2 (masters_of s.board))
+pub masters_told : (old new : SqlState) (s : State) → Represents old.now s → (rows : List Row)
+    → Shown masters.text [] old new rows → rows ≡ map console_row (take 2 (masters_of s.board))
 masters_told old new s was rows h =
-    told_fixed_first masters [] refl console_row mastering console_cmp (λ _. refl) (λ x y h. rw (number_cmp 2 2, number_cmp 1 1, value_cmp-Text x.name y.name, h))
-    is_master (λ c. ap₂ (λ (a b : Bool). a && (b && true)) (equal_numbers (auth_number c.auth) 2 ∙ is_two c.auth) (is_one c.online) ∙ swapped (is_master_auth c.auth) c.online) same_master
+    told_fixed_first masters [] refl console_row mastering console_cmp (λ _. refl)
+    (λ x y h. rw (number_cmp 2 2, number_cmp 1 1, value_cmp-Text x.name y.name, h))
+    is_master (λ c. ap₂ (λ (a b : Bool). a && (b && true)) (equal_numbers (auth_number c.auth) 2 ∙ is_two c.auth)
+    (is_one c.online) ∙ swapped (is_master_auth c.auth) c.online) same_master
     old new was.rows.schema s.board.consoles was.ordered.consoles was.rows.holds.consoles rows h two_rows masters_asked
     ∙ take-map console_row 2 (masters_of s.board)

@@ -22,15 +22,24 @@ use Rattle.opc_store_schema.specs.Represented.{Represents, reply_row, reply_show
 -- ---- all of them
 
 abbrev pub replies : Asked
-replies = record { schema = the_schema; text = codes "SELECT id, text FROM replies ORDER BY id"; tree = replies_at.tree; tests = []; project = col 1 0 ∷ col 1 2 ∷ []; order = by_columns 0 1 }
+replies = record {
+  schema = the_schema;
+  text = codes "SELECT id, text FROM replies ORDER BY id";
+  tree = replies_at.tree;
+  tests = [];
+  project = col 1 0 ∷ col 1 2 ∷ [];
+  order = by_columns 0 1;
+}
 
 pub replies_asked : IsAsked replies
 unfolding understood everything
 replies_asked = record { selects = refl; unlisted = refl; plain = (refl, refl); shows = λ schema base. refl }
 
-pub replies_told : (old new : SqlState) (s : State) → Represents old.now s → (rows : List Row) → Shown replies.text [] old new rows → rows ≡ map reply_shown s.board.replies
+pub replies_told : (old new : SqlState) (s : State) → Represents old.now s → (rows : List Row)
+    → Shown replies.text [] old new rows → rows ≡ map reply_shown s.board.replies
 replies_told old new s was =
-    told_all_numbers replies [] reply_row reply_cmp (λ x y h. rw (number_cmp x.id y.id, h)) (λ _. refl) replies_asked old new was.rows.schema s.board.replies was.ordered.replies was.rows.holds.replies
+    told_all_numbers replies [] reply_row reply_cmp (λ x y h. rw (number_cmp x.id y.id, h)) (λ _. refl) replies_asked
+    old new was.rows.schema s.board.replies was.ordered.replies was.rows.holds.replies
 
 -- ---- that of a number
 
@@ -41,6 +50,10 @@ pub reply_asked : IsAsked reply
 unfolding understood everything
 reply_asked = record { selects = refl; unlisted = refl; plain = (refl, refl); shows = λ schema base. refl }
 
-pub reply_told : (old new : SqlState) (s : State) → Represents old.now s → (id : ℕ) (rows : List Row) → Shown reply.text (Int (pos id) ∷ []) old new rows → rows ≡ map reply_shown (filter (λ (r : ReplyRow). r.id == id) s.board.replies)
+pub reply_told : (old new : SqlState) (s : State) → Represents old.now s → (id : ℕ) (rows : List Row)
+    → Shown reply.text (Int (pos id) ∷ []) old new rows
+    → rows ≡ map reply_shown (filter (λ (r : ReplyRow). r.id == id) s.board.replies)
 reply_told old new s was id =
-    told_numbers reply (Int (pos id) ∷ []) reply_row reply_cmp (λ x y h. rw (number_cmp x.id y.id, h)) (λ r. r.id == id) (λ r. and_true _ ∙ equal_numbers r.id id) reply_asked old new was.rows.schema s.board.replies was.ordered.replies was.rows.holds.replies
+    told_numbers reply (Int (pos id) ∷ []) reply_row reply_cmp (λ x y h. rw (number_cmp x.id y.id, h)) (λ r. r.id == id)
+    (λ r. and_true _ ∙ equal_numbers r.id id) reply_asked old new was.rows.schema s.board.replies
+    was.ordered.replies was.rows.holds.replies

@@ -78,32 +78,51 @@ idle : (olds news : List Row) → works the_schema Enforced 0 replies_at.tree ol
 unfolding same_name joined
 idle olds news = go (length news == 0)
   where
-    go : (b : Bool) → flat_map (λ (child : Table). filter_map (λ (ref : Reference). work_by 0 replies_at.tree (pairs olds news) child ref (deed_for Enforced b ref) (parent_key the_schema.tables ref)) child.references) the_schema.tables ≡ []
+    go : (b : Bool)
+        → flat_map (λ (child : Table). filter_map
+        (λ (ref : Reference). work_by 0 replies_at.tree (pairs olds news) child ref (deed_for Enforced b ref)
+        (parent_key the_schema.tables ref)) child.references) the_schema.tables ≡ []
     go true = refl
     go false = refl
 
 meets : (id : ℕ) (db : Trees) (r : ReplyRow) → passes replies_at.tree tests (col 1 0 ∷ []) [] db (Int (pos id) ∷ []) (reply_row r) ≡ (r.id == id)
 meets id db r = and_true _ ∙ equal_numbers r.id id
 
-left : (id : ℕ) (db : Trees) (rs : List ReplyRow) → filter (λ row. not (passes replies_at.tree tests (col 1 0 ∷ []) [] db (Int (pos id) ∷ []) row)) (map reply_row rs) ≡ map reply_row (without_reply id rs)
+left : (id : ℕ) (db : Trees) (rs : List ReplyRow)
+    → filter (λ row. not (passes replies_at.tree tests (col 1 0 ∷ []) [] db (Int (pos id) ∷ []) row))
+    (map reply_row rs) ≡ map reply_row (without_reply id rs)
 left id db rs = filter-map _ reply_row rs ∙ ap (map reply_row) (filter_same _ _ (λ r. ap not (meets id db r)) rs)
 
-pub removes_reply : (old new : SqlState) (count : ℕ) (s : State) → Tabulates old.now s → Rises reply_cmp s.board.replies → (id : ℕ) → Executes delete_reply (Int (pos id) ∷ []) old new (Ok count)
+pub removes_reply : (old new : SqlState) (count : ℕ) (s : State) → Tabulates old.now s → Rises reply_cmp s.board.replies
+    → (id : ℕ) → Executes delete_reply (Int (pos id) ∷ []) old new (Ok count)
     → Tabulates new.now (with_replies (without_reply id s.board.replies) s)
 removes_reply old new count s was up id h =
-    let it = takes_numbers the_schema delete_reply 5 replies_at (Int (pos id) ∷ []) delete_plain refl old new was.schema count tests delete_is (λ rows. idle _ []) h in
-    let kept : IsKept (old.now.trees replies_at.tree) = subst IsKept (sym was.holds.replies) (rising_kept reply_values (λ (r : ReplyRow). r.id) s.board.replies up) in
+    let it = takes_numbers the_schema delete_reply 5 replies_at (Int (pos id) ∷ []) delete_plain refl old new was.schema
+    count tests delete_is (λ rows. idle _ []) h in
+    let kept : IsKept (old.now.trees replies_at.tree) =
+    subst IsKept (sym was.holds.replies) (rising_kept reply_values (λ (r : ReplyRow). r.id) s.board.replies up) in
     spares_replies (contents_of s) old.now new.now was it.spares _
-    (it.rows kept ∙ (ap (filter (λ row. not (passes replies_at.tree tests (col 1 0 ∷ []) [] old.now.trees (Int (pos id) ∷ []) row))) was.holds.replies ∙ left id old.now.trees s.board.replies))
+    (it.rows kept
+    ∙ (ap (filter
+    (λ row. not (passes replies_at.tree tests (col 1 0 ∷ []) [] old.now.trees (Int (pos id) ∷ []) row)))
+    was.holds.replies ∙ left id old.now.trees s.board.replies))
 
 without_is : (r : ReplyRow) (rs : List ReplyRow) → without_reply r.id rs ≡ others reply_cmp reply_total r rs
 without_is r rs = filter_same _ _ (λ q. ap not (sym (same_numbers q.id r.id))) rs
 
-pub inserts_reply : (old new : SqlState) (count : ℕ) (s : State) (r : ReplyRow) → Rises reply_cmp s.board.replies → Tabulates old.now (with_replies (without_reply r.id s.board.replies) s)
+pub inserts_reply : (old new : SqlState) (count : ℕ) (s : State) (r : ReplyRow) → Rises reply_cmp s.board.replies
+    → Tabulates old.now (with_replies (without_reply r.id s.board.replies) s)
     → Executes insert_reply (Int (pos r.id) ∷ Text r.text ∷ []) old new (Ok count) → Tabulates new.now (with_replies (with_reply r s.board.replies) s)
 inserts_reply old new count s r up was h =
-    let it = adds_at the_schema insert_reply 5 replies_at (Int (pos r.id) ∷ Text r.text ∷ []) insert_plain refl old new was.schema count terms 3 insert_is (record { uncounted = refl; stampless = refl }) (pos r.id) (reply_values r) refl (cast r) h in
+    let it = adds_at the_schema insert_reply 5 replies_at (Int (pos r.id) ∷ Text r.text ∷ []) insert_plain refl old new
+    was.schema count terms 3 insert_is (record {
+      uncounted = refl;
+      stampless = refl;
+    }) (pos r.id) (reply_values r) refl (cast r) h in
     let rest = without_reply r.id s.board.replies in
     let put : put_row (reply_row r) (map reply_row rest) ≡ map reply_row (replace_key reply_cmp rest r) = put_at reply_values (λ (q : ReplyRow). q.id) r rest in
-    let same : replace_key reply_cmp rest r ≡ with_reply r s.board.replies = ap (λ (l : List ReplyRow). replace_key reply_cmp l r) (without_is r s.board.replies) ∙ replaced_after reply_cmp reply_total r s.board.replies up in
-    spares_replies (contents_of (with_replies rest s)) old.now new.now was it.spares _ (it.rows ∙ (ap (put_row (reply_row r)) was.holds.replies ∙ (put ∙ ap (map reply_row) same)))
+    let same : replace_key reply_cmp rest r ≡ with_reply r s.board.replies =
+    ap (λ (l : List ReplyRow). replace_key reply_cmp l r) (without_is r s.board.replies)
+    ∙ replaced_after reply_cmp reply_total r s.board.replies up in
+    spares_replies (contents_of (with_replies rest s)) old.now new.now was it.spares _
+    (it.rows ∙ (ap (put_row (reply_row r)) was.holds.replies ∙ (put ∙ ap (map reply_row) same)))

@@ -20,15 +20,24 @@ use Rattle.opc_store_schema.specs.Represented.{Represents, unit_row}
 -- ---- all of them
 
 abbrev pub units : Asked
-units = record { schema = the_schema; text = codes "SELECT name, kind, member, cancelable, stopping, last FROM units ORDER BY name"; tree = units_at.tree; tests = []; project = columns 1 6; order = by_columns 1 1 }
+units = record {
+  schema = the_schema;
+  text = codes "SELECT name, kind, member, cancelable, stopping, last FROM units ORDER BY name";
+  tree = units_at.tree;
+  tests = [];
+  project = columns 1 6;
+  order = by_columns 1 1;
+}
 
 pub units_asked : IsAsked units
 unfolding understood everything
 units_asked = record { selects = refl; unlisted = refl; plain = (refl, refl); shows = λ schema base. refl }
 
-pub units_told : (old new : SqlState) (s : State) → Represents old.now s → (rows : List Row) → Shown units.text [] old new rows → rows ≡ map unit_row s.board.units
+pub units_told : (old new : SqlState) (s : State) → Represents old.now s → (rows : List Row)
+    → Shown units.text [] old new rows → rows ≡ map unit_row s.board.units
 units_told old new s was =
-    told_all units [] refl unit_row unit_cmp (λ _. refl) (λ x y h. rw (value_cmp-Text x.name y.name, h)) (λ _. refl) units_asked old new was.rows.schema s.board.units was.ordered.units was.rows.holds.units
+    told_all units [] refl unit_row unit_cmp (λ _. refl) (λ x y h. rw (value_cmp-Text x.name y.name, h)) (λ _. refl)
+    units_asked old new was.rows.schema s.board.units was.ordered.units was.rows.holds.units
 
 -- ---- that of a name
 
@@ -39,6 +48,10 @@ pub unit_asked : IsAsked unit
 unfolding understood everything
 unit_asked = record { selects = refl; unlisted = refl; plain = (refl, refl); shows = λ schema base. refl }
 
-pub unit_told : (old new : SqlState) (s : State) → Represents old.now s → (name : List ℕ) (rows : List Row) → Shown unit.text (Text name ∷ []) old new rows → rows ≡ map unit_row (filter (λ (u : UnitRow). bytes_eq u.name name) s.board.units)
+pub unit_told : (old new : SqlState) (s : State) → Represents old.now s → (name : List ℕ) (rows : List Row)
+    → Shown unit.text (Text name ∷ []) old new rows
+    → rows ≡ map unit_row (filter (λ (u : UnitRow). bytes_eq u.name name) s.board.units)
 unit_told old new s was name =
-    told unit (Text name ∷ []) refl unit_row unit_cmp (λ _. refl) (λ x y h. rw (value_cmp-Text x.name y.name, h)) (λ u. bytes_eq u.name name) (λ u. and_true _ ∙ same_texts u.name name) unit_asked old new was.rows.schema s.board.units was.ordered.units was.rows.holds.units
+    told unit (Text name ∷ []) refl unit_row unit_cmp (λ _. refl) (λ x y h. rw (value_cmp-Text x.name y.name, h))
+    (λ u. bytes_eq u.name name) (λ u. and_true _ ∙ same_texts u.name name) unit_asked old new was.rows.schema
+    s.board.units was.ordered.units was.rows.holds.units

@@ -62,18 +62,22 @@ keyed = record {
   picks = λ x y. and_true _ ∙ equal_texts y.name x.name;
 }
 
-pub unit_put : {S : Type 0} (g : Ghosts S) (old new : Held S) (s : State) → Represents (state g old).now s → (unit : UnitRow) → Puts g units.update units.insert (unit_row unit) old new
+pub unit_put : {S : Type 0} (g : Ghosts S) (old new : Held S) (s : State) → Represents (state g old).now s
+    → (unit : UnitRow) → Puts g units.update units.insert (unit_row unit) old new
     → Represents (state g new).now (with_units (with_unit unit s.board.units) s)
 unit_put g old new s was unit h =
     let it = puts g units keyed old new was.rows.schema s.board.units was.ordered.units was.rows.holds.units unit h in
     record { ordered = with_unit_ordered s was.ordered unit; rows = spares_units _ _ _ was.rows it.spares _ it.rows }
 
-pub unit_removed : (old new : SqlState) (count : ℕ) (s : State) → Represents old.now s → (name : List ℕ) → Executes units.delete (Text name ∷ []) old new (Ok count)
+pub unit_removed : (old new : SqlState) (count : ℕ) (s : State) → Represents old.now s → (name : List ℕ)
+    → Executes units.delete (Text name ∷ []) old new (Ok count)
     → Represents new.now (with_units (without_unit name s.board.units) s)
 unit_removed old new count s was name h =
     let unit : UnitRow = record { name = name; kind = Job; cancelable = false; stopping = false; last_text = None } in
     let it = removes units keyed unit old new count was.rows.schema s.board.units was.ordered.units was.rows.holds.units h in
     record {
       ordered = without_unit_ordered s was.ordered name;
-      rows = subst (λ (l : List UnitRow). Tabulates new.now (with_units l s)) (filter_same _ _ (λ x. ap not (is_eq-slice_cmp x.name name)) s.board.units) (spares_units _ _ _ was.rows it.spares _ it.rows);
+      rows = subst (λ (l : List UnitRow). Tabulates new.now (with_units l s))
+          (filter_same _ _ (λ x. ap not (is_eq-slice_cmp x.name name)) s.board.units)
+          (spares_units _ _ _ was.rows it.spares _ it.rows);
     }

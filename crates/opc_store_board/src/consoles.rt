@@ -48,7 +48,8 @@ impl TableRow<ConsoleRow> for ConsoleTable {
 pub fn put_console<S: Alter>(tx: &mut Transaction<'_, S>, console: &ConsoleRow) -> Result<(), Error>
     ensures same_reference { tx.new.conn.ghost_name ≡ tx.old.conn.ghost_name }
     ensures stays { Stays S.Store tx.old.conn.now tx.new.conn.now result }
-    ensures done { Makes S.Store tx.old.conn.now tx.new.conn.now result (λ s. with_consoles (with_console console.now s.board.consoles) s) }
+    ensures done { Makes S.Store tx.old.conn.now tx.new.conn.now result
+        (λ s. with_consoles (with_console console.now s.board.consoles) s) }
 {
     put(
         tx,
@@ -72,7 +73,8 @@ pub fn remove_console<S: Alter>(
 ) -> Result<(), Error>
     ensures same_reference { tx.new.conn.ghost_name ≡ tx.old.conn.ghost_name }
     ensures stays { Stays S.Store tx.old.conn.now tx.new.conn.now result }
-    ensures done { Makes S.Store tx.old.conn.now tx.new.conn.now result (λ s. with_consoles (without_console name.now s.board.consoles) s) }
+    ensures done { Makes S.Store tx.old.conn.now tx.new.conn.now result
+        (λ s. with_consoles (without_console name.now s.board.consoles) s) }
 {
     run(
         tx,

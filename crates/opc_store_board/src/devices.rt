@@ -39,7 +39,8 @@ impl TableRow<DeviceRow> for DeviceTable {
 pub fn put_device<S: Alter>(tx: &mut Transaction<'_, S>, device: &DeviceRow) -> Result<(), Error>
     ensures same_reference { tx.new.conn.ghost_name ≡ tx.old.conn.ghost_name }
     ensures stays { Stays S.Store tx.old.conn.now tx.new.conn.now result }
-    ensures done { Makes S.Store tx.old.conn.now tx.new.conn.now result (λ s. with_devices (with_device device.now s.board.devices) s) }
+    ensures done { Makes S.Store tx.old.conn.now tx.new.conn.now result
+        (λ s. with_devices (with_device device.now s.board.devices) s) }
 {
     put(
         tx,
@@ -58,7 +59,8 @@ pub fn put_device<S: Alter>(tx: &mut Transaction<'_, S>, device: &DeviceRow) -> 
 pub fn remove_device<S: Alter>(tx: &mut Transaction<'_, S>, number: &Device) -> Result<(), Error>
     ensures same_reference { tx.new.conn.ghost_name ≡ tx.old.conn.ghost_name }
     ensures stays { Stays S.Store tx.old.conn.now tx.new.conn.now result }
-    ensures done { Makes S.Store tx.old.conn.now tx.new.conn.now result (λ s. with_devices (without_device number.now s.board.devices) s) }
+    ensures done { Makes S.Store tx.old.conn.now tx.new.conn.now result
+        (λ s. with_devices (without_device number.now s.board.devices) s) }
 {
     run(
         tx,

@@ -32,7 +32,8 @@ impl TableRow<ReplyRow> for ReplyTable {
 pub fn put_reply<S: Alter>(tx: &mut Transaction<'_, S>, reply: &ReplyRow) -> Result<(), Error>
     ensures same_reference { tx.new.conn.ghost_name ≡ tx.old.conn.ghost_name }
     ensures stays { Stays S.Store tx.old.conn.now tx.new.conn.now result }
-    ensures done { Makes S.Store tx.old.conn.now tx.new.conn.now result (λ s. with_replies (with_reply reply.now s.board.replies) s) }
+    ensures done { Makes S.Store tx.old.conn.now tx.new.conn.now result
+        (λ s. with_replies (with_reply reply.now s.board.replies) s) }
 {
     // Removed and inserted, not updated: the key is SQLite's own number, and nothing refers to it.
     remove_reply(tx, reply.id)?;
@@ -48,7 +49,8 @@ pub fn put_reply<S: Alter>(tx: &mut Transaction<'_, S>, reply: &ReplyRow) -> Res
 pub fn remove_reply<S: Alter>(tx: &mut Transaction<'_, S>, id: ReplyId) -> Result<(), Error>
     ensures same_reference { tx.new.conn.ghost_name ≡ tx.old.conn.ghost_name }
     ensures stays { Stays S.Store tx.old.conn.now tx.new.conn.now result }
-    ensures done { Makes S.Store tx.old.conn.now tx.new.conn.now result (λ s. with_replies (without_reply id s.board.replies) s) }
+    ensures done { Makes S.Store tx.old.conn.now tx.new.conn.now result
+        (λ s. with_replies (without_reply id s.board.replies) s) }
 {
     run(
         tx,

@@ -45,7 +45,8 @@ impl TableRow<UnitRow> for UnitTable {
 pub fn put_unit<S: Alter>(tx: &mut Transaction<'_, S>, unit: &UnitRow) -> Result<(), Error>
     ensures same_reference { tx.new.conn.ghost_name ≡ tx.old.conn.ghost_name }
     ensures stays { Stays S.Store tx.old.conn.now tx.new.conn.now result }
-    ensures done { Makes S.Store tx.old.conn.now tx.new.conn.now result (λ s. with_units (with_unit unit.now s.board.units) s) }
+    ensures done { Makes S.Store tx.old.conn.now tx.new.conn.now result
+        (λ s. with_units (with_unit unit.now s.board.units) s) }
 {
     put(
         tx,
@@ -66,7 +67,8 @@ pub fn put_unit<S: Alter>(tx: &mut Transaction<'_, S>, unit: &UnitRow) -> Result
 pub fn remove_unit<S: Alter>(tx: &mut Transaction<'_, S>, name: &UnitName) -> Result<(), Error>
     ensures same_reference { tx.new.conn.ghost_name ≡ tx.old.conn.ghost_name }
     ensures stays { Stays S.Store tx.old.conn.now tx.new.conn.now result }
-    ensures done { Makes S.Store tx.old.conn.now tx.new.conn.now result (λ s. with_units (without_unit name.now s.board.units) s) }
+    ensures done { Makes S.Store tx.old.conn.now tx.new.conn.now result
+        (λ s. with_units (without_unit name.now s.board.units) s) }
 {
     run(
         tx,
@@ -106,7 +108,8 @@ fn last_text_of(unit: &UnitRow) -> Option<&str>
 }
 
 fn kind_in(row: &Row) -> Result<UnitKind, StoreFault>
-    ensures { (kind : TheKind) → column row.now 1 ≡ Text (kind_letter kind) → column row.now 2 ≡ text_or_null (kind_member kind) → IfOk result (λ v. v ≡ kind) }
+    ensures { (kind : TheKind) → column row.now 1 ≡ Text (kind_letter kind)
+        → column row.now 2 ≡ text_or_null (kind_member kind) → IfOk result (λ v. v ≡ kind) }
 {
     let member = name_or_none_in(row, 2)?;
     match (text_at(row, 1)?, member) {

@@ -88,7 +88,8 @@ fn transact<S: Alter>(alloc: Global, conn: &mut Connection<S>, change: &Change) 
     ensures done { Makes S.Store conn.old conn.new result (changed_by change.now) }
     ensures failed { IsUndone S.Store conn.old conn.new result }
     ensures settled { IsCommitted S.Store conn.new result }
-    ensures survives { Survives (state S.Store conn.old) (state S.Store conn.new) (λ db. (s : _) → Represents (state S.Store conn.old).now s → AreTablesOf db (changed_by change.now s)) }
+    ensures survives { Survives (state S.Store conn.old) (state S.Store conn.new)
+        (λ db. (s : _) → Represents (state S.Store conn.old).now s → AreTablesOf db (changed_by change.now s)) }
 {
     let _settled = conn.is_autocommit();
     let mut tx = conn.transaction();
@@ -106,9 +107,13 @@ pub fn commit_on<S: Alter>(
     requires { conn.old.in_transaction ≡ false }
     ensures mode { conn.new.in_transaction ≡ false }
     ensures done { Makes S.Store conn.old conn.new result (changed_by change.now) }
-    ensures failed { HasCleanDisk (state S.Store conn.new) → IsTrue (state S.Store conn.new).is_open → OnErr result ((s : _) → Represents (state S.Store conn.old).now s → Represents (state S.Store conn.new).now s) }
-    ensures acknowledged { HasCleanDisk (state S.Store conn.new) → OnOk result ((db : _) → (state S.Store conn.new).may_leave db → (s : _) → Represents (state S.Store conn.old).now s → AreTablesOf db (changed_by change.now s)) }
-    ensures crash { Survives (state S.Store conn.old) (state S.Store conn.new) (λ db. (s : _) → Represents (state S.Store conn.old).now s → AreTablesOf db (changed_by change.now s)) }
+    ensures failed { HasCleanDisk (state S.Store conn.new) → IsTrue (state S.Store conn.new).is_open
+        → OnErr result ((s : _) → Represents (state S.Store conn.old).now s → Represents (state S.Store conn.new).now s) }
+    ensures acknowledged { HasCleanDisk (state S.Store conn.new)
+        → OnOk result ((db : _) → (state S.Store conn.new).may_leave db → (s : _)
+        → Represents (state S.Store conn.old).now s → AreTablesOf db (changed_by change.now s)) }
+    ensures crash { Survives (state S.Store conn.old) (state S.Store conn.new)
+        (λ db. (s : _) → Represents (state S.Store conn.old).now s → AreTablesOf db (changed_by change.now s)) }
 {
     match transact(alloc, conn, change) {
         Ok(()) => Ok(()),

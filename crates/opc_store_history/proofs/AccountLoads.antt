@@ -1,5 +1,37 @@
 -- What the query on the account reads: a page past a number.
-use Rattle.std.proofs.Common.{◌≡◌, ℕ, ℤ, zero, suc, ◌+◌, ◌-◌, ◌<◌, ◌≤◌, pos, min, length, List, [], ◌∷◌, map, filter, drop, take, codes, Bool, true, false, nat_lt, nat_le, refl, sym, ap, subst, ◌∙◌, arith}
+use Rattle.std.proofs.Common.{
+  ◌≡◌,
+  ℕ,
+  ℤ,
+  zero,
+  suc,
+  ◌+◌,
+  ◌-◌,
+  ◌<◌,
+  ◌≤◌,
+  pos,
+  min,
+  length,
+  List,
+  [],
+  ◌∷◌,
+  map,
+  filter,
+  drop,
+  take,
+  codes,
+  Bool,
+  true,
+  false,
+  nat_lt,
+  nat_le,
+  refl,
+  sym,
+  ap,
+  subst,
+  ◌∙◌,
+  arith,
+}
 use Rattle.std.specs.List.{enumerate_from}
 use Rattle.std.proofs.lemmas.List.{drop-map, take-map}
 use Rattle.std.proofs.lemmas.Bool.Decides.{nat_tests}
@@ -62,7 +94,9 @@ within_table {X} a top xs short = go (nat_le a top) refl
         let same : min a top ≡ top = omega arith in
         ap (λ (n : ℕ). drop n xs) same ∙ (past_end top xs short ∙ sym (past_end a xs (omega arith)))
 
-pub account_params : (old new : SqlState) (given : ℤ) (last count : ℕ) (rows : List Row) → given ≡ pos last → Shown account.text (Int given ∷ Int (pos count) ∷ []) old new rows → Shown account.text (page_params last count) old new rows
+pub account_params : (old new : SqlState) (given : ℤ) (last count : ℕ) (rows : List Row) → given ≡ pos last
+    → Shown account.text (Int given ∷ Int (pos count) ∷ []) old new rows
+    → Shown account.text (page_params last count) old new rows
 account_params old new given last count rows same = subst (λ (n : ℤ). Shown account.text (Int n ∷ Int (pos count) ∷ []) old new rows) same
 
 placed_numbered : (n : ℕ) (xs : List AccountRow) → placed n xs ≡ enumerate_from n xs
@@ -73,13 +107,17 @@ pub numbered_long : (n : ℕ) (xs : List AccountRow) → length (enumerate_from 
 numbered_long n [] = refl
 numbered_long n (x ∷ xs) = ap suc (numbered_long (n + 1) xs)
 
-pub account_told : (old new : SqlState) (s : State) → Represents old.now s → (last count : ℕ) (rows : List Row) → Shown account.text (page_params last count) old new rows → rows ≡ map numbered_shown (take count (drop last (numbered s.account)))
+pub account_told : (old new : SqlState) (s : State) → Represents old.now s → (last count : ℕ) (rows : List Row)
+    → Shown account.text (page_params last count) old new rows
+    → rows ≡ map numbered_shown (take count (drop last (numbered s.account)))
 account_told old new s was last count rows h =
     let params = page_params last count in
     let xs = s.account in
     let it = pages account params (col 0 1) account_asked old new was.rows.schema rows h in
     let found : it.all ≡ map numbered_shown (filter (λ (p : ℕ × AccountRow). nat_lt last p.0) (placed 1 xs)) =
-    numbers_listed account params (placed_row account_values) place_cmp (λ p q less. rw (number_cmp p.0 q.0, less)) (λ p. nat_lt last p.0) (λ p. and_true _ ∙ number_past p.0 last) old.now.trees (placed 1 xs) (placed_rises 1 xs) (was.rows.holds.account ∙ placed_rows account_values 1 xs) it.all it.lists in
+    numbers_listed account params (placed_row account_values) place_cmp (λ p q less. rw (number_cmp p.0 q.0, less))
+    (λ p. nat_lt last p.0) (λ p. and_true _ ∙ number_past p.0 last) old.now.trees (placed 1 xs) (placed_rises 1 xs)
+    (was.rows.holds.account ∙ placed_rows account_values 1 xs) it.all it.lists in
     let after : suc last - 1 ≡ last = omega arith in
     let past : filter (λ (p : ℕ × AccountRow). nat_lt last p.0) (placed 1 xs) ≡ drop last (numbered xs) =
     placed_after last 1 xs ∙ (ap (λ (n : ℕ). drop n (placed 1 xs)) after ∙ ap (drop last) (placed_numbered 1 xs)) in
@@ -93,4 +131,5 @@ members n (x ∷ xs) = ap (λ (l : List AccountRow). x ∷ l) (members (n + 1) x
 pub page_members : (from count : ℕ) (xs : List AccountRow) → map (λ (p : ℕ × AccountRow). p.1) (asked_for from count xs) ≡ account_page from count xs
 page_members from count xs =
     let row = λ (p : ℕ × AccountRow). p.1 in
-    sym (take-map row count (drop (from - 1) (numbered xs))) ∙ ap (take count) (sym (drop-map row (from - 1) (numbered xs)) ∙ ap (drop (from - 1)) (members 1 xs))
+    sym (take-map row count (drop (from - 1) (numbered xs)))
+    ∙ ap (take count) (sym (drop-map row (from - 1) (numbered xs)) ∙ ap (drop (from - 1)) (members 1 xs))

@@ -12,12 +12,21 @@ use Rattle.opc_store_schema.specs.Tables.{the_schema}
 use Rattle.opc_store_schema.specs.Represented.{Represents, answered_values, reply_shown}
 
 abbrev pub answered : Asked
-answered = record { schema = the_schema; text = codes "SELECT id, text FROM answered ORDER BY number"; tree = answered_at.tree; tests = []; project = columns 2 2; order = by_columns 0 1 }
+answered = record {
+  schema = the_schema;
+  text = codes "SELECT id, text FROM answered ORDER BY number";
+  tree = answered_at.tree;
+  tests = [];
+  project = columns 2 2;
+  order = by_columns 0 1;
+}
 
 pub answered_asked : IsAsked answered
 unfolding understood everything
 answered_asked = record { selects = refl; unlisted = refl; plain = (refl, refl); shows = λ schema base. refl }
 
-pub answered_told : (old new : SqlState) (s : State) → Represents old.now s → (rows : List Row) → Shown answered.text [] old new rows → rows ≡ map reply_shown s.board.answered
+pub answered_told : (old new : SqlState) (s : State) → Represents old.now s → (rows : List Row)
+    → Shown answered.text [] old new rows → rows ≡ map reply_shown s.board.answered
 answered_told old new s was =
-    told_places answered [] answered_values reply_shown (λ _. refl) (λ p q h. rw (number_cmp p.0 q.0, h)) (λ _. refl) answered_asked old new was.rows.schema s.board.answered was.rows.holds.answered
+    told_places answered [] answered_values reply_shown (λ _. refl) (λ p q h. rw (number_cmp p.0 q.0, h)) (λ _. refl)
+    answered_asked old new was.rows.schema s.board.answered was.rows.holds.answered

@@ -19,9 +19,17 @@ answered = record { schema = the_schema; place = 6; table = answered_at; insert 
 
 answered_grows : IsHistory answered
 unfolding understood everything
-answered_grows = record { is = refl; plain = (refl, refl); found = refl; simple = record { uncounted = refl; stampless = refl }; gives = λ x. refl; stores = λ x. (cast_null, (cast_int _, (refl, tt))) }
+answered_grows = record {
+  is = refl;
+  plain = (refl, refl);
+  found = refl;
+  simple = record { uncounted = refl; stampless = refl };
+  gives = λ x. refl;
+  stores = λ x. (cast_null, (cast_int _, (refl, tt)));
+}
 
-pub answered_added : (old new : SqlState) (count : ℕ) (s : State) → Represents old.now s → (x : ReplyRow) → Executes answered.insert (params answered x) old new (Ok count) → ((n : ℕ) → new.last_rowid ≡ pos n → n < 2 ^ 63)
+pub answered_added : (old new : SqlState) (count : ℕ) (s : State) → Represents old.now s → (x : ReplyRow)
+    → Executes answered.insert (params answered x) old new (Ok count) → ((n : ℕ) → new.last_rowid ≡ pos n → n < 2 ^ 63)
     → Represents new.now (with_answered (s.board.answered ++ x ∷ []) s)
 answered_added old new count s was x h low =
     let it = grows answered answered_grows old new count was.rows.schema s.board.answered was.rows.holds.answered x h in

@@ -43,15 +43,23 @@ batch_asked = record { selects = refl; unlisted = refl; plain = (refl, refl); sh
 abbrev pub batch_shown : Batch → Row
 batch_shown b = Text (policy_text b.rows) ∷ []
 
-pub batch_told : (old new : SqlState) (s : State) → Represents old.now s → (number : ℕ) (rows : List Row) → Shown batch.text (Int (pos number) ∷ []) old new rows → rows ≡ map batch_shown (filter (λ (b : Batch). b.number == number) s.batches)
+pub batch_told : (old new : SqlState) (s : State) → Represents old.now s → (number : ℕ) (rows : List Row)
+    → Shown batch.text (Int (pos number) ∷ []) old new rows
+    → rows ≡ map batch_shown (filter (λ (b : Batch). b.number == number) s.batches)
 batch_told old new s was number =
-    told_numbers batch (Int (pos number) ∷ []) batch_row batch_cmp (λ x y h. rw (number_cmp x.number y.number, h)) (λ b. b.number == number) (λ b. and_true _ ∙ equal_numbers b.number number) batch_asked old new was.rows.schema s.batches was.ordered.batches was.rows.holds.batches
+    told_numbers batch (Int (pos number) ∷ []) batch_row batch_cmp (λ x y h. rw (number_cmp x.number y.number, h))
+    (λ b. b.number == number) (λ b. and_true _ ∙ equal_numbers b.number number) batch_asked old new was.rows.schema
+    s.batches was.ordered.batches was.rows.holds.batches
 
 -- the rows of a batch are read back from the text that is kept
-pub read_back : (batches : List Batch) (number : ℕ) → AllByRecursion IsReadBack batches → (text : List ℕ) → Some text ≡ kept_text batches number → (b : Batch) × (policy_of text ≡ Ok b.rows) × (batch_rows batches number ≡ Some b.rows)
+pub read_back : (batches : List Batch) (number : ℕ) → AllByRecursion IsReadBack batches → (text : List ℕ)
+    → Some text ≡ kept_text batches number → (b : Batch) × (policy_of text ≡ Ok b.rows)
+    × (batch_rows batches number ≡ Some b.rows)
 read_back batches number all text is = go (find (λ (b : Batch). b.number == number) batches) refl is
   where
-    go : (o : Option Batch) → find (λ (b : Batch). b.number == number) batches ≡ o → Some text ≡ option_map (λ (b : Batch). policy_text b.rows) o → (b : Batch) × (policy_of text ≡ Ok b.rows) × (batch_rows batches number ≡ Some b.rows)
+    go : (o : Option Batch) → find (λ (b : Batch). b.number == number) batches ≡ o
+        → Some text ≡ option_map (λ (b : Batch). policy_text b.rows) o → (b : Batch) × (policy_of text ≡ Ok b.rows)
+        × (batch_rows batches number ≡ Some b.rows)
     go None e h = absurd cc
     go (Some b) e h =
         let same : text ≡ policy_text b.rows = cc in

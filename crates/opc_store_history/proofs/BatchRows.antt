@@ -83,35 +83,58 @@ idle : (olds news : List Row) → works the_schema Enforced 0 batches_at.tree ol
 unfolding same_name joined
 idle olds news = go (length news == 0)
   where
-    go : (b : Bool) → flat_map (λ (child : Table). filter_map (λ (ref : Reference). work_by 0 batches_at.tree (pairs olds news) child ref (deed_for Enforced b ref) (parent_key the_schema.tables ref)) child.references) the_schema.tables ≡ []
+    go : (b : Bool)
+        → flat_map (λ (child : Table). filter_map
+        (λ (ref : Reference). work_by 0 batches_at.tree (pairs olds news) child ref (deed_for Enforced b ref)
+        (parent_key the_schema.tables ref)) child.references) the_schema.tables ≡ []
     go true = refl
     go false = refl
 
 meets : (id : ℕ) (db : Trees) (r : Batch) → passes batches_at.tree tests (col 1 0 ∷ []) [] db (Int (pos id) ∷ []) (batch_row r) ≡ (r.number == id)
 meets id db r = and_true _ ∙ equal_numbers r.number id
 
-left : (id : ℕ) (db : Trees) (rs : List Batch) → filter (λ row. not (passes batches_at.tree tests (col 1 0 ∷ []) [] db (Int (pos id) ∷ []) row)) (map batch_row rs) ≡ map batch_row (without_batch id rs)
+left : (id : ℕ) (db : Trees) (rs : List Batch)
+    → filter (λ row. not (passes batches_at.tree tests (col 1 0 ∷ []) [] db (Int (pos id) ∷ []) row))
+    (map batch_row rs) ≡ map batch_row (without_batch id rs)
 left id db rs = filter-map _ batch_row rs ∙ ap (map batch_row) (filter_same _ _ (λ r. ap not (meets id db r)) rs)
 
-pub removes_batch : (old new : SqlState) (count : ℕ) (s : State) → Tabulates old.now s → Rises batch_cmp s.batches → (id : ℕ) → Executes delete_batch (Int (pos id) ∷ []) old new (Ok count)
+pub removes_batch : (old new : SqlState) (count : ℕ) (s : State) → Tabulates old.now s → Rises batch_cmp s.batches
+    → (id : ℕ) → Executes delete_batch (Int (pos id) ∷ []) old new (Ok count)
     → Tabulates new.now (with_batches (without_batch id s.batches) s)
 removes_batch old new count s was up id h =
-    let it = takes_numbers the_schema delete_batch 11 batches_at (Int (pos id) ∷ []) delete_plain refl old new was.schema count tests delete_is (λ rows. idle _ []) h in
-    let kept : IsKept (old.now.trees batches_at.tree) = subst IsKept (sym was.holds.batches) (rising_kept batch_values (λ (r : Batch). r.number) s.batches up) in
+    let it = takes_numbers the_schema delete_batch 11 batches_at (Int (pos id) ∷ []) delete_plain refl old new
+    was.schema count tests delete_is (λ rows. idle _ []) h in
+    let kept : IsKept (old.now.trees batches_at.tree) =
+    subst IsKept (sym was.holds.batches) (rising_kept batch_values (λ (r : Batch). r.number) s.batches up) in
     spares_batches (contents_of s) old.now new.now was it.spares _
-    (it.rows kept ∙ (ap (filter (λ row. not (passes batches_at.tree tests (col 1 0 ∷ []) [] old.now.trees (Int (pos id) ∷ []) row))) was.holds.batches ∙ left id old.now.trees s.batches))
+    (it.rows kept
+    ∙ (ap (filter
+    (λ row. not (passes batches_at.tree tests (col 1 0 ∷ []) [] old.now.trees (Int (pos id) ∷ []) row)))
+    was.holds.batches ∙ left id old.now.trees s.batches))
 
 without_is : (r : Batch) (rs : List Batch) → without_batch r.number rs ≡ others batch_cmp batch_total r rs
 without_is r rs = filter_same _ _ (λ q. ap not (sym (same_numbers q.number r.number))) rs
 
-pub inserts_batch : (old new : SqlState) (count : ℕ) (s : State) (r : Batch) → Rises batch_cmp s.batches → Tabulates old.now (with_batches (without_batch r.number s.batches) s)
-    → Executes insert_batch (Int (pos r.number) ∷ Text (policy_text r.rows) ∷ []) old new (Ok count) → Tabulates new.now (with_batches (with_batch r s.batches) s)
+pub inserts_batch : (old new : SqlState) (count : ℕ) (s : State) (r : Batch) → Rises batch_cmp s.batches
+    → Tabulates old.now (with_batches (without_batch r.number s.batches) s)
+    → Executes insert_batch (Int (pos r.number) ∷ Text (policy_text r.rows) ∷ []) old new (Ok count)
+    → Tabulates new.now (with_batches (with_batch r s.batches) s)
 inserts_batch old new count s r up was h =
-    let it = adds_at the_schema insert_batch 11 batches_at (Int (pos r.number) ∷ Text (policy_text r.rows) ∷ []) insert_plain refl old new was.schema count terms 3 insert_is (record { uncounted = refl; stampless = refl }) (pos r.number) (batch_values r) refl (cast r) h in
+    let it = adds_at the_schema insert_batch 11 batches_at (Int (pos r.number) ∷ Text (policy_text r.rows) ∷ [])
+    insert_plain refl old new was.schema count terms 3 insert_is (record {
+      uncounted = refl;
+      stampless = refl;
+    }) (pos r.number) (batch_values r) refl (cast r) h in
     let rest = without_batch r.number s.batches in
-    let put : put_row (batch_row r) (map batch_row rest) ≡ map batch_row (replace_key batch_cmp rest r) = put_at batch_values (λ (q : Batch). q.number) r rest in
-    let same : replace_key batch_cmp rest r ≡ with_batch r s.batches = ap (λ (l : List Batch). replace_key batch_cmp l r) (without_is r s.batches) ∙ replaced_after batch_cmp batch_total r s.batches up in
-    spares_batches (contents_of (with_batches rest s)) old.now new.now was it.spares _ (it.rows ∙ (ap (put_row (batch_row r)) was.holds.batches ∙ (put ∙ ap (map batch_row) same)))
+    let put : put_row (batch_row r) (map batch_row rest) ≡ map batch_row (replace_key batch_cmp rest r) =
+    put_at batch_values (λ (q : Batch). q.number) r rest in
+    let same : replace_key batch_cmp rest r ≡ with_batch r s.batches =
+    ap (λ (l : List Batch). replace_key batch_cmp l r) (without_is r s.batches)
+    ∙ replaced_after batch_cmp batch_total r s.batches up in
+    spares_batches (contents_of (with_batches rest s)) old.now new.now was it.spares _
+    (it.rows ∙ (ap (put_row (batch_row r)) was.holds.batches ∙ (put ∙ ap (map batch_row) same)))
 
-pub batch_given : (sql : List ℕ) (b : Batch) (text : List ℕ) → text ≡ policy_text b.rows → (old new : SqlState) (count : ℕ) → Executes sql (Int (pos b.number) ∷ Text text ∷ []) old new (Ok count) → Executes sql (Int (pos b.number) ∷ Text (policy_text b.rows) ∷ []) old new (Ok count)
+pub batch_given : (sql : List ℕ) (b : Batch) (text : List ℕ) → text ≡ policy_text b.rows
+    → (old new : SqlState) (count : ℕ) → Executes sql (Int (pos b.number) ∷ Text text ∷ []) old new (Ok count)
+    → Executes sql (Int (pos b.number) ∷ Text (policy_text b.rows) ∷ []) old new (Ok count)
 batch_given sql b text same old new count = subst (λ (t : List ℕ). Executes sql (Int (pos b.number) ∷ Text t ∷ []) old new (Ok count)) same

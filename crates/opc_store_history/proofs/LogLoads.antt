@@ -12,7 +12,14 @@ use Rattle.opc_store_schema.specs.Tables.{the_schema}
 use Rattle.opc_store_schema.specs.Represented.{Represents, log_values, log_shown}
 
 abbrev pub log : Asked
-log = record { schema = the_schema; text = codes "SELECT text FROM log ORDER BY number"; tree = log_at.tree; tests = []; project = columns 2 1; order = by_columns 0 1 }
+log = record {
+  schema = the_schema;
+  text = codes "SELECT text FROM log ORDER BY number";
+  tree = log_at.tree;
+  tests = [];
+  project = columns 2 1;
+  order = by_columns 0 1;
+}
 
 pub log_asked : IsAsked log
 unfolding understood everything
@@ -20,4 +27,5 @@ log_asked = record { selects = refl; unlisted = refl; plain = (refl, refl); show
 
 pub log_told : (old new : SqlState) (s : State) → Represents old.now s → (rows : List Row) → Shown log.text [] old new rows → rows ≡ map log_shown s.board.log
 log_told old new s was =
-    told_places log [] log_values log_shown (λ _. refl) (λ p q h. rw (number_cmp p.0 q.0, h)) (λ _. refl) log_asked old new was.rows.schema s.board.log was.rows.holds.log
+    told_places log [] log_values log_shown (λ _. refl) (λ p q h. rw (number_cmp p.0 q.0, h)) (λ _. refl) log_asked old
+    new was.rows.schema s.board.log was.rows.holds.log

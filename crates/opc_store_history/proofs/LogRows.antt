@@ -18,9 +18,17 @@ log = record { schema = the_schema; place = 7; table = log_at; insert = codes "I
 
 log_grows : IsHistory log
 unfolding understood everything
-log_grows = record { is = refl; plain = (refl, refl); found = refl; simple = record { uncounted = refl; stampless = refl }; gives = λ x. refl; stores = λ x. (cast_null, (refl, tt)) }
+log_grows = record {
+  is = refl;
+  plain = (refl, refl);
+  found = refl;
+  simple = record { uncounted = refl; stampless = refl };
+  gives = λ x. refl;
+  stores = λ x. (cast_null, (refl, tt));
+}
 
-pub log_added : (old new : SqlState) (count : ℕ) (s : State) → Represents old.now s → (x : List ℕ) → Executes log.insert (params log x) old new (Ok count) → ((n : ℕ) → new.last_rowid ≡ pos n → n < 2 ^ 63)
+pub log_added : (old new : SqlState) (count : ℕ) (s : State) → Represents old.now s → (x : List ℕ)
+    → Executes log.insert (params log x) old new (Ok count) → ((n : ℕ) → new.last_rowid ≡ pos n → n < 2 ^ 63)
     → Represents new.now (with_log (s.board.log ++ x ∷ []) s)
 log_added old new count s was x h low =
     let it = grows log log_grows old new count was.rows.schema s.board.log was.rows.holds.log x h in

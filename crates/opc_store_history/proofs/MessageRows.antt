@@ -19,9 +19,17 @@ messages = record { schema = the_schema; place = 8; table = messages_at; insert 
 
 messages_grows : IsHistory messages
 unfolding understood everything
-messages_grows = record { is = refl; plain = (refl, refl); found = refl; simple = record { uncounted = refl; stampless = refl }; gives = λ x. refl; stores = λ x. (cast_null, (refl, (refl, tt))) }
+messages_grows = record {
+  is = refl;
+  plain = (refl, refl);
+  found = refl;
+  simple = record { uncounted = refl; stampless = refl };
+  gives = λ x. refl;
+  stores = λ x. (cast_null, (refl, (refl, tt)));
+}
 
-pub messages_added : (old new : SqlState) (count : ℕ) (s : State) → Represents old.now s → (x : MessageRow) → Executes messages.insert (params messages x) old new (Ok count) → ((n : ℕ) → new.last_rowid ≡ pos n → n < 2 ^ 63)
+pub messages_added : (old new : SqlState) (count : ℕ) (s : State) → Represents old.now s → (x : MessageRow)
+    → Executes messages.insert (params messages x) old new (Ok count) → ((n : ℕ) → new.last_rowid ≡ pos n → n < 2 ^ 63)
     → Represents new.now (with_messages (s.board.messages ++ x ∷ []) s)
 messages_added old new count s was x h low =
     let it = grows messages messages_grows old new count was.rows.schema s.board.messages was.rows.holds.messages x h in

@@ -18,4 +18,5 @@ numbered_shown p = Int (pos p.0) ∷ account_shown p.1
 
 -- the policy file of a batch that is kept
 abbrev pub kept_text : List Batch → ℕ → Option (List ℕ)
-kept_text batches number = option_map (λ (b : Batch). policy_text b.rows) (find (λ (b : Batch). b.number == number) batches)
+kept_text batches number = option_map (λ (b : Batch). policy_text b.rows)
+    (find (λ (b : Batch). b.number == number) batches)

@@ -30,7 +30,8 @@ impl TableRow<ReplyRow> for AnsweredTable {
 pub fn add_answered<S: Alter>(tx: &mut Transaction<'_, S>, reply: &ReplyRow) -> Result<(), Error>
     ensures same_reference { tx.new.conn.ghost_name ≡ tx.old.conn.ghost_name }
     ensures stays { Stays S.Store tx.old.conn.now tx.new.conn.now result }
-    ensures done { Makes S.Store tx.old.conn.now tx.new.conn.now result (λ s. with_answered (s.board.answered ++ reply.now ∷ []) s) }
+    ensures done { Makes S.Store tx.old.conn.now tx.new.conn.now result
+        (λ s. with_answered (s.board.answered ++ reply.now ∷ []) s) }
 {
     run(
         tx,

@@ -33,7 +33,8 @@ pub fn put_batch<S: Alter>(
 ) -> Result<(), Error>
     ensures same_reference { tx.new.conn.ghost_name ≡ tx.old.conn.ghost_name }
     ensures stays { Stays S.Store tx.old.conn.now tx.new.conn.now result }
-    ensures done { Makes S.Store tx.old.conn.now tx.new.conn.now result (λ s. with_batches (with_batch batch.now s.batches) s) }
+    ensures done { Makes S.Store tx.old.conn.now tx.new.conn.now result
+        (λ s. with_batches (with_batch batch.now s.batches) s) }
 {
     let rows = batch.rows.as_slice();
     if rows.len() > MOST_ROWS as usize {

@@ -33,7 +33,8 @@ impl TableRow<MessageRow> for MessageTable {
 pub fn add_message<S: Alter>(tx: &mut Transaction<'_, S>, message: &MessageRow) -> Result<(), Error>
     ensures same_reference { tx.new.conn.ghost_name ≡ tx.old.conn.ghost_name }
     ensures stays { Stays S.Store tx.old.conn.now tx.new.conn.now result }
-    ensures done { Makes S.Store tx.old.conn.now tx.new.conn.now result (λ s. with_messages (s.board.messages ++ message.now ∷ []) s) }
+    ensures done { Makes S.Store tx.old.conn.now tx.new.conn.now result
+        (λ s. with_messages (s.board.messages ++ message.now ∷ []) s) }
 {
     run(
         tx,

@@ -45,11 +45,17 @@ record Goes (schema : Schema) (sql : List ℕ) (at : ℕ) (table : Table) : Type
   uncounted : table.is_counted ≡ false
   last : schema.tables ≡ (without_table schema table.tree).tables ++ table ∷ []
 
-goes : (schema : Schema) (sql : List ℕ) (at : ℕ) (table : Table) → Goes schema sql at table → (old new : State) (count : ℕ) (all : List (List Row)) (rows : List Row) → length all ≡ length (without_table schema table.tree).tables
+goes : (schema : Schema) (sql : List ℕ) (at : ℕ) (table : Table) → Goes schema sql at table
+    → (old new : State) (count : ℕ) (all : List (List Row)) (rows : List Row)
+    → length all ≡ length (without_table schema table.tree).tables
     → HasTables schema (all ++ rows ∷ []) old.now → Executes sql [] old new (Ok count) → HasTables (without_table schema table.tree) all new.now
-goes schema sql at table it old new count all rows long has h = drops_last schema sql at table it.is it.plain it.found it.quiet it.uncounted it.last old new count all rows long has h
+goes schema sql at table it old new count all rows long has h =
+    drops_last schema sql at table it.is it.plain it.found it.quiet it.uncounted it.last old new count all rows long has
+    h
 
-entries_read : (version : Older) → (command_of (understood (old_schema version) (codes "DROP TABLE entries")) ≡ DropTable 16) × IsPlain (understood (old_schema version) (codes "DROP TABLE entries"))
+entries_read : (version : Older)
+    → (command_of (understood (old_schema version) (codes "DROP TABLE entries")) ≡ DropTable 16)
+    × IsPlain (understood (old_schema version) (codes "DROP TABLE entries"))
 unfolding understood everything
 entries_read First = (refl, (refl, refl))
 entries_read Second = (refl, (refl, refl))
@@ -59,7 +65,9 @@ unfolding same_name joined
 entries_quiet First = refl
 entries_quiet Second = refl
 
-profiles_read : (version : Older) → (command_of (understood (without_entries version) (codes "DROP TABLE profiles")) ≡ DropTable 15) × IsPlain (understood (without_entries version) (codes "DROP TABLE profiles"))
+profiles_read : (version : Older)
+    → (command_of (understood (without_entries version) (codes "DROP TABLE profiles")) ≡ DropTable 15)
+    × IsPlain (understood (without_entries version) (codes "DROP TABLE profiles"))
 unfolding understood everything
 profiles_read First = (refl, (refl, refl))
 profiles_read Second = (refl, (refl, refl))
@@ -69,7 +77,9 @@ unfolding same_name joined
 profiles_quiet First = refl
 profiles_quiet Second = refl
 
-connects_read : (version : Older) → (command_of (understood (without_profiles version) (codes "DROP TABLE connects")) ≡ DropTable 14) × IsPlain (understood (without_profiles version) (codes "DROP TABLE connects"))
+connects_read : (version : Older)
+    → (command_of (understood (without_profiles version) (codes "DROP TABLE connects")) ≡ DropTable 14)
+    × IsPlain (understood (without_profiles version) (codes "DROP TABLE connects"))
 unfolding understood everything
 connects_read First = (refl, (refl, refl))
 connects_read Second = (refl, (refl, refl))
@@ -79,7 +89,9 @@ unfolding same_name joined
 connects_quiet First = refl
 connects_quiet Second = refl
 
-usr_read : (version : Older) → (command_of (understood (without_connects version) (codes "DROP TABLE usr")) ≡ DropTable 13) × IsPlain (understood (without_connects version) (codes "DROP TABLE usr"))
+usr_read : (version : Older)
+    → (command_of (understood (without_connects version) (codes "DROP TABLE usr")) ≡ DropTable 13)
+    × IsPlain (understood (without_connects version) (codes "DROP TABLE usr"))
 unfolding understood everything
 usr_read First = (refl, (refl, refl))
 usr_read Second = (refl, (refl, refl))
@@ -90,16 +102,58 @@ usr_quiet First = refl
 usr_quiet Second = refl
 
 entries_go : (version : Older) → Goes (old_schema version) (codes "DROP TABLE entries") 16 (old_at version 16)
-entries_go First = let read = entries_read First in record { is = read.0; plain = read.1; found = refl; quiet = entries_quiet First; uncounted = refl; last = refl }
-entries_go Second = let read = entries_read Second in record { is = read.0; plain = read.1; found = refl; quiet = entries_quiet Second; uncounted = refl; last = refl }
+entries_go First = let read = entries_read First in record {
+  is = read.0;
+  plain = read.1;
+  found = refl;
+  quiet = entries_quiet First;
+  uncounted = refl;
+  last = refl;
+}
+entries_go Second = let read = entries_read Second in record {
+  is = read.0;
+  plain = read.1;
+  found = refl;
+  quiet = entries_quiet Second;
+  uncounted = refl;
+  last = refl;
+}
 
 profiles_go : (version : Older) → Goes (without_entries version) (codes "DROP TABLE profiles") 15 (old_at version 15)
-profiles_go First = let read = profiles_read First in record { is = read.0; plain = read.1; found = refl; quiet = profiles_quiet First; uncounted = refl; last = refl }
-profiles_go Second = let read = profiles_read Second in record { is = read.0; plain = read.1; found = refl; quiet = profiles_quiet Second; uncounted = refl; last = refl }
+profiles_go First = let read = profiles_read First in record {
+  is = read.0;
+  plain = read.1;
+  found = refl;
+  quiet = profiles_quiet First;
+  uncounted = refl;
+  last = refl;
+}
+profiles_go Second = let read = profiles_read Second in record {
+  is = read.0;
+  plain = read.1;
+  found = refl;
+  quiet = profiles_quiet Second;
+  uncounted = refl;
+  last = refl;
+}
 
 connects_go : (version : Older) → Goes (without_profiles version) (codes "DROP TABLE connects") 14 (old_at version 14)
-connects_go First = let read = connects_read First in record { is = read.0; plain = read.1; found = refl; quiet = connects_quiet First; uncounted = refl; last = refl }
-connects_go Second = let read = connects_read Second in record { is = read.0; plain = read.1; found = refl; quiet = connects_quiet Second; uncounted = refl; last = refl }
+connects_go First = let read = connects_read First in record {
+  is = read.0;
+  plain = read.1;
+  found = refl;
+  quiet = connects_quiet First;
+  uncounted = refl;
+  last = refl;
+}
+connects_go Second = let read = connects_read Second in record {
+  is = read.0;
+  plain = read.1;
+  found = refl;
+  quiet = connects_quiet Second;
+  uncounted = refl;
+  last = refl;
+}
 
 usr_goes : (version : Older) → Goes (without_connects version) (codes "DROP TABLE usr") 13 (old_at version 13)
 usr_goes First = let read = usr_read First in record { is = read.0; plain = read.1; found = refl; quiet = usr_quiet First; uncounted = refl; last = refl }
@@ -118,20 +172,31 @@ counts First c = record { three = refl; two = refl; one = refl; none = refl; end
 counts Second c = record { three = refl; two = refl; one = refl; none = refl; end = refl }
 
 module _ {S : Type 0} (g : Ghosts S) where
-  dropped : (version : Older) (c : Contents) (old new : Held S) → RanAll g drops old new → HasTables (old_schema version) (as_list c) (state g old).now → HasTables lasting_schema (lasting_rows c) (state g new).now
+  dropped : (version : Older) (c : Contents) (old new : Held S) → RanAll g drops old new
+      → HasTables (old_schema version) (as_list c) (state g old).now
+      → HasTables lasting_schema (lasting_rows c) (state g new).now
   dropped version c old new ran has =
       let many = counts version c in
       let second = ran.3 in
       let third = second.3 in
       let fourth = third.3 in
-      let a = goes (old_schema version) (codes "DROP TABLE entries") 16 (old_at version 16) (entries_go version) (state g old) (state g ran.0) ran.1 (lasting_rows c ++ c.usr ∷ c.connects ∷ c.profiles ∷ []) c.entries many.three has ran.2.executes in
-      let b = goes (without_entries version) (codes "DROP TABLE profiles") 15 (old_at version 15) (profiles_go version) (state g ran.0) (state g second.0) second.1 (lasting_rows c ++ c.usr ∷ c.connects ∷ []) c.profiles many.two a second.2.executes in
-      let d = goes (without_profiles version) (codes "DROP TABLE connects") 14 (old_at version 14) (connects_go version) (state g second.0) (state g third.0) third.1 (lasting_rows c ++ c.usr ∷ []) c.connects many.one b third.2.executes in
-      let e = goes (without_connects version) (codes "DROP TABLE usr") 13 (old_at version 13) (usr_goes version) (state g third.0) (state g fourth.0) fourth.1 (lasting_rows c) c.usr many.none d fourth.2.executes in
-      let last : HasTables lasting_schema (lasting_rows c) (state g fourth.0).now = subst (λ (s : Schema). HasTables s (lasting_rows c) (state g fourth.0).now) many.end e in
+      let a = goes (old_schema version) (codes "DROP TABLE entries") 16 (old_at version 16) (entries_go version)
+      (state g old) (state g ran.0) ran.1 (lasting_rows c ++ c.usr ∷ c.connects ∷ c.profiles ∷ []) c.entries
+      many.three has ran.2.executes in
+      let b = goes (without_entries version) (codes "DROP TABLE profiles") 15 (old_at version 15) (profiles_go version)
+      (state g ran.0) (state g second.0) second.1 (lasting_rows c ++ c.usr ∷ c.connects ∷ []) c.profiles many.two a
+      second.2.executes in
+      let d = goes (without_profiles version) (codes "DROP TABLE connects") 14 (old_at version 14) (connects_go version)
+      (state g second.0) (state g third.0) third.1 (lasting_rows c ++ c.usr ∷ []) c.connects many.one b
+      third.2.executes in
+      let e = goes (without_connects version) (codes "DROP TABLE usr") 13 (old_at version 13) (usr_goes version)
+      (state g third.0) (state g fourth.0) fourth.1 (lasting_rows c) c.usr many.none d fourth.2.executes in
+      let last : HasTables lasting_schema (lasting_rows c) (state g fourth.0).now =
+      subst (λ (s : Schema). HasTables s (lasting_rows c) (state g fourth.0).now) many.end e in
       subst (λ (h : Held S). HasTables lasting_schema (lasting_rows c) (state g h).now) (sym fourth.3) last
 
   pub all_dropped : {X E : Type 0} (old new : Held S) (result : Result X E) → OnOk result (RanAll g drops old new)
-      → OnOk result ((version : Older) → (c : Contents) → HasTables (old_schema version) (as_list c) (state g old).now → HasTables lasting_schema (lasting_rows c) (state g new).now)
+      → OnOk result ((version : Older) → (c : Contents) → HasTables (old_schema version) (as_list c) (state g old).now
+      → HasTables lasting_schema (lasting_rows c) (state g new).now)
   all_dropped old new (Ok v) ran = λ version c has. dropped version c old new ran has
   all_dropped old new (Err e) ran = tt

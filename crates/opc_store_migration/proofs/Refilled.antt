@@ -60,7 +60,8 @@ not_there (q ∷ before) p apart = go (is_of p.class p.pattern q) refl (not_ther
 defined : (before : List Profile) (p : Profile) → IsApartFrom profile_cmp profile_total before p → with_definition p before ≡ replace_key profile_cmp before p
 defined before p apart = rw (not_there before p apart)
 
-profiles_put : (before ps : List Profile) (s : State) → s.policy.profiles ≡ before → Rises profile_cmp before → HasNoTies profile_cmp profile_total ps → AllByRecursion (IsApartFrom profile_cmp profile_total before) ps
+profiles_put : (before ps : List Profile) (s : State) → s.policy.profiles ≡ before → Rises profile_cmp before
+    → HasNoTies profile_cmp profile_total ps → AllByRecursion (IsApartFrom profile_cmp profile_total before) ps
     → all_edited (profile_puts ps) s ≡ with_profiles (put_all profile_cmp profile_total before ps) s
 profiles_put before [] s is up alone apart = ap (λ (l : List Profile). with_profiles l s) is
 profiles_put before (p ∷ ps) s is up alone apart =
@@ -77,19 +78,27 @@ module _ (s : State) (puts : MigrationEdits) (are : AreMigrationEditsOf s puts) 
   with_all_users t none up =
       ap (λ (l : List Edit). all_edited l t) are.users
       ∙ (users_put s.policy.users t
-      ∙ ap (λ (l : List User). with_users l t) (ap (λ (l : List User). put_all user_cmp user_total l s.policy.users) none ∙ all_put user_cmp user_total s.policy.users s.policy.users up (IsPermutation-refl s.policy.users)))
+      ∙ ap (λ (l : List User). with_users l t)
+      (ap (λ (l : List User). put_all user_cmp user_total l s.policy.users) none
+      ∙ all_put user_cmp user_total s.policy.users s.policy.users up (IsPermutation-refl s.policy.users)))
 
-  with_all_connects : (t : State) → t.policy.connects ≡ [] → Rises connect_cmp s.policy.connects → all_edited puts.connects.items t ≡ with_connects s.policy.connects t
+  with_all_connects : (t : State) → t.policy.connects ≡ [] → Rises connect_cmp s.policy.connects
+      → all_edited puts.connects.items t ≡ with_connects s.policy.connects t
   with_all_connects t none up =
       ap (λ (l : List Edit). all_edited l t) are.connects
       ∙ (connects_put s.policy.connects t
-      ∙ ap (λ (l : List Connect). with_connects l t) (ap (λ (l : List Connect). put_all connect_cmp connect_total l s.policy.connects) none ∙ all_put connect_cmp connect_total s.policy.connects s.policy.connects up (IsPermutation-refl s.policy.connects)))
+      ∙ ap (λ (l : List Connect). with_connects l t)
+      (ap (λ (l : List Connect). put_all connect_cmp connect_total l s.policy.connects) none
+      ∙ all_put connect_cmp connect_total s.policy.connects s.policy.connects up
+      (IsPermutation-refl s.policy.connects)))
 
-  with_all_profiles : (t : State) → t.policy.profiles ≡ [] → Rises profile_cmp s.policy.profiles → all_edited puts.profiles.items t ≡ with_profiles s.policy.profiles t
+  with_all_profiles : (t : State) → t.policy.profiles ≡ [] → Rises profile_cmp s.policy.profiles
+      → all_edited puts.profiles.items t ≡ with_profiles s.policy.profiles t
   with_all_profiles t none up =
       let ps = s.policy.profiles in
       let same = same_profiles ps up in
-      let alone : HasNoTies profile_cmp profile_total (by_text ps) = (apart_along profile_cmp profile_total ps (by_text ps) same).1 (no_ties profile_cmp profile_total ps up) in
+      let alone : HasNoTies profile_cmp profile_total (by_text ps) =
+      (apart_along profile_cmp profile_total ps (by_text ps) same).1 (no_ties profile_cmp profile_total ps up) in
       ap (λ (l : List Edit). all_edited l t) are.profiles
       ∙ (profiles_put [] (by_text ps) t none tt alone (none_apart profile_cmp profile_total (by_text ps))
       ∙ ap (λ (l : List Profile). with_profiles l t) (all_put profile_cmp profile_total (by_text ps) ps up same))
@@ -98,7 +107,9 @@ module _ (s : State) (puts : MigrationEdits) (are : AreMigrationEditsOf s puts) 
   with_all_batches t none up =
       ap (λ (l : List Edit). all_edited l t) are.batches
       ∙ (batches_put s.batches t
-      ∙ ap (λ (l : List Batch). with_batches l t) (ap (λ (l : List Batch). put_all batch_cmp batch_total l s.batches) none ∙ all_put batch_cmp batch_total s.batches s.batches up (IsPermutation-refl s.batches)))
+      ∙ ap (λ (l : List Batch). with_batches l t)
+      (ap (λ (l : List Batch). put_all batch_cmp batch_total l s.batches) none
+      ∙ all_put batch_cmp batch_total s.batches s.batches up (IsPermutation-refl s.batches)))
 
   pub refilled : (text_of : Batch → List ℕ) → IsOldState text_of s → put_into puts (emptied s) ≡ s
   refilled text_of is =

@@ -64,15 +64,19 @@ module _ (old new : SqlState) (count : ℕ) (c : Contents) (was : IsMade c old.n
   -- every row passes
   pub without_meta : Executes delete_meta [] old new (Ok count) → IsMade (record c { meta = [] }) new.now
   without_meta h =
-      let it = takes the_schema delete_meta 0 meta_at [] meta_plain refl old new was.schema count [] (λ _. true) meta_goes (λ _. refl) (λ rows. nothing_acts the_schema meta_at.tree meta_idle.0 meta_idle.1 _ []) h in
+      let it = takes the_schema delete_meta 0 meta_at [] meta_plain refl old new was.schema count [] (λ _. true)
+      meta_goes (λ _. refl) (λ rows. nothing_acts the_schema meta_at.tree meta_idle.0 meta_idle.1 _ []) h in
       let none : filter (λ (v : Row). not true) c.meta ≡ [] = filter_none _ c.meta (all_of (λ (v : Row). not true ≡ false) (λ _. refl) c.meta) in
       subst (λ (l : List Row). IsMade (record c { meta = l }) new.now) none (with_meta c old.now new.now was it.spares _ (it.rows c.meta was.holds.meta))
 
   pub without_batches : (kept : IsKept c.batches) → Executes delete_batches [] old new (Ok count) → IsMade (record c { batches = [] }) new.now
   without_batches kept h =
-      let it = takes_numbers the_schema delete_batches 11 batches_at [] batches_plain refl old new was.schema count [] batches_go (λ rows. nothing_acts the_schema batches_at.tree batches_idle.0 batches_idle.1 _ []) h in
+      let it = takes_numbers the_schema delete_batches 11 batches_at [] batches_plain refl old new was.schema count []
+      batches_go (λ rows. nothing_acts the_schema batches_at.tree batches_idle.0 batches_idle.1 _ []) h in
       let stored : IsKept (old.now.trees batches_at.tree) = subst IsKept (sym was.holds.batches) kept in
-      let none : filter (λ (r : Row). not true) (old.now.trees batches_at.tree) ≡ [] = filter_none _ (old.now.trees batches_at.tree) (all_of (λ (r : Row). not true ≡ false) (λ _. refl) (old.now.trees batches_at.tree)) in
+      let none : filter (λ (r : Row). not true) (old.now.trees batches_at.tree) ≡ [] =
+      filter_none _ (old.now.trees batches_at.tree)
+      (all_of (λ (r : Row). not true ≡ false) (λ _. refl) (old.now.trees batches_at.tree)) in
       spares_batches c old.now new.now was it.spares [] (it.rows stored ∙ none)
 
 pub batches_kept : (text_of : Batch → List ℕ) (s : State) → IsOldState text_of s → IsKept (map (old_batch_row text_of) s.batches)
@@ -96,8 +100,10 @@ emptied_ordered text_of s is = record {
 }
 
 -- the three steps, one after another
-pub renewed : (version : Older) (text_of : Batch → List ℕ) (s : State) → IsOldState text_of s → (a b c d : SqlState) (m n k : ℕ) → IsMade (between version text_of s) a.now
-    → Executes delete_meta [] a b (Ok m) → Executes insert_version (version_row 3) b c (Ok n) → Executes delete_batches [] c d (Ok k) → Represents d.now (emptied s)
+pub renewed : (version : Older) (text_of : Batch → List ℕ) (s : State) → IsOldState text_of s
+    → (a b c d : SqlState) (m n k : ℕ) → IsMade (between version text_of s) a.now
+    → Executes delete_meta [] a b (Ok m) → Executes insert_version (version_row 3) b c (Ok n)
+    → Executes delete_batches [] c d (Ok k) → Represents d.now (emptied s)
 renewed version text_of s is a b c d m n k was first second third =
     let start = between version text_of s in
     let bare = without_meta a b m start was first in

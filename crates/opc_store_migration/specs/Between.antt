@@ -24,8 +24,12 @@ emptied s = with_batches [] (with_profiles [] (with_connects [] (with_users [] s
 
 -- its tables, with the version and the batches as they were
 abbrev pub between : Older → (Batch → List ℕ) → State → Contents
-between version text_of s = record (contents_of (emptied s)) { meta = version_row (version_number version) ∷ []; batches = map (old_batch_row text_of) s.batches }
+between version text_of s = record (contents_of (emptied s)) {
+  meta = version_row (version_number version) ∷ [];
+  batches = map (old_batch_row text_of) s.batches;
+}
 
 -- the state with what is put, part by part
 abbrev pub put_into : MigrationEdits → State → State
-put_into puts s = all_edited puts.batches.items (all_edited puts.profiles.items (all_edited puts.connects.items (all_edited puts.users.items s)))
+put_into puts s = all_edited puts.batches.items
+    (all_edited puts.profiles.items (all_edited puts.connects.items (all_edited puts.users.items s)))

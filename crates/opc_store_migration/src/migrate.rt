@@ -19,10 +19,14 @@ use sqlite::{Alter, Connection, Error};
 fn transact<S: Alter>(conn: &mut Connection<S>, puts: &MigrationEdits) -> Result<(), Error>
     requires { conn.old.in_transaction ≡ false }
     ensures mode { conn.new.in_transaction ≡ false }
-    ensures done { HasCleanDisk (state S.Store conn.new) → OnOk result ((version : _) → (s : _) → RepresentsOld version (state S.Store conn.old).now s → AreMigrationEditsOf s puts.now → Represents (state S.Store conn.new).now s) }
+    ensures done { HasCleanDisk (state S.Store conn.new)
+        → OnOk result ((version : _) → (s : _) → RepresentsOld version (state S.Store conn.old).now s
+        → AreMigrationEditsOf s puts.now → Represents (state S.Store conn.new).now s) }
     ensures failed { IsUndone S.Store conn.old conn.new result }
     ensures settled { IsCommitted S.Store conn.new result }
-    ensures survives { Survives (state S.Store conn.old) (state S.Store conn.new) (λ db. (version : _) → (s : _) → RepresentsOld version (state S.Store conn.old).now s → AreMigrationEditsOf s puts.now → AreTablesOf db s) }
+    ensures survives { Survives (state S.Store conn.old) (state S.Store conn.new)
+        (λ db. (version : _) → (s : _) → RepresentsOld version (state S.Store conn.old).now s
+        → AreMigrationEditsOf s puts.now → AreTablesOf db s) }
 {
     let _settled = conn.is_autocommit();
     let mut tx = conn.transaction();
@@ -32,16 +36,19 @@ fn transact<S: Alter>(conn: &mut Connection<S>, puts: &MigrationEdits) -> Result
     tx.commit()
 }
 
-/// Makes tables of version 1 or 2 those of version 3, of the same state. Where it fails they are as they were, and a crash
-/// leaves the old tables or the new ones, whole. The policy and the kept batches are read into memory; the account and the
-/// histories stay where they are.
+/// Makes tables of version 1 or 2 those of version 3, of the same state. Where it fails they are as they were, and a
+/// crash leaves the old tables or the new ones, whole. The policy and the kept batches are read into memory; the
+/// account and the histories stay where they are.
 pub fn migrate_on<S: Alter>(conn: &mut Connection<S>) -> Result<(), StoreFault>
     requires { conn.old.in_transaction ≡ false }
     ensures mode { conn.new.in_transaction ≡ false }
-    ensures done { HasCleanDisk (state S.Store conn.new) → OnOk result ((version : _) → (s : _) → RepresentsOld version (state S.Store conn.old).now s → Represents (state S.Store conn.new).now s) }
+    ensures done { HasCleanDisk (state S.Store conn.new)
+        → OnOk result ((version : _) → (s : _) → RepresentsOld version (state S.Store conn.old).now s
+        → Represents (state S.Store conn.new).now s) }
     ensures failed { IsUndone S.Store conn.old conn.new result }
     ensures settled { IsCommitted S.Store conn.new result }
-    ensures survives { Survives (state S.Store conn.old) (state S.Store conn.new) (λ db. (version : _) → (s : _) → RepresentsOld version (state S.Store conn.old).now s → AreTablesOf db s) }
+    ensures survives { Survives (state S.Store conn.old) (state S.Store conn.new)
+        (λ db. (version : _) → (s : _) → RepresentsOld version (state S.Store conn.old).now s → AreTablesOf db s) }
 {
     let puts = migration_edits_on(conn)?;
     match transact(conn, &puts) {

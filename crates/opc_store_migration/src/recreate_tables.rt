@@ -25,7 +25,10 @@ const DROPS: [&str; 4] = [
 fn drop_last_tables<S: Alter>(tx: &mut Transaction<'_, S>) -> Result<(), Error>
     ensures same_reference { tx.new.conn.ghost_name ≡ tx.old.conn.ghost_name }
     ensures stays { Stays S.Store tx.old.conn.now tx.new.conn.now result }
-    ensures dropped { HasCleanDisk (state S.Store tx.new.conn.now) → OnOk result ((version : _) → (c : TheContents) → HasTables (old_schema version) (as_list c) (state S.Store tx.old.conn.now).now → HasTables lasting_schema (lasting_rows c) (state S.Store tx.new.conn.now).now) }
+    ensures dropped { HasCleanDisk (state S.Store tx.new.conn.now)
+        → OnOk result ((version : _) → (c : TheContents)
+        → HasTables (old_schema version) (as_list c) (state S.Store tx.old.conn.now).now
+        → HasTables lasting_schema (lasting_rows c) (state S.Store tx.new.conn.now).now) }
 {
     run_all(tx, &DROPS)
 }
@@ -34,7 +37,10 @@ fn drop_last_tables<S: Alter>(tx: &mut Transaction<'_, S>) -> Result<(), Error>
 pub fn recreate_tables<S: Alter>(tx: &mut Transaction<'_, S>) -> Result<(), Error>
     ensures same_reference { tx.new.conn.ghost_name ≡ tx.old.conn.ghost_name }
     ensures stays { Stays S.Store tx.old.conn.now tx.new.conn.now result }
-    ensures remade { HasCleanDisk (state S.Store tx.new.conn.now) → OnOk result ((version : _) → (c : TheContents) → HasTables (old_schema version) (as_list c) (state S.Store tx.old.conn.now).now → IsMade (without_last c) (state S.Store tx.new.conn.now).now) }
+    ensures remade { HasCleanDisk (state S.Store tx.new.conn.now)
+        → OnOk result ((version : _) → (c : TheContents)
+        → HasTables (old_schema version) (as_list c) (state S.Store tx.old.conn.now).now
+        → IsMade (without_last c) (state S.Store tx.new.conn.now).now) }
 {
     drop_last_tables(tx)?;
     create_last_tables(tx)

@@ -17,7 +17,10 @@ use sqlite::{Alter, Error, Transaction, params};
 pub fn set_version<S: Alter>(tx: &mut Transaction<'_, S>) -> Result<(), Error>
     ensures same_reference { tx.new.conn.ghost_name ≡ tx.old.conn.ghost_name }
     ensures stays { Stays S.Store tx.old.conn.now tx.new.conn.now result }
-    ensures renewed { HasCleanDisk (state S.Store tx.new.conn.now) → OnOk result ((version : _) → (text_of : TheBatch → List ℕ) → (s : TheState) → IsOldState text_of s → IsMade (between version text_of s) (state S.Store tx.old.conn.now).now → Represents (state S.Store tx.new.conn.now).now (emptied s)) }
+    ensures renewed { HasCleanDisk (state S.Store tx.new.conn.now)
+        → OnOk result ((version : _) → (text_of : TheBatch → List ℕ) → (s : TheState) → IsOldState text_of s
+        → IsMade (between version text_of s) (state S.Store tx.old.conn.now).now
+        → Represents (state S.Store tx.new.conn.now).now (emptied s)) }
 {
     run(tx, "DELETE FROM meta", &[])?;
     run(tx, "INSERT INTO meta VALUES (?1)", params![3u32])?;

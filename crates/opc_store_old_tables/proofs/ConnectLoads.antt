@@ -14,15 +14,25 @@ use Rattle.opc_store_old_tables.specs.Old.{RepresentsOld}
 use Rattle.opc_store_old_tables.proofs.Held.{held}
 
 abbrev pub connects : Older → Asked
-connects version = record { schema = old_schema version; text = codes "SELECT usr, grp FROM connects ORDER BY usr, grp"; tree = (old_at version 14).tree; tests = []; project = columns 1 2; order = by_columns 1 2 }
+connects version = record {
+  schema = old_schema version;
+  text = codes "SELECT usr, grp FROM connects ORDER BY usr, grp";
+  tree = (old_at version 14).tree;
+  tests = [];
+  project = columns 1 2;
+  order = by_columns 1 2;
+}
 
 pub connects_asked : (version : Older) → IsAsked (connects version)
 unfolding understood everything
 connects_asked First = record { selects = refl; unlisted = refl; plain = (refl, refl); shows = λ schema base. refl }
 connects_asked Second = record { selects = refl; unlisted = refl; plain = (refl, refl); shows = λ schema base. refl }
 
-pub connects_told : (version : Older) (old new : SqlState) (s : State) → RepresentsOld version old.now s → (rows : List Row) → Shown (connects version).text [] old new rows → rows ≡ map connect_row s.policy.connects
+pub connects_told : (version : Older) (old new : SqlState) (s : State) → RepresentsOld version old.now s
+    → (rows : List Row) → Shown (connects version).text [] old new rows → rows ≡ map connect_row s.policy.connects
 connects_told version old new s was rows h =
     let has = held version old.now s was in
-    told_all (connects version) [] refl connect_row connect_cmp (λ _. refl) (λ x y h. rw (value_cmp-Text x.user y.user, value_cmp-Text x.group y.group) (then_less (name_cmp x.user y.user) (name_cmp x.group y.group) h)) (λ _. refl)
+    told_all (connects version) [] refl connect_row connect_cmp (λ _. refl)
+    (λ x y h. rw (value_cmp-Text x.user y.user, value_cmp-Text x.group y.group)
+    (then_less (name_cmp x.user y.user) (name_cmp x.group y.group) h)) (λ _. refl)
     (connects_asked version) old new has.schema s.policy.connects was.state.ordered.connects has.connects rows h

@@ -73,7 +73,8 @@ module _ (class : Class) (pattern : List ℕ) where
   same_profile (a ∷ b ∷ c ∷ []) = refl
   same_profile (a ∷ b ∷ c ∷ d ∷ more) = refl
 
-  cut_picked : (ps : List Profile) → filter (has_profile class pattern) (map cut (flat_map entry_rows ps)) ≡ map cut (filter (has_profile class pattern) (flat_map entry_rows ps))
+  cut_picked : (ps : List Profile) → filter (has_profile class pattern) (map cut (flat_map entry_rows ps)) ≡ map cut
+      (filter (has_profile class pattern) (flat_map entry_rows ps))
   cut_picked ps = filter-map (has_profile class pattern) cut (flat_map entry_rows ps) ∙ ap (map cut) (filter_same _ _ same_profile (flat_map entry_rows ps))
 
   cut_list : (es : List Entry) → map cut (map (entry_row class pattern) es) ≡ map (old_entry_row class pattern) es
@@ -86,7 +87,8 @@ module _ (class : Class) (pattern : List ℕ) where
 
   all_shown : (es : List Entry) → AllByRecursion IsPlain es → map shown es ≡ map (entry_row class pattern) es
   all_shown [] h = refl
-  all_shown (e ∷ es) h = ap₂ (λ (r : Row) (l : List Row). r ∷ l) (ap (λ (w : Option (List ℕ)). entry_row class pattern (record e { when = w })) (sym h.0)) (all_shown es h.1)
+  all_shown (e ∷ es) h = ap₂ (λ (r : Row) (l : List Row). r ∷ l)
+      (ap (λ (w : Option (List ℕ)). entry_row class pattern (record e { when = w })) (sym h.0)) (all_shown es h.1)
 
 -- ---- in the order of their ids
 
@@ -94,7 +96,9 @@ abbrev id_cmp : Entry → Entry → Ordering
 id_cmp e f = name_cmp e.id f.id
 
 id_less : (e f : Entry) → IsPlain e → IsPlain f → entry_cmp e f ≡ Less → id_cmp e f ≡ Less
-id_less e f plain too h = go (name_cmp e.id f.id) (ap₂ (λ (v w : Option (List ℕ)). ordering_then (name_cmp e.id f.id) (option_cmp name_cmp v w)) (sym plain) (sym too) ∙ h)
+id_less e f plain too h = go (name_cmp e.id f.id)
+    (ap₂ (λ (v w : Option (List ℕ)). ordering_then (name_cmp e.id f.id) (option_cmp name_cmp v w)) (sym plain) (sym too)
+    ∙ h)
   where
     go : (o : Ordering) → ordering_then o (option_cmp name_cmp None None) ≡ Less → o ≡ Less
     go Less h = refl
@@ -103,7 +107,11 @@ id_less e f plain too h = go (name_cmp e.id f.id) (ap₂ (λ (v w : Option (List
 
 ids_rise : (es : List Entry) → AllByRecursion IsPlain es → Rises entry_cmp es → Rises id_cmp es
 ids_rise [] plain up = tt
-ids_rise (e ∷ es) plain up = (all_both IsPlain (λ f. entry_cmp e f ≡ Less) (λ f. id_cmp e f ≡ Less) (λ f too less. id_less e f plain.0 too less) es plain.1 up.0, ids_rise es plain.1 up.1)
+ids_rise (e ∷ es) plain up = (
+  all_both IsPlain (λ f. entry_cmp e f ≡ Less) (λ f. id_cmp e f ≡ Less) (λ f too less. id_less e f plain.0 too less)
+      es plain.1 up.0,
+  ids_rise es plain.1 up.1,
+)
 
 then_nothing : (o : Ordering) → o ≡ Less → ordering_then o Equal ≡ Less
 then_nothing Less h = refl
@@ -124,11 +132,17 @@ module _ (version : Older) (old new : SqlState) (s : State) (was : RepresentsOld
   rows_are : filter (has_profile class pattern) (flat_map old_entry_rows s.policy.profiles) ≡ map (old_entry_row class pattern) list
   rows_are =
       ap (filter (has_profile class pattern)) (cut_all s.policy.profiles)
-      ∙ (cut_picked class pattern s.policy.profiles ∙ (ap (map cut) (list_rows (with_batches [] s) was.state.ordered class pattern) ∙ cut_list class pattern list))
+      ∙ (cut_picked class pattern s.policy.profiles
+      ∙ (ap (map cut) (list_rows (with_batches [] s) was.state.ordered class pattern)
+      ∙ cut_list class pattern list))
 
   pub entries_told : (rows : List Row) → Shown (entries version).text (profile_key class pattern) old new rows → rows ≡ map (entry_row class pattern) list
   entries_told rows h =
       let has = held version old.now s was in
-      told_part_shown (entries version) (profile_key class pattern) refl (old_entry_row class pattern) (shown class pattern) id_cmp (λ _. refl) (λ x y less. rw (value_cmp-Text x.id y.id) (then_nothing (name_cmp x.id y.id) less))
-      (entries_asked version) old new has.schema (flat_map old_entry_rows s.policy.profiles) list (ids_rise list list_plain (list_ordered (with_batches [] s) was.state.ordered class pattern).0) rows_are has.entries rows h
+      told_part_shown (entries version) (profile_key class pattern) refl (old_entry_row class pattern)
+      (shown class pattern) id_cmp (λ _. refl)
+      (λ x y less. rw (value_cmp-Text x.id y.id) (then_nothing (name_cmp x.id y.id) less))
+      (entries_asked version) old new has.schema (flat_map old_entry_rows s.policy.profiles) list
+      (ids_rise list list_plain (list_ordered (with_batches [] s) was.state.ordered class pattern).0) rows_are
+      has.entries rows h
       ∙ all_shown class pattern list list_plain

@@ -14,7 +14,11 @@ pub found_old : (version : Older) (db : Database) (s : State) → IsDatabase db 
 found_old version db s sound alone = record {
   text_of = alone.text_of;
   state = alone.state;
-  tables = record { schema_is = lists_once (db.trees catalog_tree) db.schema (old_schema version) sound.lists alone.lists; sound = sound; filled = alone.filled };
+  tables = record {
+    schema_is = lists_once (db.trees catalog_tree) db.schema (old_schema version) sound.lists alone.lists;
+    sound = sound;
+    filled = alone.filled;
+  };
 }
 
 ours : (version : Older) → has_our_name (old_schema version) ≡ true

@@ -21,7 +21,23 @@ pub record HoldsOld (version : Older) (db : Database) (s : State) (text_of : Bat
 pub held : (version : Older) (db : Database) (s : State) (was : RepresentsOld version db s) → HoldsOld version db s was.text_of
 held First db s was =
     let h = was.tables.filled.1.1.1.1.1.1.1.1.1.1.1 in
-    record { schema = was.tables.schema_is; meta = was.tables.filled.0; batches = h.0; usr = h.1.1.0; connects = h.1.1.1.0; profiles = h.1.1.1.1.0; entries = h.1.1.1.1.1.0 }
+    record {
+      schema = was.tables.schema_is;
+      meta = was.tables.filled.0;
+      batches = h.0;
+      usr = h.1.1.0;
+      connects = h.1.1.1.0;
+      profiles = h.1.1.1.1.0;
+      entries = h.1.1.1.1.1.0;
+    }
 held Second db s was =
     let h = was.tables.filled.1.1.1.1.1.1.1.1.1.1.1 in
-    record { schema = was.tables.schema_is; meta = was.tables.filled.0; batches = h.0; usr = h.1.1.0; connects = h.1.1.1.0; profiles = h.1.1.1.1.0; entries = h.1.1.1.1.1.0 }
+    record {
+      schema = was.tables.schema_is;
+      meta = was.tables.filled.0;
+      batches = h.0;
+      usr = h.1.1.0;
+      connects = h.1.1.1.0;
+      profiles = h.1.1.1.1.0;
+      entries = h.1.1.1.1.1.0;
+    }

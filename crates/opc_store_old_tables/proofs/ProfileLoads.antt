@@ -36,7 +36,14 @@ use Rattle.opc_store_old_tables.specs.Read.{AreAmong, text_order, by_text}
 use Rattle.opc_store_old_tables.proofs.Held.{held}
 
 abbrev pub profiles : Older → Asked
-profiles version = record { schema = old_schema version; text = codes "SELECT class, pattern, owner, uacc, warning FROM profiles ORDER BY class, pattern"; tree = (old_at version 15).tree; tests = []; project = columns 1 5; order = by_columns 1 2 }
+profiles version = record {
+  schema = old_schema version;
+  text = codes "SELECT class, pattern, owner, uacc, warning FROM profiles ORDER BY class, pattern";
+  tree = (old_at version 15).tree;
+  tests = [];
+  project = columns 1 5;
+  order = by_columns 1 2;
+}
 
 pub profiles_asked : (version : Older) → IsAsked (profiles version)
 unfolding understood everything
@@ -79,7 +86,8 @@ module _ (ps : List Profile) (up : Rises profile_cmp ps) where
   apart = ascending_weaker _ _ texts_apart ps (no_ties profile_cmp profile_total ps up)
 
   sorted_is : by_text ps ≡ put_all text_order text_total [] ps
-  sorted_is = in_order text_order text_total (put_all text_order text_total [] ps) ps (put_rises text_order text_total [] ps tt) (all_same text_order text_total ps apart)
+  sorted_is = in_order text_order text_total (put_all text_order text_total [] ps) ps
+      (put_rises text_order text_total [] ps tt) (all_same text_order text_total ps apart)
 
   texts_rise : Rises text_order (by_text ps)
   texts_rise = subst (Rises text_order) (sym sorted_is) (put_rises text_order text_total [] ps tt)
@@ -97,14 +105,27 @@ shows_definition First p = refl
 shows_definition Second p = refl
 
 shows_order : (version : Older) (p q : Profile) → text_order p q ≡ Less
-    → output_cmp (query (profiles version)) (tells (profiles version) [] (Null ∷ old_profile_row version p)) (tells (profiles version) [] (Null ∷ old_profile_row version q)) ≡ Less
-shows_order First p q h = rw (value_cmp-Text (class_text p.class) (class_text q.class), value_cmp-Text p.pattern q.pattern) (then_less (name_cmp (class_text p.class) (class_text q.class)) (name_cmp p.pattern q.pattern) h)
-shows_order Second p q h = rw (value_cmp-Text (class_text p.class) (class_text q.class), value_cmp-Text p.pattern q.pattern) (then_less (name_cmp (class_text p.class) (class_text q.class)) (name_cmp p.pattern q.pattern) h)
+    → output_cmp (query (profiles version)) (tells (profiles version) [] (Null ∷ old_profile_row version p))
+    (tells (profiles version) [] (Null ∷ old_profile_row version q)) ≡ Less
+shows_order First p q h =
+    rw (value_cmp-Text (class_text p.class) (class_text q.class), value_cmp-Text p.pattern q.pattern)
+    (then_less (name_cmp (class_text p.class) (class_text q.class)) (name_cmp p.pattern q.pattern) h)
+shows_order Second p q h =
+    rw (value_cmp-Text (class_text p.class) (class_text q.class), value_cmp-Text p.pattern q.pattern)
+    (then_less (name_cmp (class_text p.class) (class_text q.class)) (name_cmp p.pattern q.pattern) h)
 
-pub profiles_told : (version : Older) (old new : SqlState) (s : State) → RepresentsOld version old.now s → (rows : List Row) → Shown (profiles version).text [] old new rows → rows ≡ map definition_row (by_text s.policy.profiles)
+pub profiles_told : (version : Older) (old new : SqlState) (s : State) → RepresentsOld version old.now s
+    → (rows : List Row) → Shown (profiles version).text [] old new rows
+    → rows ≡ map definition_row (by_text s.policy.profiles)
 profiles_told version old new s was rows h =
     let has = held version old.now s was in
     let ps = s.policy.profiles in
     let moved : HasRows (map (old_profile_row version) (by_text ps)) (old.now.trees (old_at version 15).tree) =
-    record { each = IsPermutation-trans _ _ _ (IsPermutation-map (old_profile_row version) _ _ (IsPermutation-sym _ _ (same_profiles ps was.state.ordered.profiles))) has.profiles.each; kept = has.profiles.kept } in
-    told_all_shown (profiles version) [] refl (old_profile_row version) definition_row text_order (shows_definition version) (shows_order version) (λ _. refl) (profiles_asked version) old new has.schema (by_text ps) (texts_rise ps was.state.ordered.profiles) moved rows h
+    record {
+      each = IsPermutation-trans _ _ _ (IsPermutation-map (old_profile_row version) _ _
+          (IsPermutation-sym _ _ (same_profiles ps was.state.ordered.profiles))) has.profiles.each;
+      kept = has.profiles.kept;
+    } in
+    told_all_shown (profiles version) [] refl (old_profile_row version) definition_row text_order
+    (shows_definition version) (shows_order version) (λ _. refl) (profiles_asked version) old new has.schema
+    (by_text ps) (texts_rise ps was.state.ordered.profiles) moved rows h

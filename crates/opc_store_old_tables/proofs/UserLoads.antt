@@ -18,7 +18,14 @@ use Rattle.opc_store_old_tables.specs.Old.{RepresentsOld, IsUnrestricted, old_us
 use Rattle.opc_store_old_tables.proofs.Held.{held}
 
 abbrev pub users : Older → Asked
-users version = record { schema = old_schema version; text = codes "SELECT id, special, auditor, revoked, digest, 0 FROM usr ORDER BY id"; tree = (old_at version 13).tree; tests = []; project = columns 1 5 ++ lit (Int (pos 0)) ∷ []; order = by_columns 1 1 }
+users version = record {
+  schema = old_schema version;
+  text = codes "SELECT id, special, auditor, revoked, digest, 0 FROM usr ORDER BY id";
+  tree = (old_at version 13).tree;
+  tests = [];
+  project = columns 1 5 ++ lit (Int (pos 0)) ∷ [];
+  order = by_columns 1 1;
+}
 
 pub users_asked : (version : Older) → IsAsked (users version)
 unfolding understood everything
@@ -33,8 +40,11 @@ all_shown : (us : List User) → AllByRecursion IsUnrestricted us → map shown 
 all_shown [] h = refl
 all_shown (u ∷ us) h = ap₂ (λ (r : Row) (l : List Row). r ∷ l) (ap (λ (b : Bool). user_row (record u { restricted = b })) (sym h.0)) (all_shown us h.1)
 
-pub users_told : (version : Older) (old new : SqlState) (s : State) → RepresentsOld version old.now s → (rows : List Row) → Shown (users version).text [] old new rows → rows ≡ map user_row s.policy.users
+pub users_told : (version : Older) (old new : SqlState) (s : State) → RepresentsOld version old.now s
+    → (rows : List Row) → Shown (users version).text [] old new rows → rows ≡ map user_row s.policy.users
 users_told version old new s was rows h =
     let has = held version old.now s was in
-    told_all_shown (users version) [] refl old_user_row shown user_cmp (λ _. refl) (λ x y h. rw (value_cmp-Text x.id y.id, h)) (λ _. refl) (users_asked version) old new has.schema s.policy.users was.state.ordered.users has.usr rows h
+    told_all_shown (users version) [] refl old_user_row shown user_cmp (λ _. refl)
+    (λ x y h. rw (value_cmp-Text x.id y.id, h)) (λ _. refl) (users_asked version) old new has.schema s.policy.users
+    was.state.ordered.users has.usr rows h
     ∙ all_shown s.policy.users was.state.users

@@ -27,5 +27,6 @@ number_cmp m n = value_cmp (Int (pos m)) (Int (pos n))
 pub names_own : (v : Older) (old new : SqlState) (s : State) → RepresentsOld v old.now s → (n : ℕ) → NamesVersion n old new → n ≡ version_number v
 names_own v old new s was n named =
     let has = held v old.now s was in
-    let are = told_all (version v) [] refl version_row number_cmp (λ _. refl) (λ x y h. rw h) (λ _. refl) (version_asked v) old new has.schema (version_number v ∷ []) (tt, tt) has.meta named.0 named.1 in
+    let are = told_all (version v) [] refl version_row number_cmp (λ _. refl) (λ x y h. rw h) (λ _. refl)
+    (version_asked v) old new has.schema (version_number v ∷ []) (tt, tt) has.meta named.0 named.1 in
     sym named.2 ∙ ap version_of are

@@ -66,8 +66,8 @@ IsPlain e = e.when ≡ None
 abbrev pub AreSaid : (Batch → List ℕ) → List Batch → Type 0
 AreSaid text_of batches = AllByRecursion (λ (b : Batch). policy_of (text_of b) ≡ Ok b.rows) batches
 
--- A state that these tables can represent: in order, nobody is RESTRICTED, no entry is at a console, and each batch has a
--- text that says its rows.
+-- A state that these tables can represent: in order, nobody is RESTRICTED, no entry is at a console, and each batch has
+-- a text that says its rows.
 pub record IsOldState (text_of : Batch → List ℕ) (s : State) : Type 0 where
   pub ordered : IsOrdered (with_batches [] s)
   pub users : AllByRecursion IsUnrestricted s.policy.users

@@ -24,9 +24,11 @@ use Rattle.opc_store_old_tables.specs.Old.{RepresentsOld}
 pub use Rattle.opc_store_old_tables.specs.Old.{AreSaid}
 
 -- on a clean disk a success answers this of the state that the tables represented before
-abbrev pub FindsOld : {S : Type 0} → Ghosts S → {V E : Type 0} → Held S → Held S → Result V E → (State → V → Type 0) → Type 0
+abbrev pub FindsOld : {S : Type 0} → Ghosts S → {V E : Type 0} → Held S → Held S → Result V E → (State → V → Type 0)
+    → Type 0
 FindsOld g old new result asked =
-    HasCleanDisk (state g new) → (version : Older) (s : State) → RepresentsOld version (state g old).now s → IfOk result (asked s)
+    HasCleanDisk (state g new) → (version : Older) (s : State) → RepresentsOld version (state g old).now s
+    → IfOk result (asked s)
 
 -- by the texts of their class and their pattern, since there may be no sort key to go by
 abbrev pub text_order : Profile → Profile → Ordering

@@ -14,7 +14,8 @@ use sqlite::{Alter, Connection, Row};
 use std::alloc::Global;
 
 fn batch_in(alloc: Global, row: &Row) -> Result<Batch, StoreFault>
-    ensures { (b : TheBatch) → (text_of : TheBatch → List ℕ) → policy_of (text_of b) ≡ Ok b.rows → row.now ≡ batch_shown text_of b → IfOk result (λ v. v ≡ b) }
+    ensures { (b : TheBatch) → (text_of : TheBatch → List ℕ) → policy_of (text_of b) ≡ Ok b.rows
+        → row.now ≡ batch_shown text_of b → IfOk result (λ v. v ≡ b) }
 {
     let text = text_in(row, 1)?;
     Ok(Batch {
@@ -24,7 +25,8 @@ fn batch_in(alloc: Global, row: &Row) -> Result<Batch, StoreFault>
 }
 
 fn batches_in(alloc: Global, rows: &[Row]) -> Result<Vec<Edit>, StoreFault>
-    ensures { (text_of : TheBatch → List ℕ) → (batches : List TheBatch) → AreSaid text_of batches → rows.now ≡ map (batch_shown text_of) batches → IfOk result (λ v. v.items ≡ batch_puts batches) }
+    ensures { (text_of : TheBatch → List ℕ) → (batches : List TheBatch) → AreSaid text_of batches
+        → rows.now ≡ map (batch_shown text_of) batches → IfOk result (λ v. v.items ≡ batch_puts batches) }
 {
     let mut puts = Vec::new(alloc);
     for row in rows {

@@ -13,7 +13,8 @@ use sqlite::{Alter, Connection, Row};
 use std::alloc::Global;
 
 fn connects_in(alloc: Global, rows: &[Row]) -> Result<Vec<Edit>, StoreFault>
-    ensures { (connects : List TheConnect) → rows.now ≡ map connect_row connects → IfOk result (λ v. v.items ≡ connect_puts connects) }
+    ensures { (connects : List TheConnect) → rows.now ≡ map connect_row connects
+        → IfOk result (λ v. v.items ≡ connect_puts connects) }
 {
     let mut puts = Vec::new(alloc);
     for row in rows {

@@ -12,8 +12,8 @@ use opc_state::change::Edit;
 use opc_terms::store_fault::StoreFault;
 use sqlite::{Alter, Connection};
 
-/// Puts of the users, the connects, the profiles with their access lists, and the kept batches. Each part refers to those
-/// before it alone.
+/// Puts of the users, the connects, the profiles with their access lists, and the kept batches. Each part refers to
+/// those before it alone.
 #[derive(Drop)]
 pub struct MigrationEdits {
     pub users: Vec<Edit>,

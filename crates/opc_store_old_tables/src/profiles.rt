@@ -27,7 +27,9 @@ fn profile_on<S: Alter>(
     requires { conn.old.in_transaction ≡ false }
     ensures mode { conn.new.in_transaction ≡ false }
     ensures looks { Looks S.Store conn.old conn.new result }
-    ensures found { HasCleanDisk (state S.Store conn.new) → (version : _) → (s : _) → RepresentsOld version (state S.Store conn.old).now s → (p : TheProfile) → row.now ≡ definition_row p → profile_of s.policy.profiles p.class p.pattern ≡ Some p → IfOk result (λ v. v ≡ p) }
+    ensures found { HasCleanDisk (state S.Store conn.new) → (version : _) → (s : _)
+        → RepresentsOld version (state S.Store conn.old).now s → (p : TheProfile) → row.now ≡ definition_row p
+        → profile_of s.policy.profiles p.class p.pattern ≡ Some p → IfOk result (λ v. v ≡ p) }
 {
     let profile = definition_in(alloc, row)?;
     let entries = access_list_on(alloc, conn, profile.class, &profile.pattern)?;
@@ -41,8 +43,12 @@ fn profiles_in<S: Alter>(
 ) -> Result<Vec<Edit>, StoreFault>
     requires { conn.old.in_transaction ≡ false }
     ensures mode { conn.new.in_transaction ≡ false }
-    ensures looks { (HasCleanDisk (state S.Store conn.old) → IsTrue (state S.Store conn.old).is_open) → Looks S.Store conn.old conn.new result }
-    ensures found { HasCleanDisk (state S.Store conn.new) → (version : _) → (s : _) → RepresentsOld version (state S.Store conn.old).now s → (profiles : List TheProfile) → AreAmong s.policy.profiles profiles → rows.now ≡ map definition_row profiles → IfOk result (λ v. v.items ≡ profile_puts profiles) }
+    ensures looks { (HasCleanDisk (state S.Store conn.old) → IsTrue (state S.Store conn.old).is_open)
+        → Looks S.Store conn.old conn.new result }
+    ensures found { HasCleanDisk (state S.Store conn.new) → (version : _) → (s : _)
+        → RepresentsOld version (state S.Store conn.old).now s → (profiles : List TheProfile)
+        → AreAmong s.policy.profiles profiles → rows.now ≡ map definition_row profiles
+        → IfOk result (λ v. v.items ≡ profile_puts profiles) }
 {
     let mut puts = Vec::new(alloc);
     for row in rows {
@@ -56,7 +62,8 @@ pub fn profiles_on<S: Alter>(conn: &mut Connection<S>) -> Result<Vec<Edit>, Stor
     requires { conn.old.in_transaction ≡ false }
     ensures mode { conn.new.in_transaction ≡ false }
     ensures looks { Looks S.Store conn.old conn.new result }
-    ensures found { FindsOld S.Store conn.old conn.new result (λ s v. v.items ≡ profile_puts (by_text s.policy.profiles)) }
+    ensures found { FindsOld S.Store conn.old conn.new result
+        (λ s v. v.items ≡ profile_puts (by_text s.policy.profiles)) }
 {
     let rows = read(
         conn,

@@ -1,5 +1,36 @@
 -- The rows of a pattern, among rows in the order of their patterns.
-use Rattle.std.proofs.Common.{◌≡◌, ℕ, zero, suc, ◌<◌, ◌≤◌, List, [], ◌∷◌, Bool, true, false, cond, filter, take, drop, length, get_or, refl, sym, ap, ◌∙◌, arith, Ordering, Less, Equal, Greater, is_eq, is_lt, is_gt}
+use Rattle.std.proofs.Common.{
+  ◌≡◌,
+  ℕ,
+  zero,
+  suc,
+  ◌<◌,
+  ◌≤◌,
+  List,
+  [],
+  ◌∷◌,
+  Bool,
+  true,
+  false,
+  cond,
+  filter,
+  take,
+  drop,
+  length,
+  get_or,
+  refl,
+  sym,
+  ap,
+  ◌∙◌,
+  arith,
+  Ordering,
+  Less,
+  Equal,
+  Greater,
+  is_eq,
+  is_lt,
+  is_gt,
+}
 use Rattle.std.specs.List.{AllByRecursion, AllWithin, take_while}
 use Rattle.std.specs.List.Sorted.{IsPartitionPoint, IsPartitionedBy}
 use Rattle.std.proofs.lemmas.Cmp.{nat_list_cmp_total, upto}
@@ -66,24 +97,31 @@ module _ (pattern : List ℕ) where
           absurd cc
       go Greater e = refl
 
-  in_prefix : (rows : List Row) → AreByPattern rows → AllByRecursion (λ row. is_before pattern row ≡ false) rows → take (length (take_while (is_of pattern) rows)) rows ≡ filter (is_of pattern) rows
+  in_prefix : (rows : List Row) → AreByPattern rows → AllByRecursion (λ row. is_before pattern row ≡ false) rows
+      → take (length (take_while (is_of pattern) rows)) rows ≡ filter (is_of pattern) rows
   in_prefix [] up past = refl
   in_prefix (x ∷ rows) up past = go (is_of pattern x) refl (in_prefix rows up.1 past.1)
     where
       go : (b : Bool) → is_of pattern x ≡ b → take (length (take_while (is_of pattern) rows)) rows ≡ filter (is_of pattern) rows
-          → take (length (take_while (is_of pattern) (x ∷ rows))) (x ∷ rows) ≡ cond (is_of pattern x) (x ∷ filter (is_of pattern) rows) (filter (is_of pattern) rows)
+          → take (length (take_while (is_of pattern) (x ∷ rows))) (x ∷ rows) ≡ cond (is_of pattern x)
+          (x ∷ filter (is_of pattern) rows) (filter (is_of pattern) rows)
       go true e more =
-          ap (λ (l : List Row). take (length l) (x ∷ rows)) (take_while-cons (is_of pattern) x rows ∙ ap (λ b. cond b (x ∷ take_while (is_of pattern) rows) []) e)
+          ap (λ (l : List Row). take (length l) (x ∷ rows))
+          (take_while-cons (is_of pattern) x rows ∙ ap (λ b. cond b (x ∷ take_while (is_of pattern) rows) []) e)
           ∙ (ap (λ (l : List Row). x ∷ l) more ∙ sym (ap (λ b. cond b (x ∷ filter (is_of pattern) rows) (filter (is_of pattern) rows)) e))
       go false e more =
           let later = above x past.0 e in
-          ap (λ (l : List Row). take (length l) (x ∷ rows)) (take_while-cons (is_of pattern) x rows ∙ ap (λ b. cond b (x ∷ take_while (is_of pattern) rows) []) e)
-          ∙ (sym (filter_none (is_of pattern) rows (all_weaker _ (λ row. is_of pattern row ≡ false) (λ y most. still_above x y later most) rows up.0)) ∙ sym (ap (λ b. cond b (x ∷ filter (is_of pattern) rows) (filter (is_of pattern) rows)) e))
+          ap (λ (l : List Row). take (length l) (x ∷ rows))
+          (take_while-cons (is_of pattern) x rows ∙ ap (λ b. cond b (x ∷ take_while (is_of pattern) rows) []) e)
+          ∙ (sym (filter_none (is_of pattern) rows
+          (all_weaker _ (λ row. is_of pattern row ≡ false) (λ y most. still_above x y later most) rows up.0))
+          ∙ sym (ap (λ b. cond b (x ∷ filter (is_of pattern) rows) (filter (is_of pattern) rows)) e))
 
   not_yet : (x : Row) → is_before pattern x ≡ true → is_of pattern x ≡ false
   not_yet x before = ties x ∙ ap is_eq (less_is _ before)
 
-  pub rows_at : (rows : List Row) (i : ℕ) → AreByPattern rows → i ≤ length rows → IsPartitionPoint (λ row. is_before pattern row ≡ true) (λ row. is_before pattern row ≡ false) rows i
+  pub rows_at : (rows : List Row) (i : ℕ) → AreByPattern rows → i ≤ length rows
+      → IsPartitionPoint (λ row. is_before pattern row ≡ true) (λ row. is_before pattern row ≡ false) rows i
       → take (length (take_while (is_of pattern) (drop i rows))) (drop i rows) ≡ filter (is_of pattern) rows
   rows_at rows zero up low at = in_prefix rows up (from_within _ rows at.1)
   rows_at [] (suc i) up low at = absurd (omega arith)

@@ -1,5 +1,33 @@
 -- What the queries on access lists read.
-use Rattle.std.proofs.Common.{◌≡◌, ◌≢◌, ◌==◌, ℕ, zero, suc, pos, List, [], ◌∷◌, map, filter, take, length, not, codes, refl, ap, ap₂, ◌∙◌, Ordering, Less, Equal, Greater, Option, Some, None}
+use Rattle.std.proofs.Common.{
+  ◌≡◌,
+  ◌≢◌,
+  ◌==◌,
+  ℕ,
+  zero,
+  suc,
+  pos,
+  List,
+  [],
+  ◌∷◌,
+  map,
+  filter,
+  take,
+  length,
+  not,
+  codes,
+  refl,
+  ap,
+  ap₂,
+  ◌∙◌,
+  Ordering,
+  Less,
+  Equal,
+  Greater,
+  Option,
+  Some,
+  None,
+}
 use Rattle.std.specs.List.{flat_map, list_any, AllByRecursion}
 use Rattle.std.specs.Option.{option_cmp, option_map_or}
 use Rattle.std.specs.Ordering.{ordering_then}
@@ -77,7 +105,10 @@ column_less e f h named = go (name_cmp e.id f.id) h
 
 pub columns_rise : (es : List Entry) → IsAccessList es → Rises column_cmp es
 columns_rise [] list = tt
-columns_rise (e ∷ es) list = (all_both (λ f. entry_cmp e f ≡ Less) IsNamed (λ f. column_cmp e f ≡ Less) (column_less e) es list.0.0 list.1.1, columns_rise es (list.0.1, list.1.1))
+columns_rise (e ∷ es) list = (
+  all_both (λ f. entry_cmp e f ≡ Less) IsNamed (λ f. column_cmp e f ≡ Less) (column_less e) es list.0.0 list.1.1,
+  columns_rise es (list.0.1, list.1.1),
+)
 
 then_less : (a b : Ordering) → ordering_then a b ≡ Less → ordering_then a (ordering_then b Equal) ≡ Less
 then_less Less b h = refl
@@ -117,7 +148,9 @@ module _ (s : State) (ordered : IsOrdered s) (class : Class) (pattern : List ℕ
   pub list_rows : filter (has_profile class pattern) (flat_map entry_rows s.policy.profiles) ≡ map (entry_row class pattern) list
   list_rows = go (profile_of s.policy.profiles class pattern) refl
     where
-      go : (o : Option Profile) → profile_of s.policy.profiles class pattern ≡ o → filter (has_profile class pattern) (flat_map entry_rows s.policy.profiles) ≡ map (entry_row class pattern) (option_map_or (λ (q : Profile). q.entries) o [])
+      go : (o : Option Profile) → profile_of s.policy.profiles class pattern ≡ o
+          → filter (has_profile class pattern) (flat_map entry_rows s.policy.profiles) ≡ map (entry_row class pattern)
+          (option_map_or (λ (q : Profile). q.entries) o [])
       go None absent = filter_none _ _ (lack class pattern s.policy.profiles (none_picked profile_cmp (is_of class pattern) s.policy.profiles absent))
       go (Some p) here =
           let it = split class pattern s.policy.profiles p ordered.profiles here in
@@ -125,23 +158,33 @@ module _ (s : State) (ordered : IsOrdered s) (class : Class) (pattern : List ℕ
           list_hit class pattern s.policy.profiles p it ∙ ap₂ (λ (k : Class) (n : List ℕ). map (entry_row k n) p.entries) means.0 means.1
 
   -- and of these, those for an id and a console
-  entry_hit : (id console : List ℕ) → filter (has_entry class pattern id console) (flat_map entry_rows s.policy.profiles) ≡ map (entry_row class pattern) (filter (is_at id console) list)
+  entry_hit : (id console : List ℕ) → filter (has_entry class pattern id console)
+      (flat_map entry_rows s.policy.profiles) ≡ map (entry_row class pattern) (filter (is_at id console) list)
   entry_hit id console = go (profile_of s.policy.profiles class pattern) refl
     where
       go : (o : Option Profile) → profile_of s.policy.profiles class pattern ≡ o
-          → filter (has_entry class pattern id console) (flat_map entry_rows s.policy.profiles) ≡ map (entry_row class pattern) (filter (is_at id console) (option_map_or (λ (q : Profile). q.entries) o []))
+          → filter (has_entry class pattern id console) (flat_map entry_rows s.policy.profiles) ≡ map
+          (entry_row class pattern) (filter (is_at id console) (option_map_or (λ (q : Profile). q.entries) o []))
       go None absent = no_entries class pattern id console s.policy.profiles absent
       go (Some p) here =
           let it = split class pattern s.policy.profiles p ordered.profiles here in
           let means = is_of_means class pattern p it.passes in
-          entries_hit class pattern id console s.policy.profiles p it ∙ ap₂ (λ (k : Class) (n : List ℕ). map (entry_row k n) (filter (is_at id console) p.entries)) means.0 means.1
+          entries_hit class pattern id console s.policy.profiles p it
+          ∙ ap₂ (λ (k : Class) (n : List ℕ). map (entry_row k n) (filter (is_at id console) p.entries)) means.0
+          means.1
 
 -- ---- the whole list
 
-pub entries_told : (old new : SqlState) (s : State) → Represents old.now s → (class : Class) (pattern : List ℕ) (rows : List Row) → Shown entries.text (profile_key class pattern) old new rows → rows ≡ map (entry_row class pattern) (access_list s.policy class pattern)
+pub entries_told : (old new : SqlState) (s : State) → Represents old.now s
+    → (class : Class) (pattern : List ℕ) (rows : List Row) → Shown entries.text (profile_key class pattern) old new rows
+    → rows ≡ map (entry_row class pattern) (access_list s.policy class pattern)
 entries_told old new s was class pattern =
-    told_part entries (profile_key class pattern) refl (entry_row class pattern) column_cmp (λ _. refl) (λ x y less. rw (value_cmp-Text x.id y.id, value_cmp-Text (or_empty x.when) (or_empty y.when)) (then_less (name_cmp x.id y.id) (name_cmp (or_empty x.when) (or_empty y.when)) less))
-    entries_asked old new was.rows.schema (flat_map entry_rows s.policy.profiles) (access_list s.policy class pattern) (columns_rise _ (list_ordered s was.ordered class pattern)) (list_rows s was.ordered class pattern) was.rows.holds.entries
+    told_part entries (profile_key class pattern) refl (entry_row class pattern) column_cmp (λ _. refl)
+    (λ x y less. rw (value_cmp-Text x.id y.id, value_cmp-Text (or_empty x.when) (or_empty y.when))
+    (then_less (name_cmp x.id y.id) (name_cmp (or_empty x.when) (or_empty y.when)) less))
+    entries_asked old new was.rows.schema (flat_map entry_rows s.policy.profiles) (access_list s.policy class pattern)
+    (columns_rise _ (list_ordered s was.ordered class pattern)) (list_rows s was.ordered class pattern)
+    was.rows.holds.entries
 
 -- ---- so many entries at most
 
@@ -154,12 +197,17 @@ pub first_entries_asked : IsPaged first_entries (col 0 2)
 unfolding understood everything
 first_entries_asked = record { selects = refl; unlisted = refl; plain = (refl, refl); shows = λ schema base. refl }
 
-pub first_entries_told : (old new : SqlState) (s : State) → Represents old.now s → (class : Class) (pattern : List ℕ) (most : ℕ) (rows : List Row) → Shown first_entries.text (Text (class_text class) ∷ Text pattern ∷ Int (pos most) ∷ []) old new rows
+pub first_entries_told : (old new : SqlState) (s : State) → Represents old.now s
+    → (class : Class) (pattern : List ℕ) (most : ℕ) (rows : List Row)
+    → Shown first_entries.text (Text (class_text class) ∷ Text pattern ∷ Int (pos most) ∷ []) old new rows
     → rows ≡ map (entry_row class pattern) (take most (access_list s.policy class pattern))
 first_entries_told old new s was class pattern most rows h =
     part_first first_entries (Text (class_text class) ∷ Text pattern ∷ Int (pos most) ∷ []) refl (entry_row class pattern) column_cmp (λ _. refl)
-    (λ x y less. rw (value_cmp-Text x.id y.id, value_cmp-Text (or_empty x.when) (or_empty y.when)) (then_less (name_cmp x.id y.id) (name_cmp (or_empty x.when) (or_empty y.when)) less)) (col 0 2) first_entries_asked old new was.rows.schema (flat_map entry_rows s.policy.profiles)
-    (access_list s.policy class pattern) (columns_rise _ (list_ordered s was.ordered class pattern)) (list_rows s was.ordered class pattern) was.rows.holds.entries rows h
+    (λ x y less. rw (value_cmp-Text x.id y.id, value_cmp-Text (or_empty x.when) (or_empty y.when))
+    (then_less (name_cmp x.id y.id) (name_cmp (or_empty x.when) (or_empty y.when)) less)) (col 0 2)
+    first_entries_asked old new was.rows.schema (flat_map entry_rows s.policy.profiles)
+    (access_list s.policy class pattern) (columns_rise _ (list_ordered s was.ordered class pattern))
+    (list_rows s was.ordered class pattern) was.rows.holds.entries rows h
     ∙ take-map (entry_row class pattern) most (access_list s.policy class pattern)
 
 -- ---- that for an id and a console
@@ -174,26 +222,41 @@ pub entry_asked : IsAsked entry
 unfolding understood everything
 entry_asked = record { selects = refl; unlisted = refl; plain = (refl, refl); shows = λ schema base. refl }
 
-pub entry_told : (old new : SqlState) (s : State) → Represents old.now s → (class : Class) (pattern id : List ℕ) (when : Option (List ℕ)) → when ≢ Some [] → (rows : List Row) → Shown entry.text (entry_key class pattern id (or_empty when)) old new rows
+pub entry_told : (old new : SqlState) (s : State) → Represents old.now s
+    → (class : Class) (pattern id : List ℕ) (when : Option (List ℕ)) → when ≢ Some [] → (rows : List Row)
+    → Shown entry.text (entry_key class pattern id (or_empty when)) old new rows
     → rows ≡ map (entry_row class pattern) (filter (is_for when id) (access_list s.policy class pattern))
 entry_told old new s was class pattern id when named rows h =
     let es = access_list s.policy class pattern in
     let mine = is_at id (or_empty when) in
     let list = list_ordered s was.ordered class pattern in
-    told_part entry (entry_key class pattern id (or_empty when)) refl (entry_row class pattern) column_cmp (λ _. refl) (λ x y less. rw (value_cmp-Text x.id y.id, value_cmp-Text (or_empty x.when) (or_empty y.when)) (then_less (name_cmp x.id y.id) (name_cmp (or_empty x.when) (or_empty y.when)) less))
-    entry_asked old new was.rows.schema (flat_map entry_rows s.policy.profiles) (filter mine es) (ascending-filter _ mine es (columns_rise es list)) (entry_hit s was.ordered class pattern id (or_empty when)) was.rows.holds.entries rows h
+    told_part entry (entry_key class pattern id (or_empty when)) refl (entry_row class pattern) column_cmp (λ _. refl)
+    (λ x y less. rw (value_cmp-Text x.id y.id, value_cmp-Text (or_empty x.when) (or_empty y.when))
+    (then_less (name_cmp x.id y.id) (name_cmp (or_empty x.when) (or_empty y.when)) less))
+    entry_asked old new was.rows.schema (flat_map entry_rows s.policy.profiles) (filter mine es)
+    (ascending-filter _ mine es (columns_rise es list)) (entry_hit s was.ordered class pattern id (or_empty when))
+    was.rows.holds.entries rows h
     ∙ ap (map (entry_row class pattern)) (filter_on mine (is_for when id) es (all_weaker IsNamed _ (at_console id when named) es list.1))
 
 -- ---- whether there is one for an id
 
 abbrev pub any_entry : Asked
-any_entry = record entries { text = codes "SELECT id FROM entries WHERE id = ?1 LIMIT 1"; tests = op2 (Compare Eq Binary) (col 1 3) (col 0 0) ∷ []; project = columns 3 1; order = [] }
+any_entry = record entries {
+  text = codes "SELECT id FROM entries WHERE id = ?1 LIMIT 1";
+  tests = op2 (Compare Eq Binary) (col 1 3) (col 0 0) ∷ [];
+  project = columns 3 1;
+  order = [];
+}
 
 pub any_entry_asked : IsPaged any_entry one_row
 unfolding understood everything
 any_entry_asked = record { selects = refl; unlisted = refl; plain = (refl, refl); shows = λ schema base. refl }
 
-pub any_entry_told : (old new : SqlState) (s : State) → Represents old.now s → (id : List ℕ) (rows : List Row) → Shown any_entry.text (Text id ∷ []) old new rows → not (length rows == 0) ≡ list_any (loads.has_entry id) s.policy.profiles
+pub any_entry_told : (old new : SqlState) (s : State) → Represents old.now s → (id : List ℕ) (rows : List Row)
+    → Shown any_entry.text (Text id ∷ []) old new rows
+    → not (length rows == 0) ≡ list_any (loads.has_entry id) s.policy.profiles
 any_entry_told old new s was id rows h =
     told_any any_entry (Text id ∷ []) refl any_entry_asked old new was.rows.schema (flat_map entry_rows s.policy.profiles) was.rows.holds.entries rows h
-    ∙ any_flat_map _ entry_rows (loads.has_entry id) (λ p. any_map _ (entry_row p.class p.pattern) (λ (e : Entry). bytes_eq e.id id) (λ e. and_true _ ∙ same_texts e.id id) p.entries) s.policy.profiles
+    ∙ any_flat_map _ entry_rows (loads.has_entry id)
+    (λ p. any_map _ (entry_row p.class p.pattern) (λ (e : Entry). bytes_eq e.id id)
+    (λ e. and_true _ ∙ same_texts e.id id) p.entries) s.policy.profiles

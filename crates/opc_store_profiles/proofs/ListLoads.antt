@@ -1,5 +1,38 @@
 -- What the query on the access lists of a class reads.
-use Rattle.std.proofs.Common.{◌≡◌, zero, suc, List, [], ◌∷◌, ◌&&◌, Bool, true, false, cond, map, filter, drop, codes, refl, sym, ap, ap₂, subst, ◌∙◌, arith, add-one, Ordering, Less, Equal, Greater, is_lt, is_gt, IsPermutation, IsSorted, Some}
+use Rattle.std.proofs.Common.{
+  ◌≡◌,
+  zero,
+  suc,
+  List,
+  [],
+  ◌∷◌,
+  ◌&&◌,
+  Bool,
+  true,
+  false,
+  cond,
+  map,
+  filter,
+  drop,
+  codes,
+  refl,
+  sym,
+  ap,
+  ap₂,
+  subst,
+  ◌∙◌,
+  arith,
+  add-one,
+  Ordering,
+  Less,
+  Equal,
+  Greater,
+  is_lt,
+  is_gt,
+  IsPermutation,
+  IsSorted,
+  Some,
+}
 use Rattle.std.specs.List.{AllByRecursion, flat_map}
 use Rattle.std.specs.Cmp.{IsTotalOrder}
 use Rattle.std.specs.Ordering.{ordering_then, ordering_reverse}
@@ -20,7 +53,22 @@ use Rattle.sqlite_trees.specs.Tree.{IsAscending}
 use Rattle.sqlite_value.specs.Order.{value_cmp}
 use Rattle.sqlite_value.specs.declared.keys.Collation.TheVariants.{Binary}
 use Rattle.sqlite_value.proofs.OrderLemmas.{value_cmp-Text}
-use Rattle.sqlite_keyed.proofs.ListLemmas.{all_weaker, all_both, all-filter, all-map, all-flat_map, all_map, ascending-filter, ascending-map, ascending_weaker, filter-map, filter_same, map-map, map_same, IsPermutation-filter}
+use Rattle.sqlite_keyed.proofs.ListLemmas.{
+  all_weaker,
+  all_both,
+  all-filter,
+  all-map,
+  all-flat_map,
+  all_map,
+  ascending-filter,
+  ascending-map,
+  ascending_weaker,
+  filter-map,
+  filter_same,
+  map-map,
+  map_same,
+  IsPermutation-filter,
+}
 use Rattle.sqlite_keyed.proofs.SortLemmas.{sorted_unique}
 use Rattle.opc_store_sql.specs.Order.{text_cmp}
 use Rattle.opc_store_sql.proofs.Asked.{Asked, IsAsked, answers, by_columns, columns, passes_values, picks, query, shows_values, tells, then_less}
@@ -100,7 +148,8 @@ module _ {X : Type 0} (cmp : X → X → Ordering) (total : IsTotalOrder cmp) wh
       go more (suc k) d p q = rw add-one (rw add-one at (more k d (omega arith) (omega arith)))
 
 -- what follows of members of which more is known
-ascending_of : {X : Type 0} (F : X → Type 0) (R S : X → X → Type 0) → ((a b : X) → F a → F b → R a b → S a b) → (xs : List X) → AllByRecursion F xs → IsAscending R xs → IsAscending S xs
+ascending_of : {X : Type 0} (F : X → Type 0) (R S : X → X → Type 0) → ((a b : X) → F a → F b → R a b → S a b)
+    → (xs : List X) → AllByRecursion F xs → IsAscending R xs → IsAscending S xs
 ascending_of F R S weaker [] all up = tt
 ascending_of F R S weaker (x ∷ xs) all up = (all_both F (R x) (S x) (λ y fy r. weaker x y all.0 fy r) xs all.1 up.0, ascending_of F R S weaker xs all.1 up.1)
 
@@ -108,7 +157,9 @@ filter_twice : {X : Type 0} (p q : X → Bool) (xs : List X) → filter p (filte
 filter_twice p q [] = refl
 filter_twice {X} p q (x ∷ xs) = go (q x) (p x) refl refl (filter_twice p q xs)
   where
-    go : (a b : Bool) → q x ≡ a → p x ≡ b → filter p (filter q xs) ≡ filter (λ y. q y && p y) xs → filter p (cond (q x) (x ∷ filter q xs) (filter q xs)) ≡ cond (q x && p x) (x ∷ filter (λ y. q y && p y) xs) (filter (λ y. q y && p y) xs)
+    go : (a b : Bool) → q x ≡ a → p x ≡ b → filter p (filter q xs) ≡ filter (λ y. q y && p y) xs
+        → filter p (cond (q x) (x ∷ filter q xs) (filter q xs)) ≡ cond (q x && p x) (x ∷ filter (λ y. q y && p y) xs)
+        (filter (λ y. q y && p y) xs)
     go true true a b more = rw (a, b) (ap (λ (l : List X). x ∷ l) more)
     go true false a b more = rw (a, b) more
     go false b a c more = rw a more
@@ -170,7 +221,8 @@ module _ (s : State) (ordered : IsOrdered s) (class : Class) where
   by_pattern a b ta tb most =
       sym (ap is_gt (ap₂ value_cmp ta tb ∙ value_cmp-Text (pattern_in a.1) (pattern_in b.1))) ∙ first_most (value_cmp (column a.0 0) (column b.0 0)) _ most
 
-  module _ (ordered_outputs : List Output) (same : IsPermutation (map told (filter is_picked have)) ordered_outputs) (sorted : IsSorted cmp ordered_outputs) where
+  module _ (ordered_outputs : List Output) (same : IsPermutation (map told (filter is_picked have)) ordered_outputs)
+      (sorted : IsSorted cmp ordered_outputs) where
     abbrev rows : List Row
     rows = map (λ (o : Output). o.1) ordered_outputs
 
@@ -178,7 +230,8 @@ module _ (s : State) (ordered : IsOrdered s) (class : Class) where
     in_order = ascends cmp (output_cmp_total (query lists)) ordered_outputs sorted
 
     are_told : AllByRecursion IsTold ordered_outputs
-    are_told = all_along IsTold _ ordered_outputs same (all_map IsTold told (filter is_picked have) (all-filter (λ v. IsTold (told v)) is_picked have told_rows))
+    are_told = all_along IsTold _ ordered_outputs same
+        (all_map IsTold told (filter is_picked have) (all-filter (λ v. IsTold (told v)) is_picked have told_rows))
 
     by_patterns : AreByPattern rows
     by_patterns = ascending-map _ (λ (o : Output). o.1) ordered_outputs (ascending_of IsTold _ _ by_pattern ordered_outputs are_told in_order)
@@ -192,31 +245,49 @@ module _ (s : State) (ordered : IsOrdered s) (class : Class) where
 
       same_test : (q : Profile)
           → ((is_true (binary (Compare Eq Binary) (Text (class_text q.class)) (Text (class_text class))) && true) && bytes_eq q.pattern p.pattern)
-          ≡ (is_true (binary (Compare Eq Binary) (Text (class_text q.class)) (Text (class_text p.class))) && (is_true (binary (Compare Eq Binary) (Text q.pattern) (Text p.pattern)) && true))
+          ≡ (is_true (binary (Compare Eq Binary) (Text (class_text q.class)) (Text (class_text p.class)))
+          && (is_true (binary (Compare Eq Binary) (Text q.pattern) (Text p.pattern)) && true))
       same_test q =
           regrouped _ _
-          ∙ ap₂ (λ a b. a && (b && true)) (ap (λ (k : Class). is_true (binary (Compare Eq Binary) (Text (class_text q.class)) (Text (class_text k)))) (sym mine)) (sym (same_texts q.pattern p.pattern))
+          ∙ ap₂ (λ a b. a && (b && true))
+          (ap (λ (k : Class). is_true
+          (binary (Compare Eq Binary) (Text (class_text q.class)) (Text (class_text k)))) (sym mine))
+          (sym (same_texts q.pattern p.pattern))
 
       same_tests : AllByRecursion (λ v. (is_picked v && of_output (told v)) ≡ has_profile p.class p.pattern v) have
       same_tests = all-flat_map (λ v. (is_picked v && of_output (told v)) ≡ has_profile p.class p.pattern v) entry_rows ps (all_each ps)
         where
-          all_each : (qs : List Profile) → AllByRecursion (λ q. AllByRecursion (λ v. (is_picked v && of_output (told v)) ≡ has_profile p.class p.pattern v) (entry_rows q)) qs
+          all_each : (qs : List Profile)
+              → AllByRecursion (λ q. AllByRecursion
+              (λ v. (is_picked v && of_output (told v)) ≡ has_profile p.class p.pattern v) (entry_rows q)) qs
           all_each [] = tt
-          all_each (q ∷ qs) = (all-map (λ v. (is_picked v && of_output (told v)) ≡ has_profile p.class p.pattern v) (entry_row q.class q.pattern) (λ e. same_test q) q.entries, all_each qs)
+          all_each (q ∷ qs) = (
+            all-map (λ v. (is_picked v && of_output (told v)) ≡ has_profile p.class p.pattern v)
+                (entry_row q.class q.pattern) (λ e. same_test q) q.entries,
+            all_each qs,
+          )
 
       picked : filter of_output (map told (filter is_picked have)) ≡ map told_entry p.entries
       picked =
           filter-map of_output told (filter is_picked have)
-          ∙ (ap (map told) (filter_twice (λ v. of_output (told v)) is_picked have ∙ (filter_on _ _ have same_tests ∙ list_hit p.class p.pattern ps p (split p.class p.pattern ps p ordered.profiles here)))
+          ∙ (ap (map told) (filter_twice (λ v. of_output (told v)) is_picked have
+          ∙ (filter_on _ _ have same_tests
+          ∙ list_hit p.class p.pattern ps p (split p.class p.pattern ps p ordered.profiles here)))
           ∙ map-map told (entry_row p.class p.pattern) p.entries)
 
       rises : (e f : Entry) → column_cmp e f ≡ Less → cmp (told_entry e) (told_entry f) ≡ Less
       rises e f less =
-          rw (value_cmp-Text p.pattern p.pattern, tied_itself nat_list_cmp_total p.pattern, value_cmp-Text e.id f.id, value_cmp-Text (or_empty e.when) (or_empty f.when))
+          rw (
+            value_cmp-Text p.pattern p.pattern,
+            tied_itself nat_list_cmp_total p.pattern,
+            value_cmp-Text e.id f.id,
+            value_cmp-Text (or_empty e.when) (or_empty f.when),
+          )
           (then_less (text_cmp e.id f.id) (text_cmp (or_empty e.when) (or_empty f.when)) less)
 
       strict : IsAscending (λ a b. cmp a b ≡ Less) (map told_entry p.entries)
-      strict = ascending-map (λ a b. cmp a b ≡ Less) told_entry p.entries (ascending_weaker (λ e f. column_cmp e f ≡ Less) _ rises p.entries (columns_rise p.entries list))
+      strict = ascending-map (λ a b. cmp a b ≡ Less) told_entry p.entries
+          (ascending_weaker (λ e f. column_cmp e f ≡ Less) _ rises p.entries (columns_rise p.entries list))
 
       its_outputs : filter of_output ordered_outputs ≡ map told_entry p.entries
       its_outputs =
@@ -246,14 +317,19 @@ module _ (s : State) (ordered : IsOrdered s) (class : Class) where
       let test = λ (p : Profile). same_class p.class class in
       let found = all-filter (λ (p : Profile). profile_of ps p.class p.pattern ≡ Some p) test ps (each_found ps ordered.profiles) in
       let lists_of = all-filter (λ (p : Profile). IsAccessList p.entries) test ps ordered.entries in
-      let both = all_both _ _ (λ (p : Profile). (profile_of ps p.class p.pattern ≡ Some p) × IsAccessList p.entries) (λ p a b. (a, b)) (of_class class ps) found lists_of in
-      all_both _ _ (λ (p : Profile). (profile_of ps p.class p.pattern ≡ Some p) × (p.class ≡ class) × IsAccessList p.entries) (λ p a b. (a.0, classes_same p.class class b, a.1)) (of_class class ps) both (all_pass test ps)
+      let both = all_both _ _ (λ (p : Profile). (profile_of ps p.class p.pattern ≡ Some p) × IsAccessList p.entries)
+      (λ p a b. (a, b)) (of_class class ps) found lists_of in
+      all_both _ _ (λ (p : Profile). (profile_of ps p.class p.pattern ≡ Some p) × (p.class ≡ class)
+      × IsAccessList p.entries) (λ p a b. (a.0, classes_same p.class class b, a.1)) (of_class class ps) both
+      (all_pass test ps)
 
-pub lists_told : (old new : SqlState) (s : State) → Represents old.now s → (class : Class) (rows : List Row) → Shown lists.text (class_params class) old new rows → HaveLists rows (of_class class s.policy.profiles)
+pub lists_told : (old new : SqlState) (s : State) → Represents old.now s → (class : Class) (rows : List Row)
+    → Shown lists.text (class_params class) old new rows → HaveLists rows (of_class class s.policy.profiles)
 lists_told old new s was class rows h =
     let params = class_params class in
     let db = old.now.trees in
-    let answer = answered lists.tree lists.tests lists.project lists.order db params old.now.schema rows (answers the_schema lists.text (query lists) lists_asked params old new was.rows.schema rows h) in
+    let answer = answered lists.tree lists.tests lists.project lists.order db params old.now.schema rows
+    (answers the_schema lists.text (query lists) lists_asked params old new was.rows.schema rows h) in
     let values = λ (r : Row). drop 1 r in
     let told_by = told s was.ordered class in
     let test = is_picked s was.ordered class in
@@ -261,9 +337,15 @@ lists_told old new s was class rows h =
     let hits : List Row = filter (passes lists.tree lists.tests lists.project lists.order db params) (db lists.tree) in
     let kept : filter test (map values (db lists.tree)) ≡ map values hits =
     filter-map test values (db lists.tree) ∙ ap (map values) (filter_same _ _ (λ r. sym (passes_values lists params refl db r)) (db lists.tree)) in
-    let mine : IsPermutation (filter test stored_rows) (map values hits) = subst (λ (l : List Row). IsPermutation (filter test stored_rows) l) kept (IsPermutation-filter test _ _ was.rows.holds.entries.each) in
-    let theirs : map told_by (map values hits) ≡ map (shown lists.tree lists.tests lists.project lists.order db params) hits = map-map told_by values hits ∙ map_same _ _ (λ r. sym (shows_values lists params refl db r)) hits in
+    let mine : IsPermutation (filter test stored_rows) (map values hits) =
+    subst (λ (l : List Row). IsPermutation (filter test stored_rows) l) kept
+    (IsPermutation-filter test _ _ was.rows.holds.entries.each) in
+    let theirs : map told_by (map values hits) ≡ map (shown lists.tree lists.tests lists.project lists.order db params)
+    hits = map-map told_by values hits ∙ map_same _ _ (λ r. sym (shows_values lists params refl db r)) hits in
     let same : IsPermutation (map told_by (filter test stored_rows)) answer.ordered =
     IsPermutation-trans _ _ _ (IsPermutation-map told_by _ _ mine) (subst (λ (l : List Output). IsPermutation l answer.ordered) (sym theirs) answer.same) in
-    subst (λ (l : List Row). HaveLists l (of_class class s.policy.profiles)) (sym answer.are)
-    (by_patterns s was.ordered class answer.ordered same answer.sorted, have_lists s was.ordered class answer.ordered same answer.sorted (of_class class s.policy.profiles) (stored s was.ordered class))
+    subst (λ (l : List Row). HaveLists l (of_class class s.policy.profiles)) (sym answer.are) (
+      by_patterns s was.ordered class answer.ordered same answer.sorted,
+      have_lists s was.ordered class answer.ordered same answer.sorted (of_class class s.policy.profiles)
+          (stored s was.ordered class),
+    )

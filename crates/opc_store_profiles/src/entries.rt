@@ -56,7 +56,10 @@ fn insert_entry<S: Alter>(
     ensures same_reference { tx.new.conn.ghost_name ≡ tx.old.conn.ghost_name }
     ensures stays { Stays S.Store tx.old.conn.now tx.new.conn.now result }
     ensures named { OnOk result (IsNamed entry.now) }
-    ensures added { HasCleanDisk (state S.Store tx.new.conn.now) → OnOk result ((c : Contents) → IsMade c (state S.Store tx.old.conn.now).now → IsMade (record c { entries = entry_row class pattern.now entry.now ∷ c.entries }) (state S.Store tx.new.conn.now).now) }
+    ensures added { HasCleanDisk (state S.Store tx.new.conn.now)
+        → OnOk result ((c : Contents) → IsMade c (state S.Store tx.old.conn.now).now
+        → IsMade (record c { entries = entry_row class pattern.now entry.now ∷ c.entries })
+        (state S.Store tx.new.conn.now).now) }
 {
     run(
         tx,
@@ -81,7 +84,10 @@ pub(crate) fn insert_entries<S: Alter>(
     ensures same_reference { tx.new.conn.ghost_name ≡ tx.old.conn.ghost_name }
     ensures stays { Stays S.Store tx.old.conn.now tx.new.conn.now result }
     ensures named { OnOk result (AllByRecursion IsNamed entries.now) }
-    ensures added { HasCleanDisk (state S.Store tx.new.conn.now) → OnOk result ((c : Contents) → IsMade c (state S.Store tx.old.conn.now).now → IsMade (record c { entries = map (entry_row class pattern.now) entries.now ++ c.entries }) (state S.Store tx.new.conn.now).now) }
+    ensures added { HasCleanDisk (state S.Store tx.new.conn.now)
+        → OnOk result ((c : Contents) → IsMade c (state S.Store tx.old.conn.now).now
+        → IsMade (record c { entries = map (entry_row class pattern.now) entries.now ++ c.entries })
+        (state S.Store tx.new.conn.now).now) }
 {
     for entry in entries {
         insert_entry(tx, class, pattern, entry)?;
@@ -98,7 +104,8 @@ pub fn put_entry<S: Alter>(
 ) -> Result<(), Error>
     ensures same_reference { tx.new.conn.ghost_name ≡ tx.old.conn.ghost_name }
     ensures stays { Stays S.Store tx.old.conn.now tx.new.conn.now result }
-    ensures done { Makes S.Store tx.old.conn.now tx.new.conn.now result (λ s. with_profiles (with_permission class pattern.now entry.now s.policy.profiles) s) }
+    ensures done { Makes S.Store tx.old.conn.now tx.new.conn.now result
+        (λ s. with_profiles (with_permission class pattern.now entry.now s.policy.profiles) s) }
 {
     put(
         tx,
@@ -124,7 +131,8 @@ pub fn remove_entry<S: Alter>(
 ) -> Result<(), Error>
     ensures same_reference { tx.new.conn.ghost_name ≡ tx.old.conn.ghost_name }
     ensures stays { Stays S.Store tx.old.conn.now tx.new.conn.now result }
-    ensures done { Makes S.Store tx.old.conn.now tx.new.conn.now result (λ s. with_profiles (without_permission class pattern.now id.now when s.policy.profiles) s) }
+    ensures done { Makes S.Store tx.old.conn.now tx.new.conn.now result
+        (λ s. with_profiles (without_permission class pattern.now id.now when s.policy.profiles) s) }
 {
     run(
         tx,
@@ -146,7 +154,8 @@ fn entry_id_in(row: &Row) -> Result<EntryId, StoreFault>
 }
 
 fn console_in(row: &Row) -> Result<Option<ConsoleName>, StoreFault>
-    ensures { (when : Option (List ℕ)) → when ≢ Some [] → column row.now 3 ≡ Text (or_empty when) → IfOk result (λ v. v ≡ when) }
+    ensures { (when : Option (List ℕ)) → when ≢ Some [] → column row.now 3 ≡ Text (or_empty when)
+        → IfOk result (λ v. v ≡ when) }
 {
     let text = text_at(row, 3)?;
     if text.is_empty() {
@@ -159,7 +168,8 @@ fn console_in(row: &Row) -> Result<Option<ConsoleName>, StoreFault>
 }
 
 fn entry_in(row: &Row) -> Result<Entry, StoreFault>
-    ensures { (class : TheClass) → (pattern : List ℕ) → (e : TheEntry) → IsNamed e → row.now ≡ entry_row class pattern e → IfOk result (λ v. v ≡ e) }
+    ensures { (class : TheClass) → (pattern : List ℕ) → (e : TheEntry) → IsNamed e → row.now ≡ entry_row class pattern e
+        → IfOk result (λ v. v ≡ e) }
 {
     Ok(Entry {
         id: entry_id_in(row)?,
@@ -170,7 +180,8 @@ fn entry_in(row: &Row) -> Result<Entry, StoreFault>
 
 /// The entries of some rows, in their order.
 pub fn entries_in(alloc: Global, rows: &[Row]) -> Result<Entries, StoreFault>
-    ensures { (class : TheClass) → (pattern : List ℕ) → (entries : List TheEntry) → IsAccessList entries → rows.now ≡ map (entry_row class pattern) entries → IfOk result (λ v. v ≡ entries) }
+    ensures { (class : TheClass) → (pattern : List ℕ) → (entries : List TheEntry) → IsAccessList entries
+        → rows.now ≡ map (entry_row class pattern) entries → IfOk result (λ v. v ≡ entries) }
 {
     // Named for the prover, which else does not find the type of an entry's console.
     let _nowhere: Option<ConsoleName> = None;
@@ -212,7 +223,8 @@ pub fn entries_on<S: Alter>(
     requires { conn.old.in_transaction ≡ false }
     ensures mode { conn.new.in_transaction ≡ false }
     ensures looks { Looks S.Store conn.old conn.new result }
-    ensures found { Finds S.Store conn.old conn.new result (λ s v. v ≡ take most (access_list s.policy class pattern.now)) }
+    ensures found { Finds S.Store conn.old conn.new result
+        (λ s v. v ≡ take most (access_list s.policy class pattern.now)) }
 {
     let rows = read(
         conn,

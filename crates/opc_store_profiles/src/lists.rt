@@ -38,7 +38,9 @@ fn is_of(row: &Row, pattern: &str) -> bool
 // Where the rows of a pattern begin, or would, among rows in the order of their patterns.
 fn first_of(rows: &[Row], pattern: &str) -> usize
     ensures bound { result ≤ length rows.now }
-    ensures split { IsPartitionedBy (is_before pattern.now) rows.now → IsPartitionPoint (λ row. is_before pattern.now row ≡ true) (λ row. is_before pattern.now row ≡ false) rows.now result }
+    ensures split { IsPartitionedBy (is_before pattern.now) rows.now
+        → IsPartitionPoint (λ row. is_before pattern.now row ≡ true) (λ row. is_before pattern.now row ≡ false) rows.now
+        result }
 {
     rows.partition_point(|row| is_before(row, pattern))
 }
@@ -61,7 +63,8 @@ fn rows_of<'a>(rows: &'a [Row], pattern: &str) -> &'a [Row]
 
 // The profile of a row, with its access list.
 fn whole_of(alloc: Global, row: &Row, entries: &[Row]) -> Result<Profile, StoreFault>
-    ensures { (p : TheProfile) → row.now ≡ profile_row p → AreByPattern entries.now → HasList entries.now p → IfOk result (λ v. v ≡ p) }
+    ensures { (p : TheProfile) → row.now ≡ profile_row p → AreByPattern entries.now → HasList entries.now p
+        → IfOk result (λ v. v ≡ p) }
 {
     let profile = profile_in(alloc, row)?;
     let list = rows_of(entries, profile.pattern.text());
@@ -77,7 +80,8 @@ pub(crate) fn whole_in(
     rows: &[Row],
     entries: &[Row],
 ) -> Result<Vec<Profile>, StoreFault>
-    ensures { (profiles : List TheProfile) → HaveLists entries.now profiles → rows.now ≡ map profile_row profiles → IfOk result (λ v. v.items ≡ profiles) }
+    ensures { (profiles : List TheProfile) → HaveLists entries.now profiles → rows.now ≡ map profile_row profiles
+        → IfOk result (λ v. v.items ≡ profiles) }
 {
     let mut profiles = Vec::new(alloc);
     for row in rows {

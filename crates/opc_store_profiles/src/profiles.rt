@@ -44,8 +44,14 @@ fn update_profile<S: Alter>(tx: &mut Transaction<'_, S>, profile: &Profile) -> R
     ensures same_reference { tx.new.conn.ghost_name ≡ tx.old.conn.ghost_name }
     ensures stays { Stays S.Store tx.old.conn.now tx.new.conn.now result }
     ensures valid { IsPattern profile.now.pattern }
-    ensures set { HasCleanDisk (state S.Store tx.new.conn.now) → IfOk result (λ found. found ≢ 0 → Becomes (λ s. with_profiles (with_definition profile.now s.policy.profiles) s) (state S.Store tx.old.conn.now).now (state S.Store tx.new.conn.now).now) }
-    ensures missed { HasCleanDisk (state S.Store tx.new.conn.now) → IfOk result (λ found. found ≡ 0 → (s : _) → Represents (state S.Store tx.old.conn.now).now s → (profile_of s.policy.profiles profile.now.class profile.now.pattern ≡ None) × Represents (state S.Store tx.new.conn.now).now s) }
+    ensures set { HasCleanDisk (state S.Store tx.new.conn.now)
+        → IfOk result (λ found. found ≢ 0
+        → Becomes (λ s. with_profiles (with_definition profile.now s.policy.profiles) s)
+        (state S.Store tx.old.conn.now).now (state S.Store tx.new.conn.now).now) }
+    ensures missed { HasCleanDisk (state S.Store tx.new.conn.now)
+        → IfOk result (λ found. found ≡ 0 → (s : _) → Represents (state S.Store tx.old.conn.now).now s
+        → (profile_of s.policy.profiles profile.now.class profile.now.pattern ≡ None)
+        × Represents (state S.Store tx.new.conn.now).now s) }
 {
     let key = profile.pattern.sort_key();
     run(
@@ -67,7 +73,10 @@ fn update_profile<S: Alter>(tx: &mut Transaction<'_, S>, profile: &Profile) -> R
 fn insert_profile<S: Alter>(tx: &mut Transaction<'_, S>, profile: &Profile) -> Result<(), Error>
     ensures same_reference { tx.new.conn.ghost_name ≡ tx.old.conn.ghost_name }
     ensures stays { Stays S.Store tx.old.conn.now tx.new.conn.now result }
-    ensures added { HasCleanDisk (state S.Store tx.new.conn.now) → OnOk result ((s : _) → Represents (state S.Store tx.old.conn.now).now s → IsMade (record (contents_of s) { profiles = profile_row profile.now ∷ map profile_row s.policy.profiles }) (state S.Store tx.new.conn.now).now) }
+    ensures added { HasCleanDisk (state S.Store tx.new.conn.now)
+        → OnOk result ((s : _) → Represents (state S.Store tx.old.conn.now).now s
+        → IsMade (record (contents_of s) { profiles = profile_row profile.now ∷ map profile_row s.policy.profiles })
+        (state S.Store tx.new.conn.now).now) }
 {
     let key = profile.pattern.sort_key();
     run(
@@ -90,7 +99,8 @@ fn insert_profile<S: Alter>(tx: &mut Transaction<'_, S>, profile: &Profile) -> R
 pub fn put_profile<S: Alter>(tx: &mut Transaction<'_, S>, profile: &Profile) -> Result<(), Error>
     ensures same_reference { tx.new.conn.ghost_name ≡ tx.old.conn.ghost_name }
     ensures stays { Stays S.Store tx.old.conn.now tx.new.conn.now result }
-    ensures done { Makes S.Store tx.old.conn.now tx.new.conn.now result (λ s. with_profiles (with_definition profile.now s.policy.profiles) s) }
+    ensures done { Makes S.Store tx.old.conn.now tx.new.conn.now result
+        (λ s. with_profiles (with_definition profile.now s.policy.profiles) s) }
 {
     keys_order_patterns();
     let entries = profile.entries.as_slice();
@@ -110,7 +120,8 @@ pub fn remove_profile<S: Alter>(
 ) -> Result<(), Error>
     ensures same_reference { tx.new.conn.ghost_name ≡ tx.old.conn.ghost_name }
     ensures stays { Stays S.Store tx.old.conn.now tx.new.conn.now result }
-    ensures done { Makes S.Store tx.old.conn.now tx.new.conn.now result (λ s. with_profiles (without_profile class pattern.now s.policy.profiles) s) }
+    ensures done { Makes S.Store tx.old.conn.now tx.new.conn.now result
+        (λ s. with_profiles (without_profile class pattern.now s.policy.profiles) s) }
 {
     run(
         tx,
@@ -137,7 +148,8 @@ fn class_in(row: &Row) -> Result<Class, StoreFault>
 
 /// A profile, but for its access list, from the first columns of a row.
 pub fn definition_in(alloc: Global, row: &Row) -> Result<Profile, StoreFault>
-    ensures { (p : TheProfile) (rest : List TheValue) → row.now ≡ definition_row p ++ rest → IfOk result (λ v. v ≡ bare p) }
+    ensures { (p : TheProfile) (rest : List TheValue) → row.now ≡ definition_row p ++ rest
+        → IfOk result (λ v. v ≡ bare p) }
 {
     Ok(Profile {
         class: class_in(row)?,
@@ -157,7 +169,8 @@ pub fn profile_in(alloc: Global, row: &Row) -> Result<Profile, StoreFault>
 }
 
 fn definitions_in(alloc: Global, rows: &[Row]) -> Result<Vec<Profile>, StoreFault>
-    ensures { (profiles : List TheProfile) → rows.now ≡ map profile_row profiles → IfOk result (λ v. v.items ≡ map bare profiles) }
+    ensures { (profiles : List TheProfile) → rows.now ≡ map profile_row profiles
+        → IfOk result (λ v. v.items ≡ map bare profiles) }
 {
     let mut definitions = Vec::new(alloc);
     for row in rows {
@@ -176,7 +189,8 @@ pub fn definition_on<S: Alter>(
     requires { conn.old.in_transaction ≡ false }
     ensures mode { conn.new.in_transaction ≡ false }
     ensures looks { Looks S.Store conn.old conn.new result }
-    ensures found { Finds S.Store conn.old conn.new result (λ s v. v ≡ option_map bare (profile_of s.policy.profiles class pattern.now)) }
+    ensures found { Finds S.Store conn.old conn.new result
+        (λ s v. v ≡ option_map bare (profile_of s.policy.profiles class pattern.now)) }
 {
     let rows = read(
         conn,
@@ -202,7 +216,8 @@ pub fn definitions_on<S: Alter>(
     requires { conn.old.in_transaction ≡ false }
     ensures mode { conn.new.in_transaction ≡ false }
     ensures looks { Looks S.Store conn.old conn.new result }
-    ensures found { Finds S.Store conn.old conn.new result (λ s v. v.items ≡ map bare (of_class class s.policy.profiles)) }
+    ensures found { Finds S.Store conn.old conn.new result
+        (λ s v. v.items ≡ map bare (of_class class s.policy.profiles)) }
 {
     let rows = read(conn, BY_CLASS, params![class.text()])?;
     definitions_in(alloc, rows.as_slice())
@@ -213,7 +228,8 @@ pub fn has_owner_on<S: Alter>(conn: &mut Connection<S>, user: &UserId) -> Result
     requires { conn.old.in_transaction ≡ false }
     ensures mode { conn.new.in_transaction ≡ false }
     ensures looks { Looks S.Store conn.old conn.new result }
-    ensures found { Finds S.Store conn.old conn.new result (λ s v. v ≡ list_any (λ (p : TheProfile). bytes_eq p.owner user.now) s.policy.profiles) }
+    ensures found { Finds S.Store conn.old conn.new result
+        (λ s v. v ≡ list_any (λ (p : TheProfile). bytes_eq p.owner user.now) s.policy.profiles) }
 {
     is_there_on(
         conn,
@@ -231,7 +247,9 @@ pub fn profile_on<S: Alter>(
     requires { conn.old.in_transaction ≡ false }
     ensures mode { conn.new.in_transaction ≡ false }
     ensures looks { Looks S.Store conn.old conn.new result }
-    ensures found { HasCleanDisk (state S.Store conn.new) → (s : _) → Represents (state S.Store conn.old).now s → (p : TheProfile) → row.now ≡ profile_row p → profile_of s.policy.profiles p.class p.pattern ≡ Some p → IfOk result (λ v. v ≡ p) }
+    ensures found { HasCleanDisk (state S.Store conn.new) → (s : _) → Represents (state S.Store conn.old).now s
+        → (p : TheProfile) → row.now ≡ profile_row p → profile_of s.policy.profiles p.class p.pattern ≡ Some p
+        → IfOk result (λ v. v ≡ p) }
 {
     let profile = profile_in(alloc, row)?;
     let entries = access_list_on(alloc, conn, profile.class, &profile.pattern)?;

@@ -1,5 +1,35 @@
 -- Profiles and their access lists, as lists.
-use Rattle.std.proofs.Common.{◌≡◌, ℕ, List, [], ◌∷◌, ◌++◌, map, filter, not, ◌&&◌, Bool, true, false, cond, Some, None, refl, sym, ap, ap₂, subst, ◌∙◌, append-nil, is_eq, IsPermutation, Ordering, Less, Equal, Greater}
+use Rattle.std.proofs.Common.{
+  ◌≡◌,
+  ℕ,
+  List,
+  [],
+  ◌∷◌,
+  ◌++◌,
+  map,
+  filter,
+  not,
+  ◌&&◌,
+  Bool,
+  true,
+  false,
+  cond,
+  Some,
+  None,
+  refl,
+  sym,
+  ap,
+  ap₂,
+  subst,
+  ◌∙◌,
+  append-nil,
+  is_eq,
+  IsPermutation,
+  Ordering,
+  Less,
+  Equal,
+  Greater,
+}
 use Rattle.std.specs.List.{flat_map, AllByRecursion}
 use Rattle.std.specs.Option.{option_map_or}
 use Rattle.std.specs.Ordering.{ordering_then}
@@ -38,7 +68,8 @@ class_means Opercmds Opercmds h = refl
 
 pub compares_equal : (p q : Profile) → p.class ≡ q.class → p.pattern ≡ q.pattern → profile_cmp p q ≡ Equal
 compares_equal p q class pattern =
-    ap₂ ordering_then (ap (class_cmp p.class) (sym class) ∙ tied_itself class_total p.class) (ap (pattern_cmp p.pattern) (sym pattern) ∙ tied_itself nat_list_cmp_total (sort_key p.pattern))
+    ap₂ ordering_then (ap (class_cmp p.class) (sym class) ∙ tied_itself class_total p.class)
+    (ap (pattern_cmp p.pattern) (sym pattern) ∙ tied_itself nat_list_cmp_total (sort_key p.pattern))
 
 -- the profiles with a change of the access list of one, if it is there
 abbrev pub with_list : Class → List ℕ → (List Entry → List Entry) → List Profile → List Profile
@@ -60,24 +91,32 @@ module _ (class : Class) (pattern : List ℕ) where
   -- ---- a profile goes, with its access list
 
   same_test : (p : Profile) (b : Bool) → is_of class pattern p ≡ b → AllByRecursion (λ v. not (has_profile class pattern v) ≡ not b) (entry_rows p)
-  same_test p b is = all-map (λ v. not (has_profile class pattern v) ≡ not b) (entry_row p.class p.pattern) (λ e. ap not (picks_entries class pattern p e ∙ is)) p.entries
+  same_test p b is = all-map (λ v. not (has_profile class pattern v) ≡ not b) (entry_row p.class p.pattern)
+      (λ e. ap not (picks_entries class pattern p e ∙ is)) p.entries
 
-  kept_all : (rows : List Row) → AllByRecursion (λ v. not (has_profile class pattern v) ≡ true) rows → filter (λ v. not (has_profile class pattern v)) rows ≡ rows
+  kept_all : (rows : List Row) → AllByRecursion (λ v. not (has_profile class pattern v) ≡ true) rows
+      → filter (λ v. not (has_profile class pattern v)) rows ≡ rows
   kept_all [] h = refl
   kept_all (v ∷ rows) h = rw (h.0, kept_all rows h.1)
 
-  pub entries_left : (ps : List Profile) → filter (λ v. not (has_profile class pattern v)) (flat_map entry_rows ps) ≡ flat_map entry_rows (without_profile class pattern ps)
+  pub entries_left : (ps : List Profile)
+      → filter (λ v. not (has_profile class pattern v)) (flat_map entry_rows ps) ≡ flat_map entry_rows
+      (without_profile class pattern ps)
   entries_left [] = refl
   entries_left (p ∷ ps) =
       filter-append (λ v. not (has_profile class pattern v)) (entry_rows p) (flat_map entry_rows ps) ∙ go (is_of class pattern p) refl (entries_left ps)
     where
-      go : (b : Bool) → is_of class pattern p ≡ b → filter (λ v. not (has_profile class pattern v)) (flat_map entry_rows ps) ≡ flat_map entry_rows (without_profile class pattern ps)
+      go : (b : Bool) → is_of class pattern p ≡ b
+          → filter (λ v. not (has_profile class pattern v)) (flat_map entry_rows ps) ≡ flat_map entry_rows
+          (without_profile class pattern ps)
           → filter (λ v. not (has_profile class pattern v)) (entry_rows p) ++ filter (λ v. not (has_profile class pattern v)) (flat_map entry_rows ps)
           ≡ flat_map entry_rows (cond (not b) (p ∷ without_profile class pattern ps) (without_profile class pattern ps))
       go true is more = ap₂ (λ (a b : List Row). a ++ b) (filter_none _ (entry_rows p) (same_test p true is)) more
       go false is more = ap₂ (λ (a b : List Row). a ++ b) (kept_all (entry_rows p) (same_test p false is)) more
 
-  pub profiles_left : (ps : List Profile) → filter (λ v. not (has_profile class pattern v)) (map profile_row ps) ≡ map profile_row (without_profile class pattern ps)
+  pub profiles_left : (ps : List Profile)
+      → filter (λ v. not (has_profile class pattern v)) (map profile_row ps) ≡ map profile_row
+      (without_profile class pattern ps)
   profiles_left ps = filter-map _ profile_row ps ∙ ap (map profile_row) (filter_same _ _ (λ p. ap not (picks_profile class pattern p)) ps)
 
   none_left : (ps : List Profile) → AllByRecursion (λ p. is_of class pattern p ≡ false) (without_profile class pattern ps)
@@ -89,10 +128,12 @@ module _ (class : Class) (pattern : List ℕ) where
       go true is more = more
       go false is more = (is, more)
 
-  pub lack : (qs : List Profile) → AllByRecursion (λ q. is_of class pattern q ≡ false) qs → AllByRecursion (λ v. has_profile class pattern v ≡ false) (flat_map entry_rows qs)
+  pub lack : (qs : List Profile) → AllByRecursion (λ q. is_of class pattern q ≡ false) qs
+      → AllByRecursion (λ v. has_profile class pattern v ≡ false) (flat_map entry_rows qs)
   lack qs h =
       all-flat_map (λ v. has_profile class pattern v ≡ false) entry_rows qs
-      (all_weaker _ _ (λ q miss. all-map (λ v. has_profile class pattern v ≡ false) (entry_row q.class q.pattern) (λ e. picks_entries class pattern q e ∙ miss) q.entries) qs h)
+      (all_weaker _ _ (λ q miss. all-map (λ v. has_profile class pattern v ≡ false) (entry_row q.class q.pattern)
+      (λ e. picks_entries class pattern q e ∙ miss) q.entries) qs h)
 
   -- none of the entries that are left is of it
   pub entries_lack : (ps : List Profile) → AllByRecursion (λ v. has_profile class pattern v ≡ false) (flat_map entry_rows (without_profile class pattern ps))
@@ -103,14 +144,21 @@ module _ (class : Class) (pattern : List ℕ) where
   kept_row (v ∷ rows) h = rw (h.0, kept_row rows h.1)
 
   -- the entries of the one profile
-  pub list_hit : (ps : List Profile) (p : Profile) → Split ps p → filter (has_profile class pattern) (flat_map entry_rows ps) ≡ map (entry_row p.class p.pattern) p.entries
+  pub list_hit : (ps : List Profile) (p : Profile) → Split ps p
+      → filter (has_profile class pattern) (flat_map entry_rows ps) ≡ map (entry_row p.class p.pattern) p.entries
   list_hit ps p it =
       let has = has_profile class pattern in
-      let whole : flat_map entry_rows ps ≡ flat_map entry_rows it.prefix ++ (entry_rows p ++ flat_map entry_rows it.back) = ap (flat_map entry_rows) it.whole ∙ flat_map-append entry_rows it.prefix (p ∷ it.back) in
-      let mine : filter has (entry_rows p) ≡ entry_rows p = kept_row (entry_rows p) (all-map (λ v. has v ≡ true) (entry_row p.class p.pattern) (λ e. picks_entries class pattern p e ∙ it.passes) p.entries) in
+      let whole : flat_map entry_rows ps ≡ flat_map entry_rows it.prefix
+      ++ (entry_rows p ++ flat_map entry_rows it.back) =
+      ap (flat_map entry_rows) it.whole ∙ flat_map-append entry_rows it.prefix (p ∷ it.back) in
+      let mine : filter has (entry_rows p) ≡ entry_rows p =
+      kept_row (entry_rows p) (all-map (λ v. has v ≡ true) (entry_row p.class p.pattern)
+      (λ e. picks_entries class pattern p e ∙ it.passes) p.entries) in
       ap (filter has) whole
       ∙ (filter-append has (flat_map entry_rows it.prefix) (entry_rows p ++ flat_map entry_rows it.back)
-      ∙ (ap₂ (λ (a b : List Row). a ++ b) (filter_none has _ (lack it.prefix it.before)) (filter-append has (entry_rows p) (flat_map entry_rows it.back) ∙ ap₂ (λ (a b : List Row). a ++ b) mine (filter_none has _ (lack it.back it.after)))
+      ∙ (ap₂ (λ (a b : List Row). a ++ b) (filter_none has _ (lack it.prefix it.before))
+      (filter-append has (entry_rows p) (flat_map entry_rows it.back)
+      ∙ ap₂ (λ (a b : List Row). a ++ b) mine (filter_none has _ (lack it.back it.after)))
       ∙ append-nil _))
 
   -- ---- a profile is put, and keeps its access list
@@ -137,17 +185,29 @@ module _ (class : Class) (pattern : List ℕ) where
           ∙ (sym (flat_map-append entry_rows it.prefix (p ∷ it.back)) ∙ ap (flat_map entry_rows) (sym it.whole))))
 
       -- its row comes in the place of the one that was there
-      pub profile_replaced : IsPermutation (map (λ (v : Row). profile_row x) (filter (has_profile class pattern) (map profile_row ps)) ++ filter (λ v. not (has_profile class pattern v)) (map profile_row ps)) (map profile_row (with_profile (keeping p) ps))
+      pub profile_replaced : IsPermutation
+          (map (λ (v : Row). profile_row x) (filter (has_profile class pattern) (map profile_row ps))
+          ++ filter (λ v. not (has_profile class pattern v)) (map profile_row ps))
+          (map profile_row (with_profile (keeping p) ps))
       profile_replaced =
           let hit : filter (has_profile class pattern) (map profile_row ps) ≡ profile_row p ∷ [] =
-          filter-map _ profile_row ps ∙ (ap (map profile_row) (filter_same _ _ (picks_profile class pattern) ps) ∙ ap (map profile_row) (picked profile_cmp (is_of class pattern) ps p it)) in
-          let rest : filter (λ v. not (has_profile class pattern v)) (map profile_row ps) ≡ map profile_row (it.prefix ++ it.back) = profiles_left ps ∙ ap (map profile_row) (others_of profile_cmp (is_of class pattern) ps p it) in
+          filter-map _ profile_row ps ∙ (ap (map profile_row) (filter_same _ _ (picks_profile class pattern) ps)
+          ∙ ap (map profile_row) (picked profile_cmp (is_of class pattern) ps p it)) in
+          let rest : filter (λ v. not (has_profile class pattern v)) (map profile_row ps) ≡ map profile_row
+          (it.prefix ++ it.back) = profiles_left ps
+          ∙ ap (map profile_row) (others_of profile_cmp (is_of class pattern) ps p it) in
           let both = ap₂ (λ (a b : List Row). map (λ (v : Row). profile_row x) a ++ b) hit rest in
-          let middle : IsPermutation (map profile_row (keeping p ∷ (it.prefix ++ it.back))) (map profile_row (it.prefix ++ keeping p ∷ it.back)) = IsPermutation-map profile_row _ _ (IsPermutation-sym _ _ (IsPermutation-middle it.prefix (keeping p) it.back)) in
-          IsPermutation-trans _ _ _ (IsPermutation-same _ _ both) (IsPermutation-trans _ _ _ middle (IsPermutation-same _ _ (ap (map profile_row) (sym replaced_here))))
+          let middle : IsPermutation (map profile_row (keeping p ∷ (it.prefix ++ it.back)))
+          (map profile_row (it.prefix ++ keeping p ∷ it.back)) =
+          IsPermutation-map profile_row _ _
+          (IsPermutation-sym _ _ (IsPermutation-middle it.prefix (keeping p) it.back)) in
+          IsPermutation-trans _ _ _ (IsPermutation-same _ _ both)
+          (IsPermutation-trans _ _ _ middle (IsPermutation-same _ _ (ap (map profile_row) (sym replaced_here))))
 
     -- where it is not there, it comes in
-    module _ (differ : KeysDiffer) (valid : IsPattern x.pattern) (patterns : AllByRecursion (λ (p : Profile). IsPattern p.pattern) ps) (absent : profile_of ps class pattern ≡ None) where
+    module _ (differ : KeysDiffer) (valid : IsPattern x.pattern)
+        (patterns : AllByRecursion (λ (p : Profile). IsPattern p.pattern) ps)
+        (absent : profile_of ps class pattern ≡ None) where
       not_tied : (p : Profile) → IsPattern p.pattern → is_of class pattern p ≡ false → is_eq (profile_cmp p x) ≡ false
       not_tied p fine miss = go (class_cmp p.class x.class) refl (pattern_cmp p.pattern x.pattern) refl
         where
@@ -170,7 +230,8 @@ module _ (class : Class) (pattern : List ℕ) where
               let text = differ p.pattern x.pattern fine valid (exact_bytes (sort_key p.pattern) (sort_key x.pattern) k) ∙ of_pattern in
               ap₂ (λ a b. a && b) (itself p.class class same) ((bytes_eq-Decides p.pattern pattern).1 text)
 
-          go : (o : Ordering) → class_cmp p.class x.class ≡ o → (q : Ordering) → pattern_cmp p.pattern x.pattern ≡ q → is_eq (ordering_then (class_cmp p.class x.class) (pattern_cmp p.pattern x.pattern)) ≡ false
+          go : (o : Ordering) → class_cmp p.class x.class ≡ o → (q : Ordering) → pattern_cmp p.pattern x.pattern ≡ q
+              → is_eq (ordering_then (class_cmp p.class x.class) (pattern_cmp p.pattern x.pattern)) ≡ false
           go Less c q k = ap (λ o. is_eq (ordering_then o (pattern_cmp p.pattern x.pattern))) c
           go Greater c q k = ap (λ o. is_eq (ordering_then o (pattern_cmp p.pattern x.pattern))) c
           go Equal c Less k = ap₂ (λ o q. is_eq (ordering_then o q)) c k
@@ -184,7 +245,8 @@ module _ (class : Class) (pattern : List ℕ) where
       pub comes_in : Rises profile_cmp ps → IsPermutation (x ∷ ps) (with_profile x ps)
       comes_in up =
           let apart = all_both _ _ (λ q. is_eq (profile_cmp q x) ≡ false) not_tied ps patterns (none_picked profile_cmp (is_of class pattern) ps absent) in
-          IsPermutation-sym _ _ (subst (λ (l : List Profile). IsPermutation (with_profile x ps) (x ∷ l)) (all_others ps apart) (replaced_is profile_cmp profile_total x ps up))
+          IsPermutation-sym _ _ (subst (λ (l : List Profile). IsPermutation (with_profile x ps) (x ∷ l))
+          (all_others ps apart) (replaced_is profile_cmp profile_total x ps up))
 
   -- ---- entries of an access list
 
@@ -196,16 +258,22 @@ module _ (class : Class) (pattern : List ℕ) where
     replaced_list = it.replaced listing (compares_equal listing p refl refl)
 
     pub same_profiles : map profile_row (with_profile listing ps) ≡ map profile_row ps
-    same_profiles = ap (map profile_row) replaced_list ∙ (map-append profile_row it.prefix (listing ∷ it.back) ∙ (sym (map-append profile_row it.prefix (p ∷ it.back)) ∙ ap (map profile_row) (sym it.whole)))
+    same_profiles = ap (map profile_row) replaced_list
+        ∙ (map-append profile_row it.prefix (listing ∷ it.back)
+        ∙ (sym (map-append profile_row it.prefix (p ∷ it.back)) ∙ ap (map profile_row) (sym it.whole)))
 
-    pub split_entries : flat_map entry_rows (with_profile listing ps) ≡ flat_map entry_rows it.prefix ++ (map (entry_row p.class p.pattern) (change p.entries) ++ flat_map entry_rows it.back)
+    pub split_entries : flat_map entry_rows (with_profile listing ps) ≡ flat_map entry_rows it.prefix
+        ++ (map (entry_row p.class p.pattern) (change p.entries) ++ flat_map entry_rows it.back)
     split_entries = ap (flat_map entry_rows) replaced_list ∙ flat_map-append entry_rows it.prefix (listing ∷ it.back)
 
   module _ (id console : List ℕ) where
-    lack_entry : (qs : List Profile) → AllByRecursion (λ q. is_of class pattern q ≡ false) qs → AllByRecursion (λ v. has_entry class pattern id console v ≡ false) (flat_map entry_rows qs)
+    lack_entry : (qs : List Profile) → AllByRecursion (λ q. is_of class pattern q ≡ false) qs
+        → AllByRecursion (λ v. has_entry class pattern id console v ≡ false) (flat_map entry_rows qs)
     lack_entry qs h =
         all-flat_map (λ v. has_entry class pattern id console v ≡ false) entry_rows qs
-        (all_weaker _ _ (λ q miss. all-map (λ v. has_entry class pattern id console v ≡ false) (entry_row q.class q.pattern) (λ e. picks_entry class pattern id console q e ∙ ap (λ b. b && is_at id console e) miss) q.entries) qs h)
+        (all_weaker _ _ (λ q miss. all-map (λ v. has_entry class pattern id console v ≡ false)
+        (entry_row q.class q.pattern)
+        (λ e. picks_entry class pattern id console q e ∙ ap (λ b. b && is_at id console e) miss) q.entries) qs h)
 
     module _ (ps : List Profile) (p : Profile) (it : Split ps p) where
       picks_here : (e : Entry) → has_entry class pattern id console (entry_row p.class p.pattern e) ≡ is_at id console e
@@ -215,29 +283,41 @@ module _ (class : Class) (pattern : List ℕ) where
       whole_entries = ap (flat_map entry_rows) it.whole ∙ flat_map-append entry_rows it.prefix (p ∷ it.back)
 
       -- those that the test picks are those of the one access list
-      pub entries_hit : filter (has_entry class pattern id console) (flat_map entry_rows ps) ≡ map (entry_row p.class p.pattern) (filter (is_at id console) p.entries)
+      pub entries_hit : filter (has_entry class pattern id console) (flat_map entry_rows ps) ≡ map
+          (entry_row p.class p.pattern) (filter (is_at id console) p.entries)
       entries_hit =
           let has = has_entry class pattern id console in
-          let mine : filter has (entry_rows p) ≡ map (entry_row p.class p.pattern) (filter (is_at id console) p.entries) = filter-map has (entry_row p.class p.pattern) p.entries ∙ ap (map (entry_row p.class p.pattern)) (filter_same _ _ picks_here p.entries) in
+          let mine : filter has (entry_rows p) ≡ map (entry_row p.class p.pattern)
+          (filter (is_at id console) p.entries) =
+          filter-map has (entry_row p.class p.pattern) p.entries
+          ∙ ap (map (entry_row p.class p.pattern)) (filter_same _ _ picks_here p.entries) in
           ap (filter has) whole_entries
           ∙ (filter-append has (flat_map entry_rows it.prefix) (entry_rows p ++ flat_map entry_rows it.back)
-          ∙ (ap₂ (λ (a b : List Row). a ++ b) (filter_none has _ (lack_entry it.prefix it.before)) (filter-append has (entry_rows p) (flat_map entry_rows it.back) ∙ ap₂ (λ (a b : List Row). a ++ b) mine (filter_none has _ (lack_entry it.back it.after)))
+          ∙ (ap₂ (λ (a b : List Row). a ++ b) (filter_none has _ (lack_entry it.prefix it.before))
+          (filter-append has (entry_rows p) (flat_map entry_rows it.back)
+          ∙ ap₂ (λ (a b : List Row). a ++ b) mine (filter_none has _ (lack_entry it.back it.after)))
           ∙ append-nil _))
 
       -- and the others are left
       pub entries_rest : filter (λ v. not (has_entry class pattern id console v)) (flat_map entry_rows ps)
-          ≡ flat_map entry_rows it.prefix ++ (map (entry_row p.class p.pattern) (filter (λ (e : Entry). not (is_at id console e)) p.entries) ++ flat_map entry_rows it.back)
+          ≡ flat_map entry_rows it.prefix
+          ++ (map (entry_row p.class p.pattern) (filter (λ (e : Entry). not (is_at id console e)) p.entries)
+          ++ flat_map entry_rows it.back)
       entries_rest =
           let lacks = λ (v : Row). not (has_entry class pattern id console v) in
           let mine : filter lacks (entry_rows p) ≡ map (entry_row p.class p.pattern) (filter (λ (e : Entry). not (is_at id console e)) p.entries) =
-          filter-map lacks (entry_row p.class p.pattern) p.entries ∙ ap (map (entry_row p.class p.pattern)) (filter_same _ _ (λ e. ap not (picks_here e)) p.entries) in
+          filter-map lacks (entry_row p.class p.pattern) p.entries
+          ∙ ap (map (entry_row p.class p.pattern)) (filter_same _ _ (λ e. ap not (picks_here e)) p.entries) in
           ap (filter lacks) whole_entries
           ∙ (filter-append lacks (flat_map entry_rows it.prefix) (entry_rows p ++ flat_map entry_rows it.back)
-          ∙ ap₂ (λ (a b : List Row). a ++ b) (keeps_all _ _ (lack_entry it.prefix it.before)) (filter-append lacks (entry_rows p) (flat_map entry_rows it.back) ∙ ap₂ (λ (a b : List Row). a ++ b) mine (keeps_all _ _ (lack_entry it.back it.after))))
+          ∙ ap₂ (λ (a b : List Row). a ++ b) (keeps_all _ _ (lack_entry it.prefix it.before))
+          (filter-append lacks (entry_rows p) (flat_map entry_rows it.back)
+          ∙ ap₂ (λ (a b : List Row). a ++ b) mine (keeps_all _ _ (lack_entry it.back it.after))))
 
     -- of a profile that is not there no entry is picked
     pub no_entries : (ps : List Profile) → profile_of ps class pattern ≡ None → filter (has_entry class pattern id console) (flat_map entry_rows ps) ≡ []
     no_entries ps absent = filter_none _ _ (lack_entry ps (none_picked profile_cmp (is_of class pattern) ps absent))
 
-    pub all_entries : (ps : List Profile) → profile_of ps class pattern ≡ None → filter (λ v. not (has_entry class pattern id console v)) (flat_map entry_rows ps) ≡ flat_map entry_rows ps
+    pub all_entries : (ps : List Profile) → profile_of ps class pattern ≡ None
+        → filter (λ v. not (has_entry class pattern id console v)) (flat_map entry_rows ps) ≡ flat_map entry_rows ps
     all_entries ps absent = keeps_all _ _ (lack_entry ps (none_picked profile_cmp (is_of class pattern) ps absent))

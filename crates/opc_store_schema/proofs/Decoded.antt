@@ -1,5 +1,37 @@
 -- Tables represent one state alone: it can be told from their rows.
-use Rattle.std.proofs.Common.{◌≡◌, ◌≢◌, ℕ, ◌==◌, Bool, true, false, ◌&&◌, cond, List, [], ◌∷◌, map, filter, drop, codes, Option, Some, None, Ok, Err, Result, refl, sym, ap, ap₂, subst, ◌∙◌, Ordering, Less, IsPermutation}
+use Rattle.std.proofs.Common.{
+  ◌≡◌,
+  ◌≢◌,
+  ℕ,
+  ◌==◌,
+  Bool,
+  true,
+  false,
+  ◌&&◌,
+  cond,
+  List,
+  [],
+  ◌∷◌,
+  map,
+  filter,
+  drop,
+  codes,
+  Option,
+  Some,
+  None,
+  Ok,
+  Err,
+  Result,
+  refl,
+  sym,
+  ap,
+  ap₂,
+  subst,
+  ◌∙◌,
+  Ordering,
+  Less,
+  IsPermutation,
+}
 use Rattle.std.specs.List.{AllByRecursion, flat_map}
 use Rattle.std.specs.Cmp.{IsTotalOrder}
 use Rattle.std.specs.Ordering.{nat_cmp}
@@ -44,13 +76,83 @@ use Rattle.opc_state.specs.declared.account.AccountRow.{AccountRow}
 use Rattle.opc_state.specs.declared.change.Batch.{Batch}
 use Rattle.opc_state.specs.Members.{unit_cmp, device_cmp, console_cmp}
 use Rattle.opc_state.specs.State.{State}
-use Rattle.opc_store_schema.specs.Content.{bare, text_said, number_said, flag_said, text_or_none, name_or_none, bytes_or_none, class_said, level_of, profile_said, entry_said, is_entry_of, entries_in, profiles_in}
+use Rattle.opc_store_schema.specs.Content.{
+  bare,
+  text_said,
+  number_said,
+  flag_said,
+  text_or_none,
+  name_or_none,
+  bytes_or_none,
+  class_said,
+  level_of,
+  profile_said,
+  entry_said,
+  is_entry_of,
+  entries_in,
+  profiles_in,
+}
 use Rattle.opc_store_schema.specs.State.{IsOrdered, IsReadBack, IsNamed, IsAccessList}
 use Rattle.opc_store_schema.specs.Contents.{Holds}
-use Rattle.opc_store_schema.specs.Placed.{classes_at, consoles_at, units_at, devices_at, replies_at, answered_at, log_at, messages_at, board_at, account_at, batches_at, grp_at, usr_at, connects_at, profiles_at, entries_at}
-use Rattle.opc_store_schema.specs.Represented.{contents_of, AreTablesOf, flag, or_null, text_or_null, class_row, halted_row, group_row, user_row, connect_row, profile_row, entry_row, entry_rows, auth_number, mode_letter, console_row, kind_letter, kind_member, unit_row, device_row, answered_values, log_values, message_values, account_values, reply_row, batch_row, or_empty}
+use Rattle.opc_store_schema.specs.Placed.{
+  classes_at,
+  consoles_at,
+  units_at,
+  devices_at,
+  replies_at,
+  answered_at,
+  log_at,
+  messages_at,
+  board_at,
+  account_at,
+  batches_at,
+  grp_at,
+  usr_at,
+  connects_at,
+  profiles_at,
+  entries_at,
+}
+use Rattle.opc_store_schema.specs.Represented.{
+  contents_of,
+  AreTablesOf,
+  flag,
+  or_null,
+  text_or_null,
+  class_row,
+  halted_row,
+  group_row,
+  user_row,
+  connect_row,
+  profile_row,
+  entry_row,
+  entry_rows,
+  auth_number,
+  mode_letter,
+  console_row,
+  kind_letter,
+  kind_member,
+  unit_row,
+  device_row,
+  answered_values,
+  log_values,
+  message_values,
+  account_values,
+  reply_row,
+  batch_row,
+  or_empty,
+}
 use Rattle.opc_store_schema.proofs.AccessLists.{split, list_hit}
-use Rattle.opc_store_schema.proofs.Keys.{group_total, user_total, connect_total, profile_total, entry_total, unit_total, device_total, console_total, class_total}
+use Rattle.opc_store_schema.proofs.Keys.{
+  group_total,
+  user_total,
+  connect_total,
+  profile_total,
+  entry_total,
+  unit_total,
+  device_total,
+  console_total,
+  class_total,
+}
 use Rattle.opc_store_schema.proofs.PolicyRead.{is_itself, not_of}
 use Rattle.opc_store_schema.proofs.ProfileTexts.{has_profile, picks_entries}
 
@@ -127,10 +229,24 @@ abbrev group_said : Row → List ℕ
 group_said v = text_said (column v 0)
 
 abbrev user_said : Row → User
-user_said v = record { id = text_said (column v 0); special = flag_said (column v 1); auditor = flag_said (column v 2); revoked = flag_said (column v 3); digest = bytes_or_none (column v 4); restricted = flag_said (column v 5) }
+user_said v = record {
+  id = text_said (column v 0);
+  special = flag_said (column v 1);
+  auditor = flag_said (column v 2);
+  revoked = flag_said (column v 3);
+  digest = bytes_or_none (column v 4);
+  restricted = flag_said (column v 5);
+}
 
 user_back : (u : User) → user_said (user_row u) ≡ u
-user_back u = λ i. record { id = u.id; special = flag_back u.special i; auditor = flag_back u.auditor i; revoked = flag_back u.revoked i; digest = bytes_back u.digest i; restricted = flag_back u.restricted i }
+user_back u = λ i. record {
+  id = u.id;
+  special = flag_back u.special i;
+  auditor = flag_back u.auditor i;
+  revoked = flag_back u.revoked i;
+  digest = bytes_back u.digest i;
+  restricted = flag_back u.restricted i;
+}
 
 abbrev connect_said : Row → Connect
 connect_said v = record { user = text_said (column v 0); group = text_said (column v 1) }
@@ -139,14 +255,23 @@ connect_back : (c : Connect) → connect_said (connect_row c) ≡ c
 connect_back c = refl
 
 profile_back : (p : Profile) → profile_said (profile_row p) ≡ bare p
-profile_back p = λ i. record { class = class_back p.class i; pattern = p.pattern; owner = p.owner; uacc = level_back p.uacc i; warning = flag_back p.warning i; entries = [] }
+profile_back p = λ i. record {
+  class = class_back p.class i;
+  pattern = p.pattern;
+  owner = p.owner;
+  uacc = level_back p.uacc i;
+  warning = flag_back p.warning i;
+  entries = [];
+}
 
 entry_back : (class : Class) (pattern : List ℕ) (e : Entry) → IsNamed e → entry_said (entry_row class pattern e) ≡ e
 entry_back class pattern e named = λ i. record { id = e.id; when = place_back e.when named i; level = level_back e.level i }
 
 entries_back : (class : Class) (pattern : List ℕ) (es : List Entry) → AllByRecursion IsNamed es → map entry_said (map (entry_row class pattern) es) ≡ es
 entries_back class pattern [] named = refl
-entries_back class pattern (e ∷ es) named = ap₂ (λ (x : Entry) (l : List Entry). x ∷ l) (entry_back class pattern e named.0) (entries_back class pattern es named.1)
+entries_back class pattern (e ∷ es) named =
+    ap₂ (λ (x : Entry) (l : List Entry). x ∷ l) (entry_back class pattern e named.0)
+    (entries_back class pattern es named.1)
 
 abbrev class_row_said : Row → Class × Bool
 class_row_said v = (class_said (column v 0), flag_said (column v 1))
@@ -158,22 +283,53 @@ abbrev halted_said : Row → Bool
 halted_said v = flag_said (column v 0)
 
 abbrev unit_said : Row → UnitRow
-unit_said v = record { name = text_said (column v 0); kind = kind_of (text_said (column v 1)) (text_or_none (column v 2)); cancelable = flag_said (column v 3); stopping = flag_said (column v 4); last_text = text_or_none (column v 5) }
+unit_said v = record {
+  name = text_said (column v 0);
+  kind = kind_of (text_said (column v 1)) (text_or_none (column v 2));
+  cancelable = flag_said (column v 3);
+  stopping = flag_said (column v 4);
+  last_text = text_or_none (column v 5);
+}
 
 unit_back : (u : UnitRow) → unit_said (unit_row u) ≡ u
-unit_back u = λ i. record { name = u.name; kind = kind_back u.kind i; cancelable = flag_back u.cancelable i; stopping = flag_back u.stopping i; last_text = text_back u.last_text i }
+unit_back u = λ i. record {
+  name = u.name;
+  kind = kind_back u.kind i;
+  cancelable = flag_back u.cancelable i;
+  stopping = flag_back u.stopping i;
+  last_text = text_back u.last_text i;
+}
 
 abbrev device_said : Row → DeviceRow
-device_said v = record { number = text_said (column v 0); online = flag_said (column v 1); volume = text_or_none (column v 2); unit = text_or_none (column v 3) }
+device_said v = record {
+  number = text_said (column v 0);
+  online = flag_said (column v 1);
+  volume = text_or_none (column v 2);
+  unit = text_or_none (column v 3);
+}
 
 device_back : (d : DeviceRow) → device_said (device_row d) ≡ d
 device_back d = λ i. record { number = d.number; online = flag_back d.online i; volume = text_back d.volume i; unit = text_back d.unit i }
 
 abbrev console_said : Row → ConsoleRow
-console_said v = record { name = text_said (column v 0); auth = auth_of (number_said (column v 1)); mode = mode_of (text_said (column v 2)); online = flag_said (column v 3); user = text_or_none (column v 4); monitor = flag_said (column v 5) }
+console_said v = record {
+  name = text_said (column v 0);
+  auth = auth_of (number_said (column v 1));
+  mode = mode_of (text_said (column v 2));
+  online = flag_said (column v 3);
+  user = text_or_none (column v 4);
+  monitor = flag_said (column v 5);
+}
 
 console_back : (c : ConsoleRow) → console_said (console_row c) ≡ c
-console_back c = λ i. record { name = c.name; auth = auth_back c.auth i; mode = mode_back c.mode i; online = flag_back c.online i; user = text_back c.user i; monitor = flag_back c.monitor i }
+console_back c = λ i. record {
+  name = c.name;
+  auth = auth_back c.auth i;
+  mode = mode_back c.mode i;
+  online = flag_back c.online i;
+  user = text_back c.user i;
+  monitor = flag_back c.monitor i;
+}
 
 -- whole rows, with their numbers
 abbrev reply_said : Row → ReplyRow
@@ -189,7 +345,13 @@ abbrev message_said : Row → MessageRow
 message_said r = record { user = text_said (column r 2); text = text_said (column r 3) }
 
 abbrev account_said : Row → AccountRow
-account_said r = record { moment = number_said (column r 2); console = text_said (column r 3); user = text_said (column r 4); code = text_said (column r 5); rule = text_said (column r 6) }
+account_said r = record {
+  moment = number_said (column r 2);
+  console = text_said (column r 3);
+  user = text_said (column r 4);
+  code = text_said (column r 5);
+  rule = text_said (column r 6);
+}
 
 abbrev rows_or_none : Result (List PolicyRow) ImportFault → List PolicyRow
 rows_or_none (Ok rows) = rows
@@ -208,7 +370,9 @@ pub filter_on : {X : Type 0} (p q : X → Bool) (xs : List X) → AllByRecursion
 filter_on p q [] h = refl
 filter_on p q (x ∷ xs) h = rw (h.0, filter_on p q xs h.1)
 
-same_pick : (class : Class) (pattern : List ℕ) (p : Profile) (e : Entry) → is_entry_of class pattern (entry_row p.class p.pattern e) ≡ has_profile class pattern (entry_row p.class p.pattern e)
+same_pick : (class : Class) (pattern : List ℕ) (p : Profile) (e : Entry)
+    → is_entry_of class pattern (entry_row p.class p.pattern e) ≡ has_profile class pattern
+    (entry_row p.class p.pattern e)
 same_pick class pattern p e = ap (λ (c : Class). same_class c class && bytes_eq p.pattern pattern) (class_back p.class) ∙ sym (picks_entries class pattern p e)
 
 -- the entries of a profile are those that tell its class and pattern
@@ -218,14 +382,16 @@ own_entries class pattern ps p up here =
     let agree = all-flat_map (λ v. is_entry_of class pattern v ≡ has_profile class pattern v) entry_rows ps
     (all_of (λ (q : Profile). AllByRecursion (λ v. is_entry_of class pattern v ≡ has_profile class pattern v) (entry_rows q))
     (λ q. all-map (λ v. is_entry_of class pattern v ≡ has_profile class pattern v) (entry_row q.class q.pattern) (same_pick class pattern q) q.entries) ps) in
-    filter_on (is_entry_of class pattern) (has_profile class pattern) (flat_map entry_rows ps) agree ∙ list_hit class pattern ps p (split class pattern ps p up here)
+    filter_on (is_entry_of class pattern) (has_profile class pattern) (flat_map entry_rows ps) agree
+    ∙ list_hit class pattern ps p (split class pattern ps p up here)
 
 -- each profile is the one of its class and pattern
 pub each_found : (ps : List Profile) → Rises profile_cmp ps → AllByRecursion (λ (p : Profile). profile_of ps p.class p.pattern ≡ Some p) ps
 each_found [] up = tt
 each_found (x ∷ xs) up = (
   ap (λ b. cond b (Some x) (profile_of xs x.class x.pattern)) (is_itself x),
-  all_both (λ (p : Profile). profile_cmp x p ≡ Less) (λ (p : Profile). profile_of xs p.class p.pattern ≡ Some p) (λ (p : Profile). profile_of (x ∷ xs) p.class p.pattern ≡ Some p)
+  all_both (λ (p : Profile). profile_cmp x p ≡ Less) (λ (p : Profile). profile_of xs p.class p.pattern ≡ Some p)
+      (λ (p : Profile). profile_of (x ∷ xs) p.class p.pattern ≡ Some p)
       (λ p less here. ap (λ b. cond b (Some x) (profile_of xs p.class p.pattern)) (not_of p x less) ∙ here) xs up.0 (each_found xs up.1),
 )
 
@@ -239,11 +405,14 @@ module _ (trees : Trees) (s : State) (ordered : IsOrdered s) (holds : Holds tree
       let own = is_entry_of p.class p.pattern in
       let hits : List Row = filter own (map (λ (r : Row). drop 1 r) (trees entries_at.tree)) in
       let picked : IsPermutation (map (entry_row p.class p.pattern) p.entries) hits =
-      subst (λ (l : List Row). IsPermutation l hits) (own_entries p.class p.pattern ps p ordered.profiles here) (IsPermutation-filter own _ _ holds.entries.each) in
+      subst (λ (l : List Row). IsPermutation l hits) (own_entries p.class p.pattern ps p ordered.profiles here)
+      (IsPermutation-filter own _ _ holds.entries.each) in
       in_order entry_cmp entry_total p.entries _ list.0
-      (subst (λ (l : List Entry). IsPermutation l (map entry_said hits)) (entries_back p.class p.pattern p.entries list.1) (IsPermutation-map entry_said _ _ picked))
+      (subst (λ (l : List Entry). IsPermutation l (map entry_said hits))
+      (entries_back p.class p.pattern p.entries list.1) (IsPermutation-map entry_said _ _ picked))
 
-  filled : (qs : List Profile) → AllByRecursion (λ (p : Profile). profile_of ps p.class p.pattern ≡ Some p) qs → AllByRecursion (λ (p : Profile). IsAccessList p.entries) qs
+  filled : (qs : List Profile) → AllByRecursion (λ (p : Profile). profile_of ps p.class p.pattern ≡ Some p) qs
+      → AllByRecursion (λ (p : Profile). IsAccessList p.entries) qs
       → map (λ (p : Profile). record p { entries = entries_in trees p.class p.pattern }) (map bare qs) ≡ qs
   filled [] found up = refl
   filled (q ∷ qs) found up = ap₂ (λ (p : Profile) (l : List Profile). p ∷ l) (λ i. record q { entries = listed_here q found.0 up.0 i }) (filled qs found.1 up.1)
@@ -255,7 +424,8 @@ module _ (trees : Trees) (s : State) (ordered : IsOrdered s) (holds : Holds tree
   pub profiles_are : profiles_in trees ≡ ps
   profiles_are =
       let tells : map profile_said (map profile_row ps) ≡ map bare ps = map-map profile_said profile_row ps ∙ map_same _ _ profile_back ps in
-      let sorted = decoded_as profile_cmp profile_total profile_said (map profile_row ps) (map bare ps) (trees profiles_at.tree) (bare_rise ps ordered.profiles) tells holds.profiles in
+      let sorted = decoded_as profile_cmp profile_total profile_said (map profile_row ps) (map bare ps)
+      (trees profiles_at.tree) (bare_rise ps ordered.profiles) tells holds.profiles in
       ap (map (λ (p : Profile). record p { entries = entries_in trees p.class p.pattern })) sorted ∙ filled ps (each_found ps ordered.profiles) ordered.entries
 
 -- ---- the state that the rows tell
@@ -322,7 +492,8 @@ module _ (t : Trees) (s : State) (h : AreTablesOf t s) where
   actives_are : actives_said (sort_by by_class (map (λ (r : Row). class_row_said (drop 1 r)) (t classes_at.tree))) ≡ s.policy.active
   actives_are =
       let both : List (Class × Bool) = (Console, s.policy.active.console) ∷ (Opercmds, s.policy.active.opercmds) ∷ [] in
-      ap actives_said (decoded_is by_class by_class_total class_row class_row_said class_row_back both (t classes_at.tree) ((refl, tt), (tt, tt)) h.holds.classes)
+      ap actives_said (decoded_is by_class by_class_total class_row class_row_said class_row_back both
+      (t classes_at.tree) ((refl, tt), (tt, tt)) h.holds.classes)
 
   units_are : sort_by unit_cmp (map (λ (r : Row). unit_said (drop 1 r)) (t units_at.tree)) ≡ s.board.units
   units_are = decoded_is unit_cmp unit_total unit_row unit_said unit_back s.board.units (t units_at.tree) o.units h.holds.units
@@ -355,10 +526,25 @@ module _ (t : Trees) (s : State) (h : AreTablesOf t s) where
   batches_are = ap (map batch_said) h.holds.batches ∙ batches_back s.batches o.read_back
 
   policy_is : (told t).policy ≡ s.policy
-  policy_is = λ i. record { users = users_are i; groups = groups_are i; connects = connects_are i; profiles = profiles_are t s o h.holds i; active = actives_are i }
+  policy_is = λ i. record {
+    users = users_are i;
+    groups = groups_are i;
+    connects = connects_are i;
+    profiles = profiles_are t s o h.holds i;
+    active = actives_are i;
+  }
 
   board_is : (told t).board ≡ s.board
-  board_is = λ i. record { units = units_are i; devices = devices_are i; consoles = consoles_are i; replies = replies_are i; answered = answered_are i; log = log_is i; messages = messages_are i; halted = halted_is i }
+  board_is = λ i. record {
+    units = units_are i;
+    devices = devices_are i;
+    consoles = consoles_are i;
+    replies = replies_are i;
+    answered = answered_are i;
+    log = log_is i;
+    messages = messages_are i;
+    halted = halted_is i;
+  }
 
   pub told_is : told t ≡ s
   told_is = λ i. record { policy = policy_is i; board = board_is i; account = account_is i; batches = batches_are i }

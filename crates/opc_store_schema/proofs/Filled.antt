@@ -56,17 +56,29 @@ pub cast_class : (x : Class × Bool) (v : Value) → drop 1 (cast_row classes_at
 cast_class x v = ap₂ (λ a (r : Row). a ∷ r) refl (ap₂ (λ a (r : Row). a ∷ r) (cast_int _) refl)
 
 module _ (old new : SqlState) (count : ℕ) (c : Contents) (was : IsMade c old.now) where
-  pub adds_version : (version : ℕ) → Executes insert_version (version_row version) old new (Ok count) → IsMade (record c { meta = version_row version ∷ c.meta }) new.now
+  pub adds_version : (version : ℕ) → Executes insert_version (version_row version) old new (Ok count)
+      → IsMade (record c { meta = version_row version ∷ c.meta }) new.now
   adds_version version h =
-      let it = adds the_schema insert_version 0 meta_at (version_row version) version_plain refl old new was.schema count (lit Null ∷ one) 2 version_is (record { uncounted = refl; stampless = refl }) (version_row version) refl (ap₂ (λ v (r : Row). v ∷ r) cast_null (ap₂ (λ a (r : Row). a ∷ r) (cast_int _) refl)) h in
+      let it = adds the_schema insert_version 0 meta_at (version_row version) version_plain refl old new was.schema
+      count (lit Null ∷ one) 2 version_is (record {
+        uncounted = refl;
+        stampless = refl;
+      }) (version_row version) refl (ap₂ (λ v (r : Row). v ∷ r) cast_null (ap₂ (λ a (r : Row). a ∷ r) (cast_int _) refl)) h in
       with_meta c old.now new.now was it.spares _ (it.rows c.meta was.holds.meta)
 
   pub adds_class : (x : Class × Bool) → Executes insert_class (class_row x) old new (Ok count) → IsMade (record c { classes = class_row x ∷ c.classes }) new.now
   adds_class x h =
-      let it = adds the_schema insert_class 1 classes_at (class_row x) class_plain refl old new was.schema count (lit Null ∷ two) 3 class_is (record { uncounted = refl; stampless = refl }) (class_row x) refl (ap₂ (λ v (r : Row). v ∷ r) cast_null (cast_class x Null)) h in
+      let it = adds the_schema insert_class 1 classes_at (class_row x) class_plain refl old new was.schema count (lit Null ∷ two) 3 class_is (record {
+        uncounted = refl;
+        stampless = refl;
+      }) (class_row x) refl (ap₂ (λ v (r : Row). v ∷ r) cast_null (cast_class x Null)) h in
       with_classes c old.now new.now was it.spares _ (it.rows c.classes was.holds.classes)
 
-  pub adds_halted : (halted : Bool) → Executes insert_halted (halted_row halted) old new (Ok count) → IsMade (record c { board = halted_row halted ∷ c.board }) new.now
+  pub adds_halted : (halted : Bool) → Executes insert_halted (halted_row halted) old new (Ok count)
+      → IsMade (record c { board = halted_row halted ∷ c.board }) new.now
   adds_halted halted h =
-      let it = adds the_schema insert_halted 9 board_at (halted_row halted) halted_plain refl old new was.schema count (lit Null ∷ one) 2 halted_is (record { uncounted = refl; stampless = refl }) (halted_row halted) refl (ap₂ (λ v (r : Row). v ∷ r) cast_null (ap₂ (λ a (r : Row). a ∷ r) (cast_int _) refl)) h in
+      let it = adds the_schema insert_halted 9 board_at (halted_row halted) halted_plain refl old new was.schema count (lit Null ∷ one) 2 halted_is (record {
+        uncounted = refl;
+        stampless = refl;
+      }) (halted_row halted) refl (ap₂ (λ v (r : Row). v ∷ r) cast_null (ap₂ (λ a (r : Row). a ∷ r) (cast_int _) refl)) h in
       with_board c old.now new.now was it.spares _ (it.rows c.board was.holds.board)

@@ -20,7 +20,8 @@ module _ {S : Type 0} (g : Ghosts S) where
   looks_for x r a b h = record { survives = h.survives; opened = λ clean. on_ok r (h.opened clean); was_open = h.was_open; same = h.same }
 
   -- two steps of a transaction, of which the second failed
-  pub stays_off : {X Y Z E F G : Type 0} (x : X) (e : F) (r : Result Z G) → IsErr r → (a b c : Held S) → (let q : Result X E = Ok x in Stays g a b q) → (let q : Result Y F = Err e in Stays g b c q) → Stays g a c r
+  pub stays_off : {X Y Z E F G : Type 0} (x : X) (e : F) (r : Result Z G) → IsErr r → (a b c : Held S)
+      → (let q : Result X E = Ok x in Stays g a b q) → (let q : Result Y F = Err e in Stays g b c q) → Stays g a c r
   stays_off x e r is_err a b c p q = record {
     survives = survives_then (state g a) (state g b) (state g c) _ _ (λ _. ⊥) (λ _ db none. none) (λ _ db none. none) p.survives q.survives;
     kept = λ clean.

@@ -28,5 +28,7 @@ is_keyed s h = record {
   };
   users = ascends user_cmp s.policy.users h.users;
   profiles = ascends profile_cmp s.policy.profiles h.profiles;
-  entries = all_weaker (λ (p : Profile). IsAccessList p.entries) (λ (p : Profile). Ascends (λ (e f : Entry). is_lt (entry_cmp e f)) p.entries) (λ p list. ascends entry_cmp p.entries list.0) s.policy.profiles h.entries;
+  entries = all_weaker (λ (p : Profile). IsAccessList p.entries)
+      (λ (p : Profile). Ascends (λ (e f : Entry). is_lt (entry_cmp e f)) p.entries)
+      (λ p list. ascends entry_cmp p.entries list.0) s.policy.profiles h.entries;
 }

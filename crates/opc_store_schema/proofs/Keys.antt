@@ -73,5 +73,8 @@ same_connect c d h = go (name_cmp c.user d.user) refl h
   where
     go : (o : Ordering) → name_cmp c.user d.user ≡ o → ordering_then o (name_cmp c.group d.group) ≡ Equal → c ≡ d
     go Less e h = absurd cc
-    go Equal e h = ap₂ (λ (user group : List ℕ). let r : Connect = record { user = user; group = group } in r) (same_name c.user d.user e) (same_name c.group d.group h)
+    go Equal e h = ap₂ (λ (user group : List ℕ). let r : Connect = record {
+      user = user;
+      group = group;
+    } in r) (same_name c.user d.user e) (same_name c.group d.group h)
     go Greater e h = absurd cc

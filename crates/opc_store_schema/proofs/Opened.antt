@@ -12,10 +12,17 @@ use Rattle.opc_store_schema.specs.Ours.{has_our_name}
 use Rattle.sqlite_schema.specs.Names.{same_name}
 
 pub found_again : (db : Database) (s : State) → IsDatabase db → AreTablesOf db.trees s → Represents db s
-found_again db s sound alone = record { ordered = alone.ordered; rows = record { schema = lists_once (db.trees catalog_tree) db.schema the_schema sound.lists alone.lists; sound = sound; holds = alone.holds } }
+found_again db s sound alone = record {
+  ordered = alone.ordered;
+  rows = record { schema = lists_once (db.trees catalog_tree) db.schema the_schema sound.lists alone.lists; sound = sound; holds = alone.holds };
+}
 
 pub alone_from : (db : Database) (s : State) → Represents db s → AreTablesOf db.trees s
-alone_from db s was = record { ordered = was.ordered; lists = subst (λ (x : Schema). Lists (db.trees catalog_tree) x) was.rows.schema was.rows.sound.lists; holds = was.rows.holds }
+alone_from db s was = record {
+  ordered = was.ordered;
+  lists = subst (λ (x : Schema). Lists (db.trees catalog_tree) x) was.rows.schema was.rows.sound.lists;
+  holds = was.rows.holds;
+}
 
 ours : has_our_name the_schema ≡ true
 unfolding same_name

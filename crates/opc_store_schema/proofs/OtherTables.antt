@@ -10,12 +10,62 @@ use Rattle.opc_store_sql.proofs.OtherTables.{is_alone, one_changes}
 use Rattle.opc_store_sql.proofs.Written.{Spares}
 use Rattle.opc_store_schema.specs.Contents.{Contents, Holds, as_list}
 use Rattle.opc_store_schema.specs.Made.{IsMade}
-use Rattle.opc_store_schema.specs.Placed.{meta_at, classes_at, consoles_at, units_at, devices_at, replies_at, answered_at, log_at, messages_at, board_at, account_at, batches_at, grp_at, usr_at, connects_at, profiles_at, entries_at}
+use Rattle.opc_store_schema.specs.Placed.{
+  meta_at,
+  classes_at,
+  consoles_at,
+  units_at,
+  devices_at,
+  replies_at,
+  answered_at,
+  log_at,
+  messages_at,
+  board_at,
+  account_at,
+  batches_at,
+  grp_at,
+  usr_at,
+  connects_at,
+  profiles_at,
+  entries_at,
+}
 use Rattle.opc_store_schema.specs.Tables.{the_schema}
 
 listed : (trees : Trees) (c : Contents) → Holds trees c → AreFilled the_schema.tables (as_list c) trees
-listed trees c h =
-    (h.meta, (h.classes, (h.consoles, (h.units, (h.devices, (h.replies, (h.answered, (h.log, (h.messages, (h.board, (h.account, (h.batches, (h.grp, (h.usr, (h.connects, (h.profiles, (h.entries, tt)))))))))))))))))
+listed trees c h = (
+  h.meta,
+  (
+    h.classes,
+    (
+      h.consoles,
+      (
+        h.units,
+        (
+          h.devices,
+          (
+            h.replies,
+            (
+              h.answered,
+              (
+                h.log,
+                (
+                  h.messages,
+                  (
+                    h.board,
+                    (
+                      h.account,
+                      (h.batches, (h.grp, (h.usr, (h.connects, (h.profiles, (h.entries, tt)))))),
+                    ),
+                  ),
+                ),
+              ),
+            ),
+          ),
+        ),
+      ),
+    ),
+  ),
+)
 
 pub named : (trees : Trees) (c : Contents) → AreFilled the_schema.tables (as_list c) trees → Holds trees c
 named trees c h = record {
@@ -43,11 +93,17 @@ module _ (c : Contents) (old new : Database) (was : IsMade c old) where
   abbrev Changes : Table → (List Row → Contents) → Type 0
   Changes table with = Spares the_schema table old.trees new → (rows : List Row) → IsFilled table rows new.trees → IsMade (with rows) new
 
-  changed : (at : ℕ) (table : Table) (with : List Row → Contents) → slice_get the_schema.tables at ≡ Some table → is_alone table.tree at the_schema.tables ≡ true
+  changed : (at : ℕ) (table : Table) (with : List Row → Contents) → slice_get the_schema.tables at ≡ Some table
+      → is_alone table.tree at the_schema.tables ≡ true
       → ((rows : List Row) → set (as_list c) at rows ≡ as_list (with rows)) → Changes table with
   changed at table with found alone is spares rows has =
-      let all = one_changes table.tree old.trees new.trees at table the_schema.tables (as_list c) rows found alone spares.tables (listed old.trees c was.holds) has in
-      record { schema = spares.schema_is; sound = spares.sound; holds = named new.trees (with rows) (subst (λ (l : List (List Row)). AreFilled the_schema.tables l new.trees) (is rows) all) }
+      let all = one_changes table.tree old.trees new.trees at table the_schema.tables (as_list c) rows found alone
+      spares.tables (listed old.trees c was.holds) has in
+      record {
+        schema = spares.schema_is;
+        sound = spares.sound;
+        holds = named new.trees (with rows) (subst (λ (l : List (List Row)). AreFilled the_schema.tables l new.trees) (is rows) all);
+      }
 
   pub with_meta : Changes meta_at (λ rows. record c { meta = rows })
   with_meta = changed 0 meta_at (λ rows. record c { meta = rows }) refl refl (λ rows. refl)
@@ -102,4 +158,8 @@ module _ (c : Contents) (old new : Database) (was : IsMade c old) where
 
 -- where nothing changes, so do no others
 pub spares_all : (c : Contents) (db : Database) (table : Table) → IsMade c db → Spares the_schema table db.trees db
-spares_all c db table was = record { schema_is = was.schema; sound = was.sound; tables = all_of (λ (t : Table). t.tree ≢ table.tree → db.trees t.tree ≡ db.trees t.tree) (λ t other. refl) the_schema.tables }
+spares_all c db table was = record {
+  schema_is = was.schema;
+  sound = was.sound;
+  tables = all_of (λ (t : Table). t.tree ≢ table.tree → db.trees t.tree ≡ db.trees t.tree) (λ t other. refl) the_schema.tables;
+}

@@ -42,7 +42,8 @@ abbrev pub of_profile : List Term
 of_profile = op2 (Compare Eq Binary) (col 1 1) (col 0 0) ∷ op2 (Compare Eq Binary) (col 1 2) (col 0 1) ∷ []
 
 abbrev pub of_entry : List Term
-of_entry = op2 (Compare Eq Binary) (col 1 1) (col 0 0) ∷ op2 (Compare Eq Binary) (col 1 2) (col 0 1) ∷ op2 (Compare Eq Binary) (col 1 3) (col 0 2) ∷ op2 (Compare Eq Binary) (col 1 4) (col 0 3) ∷ []
+of_entry = op2 (Compare Eq Binary) (col 1 1) (col 0 0) ∷ op2 (Compare Eq Binary) (col 1 2) (col 0 1)
+    ∷ op2 (Compare Eq Binary) (col 1 3) (col 0 2) ∷ op2 (Compare Eq Binary) (col 1 4) (col 0 3) ∷ []
 
 abbrev pub insert_profile : List ℕ
 insert_profile = codes "INSERT INTO profiles VALUES (?1, ?2, ?3, ?4, ?5, ?6, ?7)"
@@ -56,9 +57,11 @@ unfolding understood everything
 insert_profile_plain = (refl, refl)
 
 abbrev pub update_profile : List ℕ
-update_profile = codes "UPDATE profiles SET class = ?1, pattern = ?2, owner = ?3, uacc = ?4, warning = ?5, skey = ?6, head = ?7 WHERE class = ?1 AND pattern = ?2"
+update_profile =
+    codes "UPDATE profiles SET class = ?1, pattern = ?2, owner = ?3, uacc = ?4, warning = ?5, skey = ?6, head = ?7 WHERE class = ?1 AND pattern = ?2"
 
-pub update_profile_is : command_of (understood the_schema update_profile) ≡ Update 15 (alone (selecting profiles_at.tree of_profile (col 1 0 ∷ col 1 0 ∷ profile_terms) []))
+pub update_profile_is : command_of (understood the_schema update_profile) ≡ Update 15
+    (alone (selecting profiles_at.tree of_profile (col 1 0 ∷ col 1 0 ∷ profile_terms) []))
 unfolding understood everything
 update_profile_is = refl
 
@@ -89,9 +92,11 @@ unfolding understood everything
 insert_entry_plain = (refl, refl)
 
 abbrev pub update_entry : List ℕ
-update_entry = codes "UPDATE entries SET class = ?1, pattern = ?2, id = ?3, console = ?4, level = ?5 WHERE class = ?1 AND pattern = ?2 AND id = ?3 AND console = ?4"
+update_entry =
+    codes "UPDATE entries SET class = ?1, pattern = ?2, id = ?3, console = ?4, level = ?5 WHERE class = ?1 AND pattern = ?2 AND id = ?3 AND console = ?4"
 
-pub update_entry_is : command_of (understood the_schema update_entry) ≡ Update 16 (alone (selecting entries_at.tree of_entry (col 1 0 ∷ col 1 0 ∷ entry_terms) []))
+pub update_entry_is : command_of (understood the_schema update_entry) ≡ Update 16
+    (alone (selecting entries_at.tree of_entry (col 1 0 ∷ col 1 0 ∷ entry_terms) []))
 unfolding understood everything
 update_entry_is = refl
 
@@ -124,7 +129,8 @@ delete_entries_plain = (refl, refl)
 -- ---- the tests, of a row's values
 
 abbrev pub has_profile : Class → List ℕ → Row → Bool
-has_profile class pattern v = is_true (binary (Compare Eq Binary) (column v 0) (Text (class_text class))) && (is_true (binary (Compare Eq Binary) (column v 1) (Text pattern)) && true)
+has_profile class pattern v = is_true (binary (Compare Eq Binary) (column v 0) (Text (class_text class)))
+    && (is_true (binary (Compare Eq Binary) (column v 1) (Text pattern)) && true)
 
 abbrev pub has_entry : Class → List ℕ → List ℕ → List ℕ → Row → Bool
 has_entry class pattern id console v =
@@ -142,24 +148,30 @@ profile_key class pattern = Text (class_text class) ∷ Text pattern ∷ []
 abbrev pub entry_key : Class → List ℕ → List ℕ → List ℕ → Row
 entry_key class pattern id console = Text (class_text class) ∷ Text pattern ∷ Text id ∷ Text console ∷ []
 
-pub profile_below : (p : Profile) (project : List Term) (db : Trees) (r : Row) → passes profiles_at.tree of_profile project [] db (profile_row p) r ≡ has_profile p.class p.pattern (drop 1 r)
+pub profile_below : (p : Profile) (project : List Term) (db : Trees) (r : Row)
+    → passes profiles_at.tree of_profile project [] db (profile_row p) r ≡ has_profile p.class p.pattern (drop 1 r)
 profile_below p project db [] = refl
 profile_below p project db (v0 ∷ []) = refl
 profile_below p project db (v0 ∷ v1 ∷ r) = refl
 
-pub key_below : (tree : ℕ) (class : Class) (pattern : List ℕ) (project : List Term) (db : Trees) (r : Row) → passes tree of_profile project [] db (profile_key class pattern) r ≡ has_profile class pattern (drop 1 r)
+pub key_below : (tree : ℕ) (class : Class) (pattern : List ℕ) (project : List Term) (db : Trees) (r : Row)
+    → passes tree of_profile project [] db (profile_key class pattern) r ≡ has_profile class pattern (drop 1 r)
 key_below tree class pattern project db [] = refl
 key_below tree class pattern project db (v0 ∷ []) = refl
 key_below tree class pattern project db (v0 ∷ v1 ∷ r) = refl
 
-pub entry_below : (class : Class) (pattern : List ℕ) (e : Entry) (project : List Term) (db : Trees) (r : Row) → passes entries_at.tree of_entry project [] db (entry_row class pattern e) r ≡ has_entry class pattern e.id (or_empty e.when) (drop 1 r)
+pub entry_below : (class : Class) (pattern : List ℕ) (e : Entry) (project : List Term) (db : Trees) (r : Row)
+    → passes entries_at.tree of_entry project [] db (entry_row class pattern e) r ≡ has_entry class pattern e.id
+    (or_empty e.when) (drop 1 r)
 entry_below class pattern e project db [] = refl
 entry_below class pattern e project db (v0 ∷ []) = refl
 entry_below class pattern e project db (v0 ∷ v1 ∷ []) = refl
 entry_below class pattern e project db (v0 ∷ v1 ∷ v2 ∷ []) = refl
 entry_below class pattern e project db (v0 ∷ v1 ∷ v2 ∷ v3 ∷ r) = refl
 
-pub entry_key_below : (class : Class) (pattern id console : List ℕ) (project : List Term) (db : Trees) (r : Row) → passes entries_at.tree of_entry project [] db (entry_key class pattern id console) r ≡ has_entry class pattern id console (drop 1 r)
+pub entry_key_below : (class : Class) (pattern id console : List ℕ) (project : List Term) (db : Trees) (r : Row)
+    → passes entries_at.tree of_entry project [] db (entry_key class pattern id console) r ≡ has_entry class pattern id
+    console (drop 1 r)
 entry_key_below class pattern id console project db [] = refl
 entry_key_below class pattern id console project db (v0 ∷ []) = refl
 entry_key_below class pattern id console project db (v0 ∷ v1 ∷ []) = refl
@@ -173,16 +185,22 @@ class_is Opercmds Console = refl
 class_is Opercmds Opercmds = refl
 
 pub picks_profile : (class : Class) (pattern : List ℕ) (p : Profile) → has_profile class pattern (profile_row p) ≡ is_of class pattern p
-picks_profile class pattern p = ap₂ (λ a b. a && b) (equal_texts (class_text p.class) (class_text class) ∙ class_is p.class class) (and_true _ ∙ same_texts p.pattern pattern)
+picks_profile class pattern p = ap₂ (λ a b. a && b)
+    (equal_texts (class_text p.class) (class_text class) ∙ class_is p.class class)
+    (and_true _ ∙ same_texts p.pattern pattern)
 
-pub picks_entries : (class : Class) (pattern : List ℕ) (p : Profile) (e : Entry) → has_profile class pattern (entry_row p.class p.pattern e) ≡ is_of class pattern p
-picks_entries class pattern p e = ap₂ (λ a b. a && b) (equal_texts (class_text p.class) (class_text class) ∙ class_is p.class class) (and_true _ ∙ same_texts p.pattern pattern)
+pub picks_entries : (class : Class) (pattern : List ℕ) (p : Profile) (e : Entry)
+    → has_profile class pattern (entry_row p.class p.pattern e) ≡ is_of class pattern p
+picks_entries class pattern p e = ap₂ (λ a b. a && b)
+    (equal_texts (class_text p.class) (class_text class) ∙ class_is p.class class)
+    (and_true _ ∙ same_texts p.pattern pattern)
 
 and_both : (a b c : Bool) → (a && (b && c)) ≡ ((a && b) && c)
 and_both true b c = refl
 and_both false b c = refl
 
-pub picks_entry : (class : Class) (pattern id console : List ℕ) (p : Profile) (e : Entry) → has_entry class pattern id console (entry_row p.class p.pattern e) ≡ (is_of class pattern p && is_at id console e)
+pub picks_entry : (class : Class) (pattern id console : List ℕ) (p : Profile) (e : Entry)
+    → has_entry class pattern id console (entry_row p.class p.pattern e) ≡ (is_of class pattern p && is_at id console e)
 picks_entry class pattern id console p e =
     let mine = ap₂ (λ a b. a && b) (same_texts e.id id) (and_true _ ∙ same_texts (or_empty e.when) console) in
     ap₂ (λ a b. a && b) (equal_texts (class_text p.class) (class_text class) ∙ class_is p.class class) (ap₂ (λ a b. a && b) (same_texts p.pattern pattern) mine)
@@ -192,7 +210,12 @@ picks_entry class pattern id console p e =
 
 pub profile_cast : (p : Profile) (v : Value) → drop 1 (cast_row profiles_at (v ∷ profile_row p)) ≡ profile_row p
 profile_cast p v =
-    ap₂ (λ a (r : Row). a ∷ r) refl (ap₂ (λ a (r : Row). a ∷ r) refl (ap₂ (λ a (r : Row). a ∷ r) refl (ap₂ (λ a (r : Row). a ∷ r) (cast_int _) (ap₂ (λ a (r : Row). a ∷ r) (cast_int _) refl))))
+    ap₂ (λ a (r : Row). a ∷ r) refl (ap₂ (λ a (r : Row). a ∷ r) refl
+    (ap₂ (λ a (r : Row). a ∷ r) refl
+    (ap₂ (λ a (r : Row). a ∷ r) (cast_int _) (ap₂ (λ a (r : Row). a ∷ r) (cast_int _) refl))))
 
-pub entry_cast : (class : Class) (pattern : List ℕ) (e : Entry) (v : Value) → drop 1 (cast_row entries_at (v ∷ entry_row class pattern e)) ≡ entry_row class pattern e
-entry_cast class pattern e v = ap₂ (λ a (r : Row). a ∷ r) refl (ap₂ (λ a (r : Row). a ∷ r) refl (ap₂ (λ a (r : Row). a ∷ r) refl (ap₂ (λ a (r : Row). a ∷ r) refl (ap₂ (λ a (r : Row). a ∷ r) (cast_int _) refl))))
+pub entry_cast : (class : Class) (pattern : List ℕ) (e : Entry) (v : Value)
+    → drop 1 (cast_row entries_at (v ∷ entry_row class pattern e)) ≡ entry_row class pattern e
+entry_cast class pattern e v = ap₂ (λ a (r : Row). a ∷ r) refl
+    (ap₂ (λ a (r : Row). a ∷ r) refl (ap₂ (λ a (r : Row). a ∷ r) refl
+    (ap₂ (λ a (r : Row). a ∷ r) refl (ap₂ (λ a (r : Row). a ∷ r) (cast_int _) refl))))

@@ -10,12 +10,57 @@ use Rattle.opc_store_schema.specs.Tables.{lasting_tables, last_tables, the_index
 
 pub lasting_defined : AreDefined no_schema lasting lasting_tables
 unfolding understood everything
-lasting_defined = ((refl, (refl, refl), refl, refl), ((refl, (refl, refl), refl, refl), ((refl, (refl, refl), refl, refl), ((refl, (refl, refl), refl, refl), ((refl, (refl, refl), refl, refl), ((refl, (refl, refl), refl, refl), ((refl, (refl, refl), refl, refl), ((refl, (refl, refl), refl, refl), ((refl, (refl, refl), refl, refl), ((refl, (refl, refl), refl, refl), ((refl, (refl, refl), refl, refl), ((refl, (refl, refl), refl, refl), ((refl, (refl, refl), refl, refl), tt)))))))))))))
+lasting_defined = (
+  (refl, (refl, refl), refl, refl),
+  (
+    (refl, (refl, refl), refl, refl),
+    (
+      (refl, (refl, refl), refl, refl),
+      (
+        (refl, (refl, refl), refl, refl),
+        (
+          (refl, (refl, refl), refl, refl),
+          (
+            (refl, (refl, refl), refl, refl),
+            (
+              (refl, (refl, refl), refl, refl),
+              (
+                (refl, (refl, refl), refl, refl),
+                (
+                  (refl, (refl, refl), refl, refl),
+                  (
+                    (refl, (refl, refl), refl, refl),
+                    (
+                      (refl, (refl, refl), refl, refl),
+                      (
+                        (refl, (refl, refl), refl, refl),
+                        ((refl, (refl, refl), refl, refl), tt),
+                      ),
+                    ),
+                  ),
+                ),
+              ),
+            ),
+          ),
+        ),
+      ),
+    ),
+  ),
+)
 
 pub last_defined : AreDefined lasting_schema last last_tables
 unfolding understood everything
-last_defined = ((refl, (refl, refl), refl, refl), ((refl, (refl, refl), refl, refl), ((refl, (refl, refl), refl, refl), ((refl, (refl, refl), refl, refl), tt))))
+last_defined = (
+  (refl, (refl, refl), refl, refl),
+  (
+    (refl, (refl, refl), refl, refl),
+    ((refl, (refl, refl), refl, refl), ((refl, (refl, refl), refl, refl), tt)),
+  ),
+)
 
 pub indexes_defined : AreIndexed tables_schema indexes the_indexes
 unfolding understood everything
-indexes_defined = ((refl, (refl, refl), consoles_at, refl, refl), ((refl, (refl, refl), consoles_at, refl, refl), ((refl, (refl, refl), devices_at, refl, refl), tt)))
+indexes_defined = (
+  (refl, (refl, refl), consoles_at, refl, refl),
+  ((refl, (refl, refl), consoles_at, refl, refl), ((refl, (refl, refl), devices_at, refl, refl), tt)),
+)

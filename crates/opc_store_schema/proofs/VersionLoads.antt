@@ -32,7 +32,9 @@ select_version = codes "SELECT version FROM meta ORDER BY version"
 abbrev version_columns : List Term
 version_columns = col 1 1 ∷ []
 
-version_is : (command_of (understood the_schema select_version) ≡ Select (alone (selecting meta_at.tree [] version_columns by_first)) (codes "version" ∷ [])) × (reads_listing the_schema select_version ≡ false)
+version_is : (command_of (understood the_schema select_version) ≡ Select
+    (alone (selecting meta_at.tree [] version_columns by_first)) (codes "version" ∷ []))
+    × (reads_listing the_schema select_version ≡ false)
 unfolding understood everything
 version_is = (refl, refl)
 
@@ -57,12 +59,18 @@ version_below db (v ∷ r) = refl
 abbrev number_cmp : ℕ → ℕ → Ordering
 number_cmp m n = value_cmp (Int (pos m)) (Int (pos n))
 
-version_less : (x y : ℕ) → number_cmp x y ≡ Less → output_cmp (selecting meta_at.tree [] version_columns by_first) (version_out (version_row x)) (version_out (version_row y)) ≡ Less
+version_less : (x y : ℕ) → number_cmp x y ≡ Less
+    → output_cmp (selecting meta_at.tree [] version_columns by_first) (version_out (version_row x))
+    (version_out (version_row y)) ≡ Less
 version_less x y h = rw h
 
 module _ (old new : SqlState) (s : State) (was : Tabulates old.now s) (rows : List Row) where
   pub shows_version : Shown select_version [] old new rows → rows ≡ version_row 3 ∷ []
   shows_version h =
-      let read = reads_as select_version [] old new the_schema was.schema (Select (alone (selecting meta_at.tree [] version_columns by_first)) (codes "version" ∷ [])) version_is.0 version_plain version_is.1 rows h in
+      let read = reads_as select_version [] old new the_schema was.schema
+      (Select (alone (selecting meta_at.tree [] version_columns by_first)) (codes "version" ∷ [])) version_is.0
+      version_plain version_is.1 rows h in
       let lists = answered 0 [] version_columns by_first old.now.trees [] old.now.schema rows read in
-      listed version_row version_row number_cmp meta_at.tree [] version_columns by_first [] (λ _. true) version_out (λ _. true) old.now.trees (λ _. refl) (version_below old.now.trees) (λ _. refl) (λ _. refl) version_less (3 ∷ []) rows (tt, tt) was.holds.meta lists
+      listed version_row version_row number_cmp meta_at.tree [] version_columns by_first [] (λ _. true) version_out
+      (λ _. true) old.now.trees (λ _. refl) (version_below old.now.trees) (λ _. refl) (λ _. refl) version_less
+      (3 ∷ []) rows (tt, tt) was.holds.meta lists

@@ -16,8 +16,10 @@ module _ {S : Type 0} (g : Ghosts S) where
 
   -- on a clean disk after a success the tables represent what they did, with the change
   abbrev pub Makes : {V E : Type 0} → Held S → Held S → Result V E → (State → State) → Type 0
-  Makes old new result change = HasCleanDisk (state g new) → OnOk result (Becomes change (state g old).now (state g new).now)
+  Makes old new result change = HasCleanDisk (state g new)
+      → OnOk result (Becomes change (state g old).now (state g new).now)
 
   -- the query gives the rows of these members, in their order
   abbrev pub Determines : {M : Type 0} → (M → Row) → List ℕ → Row → Held S → Held S → List M → Type 0
-  Determines row sql params old new members = (rows : List Row) → Shown sql params (state g old) (state g new) rows → rows ≡ map row members
+  Determines row sql params old new members =
+      (rows : List Row) → Shown sql params (state g old) (state g new) rows → rows ≡ map row members

@@ -1,5 +1,22 @@
 -- What the rows of tables say: the values of their columns, read back, and the profiles with their access lists.
-use Rattle.std.specs.Prelude.{ℕ, pos, ◌==◌, Bool, ◌&&◌, if◌then◌else◌, List, [], ◌∷◌, map, filter, drop, Option, Some, None, codes}
+use Rattle.std.specs.Prelude.{
+  ℕ,
+  pos,
+  ◌==◌,
+  Bool,
+  ◌&&◌,
+  if◌then◌else◌,
+  List,
+  [],
+  ◌∷◌,
+  map,
+  filter,
+  drop,
+  Option,
+  Some,
+  None,
+  codes,
+}
 use Rattle.std.specs.Str.{bytes_eq}
 use Rattle.sqlite_value.specs.declared.value.Value.{Value}
 use Rattle.sqlite_value.specs.declared.value.Value.TheVariants.{Int, Text, Blob}
@@ -47,7 +64,8 @@ abbrev pub class_said : Value → Class
 class_said v = if bytes_eq (text_said v) (codes "CONSOLE") then Console else Opercmds
 
 abbrev pub level_of : ℕ → Level
-level_of n = if n == 0 then level.None else if n == 1 then level.Read else if n == 2 then level.Update else if n == 3 then level.Control else level.Alter
+level_of n = if n == 0 then level.None else if n == 1 then level.Read else if n == 2 then level.Update else
+    if n == 3 then level.Control else level.Alter
 
 -- the values of each row
 abbrev pub values_of : List Row → List Row
@@ -55,10 +73,21 @@ values_of rows = map (λ (r : Row). drop 1 r) rows
 
 -- a profile, but for its access list
 abbrev pub profile_said : Row → Profile
-profile_said v = record { class = class_said (column v 0); pattern = text_said (column v 1); owner = text_said (column v 2); uacc = level_of (number_said (column v 3)); warning = flag_said (column v 4); entries = [] }
+profile_said v = record {
+  class = class_said (column v 0);
+  pattern = text_said (column v 1);
+  owner = text_said (column v 2);
+  uacc = level_of (number_said (column v 3));
+  warning = flag_said (column v 4);
+  entries = [];
+}
 
 abbrev pub entry_said : Row → Entry
-entry_said v = record { id = text_said (column v 2); when = name_or_none (text_said (column v 3)); level = level_of (number_said (column v 4)) }
+entry_said v = record {
+  id = text_said (column v 2);
+  when = name_or_none (text_said (column v 3));
+  level = level_of (number_said (column v 4));
+}
 
 -- whether an entry is one of the profile of a class and a pattern
 abbrev pub is_entry_of : Class → List ℕ → Row → Bool
@@ -66,9 +95,11 @@ is_entry_of class pattern v = same_class (class_said (column v 0)) class && byte
 
 -- the access list of the profile of a class and a pattern, in its order
 abbrev pub entries_in : Trees → Class → List ℕ → List Entry
-entries_in trees class pattern = sort_by entry_cmp (map entry_said (filter (is_entry_of class pattern) (values_of (trees entries_at.tree))))
+entries_in trees class pattern = sort_by entry_cmp
+    (map entry_said (filter (is_entry_of class pattern) (values_of (trees entries_at.tree))))
 
 -- the profiles, in their order, with their access lists
 abbrev pub profiles_in : Trees → List Profile
 profiles_in trees =
-    map (λ (p : Profile). record p { entries = entries_in trees p.class p.pattern }) (sort_by profile_cmp (map (λ (r : Row). profile_said (drop 1 r)) (trees profiles_at.tree)))
+    map (λ (p : Profile). record p { entries = entries_in trees p.class p.pattern })
+    (sort_by profile_cmp (map (λ (r : Row). profile_said (drop 1 r)) (trees profiles_at.tree)))

@@ -3,9 +3,28 @@ use Rattle.std.specs.Prelude.{List, [], ◌∷◌}
 use Rattle.sqlite_value.specs.Order.{Row}
 use Rattle.sqlite_trees.specs.Tree.{Trees}
 use Rattle.opc_store_sql.specs.Rows.{IsFilled}
-use Rattle.opc_store_schema.specs.Placed.{meta_at, classes_at, consoles_at, units_at, devices_at, replies_at, answered_at, log_at, messages_at, board_at, account_at, batches_at, grp_at, usr_at, connects_at, profiles_at, entries_at}
+use Rattle.opc_store_schema.specs.Placed.{
+  meta_at,
+  classes_at,
+  consoles_at,
+  units_at,
+  devices_at,
+  replies_at,
+  answered_at,
+  log_at,
+  messages_at,
+  board_at,
+  account_at,
+  batches_at,
+  grp_at,
+  usr_at,
+  connects_at,
+  profiles_at,
+  entries_at,
+}
 
--- The rows that each table has. Where the key is a number, the number stands first, as the rowid, and its own column is NULL.
+-- The rows that each table has. Where the key is a number, the number stands first, as the rowid, and its own column is
+-- NULL.
 pub record Contents : Type 0 where
   pub meta : List Row
   pub classes : List Row

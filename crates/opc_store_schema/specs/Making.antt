@@ -51,7 +51,8 @@ insert_halted = codes "INSERT INTO board VALUES (?1)"
 
 -- the rows that are always there, each with its statement: the version, the classes and the day
 abbrev pub first_rows : List (List ℕ × Row)
-first_rows = (insert_version, version_row 3) ∷ (insert_class, class_row (Opercmds, false)) ∷ (insert_class, class_row (Console, false)) ∷ (insert_halted, halted_row false) ∷ []
+first_rows = (insert_version, version_row 3) ∷ (insert_class, class_row (Opercmds, false))
+    ∷ (insert_class, class_row (Console, false)) ∷ (insert_halted, halted_row false) ∷ []
 
 module _ {S : Type 0} (g : Ghosts S) where
   -- the statements ran, one after another, each with its parameters
@@ -62,4 +63,5 @@ module _ {S : Type 0} (g : Ghosts S) where
   -- All of them ran in one transaction, whatever was there before, and these are the trees that they left.
   abbrev pub AreMadeOver : Held S → Trees → Type 0
   AreMadeOver old trees =
-      (made : Held S) × (full : Held S) × RanAll g (lasting ++ last ++ indexes) (record old { in_transaction = true }) made × RanEach first_rows made full × (trees ≡ (state g full).now.trees)
+      (made : Held S) × (full : Held S) × RanAll g (lasting ++ last ++ indexes) (record old { in_transaction = true })
+      made × RanEach first_rows made full × (trees ≡ (state g full).now.trees)

@@ -19,9 +19,12 @@ our_names = map (λ (t : Table). t.name) the_tables ++ map (λ (i : ℕ × Index
 abbrev pub is_ours : List ℕ → Bool
 is_ours name = list_any (same_name name) our_names
 
--- A table or an index has such a name. Those that the database cannot read are kept among the views, with the name of the table.
+-- A table or an index has such a name. Those that the database cannot read are kept among the views, with the name of
+-- the table.
 abbrev pub has_our_name : Schema → Bool
-has_our_name schema = list_any (λ (t : Table). is_ours t.name) schema.tables || list_any (λ (i : Index). is_ours i.name) schema.indexes || list_any (λ (v : View). is_some v.foreign && is_ours v.name) schema.views
+has_our_name schema = list_any (λ (t : Table). is_ours t.name) schema.tables
+    || list_any (λ (i : Index). is_ours i.name) schema.indexes
+    || list_any (λ (v : View). is_some v.foreign && is_ours v.name) schema.views
 
 abbrev pub version_query : List ℕ
 version_query = codes "SELECT version FROM meta ORDER BY version"

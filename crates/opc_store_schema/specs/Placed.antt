@@ -1,7 +1,26 @@
 -- The tables at their trees, by their places in the schema.
 use Rattle.std.specs.Prelude.{get_or}
 use Rattle.sqlite.specs.Table.{Table}
-use Rattle.opc_store_schema.specs.Tables.{the_schema, meta_table, classes_table, consoles_table, units_table, devices_table, replies_table, answered_table, log_table, messages_table, board_table, account_table, batches_table, grp_table, usr_table, connects_table, profiles_table, entries_table}
+use Rattle.opc_store_schema.specs.Tables.{
+  the_schema,
+  meta_table,
+  classes_table,
+  consoles_table,
+  units_table,
+  devices_table,
+  replies_table,
+  answered_table,
+  log_table,
+  messages_table,
+  board_table,
+  account_table,
+  batches_table,
+  grp_table,
+  usr_table,
+  connects_table,
+  profiles_table,
+  entries_table,
+}
 
 abbrev pub meta_at : Table
 meta_at = get_or the_schema.tables 0 meta_table

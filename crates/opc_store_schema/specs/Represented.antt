@@ -1,5 +1,20 @@
 -- When the tables represent a state.
-use Rattle.std.specs.Prelude.{ℕ, pos, Bool, if◌then◌else◌, List, [], ◌∷◌, ◌++◌, map, flat_map, Option, Some, None, codes}
+use Rattle.std.specs.Prelude.{
+  ℕ,
+  pos,
+  Bool,
+  if◌then◌else◌,
+  List,
+  [],
+  ◌∷◌,
+  ◌++◌,
+  map,
+  flat_map,
+  Option,
+  Some,
+  None,
+  codes,
+}
 use Rattle.sqlite_value.specs.declared.value.Value.{Value}
 use Rattle.sqlite_value.specs.declared.value.Value.TheVariants.{Null, Int, Text, Blob}
 use Rattle.sqlite_value.specs.Order.{Row}
@@ -66,7 +81,8 @@ connect_row c = Text c.user ∷ Text c.group ∷ []
 
 -- a profile but for its access list, and for what is computed of its pattern
 abbrev pub definition_row : Profile → Row
-definition_row p = Text (class_text p.class) ∷ Text p.pattern ∷ Text p.owner ∷ Int (pos (level_rank p.uacc)) ∷ flag p.warning ∷ []
+definition_row p = Text (class_text p.class) ∷ Text p.pattern ∷ Text p.owner ∷ Int (pos (level_rank p.uacc))
+    ∷ flag p.warning ∷ []
 
 -- with the key and the head of its pattern
 abbrev pub profile_row : Profile → Row
@@ -79,7 +95,8 @@ or_empty (Some name) = name
 
 -- with the console at which it counts
 abbrev pub entry_row : Class → List ℕ → Entry → Row
-entry_row class pattern e = Text (class_text class) ∷ Text pattern ∷ Text e.id ∷ Text (or_empty e.when) ∷ Int (pos (level_rank e.level)) ∷ []
+entry_row class pattern e = Text (class_text class) ∷ Text pattern ∷ Text e.id ∷ Text (or_empty e.when)
+    ∷ Int (pos (level_rank e.level)) ∷ []
 
 -- the access list of a profile
 abbrev pub entry_rows : Profile → List Row
@@ -109,7 +126,8 @@ mode_letter Auto = codes "A"
 
 abbrev pub console_row : ConsoleRow → Row
 console_row c =
-    Text c.name ∷ Int (pos (auth_number c.auth)) ∷ Text (mode_letter c.mode) ∷ flag c.online ∷ text_or_null c.user ∷ flag c.monitor ∷ []
+    Text c.name ∷ Int (pos (auth_number c.auth)) ∷ Text (mode_letter c.mode) ∷ flag c.online ∷ text_or_null c.user
+    ∷ flag c.monitor ∷ []
 
 abbrev pub kind_letter : UnitKind → List ℕ
 kind_letter Job = codes "J"
@@ -123,7 +141,8 @@ kind_member Tsu = None
 
 abbrev pub unit_row : UnitRow → Row
 unit_row u =
-    Text u.name ∷ Text (kind_letter u.kind) ∷ text_or_null (kind_member u.kind) ∷ flag u.cancelable ∷ flag u.stopping ∷ text_or_null u.last_text ∷ []
+    Text u.name ∷ Text (kind_letter u.kind) ∷ text_or_null (kind_member u.kind) ∷ flag u.cancelable ∷ flag u.stopping
+    ∷ text_or_null u.last_text ∷ []
 
 abbrev pub device_row : DeviceRow → Row
 device_row d = Text d.number ∷ flag d.online ∷ text_or_null d.volume ∷ text_or_null d.unit ∷ []

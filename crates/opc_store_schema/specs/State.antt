@@ -20,7 +20,8 @@ CanBeNumbered xs = length xs < 2 ^ 63
 
 -- so in the account and in the histories
 abbrev pub AreNumbered : State → Type 0
-AreNumbered s = CanBeNumbered s.account × CanBeNumbered s.board.answered × CanBeNumbered s.board.log × CanBeNumbered s.board.messages
+AreNumbered s = CanBeNumbered s.account × CanBeNumbered s.board.answered × CanBeNumbered s.board.log
+    × CanBeNumbered s.board.messages
 
 -- the text of a batch says its rows
 abbrev pub IsReadBack : Batch → Type 0

@@ -73,7 +73,8 @@ pub fn text_at(row: &Row, at: usize) -> Result<&str, StoreFault>
 
 // The text of a column, or none where it is missing.
 fn text_or_none_at(row: &Row, at: usize) -> Result<Option<&str>, StoreFault>
-    ensures { (text : Option (List ℕ)) → column row.now at ≡ text_or_null text → IfOk result (λ v. option_copied v ≡ text) }
+    ensures { (text : Option (List ℕ)) → column row.now at ≡ text_or_null text
+        → IfOk result (λ v. option_copied v ≡ text) }
 {
     match row.get_ref(at) {
         Ok(ValueRef::Null) => Ok(None),

@@ -52,8 +52,11 @@ const INDEXES: [&str; 3] = [
 pub fn create_last_tables<S: Alter>(tx: &mut Transaction<'_, S>) -> Result<(), Error>
     ensures same_reference { tx.new.conn.ghost_name ≡ tx.old.conn.ghost_name }
     ensures stays { Stays S.Store tx.old.conn.now tx.new.conn.now result }
-    ensures ran { HasCleanDisk (state S.Store tx.new.conn.now) → OnOk result (RanAll S.Store (last ++ indexes) tx.old.conn.now tx.new.conn.now) }
-    ensures made { HasCleanDisk (state S.Store tx.new.conn.now) → OnOk result ((all : List (List TheRow)) → HasTables lasting_schema all (state S.Store tx.old.conn.now).now → HasTables the_schema (all ++ no_last_rows) (state S.Store tx.new.conn.now).now) }
+    ensures ran { HasCleanDisk (state S.Store tx.new.conn.now)
+        → OnOk result (RanAll S.Store (last ++ indexes) tx.old.conn.now tx.new.conn.now) }
+    ensures made { HasCleanDisk (state S.Store tx.new.conn.now)
+        → OnOk result ((all : List (List TheRow)) → HasTables lasting_schema all (state S.Store tx.old.conn.now).now
+        → HasTables the_schema (all ++ no_last_rows) (state S.Store tx.new.conn.now).now) }
 {
     run_all(tx, &LAST_TABLES)?;
     run_all(tx, &INDEXES)
@@ -63,8 +66,10 @@ pub fn create_last_tables<S: Alter>(tx: &mut Transaction<'_, S>) -> Result<(), E
 pub fn create_tables<S: Alter>(tx: &mut Transaction<'_, S>) -> Result<(), Error>
     ensures same_reference { tx.new.conn.ghost_name ≡ tx.old.conn.ghost_name }
     ensures stays { Stays S.Store tx.old.conn.now tx.new.conn.now result }
-    ensures ran { HasCleanDisk (state S.Store tx.new.conn.now) → OnOk result (RanAll S.Store (lasting ++ last ++ indexes) tx.old.conn.now tx.new.conn.now) }
-    ensures made { HasCleanDisk (state S.Store tx.new.conn.now) → OnOk result (tx.old.conn.now.schema ≡ no_schema → IsMade nothing (state S.Store tx.new.conn.now).now) }
+    ensures ran { HasCleanDisk (state S.Store tx.new.conn.now)
+        → OnOk result (RanAll S.Store (lasting ++ last ++ indexes) tx.old.conn.now tx.new.conn.now) }
+    ensures made { HasCleanDisk (state S.Store tx.new.conn.now)
+        → OnOk result (tx.old.conn.now.schema ≡ no_schema → IsMade nothing (state S.Store tx.new.conn.now).now) }
 {
     run_all(tx, &LASTING_TABLES)?;
     create_last_tables(tx)
@@ -74,8 +79,11 @@ pub fn create_tables<S: Alter>(tx: &mut Transaction<'_, S>) -> Result<(), Error>
 fn fill<S: Alter>(tx: &mut Transaction<'_, S>) -> Result<(), Error>
     ensures same_reference { tx.new.conn.ghost_name ≡ tx.old.conn.ghost_name }
     ensures stays { Stays S.Store tx.old.conn.now tx.new.conn.now result }
-    ensures ran { HasCleanDisk (state S.Store tx.new.conn.now) → OnOk result (RanEach S.Store first_rows tx.old.conn.now tx.new.conn.now) }
-    ensures filled { HasCleanDisk (state S.Store tx.new.conn.now) → OnOk result (IsMade nothing (state S.Store tx.old.conn.now).now → Represents (state S.Store tx.new.conn.now).now empty) }
+    ensures ran { HasCleanDisk (state S.Store tx.new.conn.now)
+        → OnOk result (RanEach S.Store first_rows tx.old.conn.now tx.new.conn.now) }
+    ensures filled { HasCleanDisk (state S.Store tx.new.conn.now)
+        → OnOk result (IsMade nothing (state S.Store tx.old.conn.now).now
+        → Represents (state S.Store tx.new.conn.now).now empty) }
 {
     run(tx, "INSERT INTO meta VALUES (?1)", params![3u32])?;
     run(
@@ -96,11 +104,15 @@ fn fill<S: Alter>(tx: &mut Transaction<'_, S>) -> Result<(), Error>
 pub fn make_tables<S: Alter>(conn: &mut Connection<S>) -> Result<(), Error>
     requires { conn.old.in_transaction ≡ false }
     ensures mode { conn.new.in_transaction ≡ false }
-    ensures ran { HasCleanDisk (state S.Store conn.new) → OnOk result (AreMadeOver S.Store conn.old (state S.Store conn.new).now.trees) }
-    ensures made { HasCleanDisk (state S.Store conn.new) → OnOk result (conn.old.schema ≡ no_schema → Represents (state S.Store conn.new).now empty) }
-    ensures failed { HasCleanDisk (state S.Store conn.new) → IsTrue (state S.Store conn.new).is_open → OnErr result ((state S.Store conn.new).now ≡ (state S.Store conn.old).committed) }
+    ensures ran { HasCleanDisk (state S.Store conn.new)
+        → OnOk result (AreMadeOver S.Store conn.old (state S.Store conn.new).now.trees) }
+    ensures made { HasCleanDisk (state S.Store conn.new)
+        → OnOk result (conn.old.schema ≡ no_schema → Represents (state S.Store conn.new).now empty) }
+    ensures failed { HasCleanDisk (state S.Store conn.new) → IsTrue (state S.Store conn.new).is_open
+        → OnErr result ((state S.Store conn.new).now ≡ (state S.Store conn.old).committed) }
     ensures settled { IsCommitted S.Store conn.new result }
-    ensures survives { Survives (state S.Store conn.old) (state S.Store conn.new) (λ db. AreMadeOver S.Store conn.old db × (conn.old.schema ≡ no_schema → AreTablesOf db empty)) }
+    ensures survives { Survives (state S.Store conn.old) (state S.Store conn.new)
+        (λ db. AreMadeOver S.Store conn.old db × (conn.old.schema ≡ no_schema → AreTablesOf db empty)) }
 {
     let mut tx = conn.transaction();
     create_tables(&mut tx)?;

@@ -44,7 +44,8 @@ pub fn members_on<S: Alter, M: Drop, T: TableRow<M>>(
     requires mode { conn.old.in_transaction ≡ false }
     ensures mode { conn.new.in_transaction ≡ false }
     ensures looks { Looks S.Store conn.old conn.new result }
-    ensures found { HasCleanDisk (state S.Store conn.new) → (xs : List M) → Determines S.Store T.row_of sql.now (bound params.now) conn.old conn.new xs → IfOk result (λ v. v ≡ xs) }
+    ensures found { HasCleanDisk (state S.Store conn.new) → (xs : List M)
+        → Determines S.Store T.row_of sql.now (bound params.now) conn.old conn.new xs → IfOk result (λ v. v ≡ xs) }
 {
     let rows = read(conn, sql, params)?;
     decode_all::<_, T>(alloc, rows.as_slice())
@@ -61,7 +62,9 @@ pub fn member_on<S: Alter, M: Drop, T: TableRow<M>>(
     requires mode { conn.old.in_transaction ≡ false }
     ensures mode { conn.new.in_transaction ≡ false }
     ensures looks { Looks S.Store conn.old conn.new result }
-    ensures found { HasCleanDisk (state S.Store conn.new) → (picks : M → Bool) → (xs : List M) → Determines S.Store T.row_of sql.now (bound params.now) conn.old conn.new (filter picks xs) → IfOk result (λ v. v ≡ find picks xs) }
+    ensures found { HasCleanDisk (state S.Store conn.new) → (picks : M → Bool) → (xs : List M)
+        → Determines S.Store T.row_of sql.now (bound params.now) conn.old conn.new (filter picks xs)
+        → IfOk result (λ v. v ≡ find picks xs) }
 {
     let rows = read(conn, sql, params)?;
     match rows.as_slice().get(0) {

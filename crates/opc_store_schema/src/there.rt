@@ -23,7 +23,9 @@ pub fn is_there_on<S: Alter>(
     requires mode { conn.old.in_transaction ≡ false }
     ensures mode { conn.new.in_transaction ≡ false }
     ensures looks { Looks S.Store conn.old conn.new result }
-    ensures found { HasCleanDisk (state S.Store conn.new) → (there : Bool) → ((rows : List Row) → Shown sql.now (bound params.now) (state S.Store conn.old) (state S.Store conn.new) rows → not (length rows == 0) ≡ there) → IfOk result (λ v. v ≡ there) }
+    ensures found { HasCleanDisk (state S.Store conn.new) → (there : Bool)
+        → ((rows : List Row) → Shown sql.now (bound params.now) (state S.Store conn.old) (state S.Store conn.new) rows
+        → not (length rows == 0) ≡ there) → IfOk result (λ v. v ≡ there) }
 {
     let rows = read(conn, sql, params)?;
     Ok(!rows.as_slice().is_empty())

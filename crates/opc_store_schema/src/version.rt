@@ -17,8 +17,11 @@ pub fn version_on<S: Alter>(conn: &mut Connection<S>) -> Result<u64, Error>
     requires { conn.old.in_transaction ≡ false }
     ensures mode { conn.new.in_transaction ≡ false }
     ensures looks { Looks S.Store conn.old conn.new result }
-    ensures names { HasCleanDisk (state S.Store conn.new) → IfOk result (λ v. NamesVersion v (state S.Store conn.old) (state S.Store conn.new)) }
-    ensures unasked { HasCleanDisk (state S.Store conn.new) → IfErr result (λ e. (e ≡ SqliteFailure OutOfMemory) ⊎ FailsToQuery version_query [] (state S.Store conn.old) (state S.Store conn.new) e) }
+    ensures names { HasCleanDisk (state S.Store conn.new)
+        → IfOk result (λ v. NamesVersion v (state S.Store conn.old) (state S.Store conn.new)) }
+    ensures unasked { HasCleanDisk (state S.Store conn.new)
+        → IfErr result (λ e. (e ≡ SqliteFailure OutOfMemory)
+        ⊎ FailsToQuery version_query [] (state S.Store conn.old) (state S.Store conn.new) e) }
     ensures ours { Finds S.Store conn.old conn.new result (λ s v. v ≡ 3) }
 {
     let rows = read(conn, "SELECT version FROM meta ORDER BY version", &[])?;

@@ -50,11 +50,13 @@ examined_bare (Some d) name ps = same_count (is_examined (Some d) name) ps
 
 -- ---- they are profiles as well
 
-patterns_bare : (ps : List Profile) → AllByRecursion (λ (p : Profile). IsPattern p.pattern) ps → AllByRecursion (λ (p : Profile). IsPattern p.pattern) (map bare ps)
+patterns_bare : (ps : List Profile) → AllByRecursion (λ (p : Profile). IsPattern p.pattern) ps
+    → AllByRecursion (λ (p : Profile). IsPattern p.pattern) (map bare ps)
 patterns_bare [] h = tt
 patterns_bare (p ∷ ps) h = (h.0, patterns_bare ps h.1)
 
-below_bare : (p : Profile) (ps : List Profile) → AllByRecursion (λ (q : Profile). profile_cmp p q ≡ Less) ps → AllByRecursion (λ (q : Profile). profile_cmp (bare p) q ≡ Less) (map bare ps)
+below_bare : (p : Profile) (ps : List Profile) → AllByRecursion (λ (q : Profile). profile_cmp p q ≡ Less) ps
+    → AllByRecursion (λ (q : Profile). profile_cmp (bare p) q ≡ Less) (map bare ps)
 below_bare p [] h = tt
 below_bare p (q ∷ ps) h = (h.0, below_bare p ps h.1)
 

@@ -1,5 +1,33 @@
 -- The first profile that covers, of those of a class in their order, is the most specific one.
-use Rattle.std.proofs.Common.{◌≡◌, ◌⊎◌, inl, inr, ℕ, ◌+◌, List, [], ◌∷◌, ◌++◌, find, length, Bool, true, false, cond, Some, None, refl, sym, ap, ◌∙◌, subst, arith, Ordering, Less, Equal}
+use Rattle.std.proofs.Common.{
+  ◌≡◌,
+  ◌⊎◌,
+  inl,
+  inr,
+  ℕ,
+  ◌+◌,
+  List,
+  [],
+  ◌∷◌,
+  ◌++◌,
+  find,
+  length,
+  Bool,
+  true,
+  false,
+  cond,
+  Some,
+  None,
+  refl,
+  sym,
+  ap,
+  ◌∙◌,
+  subst,
+  arith,
+  Ordering,
+  Less,
+  Equal,
+}
 use Rattle.std.specs.List.{AllByRecursion, AllPairs, slice_index_or}
 use Rattle.std.specs.Ordering.{ordering_then, is_lt}
 use Rattle.std.proofs.lemmas.Cmp.{tied_itself, nat_list_cmp_total}
@@ -33,13 +61,15 @@ abbrev Below : Profile → Profile → Type 0
 Below p q = profile_cmp p q ≡ Less
 
 pub most_specific_first : (ps : List Profile) → Rises profile_cmp ps → AreMostSpecificFirst ps
-most_specific_first ps up = λ i j d less low same. ap is_lt (one_class (slice_index_or ps i d) (slice_index_or ps j d) same (all_pairs Below ps up i j d less low))
+most_specific_first ps up = λ i j d less low same. ap is_lt
+    (one_class (slice_index_or ps i d) (slice_index_or ps j d) same (all_pairs Below ps up i j d less low))
 
 not_tied : (o : Ordering) → o ≡ Less → o ≡ Equal → ⊥
 not_tied o less tie = let e = sym less ∙ tie in cc
 
 apart : (p q : Profile) → p.class ≡ q.class → profile_cmp p q ≡ Less → p.pattern ≡ q.pattern → ⊥
-apart p q same less text = not_tied (pattern_cmp p.pattern q.pattern) (one_class p q same less) (ap (pattern_cmp p.pattern) (sym text) ∙ tied_itself nat_list_cmp_total (sort_key p.pattern))
+apart p q same less text = not_tied (pattern_cmp p.pattern q.pattern) (one_class p q same less)
+    (ap (pattern_cmp p.pattern) (sym text) ∙ tied_itself nat_list_cmp_total (sort_key p.pattern))
 
 pub are_profiles : (ps : List Profile) → AllByRecursion (λ (p : Profile). IsPattern p.pattern) ps → Rises profile_cmp ps → AreProfiles ps
 are_profiles ps patterns up =
@@ -112,7 +142,11 @@ module _ (resource : List ℕ) where
       go : Found xs ⊎ Nowhere xs → Decides xs
       go (inl f) =
           let up : AreBefore (f.prefix ++ f.d ∷ f.after) = subst AreBefore f.whole order in
-          let here : deciding xs resource ≡ Some f.d = ap (λ (l : List Profile). deciding l resource) f.whole ∙ found_first resource f.prefix f.d f.after up f.none f.hit in
-          let read : length (read_until (Some f.d) xs) ≡ length f.prefix + 1 = ap (λ (l : List Profile). length (read_until (Some f.d) l)) f.whole ∙ read_first resource f.prefix f.d f.after up in
+          let here : deciding xs resource ≡ Some f.d =
+          ap (λ (l : List Profile). deciding l resource) f.whole
+          ∙ found_first resource f.prefix f.d f.after up f.none f.hit in
+          let read : length (read_until (Some f.d) xs) ≡ length f.prefix + 1 =
+          ap (λ (l : List Profile). length (read_until (Some f.d) l)) f.whole
+          ∙ read_first resource f.prefix f.d f.after up in
           record { decides = f.is ∙ sym here; reads = f.count ∙ (sym read ∙ ap (λ o. length (read_until o xs)) (sym f.is)) }
       go (inr f) = record { decides = f.is ∙ sym (none_found resource xs f.none); reads = f.count ∙ ap (λ o. length (read_until o xs)) (sym f.is) }

@@ -27,7 +27,8 @@ pub on_clean : {T E : Type 0} {P Q : T → Type 0} (r : Result T E) (clean : Typ
 on_clean (Ok x) clean h more = λ c. more x (h c)
 on_clean (Err e) clean h more = tt
 
-pub on_clean_both : {T E : Type 0} {P Q R : T → Type 0} (r : Result T E) (clean : Type 0) → (clean → IfOk r P) → (clean → IfOk r Q) → ((x : T) → P x → Q x → R x) → IfOk r (λ x. clean → R x)
+pub on_clean_both : {T E : Type 0} {P Q R : T → Type 0} (r : Result T E) (clean : Type 0) → (clean → IfOk r P)
+    → (clean → IfOk r Q) → ((x : T) → P x → Q x → R x) → IfOk r (λ x. clean → R x)
 on_clean_both (Ok x) clean p q more = λ c. more x (p c) (q c)
 on_clean_both (Err e) clean p q more = tt
 
@@ -77,7 +78,9 @@ module _ (s : State) (ordered : IsOrdered s) (class : Class) (head : Option (Lis
         go (Some d) e h =
             let same : q ≡ bare d = cc in
             let mine : profile_of ps d.class d.pattern ≡ Some d =
-            found_one (λ (p : Profile). profile_of ps p.class p.pattern ≡ Some p) (covers resource) asked d (all-filter (λ (p : Profile). profile_of ps p.class p.pattern ≡ Some p) (is_chosen class head) ps (each_found ps ordered.profiles)) e in
+            found_one (λ (p : Profile). profile_of ps p.class p.pattern ≡ Some p) (covers resource) asked d
+            (all-filter (λ (p : Profile). profile_of ps p.class p.pattern ≡ Some p) (is_chosen class head) ps
+            (each_found ps ordered.profiles)) e in
             record {
               d = d;
               is = same;

@@ -50,14 +50,19 @@ pub chosen_by_head : (class : Class) (head : List ℕ) (ps : List Profile) → w
 chosen_by_head class head ps = filter_both (λ (p : Profile). same_class p.class class) (λ (p : Profile). bytes_eq (head_of p) head) ps
 
 module _ (class : Class) (head : List ℕ) where
-  picks : (p : Profile) → (is_true (binary (Compare Eq Binary) (Text (class_text p.class)) (Text (class_text class))) && (is_true (binary (Compare Eq Binary) (Text (head_of p)) (Text head)) && true)) ≡ is_chosen class (Some head) p
+  picks : (p : Profile) → (is_true (binary (Compare Eq Binary) (Text (class_text p.class)) (Text (class_text class)))
+      && (is_true (binary (Compare Eq Binary) (Text (head_of p)) (Text head)) && true)) ≡ is_chosen class (Some head) p
   picks p = ap₂ (λ a b. a && b) (equal_texts (class_text p.class) (class_text class) ∙ class_is p.class class) (and_true _ ∙ same_texts (head_of p) head)
 
   -- the query selects the profiles of the class and with the head
   pub selects_chosen : {S : Type 0} (g : Ghosts S) → Selects g by_head.text (head_params class head) (chosen class head)
   selects_chosen g = record {
-    begins = λ h s was. told_first by_head (head_params class head) refl profile_row profile_cmp (λ _. refl) profiles_rise (is_chosen class (Some head)) picks by_head_asked (state g h) was.rows.schema s.policy.profiles was.ordered.profiles was.rows.holds.profiles;
-    shows = λ h k s was. told by_head (head_params class head) refl profile_row profile_cmp (λ _. refl) profiles_rise (is_chosen class (Some head)) picks by_head_asked (state g h) (state g k) was.rows.schema s.policy.profiles was.ordered.profiles was.rows.holds.profiles;
+    begins = λ h s was. told_first by_head (head_params class head) refl profile_row profile_cmp (λ _. refl)
+        profiles_rise (is_chosen class (Some head)) picks by_head_asked (state g h) was.rows.schema s.policy.profiles
+        was.ordered.profiles was.rows.holds.profiles;
+    shows = λ h k s was. told by_head (head_params class head) refl profile_row profile_cmp (λ _. refl) profiles_rise
+        (is_chosen class (Some head)) picks by_head_asked (state g h) (state g k) was.rows.schema s.policy.profiles
+        was.ordered.profiles was.rows.holds.profiles;
   }
 
 -- ---- of a class
@@ -66,14 +71,18 @@ module _ (class : Class) where
   -- the query selects the profiles of the class
   pub selects_class : {S : Type 0} (g : Ghosts S) → Selects g by_class.text (class_params class) (λ s. of_class class s.policy.profiles)
   selects_class g = record {
-    begins = λ h s was. told_first by_class (class_params class) refl profile_row profile_cmp (λ _. refl) profiles_rise (λ p. same_class p.class class) (in_class class) by_class_asked (state g h) was.rows.schema s.policy.profiles was.ordered.profiles was.rows.holds.profiles;
+    begins = λ h s was. told_first by_class (class_params class) refl profile_row profile_cmp (λ _. refl) profiles_rise
+        (λ p. same_class p.class class) (in_class class) by_class_asked (state g h) was.rows.schema s.policy.profiles
+        was.ordered.profiles was.rows.holds.profiles;
     shows = λ h k s was. class_told class (state g h) (state g k) s was;
   }
 
 -- ---- rows that are taken one at a time
 
 module _ {S : Type 0} (g : Ghosts S) (sql : List ℕ) (params : Row) (select : State → List Profile) (selects : Selects g sql params select) (p : Profile → Bool)
-    (old now : Held S) (s : State) (was : Represents (state g old).now s) (same : IsUnchanged (state g old) (state g now)) (given : List Row) (n : ℕ) (taken : HasTaken profile_row p (select s) given n) where
+    (old now : Held S) (s : State) (was : Represents (state g old).now s)
+    (same : IsUnchanged (state g old) (state g now)) (given : List Row) (n : ℕ)
+    (taken : HasTaken profile_row p (select s) given n) where
   still : Represents (state g now).now s
   still = subst (λ (d : Database). Represents d s) (sym same.0.now_is) was
 
@@ -86,6 +95,7 @@ module _ {S : Type 0} (g : Ghosts S) (sql : List ℕ) (params : Row) (select : S
   no_profile new h = taken_all profile_row p (select s) given n taken (sym (selects.shows now new s still given h))
 
 -- a query that never writes has begun
-pub begun_quiet : {S : Type 0} (g : Ghosts S) (sql : List ℕ) (params : Row) (old new : Held S) → NeverWrites sql → HasBegun g sql params old new → HasGiven g sql params new [] × IsUnchanged (state g old) (state g new)
+pub begun_quiet : {S : Type 0} (g : Ghosts S) (sql : List ℕ) (params : Row) (old new : Held S) → NeverWrites sql
+    → HasBegun g sql params old new → HasGiven g sql params new [] × IsUnchanged (state g old) (state g new)
 begun_quiet g sql params old new quiet (inl h) = h
 begun_quiet g sql params old new quiet (inr h) = absurd (quiet old.schema h.0)

@@ -18,10 +18,14 @@ chosen class head s = filter (is_chosen class (Some head)) s.policy.profiles
 abbrev pub covers : List ℕ → Profile → Bool
 covers resource p = covers_text p.pattern resource
 
--- A query answers with the rows of these profiles of the state, in their order, and its first rows are those of the first.
-pub record Selects {S : Type 0} (g : Ghosts S) (sql : List ℕ) (params : Row) (select : State → List Profile) : Type 0 where
-  pub begins : (h : Held S) (s : State) → Represents (state g h).now s → (rows : List Row) → Begins sql params (state g h) rows → (tail : List Row) × (map profile_row (select s) ≡ rows ++ tail)
-  pub shows : (h k : Held S) (s : State) → Represents (state g h).now s → (rows : List Row) → Shown sql params (state g h) (state g k) rows → rows ≡ map profile_row (select s)
+-- A query answers with the rows of these profiles of the state, in their order, and its first rows are those of the
+-- first.
+pub record Selects {S : Type 0} (g : Ghosts S) (sql : List ℕ) (params : Row) (select : State → List Profile) : Type
+    0 where
+  pub begins : (h : Held S) (s : State) → Represents (state g h).now s → (rows : List Row)
+      → Begins sql params (state g h) rows → (tail : List Row) × (map profile_row (select s) ≡ rows ++ tail)
+  pub shows : (h k : Held S) (s : State) → Represents (state g h).now s → (rows : List Row)
+      → Shown sql params (state g h) (state g k) rows → rows ≡ map profile_row (select s)
 
 -- what asking leaves of tables, whatever comes of it, is what a query leaves that gave nothing
 abbrev pub unanswered : Result (Unit {0}) (Unit {0})

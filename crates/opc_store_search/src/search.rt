@@ -48,8 +48,11 @@ fn first_covering_on<S: Alter>(
     requires mode { conn.old.in_transaction ≡ false }
     ensures mode { conn.new.in_transaction ≡ false }
     ensures looks { Looks S.Store conn.old conn.new result }
-    ensures found { HasCleanDisk (state S.Store conn.new) → (select : State → List TheProfile) → Selects S.Store sql.now (bound params.now) select → (s : State) → Represents (state S.Store conn.old).now s → IfOk result (λ taken.
-        (taken.profile ≡ option_map bare (find (covers resource.now) (select s))) × (taken.rows ≡ taken_for (covers resource.now) (select s))) }
+    ensures found { HasCleanDisk (state S.Store conn.new) → (select : State → List TheProfile)
+        → Selects S.Store sql.now (bound params.now) select → (s : State) → Represents (state S.Store conn.old).now s
+        → IfOk result (λ taken.
+        (taken.profile ≡ option_map bare (find (covers resource.now) (select s)))
+        × (taken.rows ≡ taken_for (covers resource.now) (select s))) }
 {
     let _settled = conn.is_autocommit();
     let mut rows = match conn.query(sql, params) {
@@ -93,7 +96,8 @@ pub(crate) fn first_with_head_on<S: Alter>(
     ensures first { Finds S.Store conn.old conn.new result (λ s taken.
         taken.profile ≡ option_map bare (deciding (with_head head.now (of_class class s.policy.profiles)) resource.now)) }
     ensures rows { Finds S.Store conn.old conn.new result (λ s taken.
-        taken.rows ≡ length (read_until (deciding (with_head head.now (of_class class s.policy.profiles)) resource.now) (with_head head.now (of_class class s.policy.profiles)))) }
+        taken.rows ≡ length (read_until (deciding (with_head head.now (of_class class s.policy.profiles)) resource.now)
+        (with_head head.now (of_class class s.policy.profiles)))) }
 {
     first_covering_on(alloc, conn, BY_HEAD, params![class.text(), head], resource)
 }

@@ -26,22 +26,29 @@ impl<S: Alter> ProfileSource for TableProfiles<'_, S> {
     ghost use Rattle.opc_store_search.specs.Search.{unanswered};
     ghost use Rattle.opc_store_sql.proofs.Looking.{looks_off, looks_start};
 
-    ghost has = { λ source profiles. (s : State) × Represents (state S.Store source.conn.now).now s × (profiles ≡ map bare s.policy.profiles) };
+    ghost has = { λ source profiles. (s : State) × Represents (state S.Store source.conn.now).now s
+        × (profiles ≡ map bare s.policy.profiles) };
 
     ghost is_ready = { λ source. source.conn.now.in_transaction ≡ false };
 
     ghost is_faithful = { λ source. HasCleanDisk (state S.Store source.conn.now) };
 
     // The same connection, whose tables are looked at and not changed.
-    ghost is_kept = { λ old new. (new.conn.ghost_name ≡ old.conn.ghost_name) × Looks S.Store old.conn.now new.conn.now unanswered };
+    ghost is_kept = { λ old new. (new.conn.ghost_name ≡ old.conn.ghost_name)
+        × Looks S.Store old.conn.now new.conn.now unanswered };
 
-    ghost is_open = { λ source. HasCleanDisk (state S.Store source.conn.now) → IsTrue (state S.Store source.conn.now).is_open };
+    ghost is_open = { λ source. HasCleanDisk (state S.Store source.conn.now)
+        → IsTrue (state S.Store source.conn.now).is_open };
 
     ghost can_fail_with = { λ _. ⊤ };
 
     ghost kept_itself = { λ source. (refl, looks_start _ unanswered refl source.conn.now) };
 
-    ghost kept_again = { λ source next last first more. (more.0 ∙ first.0, looks_off _ unanswered source.conn.now next.conn.now last.conn.now first.1 tt unanswered refl more.1) };
+    ghost kept_again = { λ source next last first more. (
+      more.0 ∙ first.0,
+      looks_off _ unanswered source.conn.now next.conn.now last.conn.now first.1 tt unanswered refl
+          more.1,
+    ) };
 
     fn first_in(
         &mut self,

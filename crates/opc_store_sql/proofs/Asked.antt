@@ -1,5 +1,34 @@
 -- A SELECT on one table: what is asked, and which rows it tells.
-use Rattle.std.proofs.Common.{◌≡◌, ℕ, zero, suc, ◌+◌, List, [], ◌∷◌, ◌++◌, map, drop, filter, Bool, true, false, not, ◌&&◌, ◌==◌, refl, sym, ap, ap₂, subst, ◌∙◌, Ordering, Less, Equal, Greater}
+use Rattle.std.proofs.Common.{
+  ◌≡◌,
+  ℕ,
+  zero,
+  suc,
+  ◌+◌,
+  List,
+  [],
+  ◌∷◌,
+  ◌++◌,
+  map,
+  drop,
+  filter,
+  Bool,
+  true,
+  false,
+  not,
+  ◌&&◌,
+  ◌==◌,
+  refl,
+  sym,
+  ap,
+  ap₂,
+  subst,
+  ◌∙◌,
+  Ordering,
+  Less,
+  Equal,
+  Greater,
+}
 use Rattle.std.proofs.lemmas.Bool.{and_parts}
 use Rattle.std.specs.List.{list_all}
 use Rattle.std.specs.Ordering.{ordering_then}
@@ -65,7 +94,8 @@ module _ (schema : Schema) (text : List ℕ) (q : Query) where
   read_is (Select p names) db params rows is h = subst (λ (p : Program). Answers db p params rows) is h
   read_is _ db params rows is h = absurd is
 
-  first_is : (c : Command) (db : Database) (params : Row) (rows : List Row) → Selects q c → ReadsFirst c db params rows → (tail : List Row) × Answers db (alone q) params (rows ++ tail)
+  first_is : (c : Command) (db : Database) (params : Row) (rows : List Row) → Selects q c → ReadsFirst c db params rows
+      → (tail : List Row) × Answers db (alone q) params (rows ++ tail)
   first_is (Select p names) db params rows is h =
       let it = subst (λ (p : Program). ReadsFirst (Select p names) db params rows) is h in
       (it.1.0, record { typed = it.0; answer = it.1.1 })
@@ -74,12 +104,17 @@ module _ (schema : Schema) (text : List ℕ) (q : Query) where
   module _ (is : Asks) (params : Row) where
     pub answers : (old new : State) → old.now.schema ≡ schema → (rows : List Row) → Shown text params old new rows → Answers old.now (alone q) params rows
     answers old new has rows h =
-        read_is (command_of (understood schema text)) old.now params rows is.selects (reads_as text params old new schema has (command_of (understood schema text)) refl is.plain is.unlisted rows h)
+        read_is (command_of (understood schema text)) old.now params rows is.selects
+        (reads_as text params old new schema has (command_of (understood schema text)) refl is.plain is.unlisted
+        rows h)
 
     -- the first rows of an answer
-    pub begins : (old : State) → old.now.schema ≡ schema → (rows : List Row) → Begins text params old rows → (tail : List Row) × Answers old.now (alone q) params (rows ++ tail)
+    pub begins : (old : State) → old.now.schema ≡ schema → (rows : List Row) → Begins text params old rows
+        → (tail : List Row) × Answers old.now (alone q) params (rows ++ tail)
     begins old has rows h =
-        first_is (command_of (understood schema text)) old.now params rows is.selects (begins_as text params old old schema has (command_of (understood schema text)) refl is.plain is.unlisted rows h)
+        first_is (command_of (understood schema text)) old.now params rows is.selects
+        (begins_as text params old old schema has (command_of (understood schema text)) refl is.plain is.unlisted
+        rows h)
 
 pub never_writes : {schema : Schema} {text : List ℕ} {q : Query} → Asks schema text q → NeverWrites text
 never_writes {schema} {text} {q} is = understood_quiet text is.shows
@@ -123,11 +158,14 @@ module _ (params r : Row) where
 
   all_evals_same : (ts : List Term) → list_all of_values ts ≡ true → eval_all ts here ≡ eval_all ts there
   all_evals_same [] h = refl
-  all_evals_same (t ∷ ts) h = let both = and_parts (of_values t) (list_all of_values ts) h in ap₂ (λ (v : Value) (r : Row). v ∷ r) (evals_same t both.0) (all_evals_same ts both.1)
+  all_evals_same (t ∷ ts) h = let both =
+      and_parts (of_values t) (list_all of_values ts) h in
+      ap₂ (λ (v : Value) (r : Row). v ∷ r) (evals_same t both.0) (all_evals_same ts both.1)
 
   tests_same : (ts : List Term) → list_all of_values ts ≡ true → list_all (holds here) ts ≡ list_all (holds there) ts
   tests_same [] h = refl
-  tests_same (t ∷ ts) h = let both = and_parts (of_values t) (list_all of_values ts) h in ap₂ (λ (v : Value) (b : Bool). is_true v && b) (evals_same t both.0) (tests_same ts both.1)
+  tests_same (t ∷ ts) h = let both = and_parts (of_values t) (list_all of_values ts) h in
+      ap₂ (λ (v : Value) (b : Bool). is_true v && b) (evals_same t both.0) (tests_same ts both.1)
 
 -- ---- the rows that are told
 
@@ -160,29 +198,46 @@ module _ (a : Asked) (params : Row) where
   abbrev pub tells : Row → Output
   tells r = shown a.tree a.tests a.project a.order (λ _. []) params r
 
-  pub pages : (limit : Term) → IsPaged a limit → (old new : State) → old.now.schema ≡ a.schema → (rows : List Row) → Shown a.text params old new rows → Pages a.tree a.tests a.project a.order old.now.trees params limit rows
+  pub pages : (limit : Term) → IsPaged a limit → (old new : State) → old.now.schema ≡ a.schema → (rows : List Row)
+      → Shown a.text params old new rows → Pages a.tree a.tests a.project a.order old.now.trees params limit rows
   pages limit is old new has rows h =
-      paged a.tree a.tests a.project a.order old.now.trees params old.now.schema limit rows (answers a.schema a.text (paging a.tree a.tests a.project a.order limit) is params old new has rows h)
+      paged a.tree a.tests a.project a.order old.now.trees params old.now.schema limit rows
+      (answers a.schema a.text (paging a.tree a.tests a.project a.order limit) is params old new has rows h)
 
   -- a table whose key is the rowid: rows with their numbers
-  module _ {X : Type 0} (row : X → Row) (cmp : X → X → Ordering) (less : (x y : X) → cmp x y ≡ Less → output_cmp (query a) (tells (row x)) (tells (row y)) ≡ Less) where
+  module _ {X : Type 0} (row : X → Row) (cmp : X → X → Ordering)
+      (less : (x y : X) → cmp x y ≡ Less → output_cmp (query a) (tells (row x)) (tells (row y)) ≡ Less) where
     module _ (p : X → Bool) (passing : (x : X) → picks (row x) ≡ p x) where
-      pub numbers_listed : (db : Trees) (xs : List X) → Rises cmp xs → db a.tree ≡ map row xs → (rows : List Row) → Lists a.tree a.tests a.project a.order db params rows → rows ≡ map (λ x. (tells (row x)).1) (filter p xs)
-      numbers_listed db xs up had rows lists = listed_numbers row cmp a.tree a.tests a.project a.order params (λ x. tells (row x)) p db passing (λ _. refl) less xs rows up had lists
+      pub numbers_listed : (db : Trees) (xs : List X) → Rises cmp xs → db a.tree ≡ map row xs → (rows : List Row)
+          → Lists a.tree a.tests a.project a.order db params rows → rows ≡ map (λ x. (tells (row x)).1) (filter p xs)
+      numbers_listed db xs up had rows lists =
+          listed_numbers row cmp a.tree a.tests a.project a.order params (λ x. tells (row x)) p db passing (λ _. refl)
+          less xs rows up had lists
 
-      pub told_numbers : IsAsked a → (old new : State) → old.now.schema ≡ a.schema → (xs : List X) → Rises cmp xs → old.now.trees a.tree ≡ map row xs → (rows : List Row) → Shown a.text params old new rows
+      pub told_numbers : IsAsked a → (old new : State) → old.now.schema ≡ a.schema → (xs : List X) → Rises cmp xs
+          → old.now.trees a.tree ≡ map row xs → (rows : List Row) → Shown a.text params old new rows
           → rows ≡ map (λ x. (tells (row x)).1) (filter p xs)
-      told_numbers is old new has xs up had rows h = numbers_listed old.now.trees xs up had rows (answered a.tree a.tests a.project a.order old.now.trees params old.now.schema rows (answers a.schema a.text (query a) is params old new has rows h))
+      told_numbers is old new has xs up had rows h =
+          numbers_listed old.now.trees xs up had rows
+          (answered a.tree a.tests a.project a.order old.now.trees params old.now.schema rows
+          (answers a.schema a.text (query a) is params old new has rows h))
 
     -- where each row passes
-    pub told_all_numbers : ((x : X) → picks (row x) ≡ true) → IsAsked a → (old new : State) → old.now.schema ≡ a.schema → (xs : List X) → Rises cmp xs → old.now.trees a.tree ≡ map row xs → (rows : List Row) → Shown a.text params old new rows
+    pub told_all_numbers : ((x : X) → picks (row x) ≡ true) → IsAsked a → (old new : State) → old.now.schema ≡ a.schema
+        → (xs : List X) → Rises cmp xs → old.now.trees a.tree ≡ map row xs → (rows : List Row)
+        → Shown a.text params old new rows
         → rows ≡ map (λ x. (tells (row x)).1) xs
     told_all_numbers each is old new has xs up had rows h =
-        told_numbers (λ _. true) each is old new has xs up had rows h ∙ ap (map (λ x. (tells (row x)).1)) (filter_all (λ (x : X). true) xs (all_of (λ (x : X). true ≡ true) (λ _. refl) xs))
+        told_numbers (λ _. true) each is old new has xs up had rows h
+        ∙ ap (map (λ x. (tells (row x)).1))
+        (filter_all (λ (x : X). true) xs (all_of (λ (x : X). true ≡ true) (λ _. refl) xs))
 
   -- a table whose rows are numbered by their places, all of it
-  pub told_places : {X : Type 0} (values shape : X → Row) → ((p : ℕ × X) → (tells (placed_row values p)).1 ≡ shape p.1) → ((p q : ℕ × X) → place_cmp p q ≡ Less → output_cmp (query a) (tells (placed_row values p)) (tells (placed_row values q)) ≡ Less)
-      → ((p : ℕ × X) → picks (placed_row values p) ≡ true) → IsAsked a → (old new : State) → old.now.schema ≡ a.schema → (xs : List X) → old.now.trees a.tree ≡ numbered_rows values 1 xs
+  pub told_places : {X : Type 0} (values shape : X → Row) → ((p : ℕ × X) → (tells (placed_row values p)).1 ≡ shape p.1)
+      → ((p q : ℕ × X) → place_cmp p q ≡ Less
+      → output_cmp (query a) (tells (placed_row values p)) (tells (placed_row values q)) ≡ Less)
+      → ((p : ℕ × X) → picks (placed_row values p) ≡ true) → IsAsked a → (old new : State) → old.now.schema ≡ a.schema
+      → (xs : List X) → old.now.trees a.tree ≡ numbered_rows values 1 xs
       → (rows : List Row) → Shown a.text params old new rows → rows ≡ map shape xs
   told_places {X} values shape shows less each is old new has xs had rows h =
       told_all_numbers (placed_row values) place_cmp less each is old new has (placed 1 xs) (placed_rises 1 xs) (had ∙ placed_rows values 1 xs) rows h
@@ -195,56 +250,71 @@ module _ (a : Asked) (params : Row) where
 
     pub shows_values : (db : Trees) (r : Row) → shown a.tree a.tests a.project a.order db params r ≡ tells (Null ∷ drop 1 r)
     shows_values db r =
-        let both = and_parts (list_all of_values (map (λ (k : Term × Key). k.0) a.order)) (list_all of_values a.project) (and_parts (list_all of_values a.tests) _ values).1 in
-        ap₂ (λ (x y : Row). let o : Output = (x, y) in o) (all_evals_same params r (map (λ (k : Term × Key). k.0) a.order) both.0) (all_evals_same params r a.project both.1)
+        let both = and_parts (list_all of_values (map (λ (k : Term × Key). k.0) a.order)) (list_all of_values a.project)
+        (and_parts (list_all of_values a.tests) _ values).1 in
+        ap₂ (λ (x y : Row). let o : Output = (x, y) in o)
+        (all_evals_same params r (map (λ (k : Term × Key). k.0) a.order) both.0)
+        (all_evals_same params r a.project both.1)
 
     -- for each member what is shown of its row
     module _ {X : Type 0} (row shape : X → Row) (cmp : X → X → Ordering) (shows : (x : X) → (tells (Null ∷ row x)).1 ≡ shape x)
         (less : (x y : X) → cmp x y ≡ Less → output_cmp (query a) (tells (Null ∷ row x)) (tells (Null ∷ row y)) ≡ Less) where
       module _ (p : X → Bool) (passing : (x : X) → picks (Null ∷ row x) ≡ p x) where
-        answer_shows : (db : Database) (xs : List X) → Rises cmp xs → HasRows (map row xs) (db.trees a.tree) → (rows : List Row) → Answers db (alone (query a)) params rows → rows ≡ map shape (filter p xs)
+        answer_shows : (db : Database) (xs : List X) → Rises cmp xs → HasRows (map row xs) (db.trees a.tree)
+            → (rows : List Row) → Answers db (alone (query a)) params rows → rows ≡ map shape (filter p xs)
         answer_shows db xs up had rows h =
             let lists = answered a.tree a.tests a.project a.order db.trees params db.schema rows h in
-            listed row shape cmp a.tree a.tests a.project a.order params (λ v. picks (Null ∷ v)) (λ v. tells (Null ∷ v)) p db.trees (passes_values db.trees) (shows_values db.trees) passing shows less xs rows up had lists
+            listed row shape cmp a.tree a.tests a.project a.order params (λ v. picks (Null ∷ v)) (λ v. tells (Null ∷ v))
+            p db.trees (passes_values db.trees) (shows_values db.trees) passing shows less xs rows up had lists
 
       -- where each row passes
-      pub told_all_shown : ((x : X) → picks (Null ∷ row x) ≡ true) → IsAsked a → (old new : State) → old.now.schema ≡ a.schema → (xs : List X) → Rises cmp xs → HasRows (map row xs) (old.now.trees a.tree)
+      pub told_all_shown : ((x : X) → picks (Null ∷ row x) ≡ true) → IsAsked a → (old new : State)
+          → old.now.schema ≡ a.schema → (xs : List X) → Rises cmp xs → HasRows (map row xs) (old.now.trees a.tree)
           → (rows : List Row) → Shown a.text params old new rows → rows ≡ map shape xs
       told_all_shown each is old new has xs up had rows h =
           answer_shows (λ _. true) each old.now xs up had rows (answers a.schema a.text (query a) is params old new has rows h)
           ∙ ap (map shape) (filter_all (λ (x : X). true) xs (all_of (λ (x : X). true ≡ true) (λ _. refl) xs))
 
       -- a part of the table
-      pub told_part_shown : IsAsked a → (old new : State) → old.now.schema ≡ a.schema → (have : List Row) (xs : List X) → Rises cmp xs → filter (λ v. picks (Null ∷ v)) have ≡ map row xs → HasRows have (old.now.trees a.tree)
+      pub told_part_shown : IsAsked a → (old new : State) → old.now.schema ≡ a.schema → (have : List Row) (xs : List X)
+          → Rises cmp xs → filter (λ v. picks (Null ∷ v)) have ≡ map row xs → HasRows have (old.now.trees a.tree)
           → (rows : List Row) → Shown a.text params old new rows → rows ≡ map shape xs
       told_part_shown is old new has have xs up mine had rows h =
-          let lists = answered a.tree a.tests a.project a.order old.now.trees params old.now.schema rows (answers a.schema a.text (query a) is params old new has rows h) in
-          listed_part row shape cmp a.tree a.tests a.project a.order params (λ v. picks (Null ∷ v)) (λ v. tells (Null ∷ v)) old.now.trees (passes_values old.now.trees) (shows_values old.now.trees) shows less have xs rows up mine had lists
+          let lists = answered a.tree a.tests a.project a.order old.now.trees params old.now.schema rows
+          (answers a.schema a.text (query a) is params old new has rows h) in
+          listed_part row shape cmp a.tree a.tests a.project a.order params (λ v. picks (Null ∷ v))
+          (λ v. tells (Null ∷ v)) old.now.trees (passes_values old.now.trees) (shows_values old.now.trees) shows
+          less have xs rows up mine had lists
 
     -- and where that is the whole row
     module _ {X : Type 0} (row : X → Row) (cmp : X → X → Ordering) (whole : (x : X) → (tells (Null ∷ row x)).1 ≡ row x)
         (less : (x y : X) → cmp x y ≡ Less → output_cmp (query a) (tells (Null ∷ row x)) (tells (Null ∷ row y)) ≡ Less) where
       module _ (p : X → Bool) (passing : (x : X) → picks (Null ∷ row x) ≡ p x) where
-        pub answer_is : (db : Database) (xs : List X) → Rises cmp xs → HasRows (map row xs) (db.trees a.tree) → (rows : List Row) → Answers db (alone (query a)) params rows → rows ≡ map row (filter p xs)
+        pub answer_is : (db : Database) (xs : List X) → Rises cmp xs → HasRows (map row xs) (db.trees a.tree)
+            → (rows : List Row) → Answers db (alone (query a)) params rows → rows ≡ map row (filter p xs)
         answer_is = answer_shows row row cmp whole less p passing
 
-        pub told : IsAsked a → (old new : State) → old.now.schema ≡ a.schema → (xs : List X) → Rises cmp xs → HasRows (map row xs) (old.now.trees a.tree) → (rows : List Row) → Shown a.text params old new rows
+        pub told : IsAsked a → (old new : State) → old.now.schema ≡ a.schema → (xs : List X) → Rises cmp xs
+            → HasRows (map row xs) (old.now.trees a.tree) → (rows : List Row) → Shown a.text params old new rows
             → rows ≡ map row (filter p xs)
         told is old new has xs up had rows h = answer_is old.now xs up had rows (answers a.schema a.text (query a) is params old new has rows h)
 
         -- the first rows of the answer
-        pub told_first : IsAsked a → (old : State) → old.now.schema ≡ a.schema → (xs : List X) → Rises cmp xs → HasRows (map row xs) (old.now.trees a.tree) → (rows : List Row) → Begins a.text params old rows
+        pub told_first : IsAsked a → (old : State) → old.now.schema ≡ a.schema → (xs : List X) → Rises cmp xs
+            → HasRows (map row xs) (old.now.trees a.tree) → (rows : List Row) → Begins a.text params old rows
             → (tail : List Row) × (map row (filter p xs) ≡ rows ++ tail)
         told_first is old has xs up had rows h =
             let it = begins a.schema a.text (query a) is params old has rows h in
             (it.0, sym (answer_is old.now xs up had (rows ++ it.0) it.1))
 
       -- where each row passes
-      pub told_all : ((x : X) → picks (Null ∷ row x) ≡ true) → IsAsked a → (old new : State) → old.now.schema ≡ a.schema → (xs : List X) → Rises cmp xs → HasRows (map row xs) (old.now.trees a.tree)
+      pub told_all : ((x : X) → picks (Null ∷ row x) ≡ true) → IsAsked a → (old new : State) → old.now.schema ≡ a.schema
+          → (xs : List X) → Rises cmp xs → HasRows (map row xs) (old.now.trees a.tree)
           → (rows : List Row) → Shown a.text params old new rows → rows ≡ map row xs
       told_all = told_all_shown row row cmp whole less
 
       -- a part of the table
-      pub told_part : IsAsked a → (old new : State) → old.now.schema ≡ a.schema → (have : List Row) (xs : List X) → Rises cmp xs → filter (λ v. picks (Null ∷ v)) have ≡ map row xs → HasRows have (old.now.trees a.tree)
+      pub told_part : IsAsked a → (old new : State) → old.now.schema ≡ a.schema → (have : List Row) (xs : List X)
+          → Rises cmp xs → filter (λ v. picks (Null ∷ v)) have ≡ map row xs → HasRows have (old.now.trees a.tree)
           → (rows : List Row) → Shown a.text params old new rows → rows ≡ map row xs
       told_part = told_part_shown row row cmp whole less

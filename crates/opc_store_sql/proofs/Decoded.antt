@@ -1,5 +1,35 @@
 -- Rows that are decoded one after another.
-use Rattle.std.proofs.Common.{◌≡◌, ℕ, zero, suc, ◌+◌, ◌<◌, List, [], ◌∷◌, ◌++◌, map, take, filter, find, length, get_or, slice_get, option_map, Some, None, Bool, refl, sym, ap, ap₂, subst, ◌∙◌, arith, add-one}
+use Rattle.std.proofs.Common.{
+  ◌≡◌,
+  ℕ,
+  zero,
+  suc,
+  ◌+◌,
+  ◌<◌,
+  List,
+  [],
+  ◌∷◌,
+  ◌++◌,
+  map,
+  take,
+  filter,
+  find,
+  length,
+  get_or,
+  slice_get,
+  option_map,
+  Some,
+  None,
+  Bool,
+  refl,
+  sym,
+  ap,
+  ap₂,
+  subst,
+  ◌∙◌,
+  arith,
+  add-one,
+}
 use Rattle.std.proofs.lemmas.List.{map-append, take-map}
 use Rattle.sqlite_keyed.proofs.ListLemmas.{slice_get-filter}
 
@@ -15,14 +45,16 @@ module _ {X Y : Type 0} (row : X → Y) where
   at (x ∷ xs) (suc i) d low = let it = at xs i d (omega arith) in record { x = it.x; is = it.is; more = ap (λ l. x ∷ l) it.more }
 
   module _ {V : Type 0} (of : V → X) where
-    pub decoded_more : (xs : List X) (rows : List Y) (vs : List V) (i : ℕ) (y : Y) (v : V) → rows ≡ map row xs → i < length rows → y ≡ get_or rows i y → ((x : X) → y ≡ row x → of v ≡ x)
+    pub decoded_more : (xs : List X) (rows : List Y) (vs : List V) (i : ℕ) (y : Y) (v : V) → rows ≡ map row xs
+        → i < length rows → y ≡ get_or rows i y → ((x : X) → y ≡ row x → of v ≡ x)
         → map of vs ≡ take i xs → map of (vs ++ v ∷ []) ≡ take (i + 1) xs
     decoded_more xs rows vs i y v are low is decodes so_far =
         let it = at xs i y (subst (λ (l : List Y). i < length l) are low) in
         let here : y ≡ row it.x = is ∙ (ap (λ (l : List Y). get_or l i y) are ∙ it.is) in
         map-append of vs (v ∷ []) ∙ (ap₂ (λ a b. a ++ b ∷ []) so_far (decodes it.x here) ∙ (sym it.more ∙ ap (λ k. take k xs) (sym (add-one i))))
 
-    pub first_found : (p : X → Bool) (xs : List X) (rows : List Y) (y : Y) (v : V) → rows ≡ map row (filter p xs) → slice_get rows 0 ≡ Some y → ((x : X) → y ≡ row x → of v ≡ x) → Some (of v) ≡ find p xs
+    pub first_found : (p : X → Bool) (xs : List X) (rows : List Y) (y : Y) (v : V) → rows ≡ map row (filter p xs)
+        → slice_get rows 0 ≡ Some y → ((x : X) → y ≡ row x → of v ≡ x) → Some (of v) ≡ find p xs
     first_found p xs rows y v are first decodes = go (filter p xs) (sym (ap (λ l. slice_get l 0) are) ∙ first) ∙ slice_get-filter p xs
       where
         go : (l : List X) → slice_get (map row l) 0 ≡ Some y → Some (of v) ≡ slice_get l 0
@@ -37,7 +69,9 @@ module _ {X Y : Type 0} (row : X → Y) where
         go (x ∷ l) h = absurd cc
 
 -- what is read so far is what was kept, up to here
-pub more_taken : {X Y : Type 0} (row : X → Y) (xs : List X) (rows : List Y) (vs : List X) (i : ℕ) (y : Y) (v : X) → rows ≡ map row xs → i < length rows → y ≡ get_or rows i y → ((x : X) → y ≡ row x → v ≡ x) → vs ≡ take i xs → vs ++ v ∷ [] ≡ take (i + 1) xs
+pub more_taken : {X Y : Type 0} (row : X → Y) (xs : List X) (rows : List Y) (vs : List X) (i : ℕ) (y : Y) (v : X)
+    → rows ≡ map row xs → i < length rows → y ≡ get_or rows i y → ((x : X) → y ≡ row x → v ≡ x) → vs ≡ take i xs → vs
+    ++ v ∷ [] ≡ take (i + 1) xs
 more_taken row xs rows vs i y v are low is decodes so_far =
     let it = at row xs i y (subst (λ (l : List _). i < length l) are low) in
     let here : y ≡ row it.x = is ∙ (ap (λ l. get_or l i y) are ∙ it.is) in
@@ -53,17 +87,22 @@ module _ {X Y : Type 0} (row : X → Y) (p : X → Bool) where
       go (x ∷ l) h = let same : y ≡ row x = cc in (x, same, refl)
 
   -- what was read of it
-  pub first_told : {V : Type 0} (of : X → V) (xs : List X) (rows : List Y) (y : Y) (v : V) → rows ≡ map row (filter p xs) → slice_get rows 0 ≡ Some y → ((x : X) → y ≡ row x → v ≡ of x) → Some v ≡ option_map of (find p xs)
+  pub first_told : {V : Type 0} (of : X → V) (xs : List X) (rows : List Y) (y : Y) (v : V)
+      → rows ≡ map row (filter p xs) → slice_get rows 0 ≡ Some y → ((x : X) → y ≡ row x → v ≡ of x)
+      → Some v ≡ option_map of (find p xs)
   first_told of xs rows y v are first reads = let it = first_is xs rows y are first in ap (λ z. Some z) (reads it.0 it.1) ∙ ap (option_map of) it.2
 
-  pub none_told : {V : Type 0} (of : X → V) (xs : List X) (rows : List Y) → rows ≡ map row (filter p xs) → slice_get rows 0 ≡ None → None ≡ option_map of (find p xs)
+  pub none_told : {V : Type 0} (of : X → V) (xs : List X) (rows : List Y) → rows ≡ map row (filter p xs)
+      → slice_get rows 0 ≡ None → None ≡ option_map of (find p xs)
   none_told of xs rows are first = ap (option_map of) (none_found row (λ x. x) p xs rows are first)
 
 -- what was read of the rows so far is that of the members, up to here
-pub more_told : {X Y V : Type 0} (row : X → Y) (of : X → V) (xs : List X) (rows : List Y) (vs : List V) (i : ℕ) (y : Y) (v : V) → rows ≡ map row xs → i < length rows → y ≡ get_or rows i y → ((x : X) → y ≡ row x → v ≡ of x)
+pub more_told : {X Y V : Type 0} (row : X → Y) (of : X → V) (xs : List X) (rows : List Y) (vs : List V) (i : ℕ) (y : Y)
+    (v : V) → rows ≡ map row xs → i < length rows → y ≡ get_or rows i y → ((x : X) → y ≡ row x → v ≡ of x)
     → vs ≡ take i (map of xs) → vs ++ v ∷ [] ≡ take (i + 1) (map of xs)
 more_told {X} {Y} {V} row of xs rows vs i y v are low is reads so_far =
     let it = at row xs i y (subst (λ (l : List Y). i < length l) are low) in
     let here : y ≡ row it.x = is ∙ (ap (λ (l : List Y). get_or l i y) are ∙ it.is) in
     let grown : map of (take i xs) ++ of it.x ∷ [] ≡ map of (take (suc i) xs) = sym (map-append of (take i xs) (it.x ∷ [])) ∙ ap (map of) (sym it.more) in
-    ap₂ (λ (a : List V) (b : V). a ++ b ∷ []) (so_far ∙ take-map of i xs) (reads it.x here) ∙ (grown ∙ (sym (take-map of (suc i) xs) ∙ ap (λ k. take k (map of xs)) (sym (add-one i))))
+    ap₂ (λ (a : List V) (b : V). a ++ b ∷ []) (so_far ∙ take-map of i xs) (reads it.x here)
+    ∙ (grown ∙ (sym (take-map of (suc i) xs) ∙ ap (λ k. take k (map of xs)) (sym (add-one i))))

@@ -26,9 +26,11 @@ use Rattle.opc_store_sql.specs.Rows.{IsKept, HasRows}
 use Rattle.opc_store_sql.proofs.Steps.{Edits, nothing_goes}
 use Rattle.opc_store_sql.proofs.Rows.{put_all_fresh, put_all_kept, left_is, filter_kept}
 
-module _ (schema : Schema) (table : Table) (source : Row) (old : Trees) (new : Database) (edits : Edits schema (edit_of old table [] Chosen 0 (source ∷ [])) old new) where
+module _ (schema : Schema) (table : Table) (source : Row) (old : Trees) (new : Database)
+    (edits : Edits schema (edit_of old table [] Chosen 0 (source ∷ [])) old new) where
   pub applied : Applies schema Enforced old (edit_of old table [] Chosen 0 (source ∷ [])) new.trees
-  applied = one_step schema Enforced old new.trees (edit_of old table [] Chosen 0 (source ∷ [])) (nothing_goes schema Enforced table.tree (edit_of old table [] Chosen 0 (source ∷ [])).news) edits.writes
+  applied = one_step schema Enforced old new.trees (edit_of old table [] Chosen 0 (source ∷ []))
+      (nothing_goes schema Enforced table.tree (edit_of old table [] Chosen 0 (source ∷ [])).news) edits.writes
 
   abbrev edit : Row → Edit
   edit row = record { table = table; gone = []; news = row ∷ [] }
@@ -41,20 +43,34 @@ module _ (schema : Schema) (table : Table) (source : Row) (old : Trees) (new : D
   )
 
   -- in a table with rowids of its own
-  pub adds_row : (values : Row) → cast_row table source ≡ Null ∷ values → (have : List Row) → HasRows have (old table.tree) → HasRows (values ∷ have) (new.trees table.tree)
+  pub adds_row : (values : Row) → cast_row table source ≡ Null ∷ values → (have : List Row)
+      → HasRows have (old table.tree) → HasRows (values ∷ have) (new.trees table.tree)
   adds_row values cast have h =
       let row : Row = Int (next_rowid (old table.tree)) ∷ values in
-      let done : Applies schema Enforced old (edit row) new.trees = subst (λ (r : Row). Applies schema Enforced old (record { table = table; gone = []; news = with_rowid Chosen (old table.tree) r ∷ [] }) new.trees) cast applied in
+      let done : Applies schema Enforced old (edit row) new.trees = subst (λ (r : Row). Applies schema Enforced old (record {
+        table = table;
+        gone = [];
+        news = with_rowid Chosen (old table.tree) r ∷ [];
+      }) new.trees) cast applied in
       let it = added row refl done h.kept in
       record { each = IsPermutation-trans _ _ _ (IsPermutation-cons values _ _ h.each) (IsPermutation-map (λ (r : Row). drop 1 r) _ _ it.0); kept = it.1 }
 
   -- in a table whose key is the rowid, one above the last
-  pub adds_last : (values : Row) → cast_row table source ≡ Null ∷ values → new.trees table.tree ≡ put_row (Int (next_rowid (old table.tree)) ∷ values) (old table.tree)
-  adds_last values cast = (subst (λ (r : Row). Applies schema Enforced old (record { table = table; gone = []; news = with_rowid Chosen (old table.tree) r ∷ [] }) new.trees) cast applied).rows
+  pub adds_last : (values : Row) → cast_row table source ≡ Null ∷ values
+      → new.trees table.tree ≡ put_row (Int (next_rowid (old table.tree)) ∷ values) (old table.tree)
+  adds_last values cast = (subst (λ (r : Row). Applies schema Enforced old (record {
+    table = table;
+    gone = [];
+    news = with_rowid Chosen (old table.tree) r ∷ [];
+  }) new.trees) cast applied).rows
 
   -- in a table whose key is the rowid, at a number that is given
   pub adds_given : (id : ℤ) (values : Row) → cast_row table source ≡ Int id ∷ values → new.trees table.tree ≡ put_row (Int id ∷ values) (old table.tree)
-  adds_given id values cast = (subst (λ (r : Row). Applies schema Enforced old (record { table = table; gone = []; news = with_rowid Chosen (old table.tree) r ∷ [] }) new.trees) cast applied).rows
+  adds_given id values cast = (subst (λ (r : Row). Applies schema Enforced old (record {
+    table = table;
+    gone = [];
+    news = with_rowid Chosen (old table.tree) r ∷ [];
+  }) new.trees) cast applied).rows
 
 -- ---- rows that pass a test go, or are replaced
 
@@ -68,7 +84,9 @@ module _ (schema : Schema) (table : Table) (tests more : List Term) (params : Ro
   ids_same =
       let f = λ (o : Output). id_in (rowid o.1) in
       let first = map-map f (shown table.tree tests (col 1 0 ∷ more) [] old params) (filter meets (old table.tree)) in
-      let last : map f lists.ordered ≡ ids_of rows = sym (map-map (λ (r : Row). id_in (rowid r)) (λ (o : Output). o.1) lists.ordered) ∙ ap ids_of (sym lists.are) in
+      let last : map f lists.ordered ≡ ids_of rows =
+      sym (map-map (λ (r : Row). id_in (rowid r)) (λ (o : Output). o.1) lists.ordered)
+      ∙ ap ids_of (sym lists.are) in
       subst (λ (l : List ℤ). IsPermutation l (ids_of rows)) first (subst (IsPermutation _) last (IsPermutation-map f _ _ lists.same))
 
   pub left : IsKept (old table.tree) → without_all (old table.tree) (ids_of rows) ≡ filter (λ r. not (meets r)) (old table.tree)
@@ -83,7 +101,8 @@ module _ (schema : Schema) (table : Table) (tests more : List Term) (params : Ro
         filter-map (λ v. not (q v)) (λ (r : Row). drop 1 r) db ∙ ap (map (λ (r : Row). drop 1 r)) (filter_same _ _ (λ r. ap not (sym (same r))) db) in
         subst (IsPermutation (filter (λ v. not (q v)) have)) moved (IsPermutation-filter (λ v. not (q v)) _ _ has.each)
 
-    pub removes : Applies schema Enforced old (edit_of old table (ids_of rows) Given 0 []) new.trees → HasRows (filter (λ v. not (q v)) have) (new.trees table.tree)
+    pub removes : Applies schema Enforced old (edit_of old table (ids_of rows) Given 0 []) new.trees
+        → HasRows (filter (λ v. not (q v)) have) (new.trees table.tree)
     removes done =
         let is : new.trees table.tree ≡ filter (λ r. not (meets r)) (old table.tree) = done.rows ∙ left has.kept in
         subst (HasRows (filter (λ v. not (q v)) have)) (sym is) (record { each = others_left; kept = filter_kept (λ r. not (meets r)) _ has.kept })
@@ -103,12 +122,16 @@ module _ (schema : Schema) (table : Table) (tests more : List Term) (params : Ro
           let show = shown table.tree tests (col 1 0 ∷ more) [] old params in
           let one : map (λ (o : Output). f o.1) (map show db) ≡ map (λ (r : Row). values) db = map-map (λ (o : Output). f o.1) show db ∙ map_same _ _ set db in
           let two : map (λ (o : Output). f o.1) lists.ordered ≡ map (λ (r : Row). drop 1 r) news =
-          sym (map-map f (λ (o : Output). o.1) lists.ordered) ∙ (ap (map f) (sym lists.are) ∙ sym (map-map (λ (r : Row). drop 1 r) (λ (s : Row). cast_row table (drop 1 s)) rows)) in
+          sym (map-map f (λ (o : Output). o.1) lists.ordered)
+          ∙ (ap (map f) (sym lists.are)
+          ∙ sym (map-map (λ (r : Row). drop 1 r) (λ (s : Row). cast_row table (drop 1 s)) rows)) in
           let same_rows : IsPermutation (map (λ (r : Row). values) db) (map (λ (r : Row). drop 1 r) news) =
-          subst (λ (l : List Row). IsPermutation l (map (λ (r : Row). drop 1 r) news)) one (subst (IsPermutation _) two (IsPermutation-map (λ (o : Output). f o.1) _ _ lists.same)) in
+          subst (λ (l : List Row). IsPermutation l (map (λ (r : Row). drop 1 r) news)) one
+          (subst (IsPermutation _) two (IsPermutation-map (λ (o : Output). f o.1) _ _ lists.same)) in
           let moved : filter q (map (λ (r : Row). drop 1 r) (old table.tree)) ≡ map (λ (r : Row). drop 1 r) db =
           filter-map q (λ (r : Row). drop 1 r) (old table.tree) ∙ ap (map (λ (r : Row). drop 1 r)) (filter_same _ _ (λ r. sym (same r)) (old table.tree)) in
-          let hit : IsPermutation (filter q have) (map (λ (r : Row). drop 1 r) db) = subst (IsPermutation (filter q have)) moved (IsPermutation-filter q _ _ has.each) in
+          let hit : IsPermutation (filter q have) (map (λ (r : Row). drop 1 r) db) =
+          subst (IsPermutation (filter q have)) moved (IsPermutation-filter q _ _ has.each) in
           let consts : IsPermutation (map (λ (v : Row). values) (filter q have)) (map (λ (r : Row). values) db) =
           subst (IsPermutation _) (map-map (λ (v : Row). values) (λ (r : Row). drop 1 r) db) (IsPermutation-map (λ (v : Row). values) _ _ hit) in
           IsPermutation-trans _ _ _ consts same_rows
@@ -118,13 +141,19 @@ module _ (schema : Schema) (table : Table) (tests more : List Term) (params : Ro
           is ∙ (ap length (given (without_all (old table.tree) (ids_of rows)) news)
           ∙ (sym (length-map news (λ (r : Row). drop 1 r)) ∙ (length_permutation _ _ news_are ∙ length-map (filter q have) (λ (v : Row). values))))
 
-      pub replaces : Applies schema Enforced old change new.trees → HasRows (map (λ (v : Row). values) (filter q have) ++ filter (λ v. not (q v)) have) (new.trees table.tree)
+      pub replaces : Applies schema Enforced old change new.trees
+          → HasRows (map (λ (v : Row). values) (filter q have) ++ filter (λ v. not (q v)) have) (new.trees table.tree)
       replaces done =
           let gone = left has.kept in
           let rest = filter (λ r. not (meets r)) (old table.tree) in
           let is : new.trees table.tree ≡ put_all rest news = done.rows ∙ ap (λ (l : List Row). put_all l news) gone in
           let fresh : are_fresh rest news ≡ true = subst (λ (l : List Row). are_fresh l news ≡ true) gone done.fresh in
           let put : IsPermutation (map (λ (r : Row). drop 1 r) news ++ map (λ (r : Row). drop 1 r) rest) (map (λ (r : Row). drop 1 r) (put_all rest news)) =
-          subst (λ (l : List Row). IsPermutation l (map (λ (r : Row). drop 1 r) (put_all rest news))) (map-append (λ (r : Row). drop 1 r) news rest) (IsPermutation-map (λ (r : Row). drop 1 r) _ _ (put_all_fresh news rest fresh)) in
+          subst (λ (l : List Row). IsPermutation l (map (λ (r : Row). drop 1 r) (put_all rest news)))
+          (map-append (λ (r : Row). drop 1 r) news rest)
+          (IsPermutation-map (λ (r : Row). drop 1 r) _ _ (put_all_fresh news rest fresh)) in
           let whole = IsPermutation-trans _ _ _ (IsPermutation-append _ _ _ _ news_are others_left) put in
-          subst (HasRows _) (sym is) (record { each = whole; kept = put_all_kept news rest (all_from_test _ news done.keyed) (filter_kept (λ r. not (meets r)) _ has.kept) })
+          subst (HasRows _) (sym is) (record {
+            each = whole;
+            kept = put_all_kept news rest (all_from_test _ news done.keyed) (filter_kept (λ r. not (meets r)) _ has.kept);
+          })

@@ -17,14 +17,17 @@ module _ {X : Type 0} (row fixed : X → Row) (p : X → Bool) (same : (x : X) �
   fixed_same [] = refl
   fixed_same (x ∷ xs) = go (p x) refl (fixed_same xs)
     where
-      go : (b : Bool) → p x ≡ b → map fixed (filter p xs) ≡ map row (filter p xs) → map fixed (cond b (x ∷ filter p xs) (filter p xs)) ≡ map row (cond b (x ∷ filter p xs) (filter p xs))
+      go : (b : Bool) → p x ≡ b → map fixed (filter p xs) ≡ map row (filter p xs)
+          → map fixed (cond b (x ∷ filter p xs) (filter p xs)) ≡ map row (cond b (x ∷ filter p xs) (filter p xs))
       go true e more = ap₂ (λ (r : Row) (rows : List Row). r ∷ rows) (same x e) more
       go false e more = more
 
 -- `fixed` is the row with the columns as the test wants them
-module _ (a : Asked) (params : Row) (values : is_of_values a ≡ true) {X : Type 0} (row fixed : X → Row) (cmp : X → X → Ordering) (whole : (x : X) → (tells a params (Null ∷ fixed x)).1 ≡ fixed x)
+module _ (a : Asked) (params : Row) (values : is_of_values a ≡ true) {X : Type 0} (row fixed : X → Row)
+    (cmp : X → X → Ordering) (whole : (x : X) → (tells a params (Null ∷ fixed x)).1 ≡ fixed x)
     (less : (x y : X) → cmp x y ≡ Less → output_cmp (query a) (tells a params (Null ∷ fixed x)) (tells a params (Null ∷ fixed y)) ≡ Less)
-    (p : X → Bool) (passing : (x : X) → picks a params (Null ∷ row x) ≡ p x) (same : (x : X) → p x ≡ true → fixed x ≡ row x) (old new : State) (has : old.now.schema ≡ a.schema)
+    (p : X → Bool) (passing : (x : X) → picks a params (Null ∷ row x) ≡ p x)
+    (same : (x : X) → p x ≡ true → fixed x ≡ row x) (old new : State) (has : old.now.schema ≡ a.schema)
     (xs : List X) (up : Rises cmp xs) (had : HasRows (map row xs) (old.now.trees a.tree)) (rows : List Row) (h : Shown a.text params old new rows) where
   kept : Rises cmp (filter p xs)
   kept = ascending-filter _ p xs up

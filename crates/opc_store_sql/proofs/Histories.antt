@@ -1,4 +1,5 @@
--- A table whose rows come to its end, each numbered by its place: what its INSERT makes of it. Its first column is the number, and is given as NULL.
+-- A table whose rows come to its end, each numbered by its place: what its INSERT makes of it. Its first column is the
+-- number, and is given as NULL.
 use Rattle.std.proofs.Common.{◌≡◌, ℕ, ◌+◌, ◌-◌, ◌/◌, ◌<◌, ◌^◌, pos, List, [], ◌∷◌, ◌++◌, drop, length, slice_get, Some, Ok, ap, ap₂, ◌∙◌, arith, length-append}
 use Rattle.sqlite.specs.declared.types.Value.{Value}
 use Rattle.sqlite.specs.declared.types.Value.TheVariants.{Null, Int}
@@ -49,17 +50,23 @@ module _ {X : Type 0} (k : History X) where
     pub gives : (x : X) → value_rows (params x) width (length terms / width) terms ≡ (Null ∷ k.values x) ∷ []
     pub stores : (x : X) → StoresAsIs k.table.columns (k.values x)
 
-  -- one more, after those that are there; and where its number is one that a table can hold, there are not more rows than that
+  -- one more, after those that are there; and where its number is one that a table can hold, there are not more rows
+  -- than that
   pub record Grows (old new : State) (xs : List X) (x : X) : Type 0 where
     pub spares : Spares k.schema k.table old.now.trees new.now
     pub rows : new.now.trees k.table.tree ≡ numbered_rows k.values 1 (xs ++ x ∷ [])
     pub fits : ((n : ℕ) → new.last_rowid ≡ pos n → n < 2 ^ 63) → length (xs ++ x ∷ []) < 2 ^ 63
 
-  pub grows : IsHistory → (old new : State) (count : ℕ) → old.now.schema ≡ k.schema → (xs : List X) → old.now.trees k.table.tree ≡ numbered_rows k.values 1 xs → (x : X) → Executes k.insert (params x) old new (Ok count) → Grows old new xs x
+  pub grows : IsHistory → (old new : State) (count : ℕ) → old.now.schema ≡ k.schema → (xs : List X)
+      → old.now.trees k.table.tree ≡ numbered_rows k.values 1 xs → (x : X)
+      → Executes k.insert (params x) old new (Ok count) → Grows old new xs x
   grows is old new count has xs are x h =
-      let kept : cast_row k.table (Null ∷ k.values x) ≡ Null ∷ k.values x = ap₂ (λ (v : Value) (r : Row). v ∷ r) cast_null (stored k.table.columns (k.values x) (is.stores x)) in
-      let it = adds_at_end k.schema k.insert k.place k.table (params x) is.plain is.found old new has count terms width is.is is.simple (k.values x) (is.gives x) kept h in
-      let last = number_is k.schema k.insert k.place k.table (params x) is.plain is.found old new has count terms width is.is is.simple (k.values x) (is.gives x) kept k.values xs are h in
+      let kept : cast_row k.table (Null ∷ k.values x) ≡ Null ∷ k.values x =
+      ap₂ (λ (v : Value) (r : Row). v ∷ r) cast_null (stored k.table.columns (k.values x) (is.stores x)) in
+      let it = adds_at_end k.schema k.insert k.place k.table (params x) is.plain is.found old new has count terms width
+      is.is is.simple (k.values x) (is.gives x) kept h in
+      let last = number_is k.schema k.insert k.place k.table (params x) is.plain is.found old new has count terms width
+      is.is is.simple (k.values x) (is.gives x) kept k.values xs are h in
       record {
         spares = it.spares;
         rows = it.rows ∙ (ap (λ (l : List Row). put_row (Int (next_rowid l) ∷ k.values x) l) are ∙ put_next k.values xs x);

@@ -1,5 +1,43 @@
--- A table whose key are its first columns, with its three statements: INSERT of a row, UPDATE of all columns at its key, DELETE at a key.
-use Rattle.std.proofs.Common.{◌≡◌, ◌≢◌, ℕ, zero, suc, ◌+◌, ◌/◌, List, [], ◌∷◌, map, take, drop, length, slice_get, Bool, true, false, cond, not, ◌&&◌, ◌==◌, Option, Some, None, Ok, refl, sym, ap, ap₂, subst, ◌∙◌, add-one, arith, Ordering, is_eq}
+-- A table whose key are its first columns, with its three statements: INSERT of a row, UPDATE of all columns at its
+-- key, DELETE at a key.
+use Rattle.std.proofs.Common.{
+  ◌≡◌,
+  ◌≢◌,
+  ℕ,
+  zero,
+  suc,
+  ◌+◌,
+  ◌/◌,
+  List,
+  [],
+  ◌∷◌,
+  map,
+  take,
+  drop,
+  length,
+  slice_get,
+  Bool,
+  true,
+  false,
+  cond,
+  not,
+  ◌&&◌,
+  ◌==◌,
+  Option,
+  Some,
+  None,
+  Ok,
+  refl,
+  sym,
+  ap,
+  ap₂,
+  subst,
+  ◌∙◌,
+  add-one,
+  arith,
+  Ordering,
+  is_eq,
+}
 use Rattle.std.proofs.lemmas.Bool.{and_parts}
 use Rattle.std.specs.List.{list_all, list_any, flat_map, filter_map}
 use Rattle.std.specs.BTreeSet.{replace_key}
@@ -76,7 +114,10 @@ spared_by tree (Some deed) None = true
 spared_by tree (Some deed) (Some key) = not (key.0 == tree)
 
 abbrev pub is_idle : Schema → ℕ → Bool → Bool
-is_idle schema tree deletes = list_all (λ (child : Table). list_all (λ (ref : Reference). spared_by tree (deed_for Enforced deletes ref) (parent_key schema.tables ref)) child.references) schema.tables
+is_idle schema tree deletes =
+    list_all (λ (child : Table). list_all
+    (λ (ref : Reference). spared_by tree (deed_for Enforced deletes ref) (parent_key schema.tables ref))
+    child.references) schema.tables
 
 module _ {X : Type 0} (k : Keyed X) where
   abbrev pub terms : List Term
@@ -110,7 +151,8 @@ module _ {X : Type 0} (k : Keyed X) where
     pub stores : (x : X) → StoresAsIs k.table.columns (k.row x)
     -- the columns are as many as the values
     pub values : (x : X) (rest : Env) → eval_all terms (k.row x ∷ rest) ≡ k.row x
-    pub gives : (x : X) → value_rows (k.row x) (length k.table.columns + 1) (length (lit Null ∷ terms) / (length k.table.columns + 1)) (lit Null ∷ terms) ≡ (Null ∷ k.row x) ∷ []
+    pub gives : (x : X) → value_rows (k.row x) (length k.table.columns + 1)
+        (length (lit Null ∷ terms) / (length k.table.columns + 1)) (lit Null ∷ terms) ≡ (Null ∷ k.row x) ∷ []
     pub tested : (x : X) (rest : Env) → list_all (holds (k.row x ∷ rest)) tests ≡ list_all (holds (key_of x ∷ rest)) tests
     -- and the key tells the members apart
     pub total : IsTotalOrder k.cmp
@@ -131,22 +173,34 @@ later : (first : ℕ) (r : Row) → column r (first + 1) ≡ column (Null ∷ dr
 later first r = subst (λ n. column r n ≡ column (Null ∷ drop 1 r) n) (sym (add-one first)) (shifted first r)
 
 -- tests of columns do not read the rowid
-no_rowid : (params r : Row) (first n : ℕ) → list_all (holds (params ∷ r ∷ [])) (same_columns first n) ≡ list_all (holds (params ∷ (Null ∷ drop 1 r) ∷ [])) (same_columns first n)
+no_rowid : (params r : Row) (first n : ℕ)
+    → list_all (holds (params ∷ r ∷ [])) (same_columns first n) ≡ list_all (holds (params ∷ (Null ∷ drop 1 r) ∷ []))
+    (same_columns first n)
 no_rowid params r first zero = refl
 no_rowid params r first (suc n) =
     ap₂ (λ (v : Value) (b : Bool). is_true (binary (Compare Eq Binary) v (column params first)) && b) (later first r) (no_rowid params r (first + 1) n)
 
 module _ (tree : ℕ) (moves : List (Row × Row)) where
-  no_deed : (child : Table) (ref : Reference) (deed : Option Deed) (key : Option ParentKey) → spared_by tree deed key ≡ true → work_by 0 tree moves child ref deed key ≡ None
+  no_deed : (child : Table) (ref : Reference) (deed : Option Deed) (key : Option ParentKey)
+      → spared_by tree deed key ≡ true → work_by 0 tree moves child ref deed key ≡ None
   no_deed child ref None key h = refl
   no_deed child ref (Some deed) None h = refl
-  no_deed child ref (Some deed) (Some key) h = go (key.0 == tree) (list_any (loses key.2 key.1) moves) h (record { depth = 0; child = child; ref = ref; places = key.1; order = key.2; deed = deed; moves = moves })
+  no_deed child ref (Some deed) (Some key) h = go (key.0 == tree) (list_any (loses key.2 key.1) moves) h (record {
+    depth = 0;
+    child = child;
+    ref = ref;
+    places = key.1;
+    order = key.2;
+    deed = deed;
+    moves = moves;
+  })
     where
       go : (here some : Bool) → not here ≡ true → (w : Work) → cond (here && some) (Some w) None ≡ None
       go true some h w = absurd cc
       go false some h w = refl
 
-none_filtered : {A B : Type 0} (f : A → Option B) (p : A → Bool) → ((x : A) → p x ≡ true → f x ≡ None) → (xs : List A) → list_all p xs ≡ true → filter_map f xs ≡ []
+none_filtered : {A B : Type 0} (f : A → Option B) (p : A → Bool) → ((x : A) → p x ≡ true → f x ≡ None) → (xs : List A)
+    → list_all p xs ≡ true → filter_map f xs ≡ []
 none_filtered f p none [] h = refl
 none_filtered f p none (x ∷ xs) h = let both = and_parts (p x) (list_all p xs) h in rw (none x both.0, none_filtered f p none xs both.1)
 
@@ -155,10 +209,14 @@ none_flat f p none [] h = refl
 none_flat f p none (x ∷ xs) h = let both = and_parts (p x) (list_all p xs) h in rw (none x both.0, none_flat f p none xs both.1)
 
 -- where no reference acts, no row that goes or gets another key sets anything off
-pub nothing_acts : (schema : Schema) (tree : ℕ) → is_idle schema tree true ≡ true → is_idle schema tree false ≡ true → (olds news : List Row) → works schema Enforced 0 tree olds news ≡ []
+pub nothing_acts : (schema : Schema) (tree : ℕ) → is_idle schema tree true ≡ true → is_idle schema tree false ≡ true
+    → (olds news : List Row) → works schema Enforced 0 tree olds news ≡ []
 nothing_acts schema tree deletes changes olds news = go (length news == 0)
   where
-    go : (b : Bool) → flat_map (λ (child : Table). filter_map (λ (ref : Reference). work_by 0 tree (pairs olds news) child ref (deed_for Enforced b ref) (parent_key schema.tables ref)) child.references) schema.tables ≡ []
+    go : (b : Bool)
+        → flat_map (λ (child : Table). filter_map
+        (λ (ref : Reference). work_by 0 tree (pairs olds news) child ref (deed_for Enforced b ref)
+        (parent_key schema.tables ref)) child.references) schema.tables ≡ []
     go b = none_flat _ _ (λ child. none_filtered _ _ (λ ref. no_deed tree (pairs olds news) child ref _ _) child.references) schema.tables (idle b)
       where
         idle : (b : Bool) → is_idle schema tree b ≡ true
@@ -174,7 +232,9 @@ module _ {X : Type 0} (k : Keyed X) (is : IsKeyed k) (x : X) where
   abbrev pub rest : List X → List X
   rest = others k.cmp is.total x
 
-  tests_key : (params : Row) → ((rest : Env) → list_all (holds (params ∷ rest)) (tests k) ≡ list_all (holds (key_of k x ∷ rest)) (tests k)) → (project : List Term) (db : Trees) (r : Row)
+  tests_key : (params : Row) → ((rest : Env)
+      → list_all (holds (params ∷ rest)) (tests k) ≡ list_all (holds (key_of k x ∷ rest)) (tests k))
+      → (project : List Term) (db : Trees) (r : Row)
       → passes k.table.tree (tests k) project [] db params r ≡ has_key k x (drop 1 r)
   tests_key params same project db r = same (r ∷ []) ∙ no_rowid (key_of k x) r 0 k.width
 
@@ -188,15 +248,18 @@ module _ {X : Type 0} (k : Keyed X) (is : IsKeyed k) (x : X) where
     sets_row =
         sets k.schema k.update k.place k.table (k.row x) is.texts.update_plain is.found old new has count (tests k) (has_key k x) (terms k) is.texts.update_is
         (tests_key (k.row x) (is.tested x) (col 1 0 ∷ col 1 0 ∷ terms k) old.now.trees) (k.row x)
-        (λ r. ap (cast_all k.table.columns) (is.values x (r ∷ [])) ∙ stored k.table.columns (k.row x) (is.stores x)) (nothing_acts k.schema k.table.tree is.idle.0 is.idle.1)
+        (λ r. ap (cast_all k.table.columns) (is.values x (r ∷ [])) ∙ stored k.table.columns (k.row x) (is.stores x))
+        (nothing_acts k.schema k.table.tree is.idle.0 is.idle.1)
 
     adds_row : Executes k.insert (k.row x) old new (Ok count) → Adds k.schema k.table (k.row x) old.now.trees new.now
     adds_row =
-        adds k.schema k.insert k.place k.table (k.row x) is.texts.insert_plain is.found old new has count (lit Null ∷ terms k) (length k.table.columns + 1) is.texts.insert_is is.simple
+        adds k.schema k.insert k.place k.table (k.row x) is.texts.insert_plain is.found old new has count
+        (lit Null ∷ terms k) (length k.table.columns + 1) is.texts.insert_is is.simple
         (k.row x) (is.gives x) (ap₂ (λ (v : Value) (r : Row). v ∷ r) cast_null (stored k.table.columns (k.row x) (is.stores x)))
 
     module _ (xs : List X) (up : Rises k.cmp xs) where
-      pub removes : HasRows (map k.row xs) (old.now.trees k.table.tree) → Executes k.delete (key_of k x) old new (Ok count) → Has k (rest xs) old.now.trees new.now
+      pub removes : HasRows (map k.row xs) (old.now.trees k.table.tree)
+          → Executes k.delete (key_of k x) old new (Ok count) → Has k (rest xs) old.now.trees new.now
       removes had h =
           let it = takes_key h in
           record { spares = it.spares; rows = taken k.row k.cmp is.total x (has_key k x) (is.picks x) k.schema k.table xs up old.now.trees new.now had it }
@@ -206,30 +269,41 @@ module _ {X : Type 0} (k : Keyed X) (is : IsKeyed k) (x : X) where
           → (count ≢ 0 → Has k (replace_key k.cmp xs x) old.now.trees new.now) × (count ≡ 0 → Has k (rest xs) old.now.trees new.now)
       updates had h =
           let it = sets_row h in (
-            λ some. record { spares = it.spares; rows = set k.row k.cmp is.total x (has_key k x) (is.picks x) k.schema k.table xs up old.now.trees new.now had count it some },
-            λ none. record { spares = it.spares; rows = missed k.row k.cmp is.total x (has_key k x) (is.picks x) k.schema k.table xs up old.now.trees new.now had count it none },
+            λ some. record {
+              spares = it.spares;
+              rows = set k.row k.cmp is.total x (has_key k x) (is.picks x) k.schema k.table xs up old.now.trees new.now had count it some;
+            },
+            λ none. record {
+              spares = it.spares;
+              rows = missed k.row k.cmp is.total x (has_key k x) (is.picks x) k.schema k.table xs up old.now.trees new.now had count it none;
+            },
           )
 
       -- it was not there, and comes
-      pub inserts : HasRows (map k.row (rest xs)) (old.now.trees k.table.tree) → Executes k.insert (k.row x) old new (Ok count) → Has k (replace_key k.cmp xs x) old.now.trees new.now
+      pub inserts : HasRows (map k.row (rest xs)) (old.now.trees k.table.tree)
+          → Executes k.insert (k.row x) old new (Ok count) → Has k (replace_key k.cmp xs x) old.now.trees new.now
       inserts had h =
           let it = adds_row h in
           record { spares = it.spares; rows = added k.row k.cmp is.total x (has_key k x) (is.picks x) k.schema k.table xs up old.now.trees new.now had it }
 
-spares_then : (schema : Schema) (table : Table) (old : Trees) (mid new : Database) → Spares schema table old mid → Spares schema table mid.trees new → Spares schema table old new
+spares_then : (schema : Schema) (table : Table) (old : Trees) (mid new : Database) → Spares schema table old mid
+    → Spares schema table mid.trees new → Spares schema table old new
 spares_then schema table old mid new a b = record {
   schema_is = b.schema_is;
   sound = b.sound;
-  tables = all_both _ _ (λ (t : Table). t.tree ≢ table.tree → new.trees t.tree ≡ old t.tree) (λ t before after other. after other ∙ before other) schema.tables a.tables b.tables;
+  tables = all_both _ _ (λ (t : Table). t.tree ≢ table.tree → new.trees t.tree ≡ old t.tree)
+      (λ t before after other. after other ∙ before other) schema.tables a.tables b.tables;
 }
 
-module _ {S : Type 0} (g : Ghosts S) {X : Type 0} (k : Keyed X) (is : IsKeyed k) (old new : Held S) (has : (state g old).now.schema ≡ k.schema) (xs : List X) (up : Rises k.cmp xs)
+module _ {S : Type 0} (g : Ghosts S) {X : Type 0} (k : Keyed X) (is : IsKeyed k) (old new : Held S)
+    (has : (state g old).now.schema ≡ k.schema) (xs : List X) (up : Rises k.cmp xs)
     (had : HasRows (map k.row xs) ((state g old).now.trees k.table.tree)) (x : X) where
   -- a row is put at its key
   pub puts : Puts g k.update k.insert (k.row x) old new → Has k (replace_key k.cmp xs x) (state g old).now.trees (state g new).now
   puts h = go h.found refl
     where
-      updated : (h.found ≢ 0 → Has k (replace_key k.cmp xs x) (state g old).now.trees (state g h.mid).now) × (h.found ≡ 0 → Has k (rest k is x xs) (state g old).now.trees (state g h.mid).now)
+      updated : (h.found ≢ 0 → Has k (replace_key k.cmp xs x) (state g old).now.trees (state g h.mid).now)
+          × (h.found ≡ 0 → Has k (rest k is x xs) (state g old).now.trees (state g h.mid).now)
       updated = updates k is x (state g old) (state g h.mid) h.found has xs up had h.updates.executes
 
       go : (found : ℕ) → h.found ≡ found → Has k (replace_key k.cmp xs x) (state g old).now.trees (state g new).now

@@ -23,7 +23,8 @@ module _ {S : Type 0} (g : Ghosts S) where
   }
 
   -- what held of the tables holds still
-  pub looked : (X E : Type 0) (x : X) (a b : Held S) → (let q : Result X E = Ok x in Looks g a b q) → HasCleanDisk (state g b) → (P : Database → Type 0) → P (state g a).now → P (state g b).now
+  pub looked : (X E : Type 0) (x : X) (a b : Held S) → (let q : Result X E = Ok x in Looks g a b q)
+      → HasCleanDisk (state g b) → (P : Database → Type 0) → P (state g a).now → P (state g b).now
   looked X E x a b p clean P h = subst P (sym (p.same clean (p.opened clean))) h
 
   -- whatever value it gave
@@ -42,7 +43,8 @@ not_ok P (Err e) h = tt
 
 module _ {S : Type 0} (g : Ghosts S) where
   -- nothing was changed
-  pub looks_unchanged : {X E : Type 0} (r : Result X E) (a b : Held S) → Survives (state g a) (state g b) (λ _. ⊥) → (HasCleanDisk (state g b) → IsUnchanged (state g a) (state g b)) → Looks g a b r
+  pub looks_unchanged : {X E : Type 0} (r : Result X E) (a b : Held S) → Survives (state g a) (state g b) (λ _. ⊥)
+      → (HasCleanDisk (state g b) → IsUnchanged (state g a) (state g b)) → Looks g a b r
   looks_unchanged r a b survives same = record {
     survives = survives;
     opened = λ clean. on_ok r (same clean).0.is_open;
@@ -51,7 +53,8 @@ module _ {S : Type 0} (g : Ghosts S) where
   }
 
   -- one step after another, and nothing was changed
-  pub looks_moved : {X E : Type 0} (r : Result X E) (a mid b : Held S) → Survives (state g a) (state g mid) (λ _. ⊥) → (HasCleanDisk (state g mid) → IsUnchanged (state g a) (state g mid))
+  pub looks_moved : {X E : Type 0} (r : Result X E) (a mid b : Held S) → Survives (state g a) (state g mid) (λ _. ⊥)
+      → (HasCleanDisk (state g mid) → IsUnchanged (state g a) (state g mid))
       → Survives (state g mid) (state g b) (λ _. ⊥) → (HasCleanDisk (state g b) → IsUnchanged (state g mid) (state g b)) → Looks g a b r
   looks_moved r a mid b first was last same =
       looks_unchanged r a b (survives_then (state g a) (state g mid) (state g b) _ _ (λ _. ⊥) (λ _ db none. none) (λ _ db none. none) first last)
@@ -63,7 +66,14 @@ module _ {S : Type 0} (g : Ghosts S) where
   -- before the first query
   pub looks_start : {X E : Type 0} (r : Result X E) → IsErr r → (a : Held S) → Looks g a a r
   looks_start r is_err a = record {
-    survives = record { clean = omega arith; shield = λ h. h; counts = omega arith; limit = refl; closes = λ clean is_open. inl is_open; crash = λ clean db leaves. inl leaves };
+    survives = record {
+      clean = omega arith;
+      shield = λ h. h;
+      counts = omega arith;
+      limit = refl;
+      closes = λ clean is_open. inl is_open;
+      crash = λ clean db leaves. inl leaves;
+    };
     opened = λ clean. not_ok _ r is_err;
     was_open = λ clean is_open. is_open;
     same = λ clean is_open. refl;
@@ -96,12 +106,15 @@ module _ {S : Type 0} (g : Ghosts S) where
         }
 
     -- what held of the tables at first holds where a query gave a value
-    pub looked_on : {Y F : Type 0} (y : Y) → (let q : Result Y F = Ok y in Looks g b c q) → HasCleanDisk (state g c) → (P : Database → Type 0) → P (state g a).now → P (state g b).now
+    pub looked_on : {Y F : Type 0} (y : Y) → (let q : Result Y F = Ok y in Looks g b c q) → HasCleanDisk (state g c)
+        → (P : Database → Type 0) → P (state g a).now → P (state g b).now
     looked_on y h clean P was = subst P (sym (before.same (omega (arith, h.survives.clean)) (h.was_open clean (h.opened clean)))) was
 
   module _ (a : Held S) (settled : IsTrue (state g a).is_open → (state g a).now ≡ (state g a).committed) where
     -- the query did not begin
-    pub looks_refused : {X E : Type 0} (r : Result X E) → IsErr r → (b : Held S) (sql : List ℕ) (params : Row) (e : Error) → NeverWrites sql → Survives (state g a) (state g b) (CommitsShowing sql params (state g a))
+    pub looks_refused : {X E : Type 0} (r : Result X E) → IsErr r
+        → (b : Held S) (sql : List ℕ) (params : Row) (e : Error) → NeverWrites sql
+        → Survives (state g a) (state g b) (CommitsShowing sql params (state g a))
         → (HasCleanDisk (state g b) → FailsToQuery sql params (state g a) (state g b) e) → Looks g a b r
     looks_refused r is_err b sql params e quiet survives failed =
         let none : Result (List Row) Error = Err e in

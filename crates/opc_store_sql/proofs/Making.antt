@@ -25,10 +25,13 @@ use Rattle.opc_store_sql.specs.Steps.{RanAll}
 use Rattle.opc_store_sql.proofs.OtherTables.{none_filled, filled_kept}
 use Rattle.opc_store_sql.proofs.Steps.{went, same_value}
 
--- the statement is a plain CREATE TABLE of the table, beside what is there; of texts that are written out `refl` shows each part
+-- the statement is a plain CREATE TABLE of the table, beside what is there; of texts that are written out `refl` shows
+-- each part
 abbrev pub Defines : Schema → List ℕ → Table → Type 0
 Defines schema sql table =
-    (command_of (understood schema sql) ≡ CreateTable) × IsPlain (understood schema sql) × (table_defined_by (statement_of sql (understood schema sql)) ≡ Ok table) × (lacks_sequence (created schema table) ≡ false)
+    (command_of (understood schema sql) ≡ CreateTable) × IsPlain (understood schema sql)
+    × (table_defined_by (statement_of sql (understood schema sql)) ≡ Ok table)
+    × (lacks_sequence (created schema table) ≡ false)
 
 -- the table is there, without rows, and the others have theirs
 pub record Created (schema : Schema) (table : Table) (old new : Database) : Type 0 where
@@ -37,7 +40,8 @@ pub record Created (schema : Schema) (table : Table) (old new : Database) : Type
   pub fresh : new.trees (next_tree schema) ≡ []
   pub others : KeepsRows schema.tables old.trees new.trees
 
-pub creates_alone : (schema : Schema) (sql : List ℕ) (table : Table) → Defines schema sql table → (old new : State) (count : ℕ) → old.now.schema ≡ schema → Executes sql [] old new (Ok count)
+pub creates_alone : (schema : Schema) (sql : List ℕ) (table : Table) → Defines schema sql table
+    → (old new : State) (count : ℕ) → old.now.schema ≡ schema → Executes sql [] old new (Ok count)
     → Created schema table old.now new.now
 creates_alone schema sql table defines old new count has h =
     let w = runs_as sql [] old new schema has CreateTable defines.0 defines.1 count h in
@@ -53,14 +57,16 @@ creates_alone schema sql table defines old new count has h =
       schema_is = ap (λ (d : Database). d.schema) now ∙ schema_now;
       sound = w.sound;
       fresh = ap (λ (d : Database). d.trees (next_tree schema)) now ∙ subst (λ s. first.0.trees (next_tree s) ≡ []) has made.empty;
-      others = subst (λ (d : Database). KeepsRows schema.tables old.now.trees d.trees) (sym now) (subst (λ (s : Schema). KeepsRows s.tables old.now.trees first.0.trees) has made.others);
+      others = subst (λ (d : Database). KeepsRows schema.tables old.now.trees d.trees) (sym now)
+          (subst (λ (s : Schema). KeepsRows s.tables old.now.trees first.0.trees) has made.others);
     }
 
 -- the statement is a plain CREATE INDEX of the index, on the table at its place
 abbrev pub DefinesIndex : Schema → List ℕ → ℕ × Index → Type 0
 DefinesIndex schema sql i =
     (command_of (understood schema sql) ≡ CreateIndex i.0) × IsPlain (understood schema sql)
-    × (table : Table) × (slice_get schema.tables i.0 ≡ Some table) × (index_defined_by table (statement_of sql (understood schema sql)) ≡ Ok (record i.1 { table = table.tree }))
+    × (table : Table) × (slice_get schema.tables i.0 ≡ Some table)
+    × (index_defined_by table (statement_of sql (understood schema sql)) ≡ Ok (record i.1 { table = table.tree }))
 
 -- the index is there, and the tables have their rows
 pub record Indexed (schema : Schema) (i : ℕ × Index) (old new : Database) : Type 0 where
@@ -68,13 +74,17 @@ pub record Indexed (schema : Schema) (i : ℕ × Index) (old new : Database) : T
   pub sound : IsDatabase new
   pub others : KeepsRows schema.tables old.trees new.trees
 
-pub indexes_alone : (schema : Schema) (sql : List ℕ) (i : ℕ × Index) → DefinesIndex schema sql i → (old new : State) (count : ℕ) → old.now.schema ≡ schema → Executes sql [] old new (Ok count)
+pub indexes_alone : (schema : Schema) (sql : List ℕ) (i : ℕ × Index) → DefinesIndex schema sql i
+    → (old new : State) (count : ℕ) → old.now.schema ≡ schema → Executes sql [] old new (Ok count)
     → Indexed schema i old.now new.now
 indexes_alone schema sql i defines old new count has h =
     let w = runs_as sql [] old new schema has (CreateIndex i.0) defines.0 defines.1 count h in
     let table = defines.2 in
     let found = defines.3 in
-    let does = rw found at (subst (λ s. Does old.step_limit (mode_of old) [] (record { schema = s; trees = old.now.trees }) (statement_of sql (understood schema sql)) None (CreateIndex i.0) (Ok (w.tally, new.now))) has w.changed) in
+    let does = rw found at (subst (λ s. Does old.step_limit (mode_of old) [] (record {
+      schema = s;
+      trees = old.now.trees;
+    }) (statement_of sql (understood schema sql)) None (CreateIndex i.0) (Ok (w.tally, new.now))) has w.changed) in
     let all = went does in
     let made = all.1 in
     let both : Ok made.index ≡ Ok (record i.1 { table = table.tree }) = sym made.defined ∙ defines.4 in
@@ -89,7 +99,8 @@ indexes_alone schema sql i defines old new count has h =
 
 -- ---- many of them
 
-one_more : (tables : List Table) (all : List (List Row)) (table : Table) (rows : List Row) (trees : Trees) → AreFilled tables all trees → IsFilled table rows trees
+one_more : (tables : List Table) (all : List (List Row)) (table : Table) (rows : List Row) (trees : Trees)
+    → AreFilled tables all trees → IsFilled table rows trees
     → AreFilled (tables ++ table ∷ []) (all ++ rows ∷ []) trees
 one_more [] [] table rows trees h has = (has, tt)
 one_more [] (first ∷ all) table rows trees h has = absurd h
@@ -103,23 +114,29 @@ no_rows_of tables = map (λ (t : Table). []) tables
 abbrev at_next : Schema → Table → Table
 at_next schema table = record table { tree = next_tree schema }
 
-made_then : (schema : Schema) (table : Table) (all : List (List Row)) (old new : Database) → AreFilled schema.tables all old.trees → Created schema table old new → HasTables (created schema table) (all ++ [] ∷ []) new
+made_then : (schema : Schema) (table : Table) (all : List (List Row)) (old new : Database)
+    → AreFilled schema.tables all old.trees → Created schema table old new
+    → HasTables (created schema table) (all ++ [] ∷ []) new
 made_then schema table all old new was h = record {
   schema_is = h.schema_is;
   sound = h.sound;
-  filled = one_more schema.tables all (at_next schema table) [] new.trees (filled_kept schema.tables all old.trees new.trees h.others was) (none_filled table.key (new.trees (next_tree schema)) h.fresh);
+  filled = one_more schema.tables all (at_next schema table) [] new.trees
+      (filled_kept schema.tables all old.trees new.trees h.others was)
+      (none_filled table.key (new.trees (next_tree schema)) h.fresh);
 }
 
 -- an index adds no table
 same_tables : (schema : Schema) (i : ℕ × Index) (table : Table) → slice_get schema.tables i.0 ≡ Some table → (indexed_at schema i).tables ≡ schema.tables
 same_tables schema i table found = rw found
 
-indexed_then : (schema : Schema) (i : ℕ × Index) (table : Table) → slice_get schema.tables i.0 ≡ Some table → (all : List (List Row)) (old new : Database) → AreFilled schema.tables all old.trees
+indexed_then : (schema : Schema) (i : ℕ × Index) (table : Table) → slice_get schema.tables i.0 ≡ Some table
+    → (all : List (List Row)) (old new : Database) → AreFilled schema.tables all old.trees
     → Indexed schema i old new → HasTables (indexed_at schema i) all new
 indexed_then schema i table found all old new was h = record {
   schema_is = h.schema_is;
   sound = h.sound;
-  filled = subst (λ (l : List Table). AreFilled l all new.trees) (sym (same_tables schema i table found)) (filled_kept schema.tables all old.trees new.trees h.others was);
+  filled = subst (λ (l : List Table). AreFilled l all new.trees) (sym (same_tables schema i table found))
+      (filled_kept schema.tables all old.trees new.trees h.others was);
 }
 
 -- each statement defines its table, beside those before it
@@ -138,9 +155,12 @@ AreIndexed schema (sql ∷ more) (i ∷ indexes) = DefinesIndex schema sql i × 
 
 module _ {S : Type 0} (g : Ghosts S) where
   -- beside what is there the statements make their tables, without rows
-  pub makes_more : (schema : Schema) (texts : List (List ℕ)) (tables : List Table) (all : List (List Row)) (old new : Held S) → AreDefined schema texts tables → HasTables schema all (state g old).now
+  pub makes_more : (schema : Schema) (texts : List (List ℕ)) (tables : List Table) (all : List (List Row))
+      (old new : Held S) → AreDefined schema texts tables → HasTables schema all (state g old).now
       → RanAll g texts old new → HasTables (fold created schema tables) (all ++ no_rows_of tables) (state g new).now
-  makes_more schema [] [] all old new defined was ran = subst₂ (λ (l : List (List Row)) (h : Held S). HasTables schema l (state g h).now) (sym (append-nil all)) (sym ran) was
+  makes_more schema [] [] all old new defined was ran =
+      subst₂ (λ (l : List (List Row)) (h : Held S). HasTables schema l (state g h).now) (sym (append-nil all)) (sym ran)
+      was
   makes_more schema [] (table ∷ tables) all old new defined was ran = absurd defined
   makes_more schema (sql ∷ more) [] all old new defined was ran = absurd defined
   makes_more schema (sql ∷ more) (table ∷ tables) all old new defined was ran =
@@ -149,7 +169,8 @@ module _ {S : Type 0} (g : Ghosts S) where
       (makes_more (created schema table) more tables (all ++ [] ∷ []) ran.0 new defined.1 (made_then schema table all _ _ was.filled made) ran.3)
 
   -- where nothing is defined they make their tables, and nothing else
-  pub makes_all : (texts : List (List ℕ)) (table : Table) (tables : List Table) (old new : Held S) → (state g old).now.schema ≡ no_schema → RanAll g texts old new → AreDefined no_schema texts (table ∷ tables)
+  pub makes_all : (texts : List (List ℕ)) (table : Table) (tables : List Table) (old new : Held S)
+      → (state g old).now.schema ≡ no_schema → RanAll g texts old new → AreDefined no_schema texts (table ∷ tables)
       → HasTables (fold created no_schema (table ∷ tables)) (no_rows_of (table ∷ tables)) (state g new).now
   makes_all [] table tables old new none ran defined = absurd defined
   makes_all (sql ∷ more) table tables old new none ran defined =
@@ -157,7 +178,8 @@ module _ {S : Type 0} (g : Ghosts S) where
       makes_more (created no_schema table) more tables ([] ∷ []) ran.0 new defined.1 (made_then no_schema table [] _ _ tt made) ran.3
 
   -- the statements make their indexes, and the tables have their rows
-  pub makes_indexes : (schema : Schema) (texts : List (List ℕ)) (indexes : List (ℕ × Index)) (all : List (List Row)) (old new : Held S) → AreIndexed schema texts indexes
+  pub makes_indexes : (schema : Schema) (texts : List (List ℕ)) (indexes : List (ℕ × Index)) (all : List (List Row))
+      (old new : Held S) → AreIndexed schema texts indexes
       → HasTables schema all (state g old).now → RanAll g texts old new → HasTables (fold indexed_at schema indexes) all (state g new).now
   makes_indexes schema [] [] all old new defined was ran = subst (λ (h : Held S). HasTables schema all (state g h).now) (sym ran) was
   makes_indexes schema [] (i ∷ indexes) all old new defined was ran = absurd defined

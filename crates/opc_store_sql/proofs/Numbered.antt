@@ -1,5 +1,31 @@
 -- Tables whose key is the rowid: the rows are in the order of their numbers.
-use Rattle.std.proofs.Common.{◌≡◌, ℕ, ◌+◌, ◌<◌, ℤ, pos, ◌+ℤ◌, suc, List, [], ◌∷◌, ◌++◌, fold, map, length, refl, sym, ap, subst, ◌∙◌, arith, Ordering, Less, Equal, Greater}
+use Rattle.std.proofs.Common.{
+  ◌≡◌,
+  ℕ,
+  ◌+◌,
+  ◌<◌,
+  ℤ,
+  pos,
+  ◌+ℤ◌,
+  suc,
+  List,
+  [],
+  ◌∷◌,
+  ◌++◌,
+  fold,
+  map,
+  length,
+  refl,
+  sym,
+  ap,
+  subst,
+  ◌∙◌,
+  arith,
+  Ordering,
+  Less,
+  Equal,
+  Greater,
+}
 use Rattle.std.specs.List.{AllByRecursion}
 use Rattle.std.specs.BTreeSet.{replace_key}
 use Rattle.std.specs.Ordering.{match_ordering, nat_cmp, int_cmp, ordering_reverse}
@@ -38,11 +64,13 @@ module _ {X : Type 0} (values : X → Row) where
   put_last n [] x = let same : n + 0 ≡ n = omega arith in ap (λ k. numbered_row values k x ∷ []) same
   put_last n (y ∷ xs) x =
       let same : (n + 1) + length xs ≡ n + suc (length xs) = omega arith in
-      let later = subst (λ (k : ℕ). put_row (numbered_row values k x) (numbered_rows values (n + 1) xs) ≡ numbered_rows values (n + 1) (xs ++ x ∷ [])) same (put_last (n + 1) xs x) in
+      let later = subst (λ (k : ℕ). put_row (numbered_row values k x) (numbered_rows values (n + 1) xs) ≡ numbered_rows
+      values (n + 1) (xs ++ x ∷ [])) same (put_last (n + 1) xs x) in
       rw (above n (n + suc (length xs)) (omega arith)) (ap (λ (l : List Row). numbered_row values n y ∷ l) later)
 
   -- one more, at the number after the last
-  pub put_next : (xs : List X) (x : X) → put_row (Int (next_rowid (numbered_rows values 1 xs)) ∷ values x) (numbered_rows values 1 xs) ≡ numbered_rows values 1 (xs ++ x ∷ [])
+  pub put_next : (xs : List X) (x : X) → put_row (Int (next_rowid (numbered_rows values 1 xs)) ∷ values x)
+      (numbered_rows values 1 xs) ≡ numbered_rows values 1 (xs ++ x ∷ [])
   put_next xs x = ap (λ (n : ℤ). put_row (Int n ∷ values x) (numbered_rows values 1 xs)) (next_is xs) ∙ put_last 1 xs x
 
 -- ---- the number is the key
@@ -70,7 +98,8 @@ module _ {X : Type 0} (values : X → Row) (key : X → ℕ) where
   pub put_at : (x : X) (xs : List X) → put_row (row x) (map row xs) ≡ map row (replace_key cmp xs x)
   put_at x [] = refl
   put_at x (y ∷ xs) =
-      ap (λ o. match_ordering o (row y ∷ put_row (row x) (map row xs)) (row x ∷ map row xs) (row x ∷ row y ∷ map row xs)) (keys_compare y x ∙ nat_cmp_total.antisymm (key y) (key x))
+      ap (λ o. match_ordering o (row y ∷ put_row (row x) (map row xs)) (row x ∷ map row xs)
+      (row x ∷ row y ∷ map row xs)) (keys_compare y x ∙ nat_cmp_total.antisymm (key y) (key x))
       ∙ go (cmp x y) (put_at x xs)
     where
       go : (o : Ordering) → put_row (row x) (map row xs) ≡ map row (replace_key cmp xs x)

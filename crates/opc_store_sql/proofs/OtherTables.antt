@@ -25,7 +25,8 @@ none_filled (Some place) rows none = none
 none_filled None rows none = no_rows rows none
 
 -- tables whose rows stay
-pub filled_kept : (tables : List Table) (all : List (List Row)) (old new : Trees) → KeepsRows tables old new → AreFilled tables all old → AreFilled tables all new
+pub filled_kept : (tables : List Table) (all : List (List Row)) (old new : Trees) → KeepsRows tables old new
+    → AreFilled tables all old → AreFilled tables all new
 filled_kept [] [] old new same h = tt
 filled_kept [] (rows ∷ all) old new same h = h
 filled_kept (t ∷ tables) [] old new same h = h
@@ -41,18 +42,23 @@ module _ (tree : ℕ) (old new : Trees) where
   kept : (t : Table) (rows : List Row) → not (nat_eq t.tree tree) ≡ true → IsSpared t → IsFilled t rows old → IsFilled t rows new
   kept t rows differ stays h = subst (FilledBy t.key rows) (sym (stays (elsewhere t.tree tree differ))) h
 
-  all_kept : (tables : List Table) (all : List (List Row)) → list_all (λ (t : Table). not (nat_eq t.tree tree)) tables ≡ true → AllByRecursion IsSpared tables → AreFilled tables all old → AreFilled tables all new
+  all_kept : (tables : List Table) (all : List (List Row))
+      → list_all (λ (t : Table). not (nat_eq t.tree tree)) tables ≡ true → AllByRecursion IsSpared tables
+      → AreFilled tables all old → AreFilled tables all new
   all_kept [] [] differ stays h = tt
   all_kept [] (rows ∷ all) differ stays h = h
   all_kept (t ∷ tables) [] differ stays h = h
-  all_kept (t ∷ tables) (rows ∷ all) differ stays h = let both = and_parts _ _ differ in (kept t rows both.0 stays.0 h.0, all_kept tables all both.1 stays.1 h.1)
+  all_kept (t ∷ tables) (rows ∷ all) differ stays h = let both =
+      and_parts _ _ differ in (kept t rows both.0 stays.0 h.0, all_kept tables all both.1 stays.1 h.1)
 
   -- a table at another tree has the rows that it had
-  pub other_at : (at : ℕ) (table : Table) (tables : List Table) → slice_get tables at ≡ Some table → not (nat_eq table.tree tree) ≡ true → AllByRecursion IsSpared tables → new table.tree ≡ old table.tree
+  pub other_at : (at : ℕ) (table : Table) (tables : List Table) → slice_get tables at ≡ Some table
+      → not (nat_eq table.tree tree) ≡ true → AllByRecursion IsSpared tables → new table.tree ≡ old table.tree
   other_at at table tables found differ spared = all-slice_get IsSpared tables at table found spared (elsewhere table.tree tree differ)
 
   -- the table at this place has these rows now, and the others those that they had
-  pub one_changes : (at : ℕ) (table : Table) (tables : List Table) (all : List (List Row)) (rows : List Row) → slice_get tables at ≡ Some table → is_alone tree at tables ≡ true
+  pub one_changes : (at : ℕ) (table : Table) (tables : List Table) (all : List (List Row)) (rows : List Row)
+      → slice_get tables at ≡ Some table → is_alone tree at tables ≡ true
       → AllByRecursion IsSpared tables → AreFilled tables all old → IsFilled table rows new → AreFilled tables (set all at rows) new
   one_changes at table [] all rows found alone stays was has = absurd cc
   one_changes at table (t ∷ tables) [] rows found alone stays was has = absurd was

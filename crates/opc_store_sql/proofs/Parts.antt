@@ -1,5 +1,34 @@
 -- A list in the order of its keys, divided at the first member that passes a test.
-use Rattle.std.proofs.Common.{◌≡◌, List, [], ◌∷◌, ◌++◌, filter, find, not, length, Bool, true, false, cond, Some, None, refl, sym, ap, ap₂, subst, ◌∙◌, Ordering, Less, Equal, Greater, IsPermutation, ◌≤◌, arith}
+use Rattle.std.proofs.Common.{
+  ◌≡◌,
+  List,
+  [],
+  ◌∷◌,
+  ◌++◌,
+  filter,
+  find,
+  not,
+  length,
+  Bool,
+  true,
+  false,
+  cond,
+  Some,
+  None,
+  refl,
+  sym,
+  ap,
+  ap₂,
+  subst,
+  ◌∙◌,
+  Ordering,
+  Less,
+  Equal,
+  Greater,
+  IsPermutation,
+  ◌≤◌,
+  arith,
+}
 use Rattle.std.specs.List.{AllByRecursion}
 use Rattle.std.specs.Cmp.{IsTotalOrder}
 use Rattle.std.specs.BTreeSet.{replace_key}
@@ -54,7 +83,8 @@ module _ {X : Type 0} (cmp : X → X → Ordering) (p : X → Bool) where
 
         later : p z ≡ false → Parts xs x → Parts (z ∷ xs) x
         later miss it =
-            let less : cmp z x ≡ Less = in_middle (λ y. cmp z y ≡ Less) it.prefix x it.back (subst (λ (l : List X). AllByRecursion (λ y. cmp z y ≡ Less) l) it.whole up.0) in
+            let less : cmp z x ≡ Less = in_middle (λ y. cmp z y ≡ Less) it.prefix x it.back
+            (subst (λ (l : List X). AllByRecursion (λ y. cmp z y ≡ Less) l) it.whole up.0) in
             record {
               prefix = z ∷ it.prefix;
               back = it.back;
@@ -76,21 +106,27 @@ module _ {X : Type 0} (cmp : X → X → Ordering) (p : X → Bool) where
   picked xs x it =
       ap (filter p) it.whole
       ∙ (filter-append p it.prefix (x ∷ it.back)
-      ∙ ap₂ (λ (a b : List X). a ++ b) (filter_none p it.prefix it.before) (ap (λ b. cond b (x ∷ filter p it.back) (filter p it.back)) it.passes ∙ ap (λ (l : List X). x ∷ l) (filter_none p it.back it.after)))
+      ∙ ap₂ (λ (a b : List X). a ++ b) (filter_none p it.prefix it.before)
+      (ap (λ b. cond b (x ∷ filter p it.back) (filter p it.back)) it.passes
+      ∙ ap (λ (l : List X). x ∷ l) (filter_none p it.back it.after)))
 
   -- and the others are left
   pub others_of : (xs : List X) (x : X) (it : Parts xs x) → filter (λ y. not (p y)) xs ≡ it.prefix ++ it.back
   others_of xs x it =
       ap (filter (λ y. not (p y))) it.whole
       ∙ (filter-append (λ y. not (p y)) it.prefix (x ∷ it.back)
-      ∙ ap₂ (λ (a b : List X). a ++ b) (keeps_all p it.prefix it.before) (ap (λ b. cond (not b) (x ∷ filter (λ y. not (p y)) it.back) (filter (λ y. not (p y)) it.back)) it.passes ∙ keeps_all p it.back it.after))
+      ∙ ap₂ (λ (a b : List X). a ++ b) (keeps_all p it.prefix it.before)
+      (ap (λ b. cond (not b) (x ∷ filter (λ y. not (p y)) it.back) (filter (λ y. not (p y)) it.back)) it.passes
+      ∙ keeps_all p it.back it.after))
 
   -- none passes
   pub none_picked : (xs : List X) → find p xs ≡ None → AllByRecursion (λ y. p y ≡ false) xs
   none_picked [] h = tt
   none_picked (x ∷ xs) h = go (p x) refl h (none_picked xs)
     where
-      go : (b : Bool) → p x ≡ b → cond b (Some x) (find p xs) ≡ None → (find p xs ≡ None → AllByRecursion (λ y. p y ≡ false) xs) → (p x ≡ false) × AllByRecursion (λ y. p y ≡ false) xs
+      go : (b : Bool) → p x ≡ b → cond b (Some x) (find p xs) ≡ None
+          → (find p xs ≡ None → AllByRecursion (λ y. p y ≡ false) xs) → (p x ≡ false)
+          × AllByRecursion (λ y. p y ≡ false) xs
       go true e h more = absurd cc
       go false e h more = (e, more h)
 
@@ -105,5 +141,6 @@ found_one {X} P p (z ∷ xs) x all found = go (p z) found (found_one P p xs x al
 
 -- a list of at most one member has one permutation
 pub short_same : {X : Type 0} (xs ys : List X) → IsPermutation xs ys → length xs ≤ 1 → ys ≡ xs
-short_same {X} = along_permutation (λ (xs ys : List X). length xs ≤ 1 → ys ≡ xs) (λ xs h. refl) (λ x xs ys more h. ap (λ (l : List X). x ∷ l) (more (omega arith)))
+short_same {X} = along_permutation (λ (xs ys : List X). length xs ≤ 1 → ys ≡ xs) (λ xs h. refl)
+    (λ x xs ys more h. ap (λ (l : List X). x ∷ l) (more (omega arith)))
     (λ x y xs h. absurd (omega arith)) (λ xs ys zs first last h. let same = first h in last (subst (λ (l : List X). length l ≤ 1) (sym same) h) ∙ same)

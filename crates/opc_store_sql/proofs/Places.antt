@@ -1,5 +1,32 @@
 -- Rows that are numbered by their places, as a query that goes by the number tells them.
-use Rattle.std.proofs.Common.{◌≡◌, ℕ, zero, suc, ◌+◌, ◌-◌, ◌<◌, ◌≤◌, List, [], ◌∷◌, map, filter, drop, nat_lt, Bool, true, false, cond, refl, sym, ap, ◌∙◌, arith, Ordering, Less}
+use Rattle.std.proofs.Common.{
+  ◌≡◌,
+  ℕ,
+  zero,
+  suc,
+  ◌+◌,
+  ◌-◌,
+  ◌<◌,
+  ◌≤◌,
+  List,
+  [],
+  ◌∷◌,
+  map,
+  filter,
+  drop,
+  nat_lt,
+  Bool,
+  true,
+  false,
+  cond,
+  refl,
+  sym,
+  ap,
+  ◌∙◌,
+  arith,
+  Ordering,
+  Less,
+}
 use Rattle.std.specs.List.{AllByRecursion}
 use Rattle.std.specs.Ordering.{nat_cmp}
 use Rattle.std.specs.Cmp.{nat_cmp_is}
@@ -41,12 +68,14 @@ placed_after k n [] = sym (none_dropped (suc k - n))
 placed_after {X} k n (x ∷ xs) = go (nat_lt k n) refl (placed_after k (n + 1) xs)
   where
     go : (b : Bool) → nat_lt k n ≡ b → filter (λ (p : ℕ × X). nat_lt k p.0) (placed (n + 1) xs) ≡ drop (suc k - (n + 1)) (placed (n + 1) xs)
-        → cond b ((n, x) ∷ filter (λ (p : ℕ × X). nat_lt k p.0) (placed (n + 1) xs)) (filter (λ (p : ℕ × X). nat_lt k p.0) (placed (n + 1) xs)) ≡ drop (suc k - n) ((n, x) ∷ placed (n + 1) xs)
+        → cond b ((n, x) ∷ filter (λ (p : ℕ × X). nat_lt k p.0) (placed (n + 1) xs))
+        (filter (λ (p : ℕ × X). nat_lt k p.0) (placed (n + 1) xs)) ≡ drop (suc k - n) ((n, x) ∷ placed (n + 1) xs)
     go true e more =
         let low : k < n = grind (arith, nat_tests, e) in
         let here : suc k - n ≡ 0 = omega arith in
         let later : suc k - (n + 1) ≡ 0 = omega arith in
-        ap (λ (l : List (ℕ × X)). (n, x) ∷ l) (more ∙ ap (λ (m : ℕ). drop m (placed (n + 1) xs)) later) ∙ ap (λ (m : ℕ). drop m ((n, x) ∷ placed (n + 1) xs)) (sym here)
+        ap (λ (l : List (ℕ × X)). (n, x) ∷ l) (more ∙ ap (λ (m : ℕ). drop m (placed (n + 1) xs)) later)
+        ∙ ap (λ (m : ℕ). drop m ((n, x) ∷ placed (n + 1) xs)) (sym here)
     go false e more =
         let high : n ≤ k = grind (arith, nat_tests, e) in
         let next : suc k - n ≡ suc (suc k - (n + 1)) = omega arith in

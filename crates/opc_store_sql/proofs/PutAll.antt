@@ -28,21 +28,26 @@ module _ {X : Type 0} (cmp : X → X → Ordering) (total : IsTotalOrder cmp) wh
   nothing_goes before x apart = filter_all _ before (all_weaker _ _ (λ y differs. ap not differs) before apart)
 
   pub one_put : (before : List X) (x : X) → Rises cmp before → IsApartFrom before x → IsPermutation (replace_key cmp before x) (x ∷ before)
-  one_put before x up apart = subst (λ (l : List X). IsPermutation (replace_key cmp before x) (x ∷ l)) (nothing_goes before x apart) (replaced_is cmp total x before up)
+  one_put before x up apart = subst (λ (l : List X). IsPermutation (replace_key cmp before x) (x ∷ l))
+      (nothing_goes before x apart) (replaced_is cmp total x before up)
 
   -- with one more that is apart from those to come, all before are
-  pub still_apart : (before xs : List X) (x : X) → Rises cmp before → IsApartFrom before x → AllByRecursion (λ z. is_eq (cmp x z) ≡ false) xs → AllByRecursion (IsApartFrom before) xs
+  pub still_apart : (before xs : List X) (x : X) → Rises cmp before → IsApartFrom before x
+      → AllByRecursion (λ z. is_eq (cmp x z) ≡ false) xs → AllByRecursion (IsApartFrom before) xs
       → AllByRecursion (IsApartFrom (replace_key cmp before x)) xs
   still_apart before xs x up apart first rest =
       let same = IsPermutation-sym _ _ (one_put before x up apart) in
-      all_both (λ z. is_eq (cmp x z) ≡ false) (IsApartFrom before) (IsApartFrom (replace_key cmp before x)) (λ z here there. all_along _ _ _ same (here, there)) xs first rest
+      all_both (λ z. is_eq (cmp x z) ≡ false) (IsApartFrom before) (IsApartFrom (replace_key cmp before x))
+      (λ z here there. all_along _ _ _ same (here, there)) xs first rest
 
-  pub put_same : (before xs : List X) → Rises cmp before → HasNoTies cmp total xs → AllByRecursion (IsApartFrom before) xs → IsPermutation (put_all before xs) (before ++ xs)
+  pub put_same : (before xs : List X) → Rises cmp before → HasNoTies cmp total xs
+      → AllByRecursion (IsApartFrom before) xs → IsPermutation (put_all before xs) (before ++ xs)
   put_same before [] up alone apart = subst (IsPermutation before) (sym (Rattle.std.proofs.Common.append-nil before)) (IsPermutation-refl before)
   put_same before (x ∷ xs) up alone apart =
       let next = replace_key cmp before x in
       let more = put_same next xs (replaced_rises cmp total x before up) alone.1 (still_apart before xs x up apart.0 alone.0 apart.1) in
-      let prefix : IsPermutation (next ++ xs) ((x ∷ before) ++ xs) = IsPermutation-append next (x ∷ before) xs xs (one_put before x up apart.0) (IsPermutation-refl xs) in
+      let prefix : IsPermutation (next ++ xs) ((x ∷ before) ++ xs) =
+      IsPermutation-append next (x ∷ before) xs xs (one_put before x up apart.0) (IsPermutation-refl xs) in
       IsPermutation-trans _ _ _ more (IsPermutation-trans _ _ _ prefix (IsPermutation-sym _ _ (IsPermutation-middle before x xs)))
 
   pub none_apart : (xs : List X) → AllByRecursion (IsApartFrom []) xs

@@ -1,5 +1,32 @@
 -- Members that come in the order of their keys, put one after another.
-use Rattle.std.proofs.Common.{◌≡◌, ℕ, suc, ◌+◌, ◌<◌, List, [], ◌∷◌, ◌++◌, map, take, drop, length, get_or, refl, sym, ap, ap₂, subst, ◌∙◌, add-one, append_assoc, Ordering, Less, Equal, Greater}
+use Rattle.std.proofs.Common.{
+  ◌≡◌,
+  ℕ,
+  suc,
+  ◌+◌,
+  ◌<◌,
+  List,
+  [],
+  ◌∷◌,
+  ◌++◌,
+  map,
+  take,
+  drop,
+  length,
+  get_or,
+  refl,
+  sym,
+  ap,
+  ap₂,
+  subst,
+  ◌∙◌,
+  add-one,
+  append_assoc,
+  Ordering,
+  Less,
+  Equal,
+  Greater,
+}
 use Rattle.std.specs.List.{AllByRecursion}
 use Rattle.std.specs.Cmp.{IsTotalOrder}
 use Rattle.std.specs.BTreeSet.{insert_key, replace_key}
@@ -30,7 +57,8 @@ module _ {X : Type 0} (cmp : X → X → Ordering) where
         let more : cmp new x ≡ Greater = total.antisymm new x ∙ ap ordering_reverse h.0 in
         ap (λ o. match_ordering o (new ∷ x ∷ xs) (new ∷ xs) (x ∷ replace_key cmp xs new)) more ∙ ap (λ l. x ∷ l) (comes_last new xs h.1)
 
-    module _ {Y : Type 0} (row : X → Y) (xs : List X) (up : Rises cmp xs) (rows : List Y) (i : ℕ) (y : Y) (are : rows ≡ map row xs) (low : i < length rows) (is : y ≡ get_or rows i y) where
+    module _ {Y : Type 0} (row : X → Y) (xs : List X) (up : Rises cmp xs) (rows : List Y) (i : ℕ) (y : Y)
+        (are : rows ≡ map row xs) (low : i < length rows) (is : y ≡ get_or rows i y) where
       -- the next one, with those before it
       pub record Next : Type 0 where
         pub x : X

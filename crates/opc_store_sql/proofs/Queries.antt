@@ -1,5 +1,31 @@
 -- What a query of one table answers.
-use Rattle.std.proofs.Common.{◌≡◌, ℕ, ◌-◌, ◌^◌, nat_le, pos, negsuc, List, [], ◌∷◌, ◌++◌, map, filter, Bool, true, false, cond, None, refl, ap, subst, ◌∙◌, IsPermutation, IsSorted, slice_get}
+use Rattle.std.proofs.Common.{
+  ◌≡◌,
+  ℕ,
+  ◌-◌,
+  ◌^◌,
+  nat_le,
+  pos,
+  negsuc,
+  List,
+  [],
+  ◌∷◌,
+  ◌++◌,
+  map,
+  filter,
+  Bool,
+  true,
+  false,
+  cond,
+  None,
+  refl,
+  ap,
+  subst,
+  ◌∙◌,
+  IsPermutation,
+  IsSorted,
+  slice_get,
+}
 use Rattle.std.specs.List.{list_all, flat_map}
 use Rattle.sqlite_value.specs.declared.value.Value.TheVariants.{Null, Int}
 use Rattle.sqlite_value.specs.declared.keys.Key.{Key}
@@ -42,13 +68,18 @@ overlay_none db t = go (nat_le (2 ^ 31) t) (t - 2 ^ 31)
     go false i = refl
 
 kept_rows : (params : Row) (tests : List Term) (rows : List Row)
-    → flat_map (λ (r : Row). cond (list_all (holds (params ∷ r ∷ [])) tests) ((params ∷ r ∷ []) ∷ []) []) rows ≡ map (λ (r : Row). params ∷ r ∷ []) (filter (λ r. list_all (holds (params ∷ r ∷ [])) tests) rows)
+    → flat_map (λ (r : Row). cond (list_all (holds (params ∷ r ∷ [])) tests) ((params ∷ r ∷ []) ∷ []) []) rows ≡ map
+    (λ (r : Row). params ∷ r ∷ []) (filter (λ r. list_all (holds (params ∷ r ∷ [])) tests) rows)
 kept_rows params tests [] = refl
 kept_rows params tests (r ∷ rows) = go (list_all (holds (params ∷ r ∷ [])) tests) (kept_rows params tests rows)
   where
-    go : (b : Bool) → flat_map (λ (r : Row). cond (list_all (holds (params ∷ r ∷ [])) tests) ((params ∷ r ∷ []) ∷ []) []) rows ≡ map (λ (r : Row). params ∷ r ∷ []) (filter (λ r. list_all (holds (params ∷ r ∷ [])) tests) rows)
+    go : (b : Bool)
+        → flat_map (λ (r : Row). cond (list_all (holds (params ∷ r ∷ [])) tests) ((params ∷ r ∷ []) ∷ []) []) rows ≡ map
+        (λ (r : Row). params ∷ r ∷ []) (filter (λ r. list_all (holds (params ∷ r ∷ [])) tests) rows)
         → cond b ((params ∷ r ∷ []) ∷ []) [] ++ flat_map (λ (r : Row). cond (list_all (holds (params ∷ r ∷ [])) tests) ((params ∷ r ∷ []) ∷ []) []) rows
-        ≡ map (λ (r : Row). params ∷ r ∷ []) (cond b (r ∷ filter (λ r. list_all (holds (params ∷ r ∷ [])) tests) rows) (filter (λ r. list_all (holds (params ∷ r ∷ [])) tests) rows))
+        ≡ map (λ (r : Row). params ∷ r ∷ [])
+        (cond b (r ∷ filter (λ r. list_all (holds (params ∷ r ∷ [])) tests) rows)
+        (filter (λ r. list_all (holds (params ∷ r ∷ [])) tests) rows))
     go true more = ap (λ (l : List Env). (params ∷ r ∷ []) ∷ l) more
     go false more = more
 
@@ -73,8 +104,12 @@ module _ (tree : ℕ) (tests project : List Term) (order : List (Term × Key)) (
   answered schema rows h =
       let a : IsAnswer query (overlay db []) params rows = h.answer Null in
       let staged : a.staged ≡ map (λ (r : Row). params ∷ r ∷ []) (filter passes (db tree)) =
-      a.grouped ∙ (ap (flat_map (λ (r : Row). cond (list_all (holds (params ∷ r ∷ [])) tests) ((params ∷ r ∷ []) ∷ []) [])) (overlay_none db tree) ∙ kept_rows params tests (db tree)) in
-      let kept : a.kept ≡ map shown (filter passes (db tree)) = a.distinct ∙ (ap (map (output query)) staged ∙ map-map (output query) (λ (r : Row). params ∷ r ∷ []) (filter passes (db tree))) in
+      a.grouped ∙ (ap
+      (flat_map (λ (r : Row). cond (list_all (holds (params ∷ r ∷ [])) tests) ((params ∷ r ∷ []) ∷ []) []))
+      (overlay_none db tree) ∙ kept_rows params tests (db tree)) in
+      let kept : a.kept ≡ map shown (filter passes (db tree)) =
+      a.distinct ∙ (ap (map (output query)) staged
+      ∙ map-map (output query) (λ (r : Row). params ∷ r ∷ []) (filter passes (db tree))) in
       record { ordered = a.ordered; same = subst (λ (k : List Output). IsPermutation k a.ordered) kept a.same; sorted = a.sorted; are = a.shown }
 
   -- with LIMIT, the first of the rows that it would give without
@@ -83,12 +118,19 @@ module _ (tree : ℕ) (tests project : List Term) (order : List (Term × Key)) (
     pub lists : Lists all
     pub are : rows ≡ limited (as_count (eval limit (params ∷ []))) all
 
-  pub paged : (schema : Schema) (limit : Term) (rows : List Row) → Answers (record { schema = schema; trees = db }) (alone (paging tree tests project order limit)) params rows → Pages limit rows
+  pub paged : (schema : Schema) (limit : Term) (rows : List Row) → Answers (record {
+    schema = schema;
+    trees = db;
+  }) (alone (paging tree tests project order limit)) params rows → Pages limit rows
   paged schema limit rows h =
       let a : IsAnswer (paging tree tests project order limit) (overlay db []) params rows = h.answer Null in
       let staged : a.staged ≡ map (λ (r : Row). params ∷ r ∷ []) (filter passes (db tree)) =
-      a.grouped ∙ (ap (flat_map (λ (r : Row). cond (list_all (holds (params ∷ r ∷ [])) tests) ((params ∷ r ∷ []) ∷ []) [])) (overlay_none db tree) ∙ kept_rows params tests (db tree)) in
-      let kept : a.kept ≡ map shown (filter passes (db tree)) = a.distinct ∙ (ap (map (output query)) staged ∙ map-map (output query) (λ (r : Row). params ∷ r ∷ []) (filter passes (db tree))) in
+      a.grouped ∙ (ap
+      (flat_map (λ (r : Row). cond (list_all (holds (params ∷ r ∷ [])) tests) ((params ∷ r ∷ []) ∷ []) []))
+      (overlay_none db tree) ∙ kept_rows params tests (db tree)) in
+      let kept : a.kept ≡ map shown (filter passes (db tree)) =
+      a.distinct ∙ (ap (map (output query)) staged
+      ∙ map-map (output query) (λ (r : Row). params ∷ r ∷ []) (filter passes (db tree))) in
       record {
         all = map (λ (o : Output). o.1) a.ordered;
         lists = record { ordered = a.ordered; same = subst (λ (k : List Output). IsPermutation k a.ordered) kept a.same; sorted = a.sorted; are = refl };

@@ -18,7 +18,8 @@ ShowsNothing (Ok p) = (schema : Schema) (base : ℕ) → returning schema base p
 ShowsNothing (Err e) = Unit {0}
 
 after_command : (p : Parsed) (formats : List (List ℕ)) (r : Checked Command)
-    → ¬ Returns (and_then (and_then (and_then r (λ c. Ok (c, None))) (λ (found : Command × Option Returning). Ok (formats, found))) (λ plan. Ok (with_command p plan)))
+    → ¬ Returns (and_then (and_then (and_then r (λ c. Ok (c, None)))
+    (λ (found : Command × Option Returning). Ok (formats, found))) (λ plan. Ok (with_command p plan)))
 after_command p formats (Ok c) h = absurd cc
 after_command p formats (Err e) h = h
 
@@ -32,7 +33,11 @@ compiled_quiet schema text = go (first text)
         let formats = timed schema p.formats p.statement in
         let base = small p.names + small formats in
         after_command p formats (command schema p.formats base p.statement)
-        (subst (λ (shown : Checked (Option Returning)). Returns (and_then (and_then (and_then shown (λ shown. and_then (command schema p.formats base p.statement) (λ c. Ok (c, shown)))) (λ (found : Command × Option Returning). Ok (formats, found))) (λ plan. Ok (with_command p plan)))) (quiet schema base) h)
+        (subst (λ (shown : Checked (Option Returning)). Returns
+        (and_then (and_then (and_then shown
+        (λ shown. and_then (command schema p.formats base p.statement) (λ c. Ok (c, shown))))
+        (λ (found : Command × Option Returning). Ok (formats, found))) (λ plan. Ok (with_command p plan))))
+        (quiet schema base) h)
 
 selected_quiet : (r : Result Compiled CompileError) → ¬ Returns r → ¬ Returns (if_select r)
 selected_quiet (Err e) quiet h = h

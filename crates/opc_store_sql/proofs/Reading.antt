@@ -17,13 +17,15 @@ no_commit : (sql : List ℕ) (params : Row) (s : State) (db : Trees) → NeverWr
 unfolding CommitsShowing
 no_commit sql params s db quiet h = quiet s.now.schema (subst Returns (sym h.1.is) h.2)
 
-pub reads_survive : (sql : List ℕ) (params : Row) (old new : State) → NeverWrites sql → Survives old new (CommitsShowing sql params old) → Survives old new (λ _. ⊥)
+pub reads_survive : (sql : List ℕ) (params : Row) (old new : State) → NeverWrites sql
+    → Survives old new (CommitsShowing sql params old) → Survives old new (λ _. ⊥)
 reads_survive sql params old new quiet = survives_weaker old new _ _ (λ _ db. no_commit sql params old db quiet)
 
 some_returns : (c : Compiled) (what : Returning) → c.returning ≡ Some what → (let r : Result Compiled CompileError = Ok c in Returns r)
 some_returns c what e = subst (λ (o : Option Returning). IsSome o) (sym e) refl
 
-module _ (sql : List ℕ) (params : Row) (old new : State) (quiet : NeverWrites sql) (settled : IsTrue old.is_open → old.now ≡ old.committed) (open_now : IsTrue new.is_open) where
+module _ (sql : List ℕ) (params : Row) (old new : State) (quiet : NeverWrites sql)
+    (settled : IsTrue old.is_open → old.now ≡ old.committed) (open_now : IsTrue new.is_open) where
   rolled : IsRolledBack old new → new.now ≡ old.now
   rolled h = (h.undone open_now).0 ∙ sym (settled (h.was_open open_now))
 
@@ -45,7 +47,8 @@ module _ (sql : List ℕ) (params : Row) (old new : State) (quiet : NeverWrites 
       go None e it = it.3.0.now_is
       go (Some what) e it = absurd (quiet old.now.schema (subst Returns (sym h.1.is) (some_returns h.0 what e)))
 
-  pub reads_same : {X : Type 0} (r : Result X Error) (rows : X → List Row) → IfOk r (λ x. Shown sql params old new (rows x)) → IfErr r (FailsToQuery sql params old new) → new.now ≡ old.now
+  pub reads_same : {X : Type 0} (r : Result X Error) (rows : X → List Row)
+      → IfOk r (λ x. Shown sql params old new (rows x)) → IfErr r (FailsToQuery sql params old new) → new.now ≡ old.now
   reads_same (Ok x) rows shown failed = shown_same (rows x) shown
   reads_same (Err e) rows shown failed = failed_same e failed
 
@@ -67,7 +70,8 @@ module _ (sql : List ℕ) (params : Row) (old new : State) (quiet : NeverWrites 
       go None e it = it.3.0.was_open
       go (Some what) e it = absurd (quiet old.now.schema (subst Returns (sym h.1.is) (some_returns h.0 what e)))
 
-  pub reads_was_open : {X : Type 0} (r : Result X Error) (rows : X → List Row) → IfOk r (λ x. Shown sql params old new (rows x)) → IfErr r (FailsToQuery sql params old new) → IsTrue old.is_open
+  pub reads_was_open : {X : Type 0} (r : Result X Error) (rows : X → List Row)
+      → IfOk r (λ x. Shown sql params old new (rows x)) → IfErr r (FailsToQuery sql params old new) → IsTrue old.is_open
   reads_was_open (Ok x) rows shown failed = shown_was (rows x) shown
   reads_was_open (Err e) rows shown failed = failed_was e failed
 

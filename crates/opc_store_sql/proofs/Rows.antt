@@ -1,10 +1,49 @@
 -- Rows of a table, after an edit.
-use Rattle.std.proofs.Common.{◌≡◌, ℤ, List, [], ◌∷◌, ◌++◌, map, filter, find, not, Bool, true, false, cond, ◌&&◌, ◌||◌, Some, unwrap_or, refl, sym, ap, subst, ◌∙◌, IsTrue, IsPermutation, Ordering, Less, Equal, Greater, is_eq}
+use Rattle.std.proofs.Common.{
+  ◌≡◌,
+  ℤ,
+  List,
+  [],
+  ◌∷◌,
+  ◌++◌,
+  map,
+  filter,
+  find,
+  not,
+  Bool,
+  true,
+  false,
+  cond,
+  ◌&&◌,
+  ◌||◌,
+  Some,
+  unwrap_or,
+  refl,
+  sym,
+  ap,
+  subst,
+  ◌∙◌,
+  IsTrue,
+  IsPermutation,
+  Ordering,
+  Less,
+  Equal,
+  Greater,
+  is_eq,
+}
 use Rattle.std.proofs.lemmas.Bool.{and_parts}
 use Rattle.std.proofs.lemmas.Cmp.{tied_itself}
 use Rattle.std.specs.Ordering.{ordering_reverse, match_ordering}
 use Rattle.std.specs.List.{AllByRecursion, list_any}
-use Rattle.std.proofs.lemmas.List.Sorted.{IsPermutation-refl, IsPermutation-sym, IsPermutation-trans, IsPermutation-cons, IsPermutation-middle, IsPermutation-append_right, list_any-IsPermutation}
+use Rattle.std.proofs.lemmas.List.Sorted.{
+  IsPermutation-refl,
+  IsPermutation-sym,
+  IsPermutation-trans,
+  IsPermutation-cons,
+  IsPermutation-middle,
+  IsPermutation-append_right,
+  list_any-IsPermutation,
+}
 use Rattle.sqlite_value.specs.declared.value.Value.{Value}
 use Rattle.sqlite_value.specs.declared.value.Value.TheVariants.{Null, Int, Real, Text, Blob}
 use Rattle.sqlite_value.specs.Order.{Row, value_cmp}
@@ -27,9 +66,11 @@ put_fresh : (new : Row) (rows : List Row) → is_taken rows new ≡ false → Is
 put_fresh new [] h = IsPermutation-refl _
 put_fresh new (r ∷ rows) h = go (value_cmp (rowid r) (rowid new)) (is_taken rows new) refl refl h (put_fresh new rows)
   where
-    go : (o : Ordering) (later : Bool) → value_cmp (rowid r) (rowid new) ≡ o → is_taken rows new ≡ later → (is_eq o || later) ≡ false → (is_taken rows new ≡ false → IsPermutation (new ∷ rows) (put_row new rows))
+    go : (o : Ordering) (later : Bool) → value_cmp (rowid r) (rowid new) ≡ o → is_taken rows new ≡ later
+        → (is_eq o || later) ≡ false → (is_taken rows new ≡ false → IsPermutation (new ∷ rows) (put_row new rows))
         → IsPermutation (new ∷ r ∷ rows) (match_ordering o (r ∷ put_row new rows) (new ∷ rows) (new ∷ r ∷ rows))
-    go Less later e t none more = IsPermutation-trans _ _ _ (IsPermutation-sym _ _ (IsPermutation-middle (r ∷ []) new rows)) (IsPermutation-cons r _ _ (more (t ∙ none)))
+    go Less later e t none more = IsPermutation-trans _ _ _
+        (IsPermutation-sym _ _ (IsPermutation-middle (r ∷ []) new rows)) (IsPermutation-cons r _ _ (more (t ∙ none)))
     go Equal later e t none more = absurd cc
     go Greater later e t none more = IsPermutation-refl _
 
@@ -38,7 +79,9 @@ put_all_fresh [] rows h = IsPermutation-refl _
 put_all_fresh (n ∷ news) rows h =
     let both = and_parts _ _ h in
     let one = put_fresh n rows (same_false _ both.0) in
-    IsPermutation-trans _ _ _ (IsPermutation-sym _ _ (IsPermutation-middle news n rows)) (IsPermutation-trans _ _ _ (IsPermutation-append_right news _ _ one) (put_all_fresh news (put_row n rows) both.1))
+    IsPermutation-trans _ _ _ (IsPermutation-sym _ _ (IsPermutation-middle news n rows))
+    (IsPermutation-trans _ _ _ (IsPermutation-append_right news _ _ one)
+    (put_all_fresh news (put_row n rows) both.1))
 
 pub put_all_kept : (news rows : List Row) → AllByRecursion (λ r. IsTrue (is_int (rowid r))) news → IsKept rows → IsKept (put_all rows news)
 put_all_kept [] rows ints kept = kept
@@ -74,7 +117,8 @@ apart x r int less = tied x int r ∙ ap is_eq (value_cmp_total.antisymm (rowid 
 below : (x r : Row) → IsTrue (is_int (rowid r)) → value_cmp (rowid x) (rowid r) ≡ Less → has_rowid (id_in (rowid r)) x ≡ false
 below x r int less = tied r int x ∙ ap is_eq less
 
-none_hit : (p : Row → Bool) (x : Row) (xs : List Row) → AllByRecursion (λ r. IsTrue (is_int (rowid r))) xs → AllByRecursion (λ r. value_cmp (rowid x) (rowid r) ≡ Less) xs → hits p xs x ≡ false
+none_hit : (p : Row → Bool) (x : Row) (xs : List Row) → AllByRecursion (λ r. IsTrue (is_int (rowid r))) xs
+    → AllByRecursion (λ r. value_cmp (rowid x) (rowid r) ≡ Less) xs → hits p xs x ≡ false
 none_hit p x [] ints up = refl
 none_hit p x (y ∷ ys) ints up = hits_cons p y ys x ∙ rw (below x y ints.0 up.0, none_hit p x ys ints.1 up.1) (go (p y))
   where
@@ -96,7 +140,9 @@ each_hit p (x ∷ xs) kept =
     let rest : IsKept xs = record { apart = kept.apart.1; keyed = kept.keyed.1 } in
     let itself : has_rowid (id_in (rowid x)) x ≡ true = tied x kept.keyed.0 x ∙ ap is_eq (tied_itself value_cmp_total (rowid x)) in (
       hits_cons p x xs x ∙ rw (itself, none_hit p x xs kept.keyed.1 kept.apart.0) (and_true (p x)),
-      all_both _ _ (λ r. hits p (x ∷ xs) r ≡ p r) (λ r less same. hits_cons p x xs r ∙ rw (apart x r kept.keyed.0 less) (and_false (p x) (hits p xs r) ∙ same)) xs kept.apart.0 (each_hit p xs rest),
+      all_both _ _ (λ r. hits p (x ∷ xs) r ≡ p r)
+          (λ r less same. hits_cons p x xs r ∙ rw (apart x r kept.keyed.0 less) (and_false (p x) (hits p xs r) ∙ same))
+          xs kept.apart.0 (each_hit p xs rest),
     )
 
 filter_on : {X : Type 0} (p q : X → Bool) (xs : List X) → AllByRecursion (λ x. p x ≡ q x) xs → filter p xs ≡ filter q xs
@@ -107,7 +153,9 @@ filter_twice : {X : Type 0} (p q : X → Bool) (xs : List X) → filter p (filte
 filter_twice p q [] = refl
 filter_twice p q (x ∷ xs) = go (q x) (filter_twice p q xs)
   where
-    go : (b : Bool) → filter p (filter q xs) ≡ filter (λ y. q y && p y) xs → filter p (cond b (x ∷ filter q xs) (filter q xs)) ≡ cond (b && p x) (x ∷ filter (λ y. q y && p y) xs) (filter (λ y. q y && p y) xs)
+    go : (b : Bool) → filter p (filter q xs) ≡ filter (λ y. q y && p y) xs
+        → filter p (cond b (x ∷ filter q xs) (filter q xs)) ≡ cond (b && p x) (x ∷ filter (λ y. q y && p y) xs)
+        (filter (λ y. q y && p y) xs)
     go true more = rw more
     go false more = more
 
@@ -126,15 +174,19 @@ without_filter (id ∷ ids) rows =
     ∙ (filter_twice (λ r. not (list_any (λ id. has_rowid id r) ids)) (λ r. not (has_rowid id r)) rows
     ∙ filter_same rows)
   where
-    filter_same : (xs : List Row) → filter (λ r. not (has_rowid id r) && not (list_any (λ id. has_rowid id r) ids)) xs ≡ filter (λ r. not (list_any (λ id. has_rowid id r) (id ∷ ids))) xs
+    filter_same : (xs : List Row) → filter (λ r. not (has_rowid id r) && not (list_any (λ id. has_rowid id r) ids))
+        xs ≡ filter (λ r. not (list_any (λ id. has_rowid id r) (id ∷ ids))) xs
     filter_same [] = refl
     filter_same (x ∷ xs) = rw (not_or (has_rowid id x) (list_any (λ id. has_rowid id x) ids), filter_same xs)
 
 -- what is left is what does not pass
-pub left_is : (p : Row → Bool) (rows found : List Row) → IsKept rows → IsPermutation (ids_of (filter p rows)) (ids_of found) → without_all rows (ids_of found) ≡ filter (λ r. not (p r)) rows
+pub left_is : (p : Row → Bool) (rows found : List Row) → IsKept rows
+    → IsPermutation (ids_of (filter p rows)) (ids_of found)
+    → without_all rows (ids_of found) ≡ filter (λ r. not (p r)) rows
 left_is p rows found kept same =
     without_filter (ids_of found) rows
-    ∙ filter_on _ (λ r. not (p r)) rows (all_weaker _ _ (λ r e. ap not (sym (list_any-IsPermutation (λ id. has_rowid id r) _ _ same) ∙ e)) rows (each_hit p rows kept))
+    ∙ filter_on _ (λ r. not (p r)) rows (all_weaker _ _
+    (λ r e. ap not (sym (list_any-IsPermutation (λ id. has_rowid id r) _ _ same) ∙ e)) rows (each_hit p rows kept))
 
 pub filter_kept : (p : Row → Bool) (rows : List Row) → IsKept rows → IsKept (filter p rows)
 filter_kept p rows kept = record { apart = ascending-filter _ p rows kept.apart; keyed = all-filter _ p rows kept.keyed }
@@ -147,7 +199,9 @@ each_at (x ∷ xs) kept =
     let itself : has_rowid (id_in (rowid x)) x ≡ true = tied x kept.keyed.0 x ∙ ap is_eq (tied_itself value_cmp_total (rowid x)) in
     let less = all_both _ _ (λ r. has_rowid (id_in (rowid r)) x ≡ false) (λ r l int. below x r int l) xs kept.apart.0 kept.keyed.1 in (
       ap (λ b. unwrap_or (cond b (Some x) (find (has_rowid (id_in (rowid x))) xs)) []) itself,
-      all_both _ _ (λ r. row_at (x ∷ xs) (id_in (rowid r)) ≡ r) (λ r other same. ap (λ b. unwrap_or (cond b (Some x) (find (has_rowid (id_in (rowid r))) xs)) []) other ∙ same) xs less (each_at xs rest),
+      all_both _ _ (λ r. row_at (x ∷ xs) (id_in (rowid r)) ≡ r)
+          (λ r other same. ap (λ b. unwrap_or (cond b (Some x) (find (has_rowid (id_in (rowid r))) xs)) []) other
+          ∙ same) xs less (each_at xs rest),
     )
 
 pub all_pass : (p : Row → Bool) (xs : List Row) → AllByRecursion (λ r. p r ≡ true) (filter p xs)
@@ -160,10 +214,12 @@ all_pass p (x ∷ xs) = go (p x) refl (all_pass p xs)
 
 -- what holds of each member holds along a permutation
 pub all_along : {X : Type 0} (P : X → Type 0) (xs ys : List X) → IsPermutation xs ys → AllByRecursion P xs → AllByRecursion P ys
-all_along P = along_permutation (λ xs ys. AllByRecursion P xs → AllByRecursion P ys) (λ xs h. h) (λ x xs ys more h. (h.0, more h.1)) (λ x y xs h. (h.1.0, (h.0, h.1.1))) (λ xs ys zs a b h. b (a h))
+all_along P = along_permutation (λ xs ys. AllByRecursion P xs → AllByRecursion P ys) (λ xs h. h)
+    (λ x xs ys more h. (h.0, more h.1)) (λ x y xs h. (h.1.0, (h.0, h.1.1))) (λ xs ys zs a b h. b (a h))
 
 -- the rows at the rowids of those that pass are those
-pub taken_all : (P : Row → Type 0) (p : Row → Bool) (xs : List Row) (ids : List ℤ) → IsKept xs → AllByRecursion P (filter p xs) → IsPermutation (ids_of (filter p xs)) ids → AllByRecursion P (map (row_at xs) ids)
+pub taken_all : (P : Row → Type 0) (p : Row → Bool) (xs : List Row) (ids : List ℤ) → IsKept xs
+    → AllByRecursion P (filter p xs) → IsPermutation (ids_of (filter p xs)) ids → AllByRecursion P (map (row_at xs) ids)
 taken_all P p xs ids kept all same =
     let at = all-filter (λ r. row_at xs (id_in (rowid r)) ≡ r) p xs (each_at xs kept) in
     let each = all_both _ _ (λ r. P (row_at xs (id_in (rowid r)))) (λ r here yes. subst P (sym here) yes) (filter p xs) at all in

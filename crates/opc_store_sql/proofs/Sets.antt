@@ -1,5 +1,33 @@
 -- Lists whose keys come once, and what putting a member makes of them.
-use Rattle.std.proofs.Common.{◌≡◌, ℕ, List, [], ◌∷◌, filter, not, ◌&&◌, Bool, true, false, cond, refl, sym, ap, ◌∙◌, suc, length, ◌≤◌, ◌<◌, IsPermutation, Ordering, Less, Equal, Greater, is_eq, arith}
+use Rattle.std.proofs.Common.{
+  ◌≡◌,
+  ℕ,
+  List,
+  [],
+  ◌∷◌,
+  filter,
+  not,
+  ◌&&◌,
+  Bool,
+  true,
+  false,
+  cond,
+  refl,
+  sym,
+  ap,
+  ◌∙◌,
+  suc,
+  length,
+  ◌≤◌,
+  ◌<◌,
+  IsPermutation,
+  Ordering,
+  Less,
+  Equal,
+  Greater,
+  is_eq,
+  arith,
+}
 use Rattle.std.specs.List.{AllByRecursion, AllPairs, slice_index_or}
 use Rattle.std.specs.Cmp.{IsTotalOrder}
 use Rattle.sqlite_keyed.proofs.ListLemmas.{IsPermutation-same}
@@ -11,21 +39,26 @@ use Rattle.std.proofs.lemmas.List.Sorted.{IsPermutation-refl, IsPermutation-tran
 
 -- ---- a key comes once
 
-one_more : {X : Type 0} (cmp : X → X → Ordering) (same : X → X → Bool) (key : X) → ((x : X) → same x key ≡ true → cmp x key ≡ Equal) → IsTotalOrder cmp → (x : X) (xs : List X)
+one_more : {X : Type 0} (cmp : X → X → Ordering) (same : X → X → Bool) (key : X)
+    → ((x : X) → same x key ≡ true → cmp x key ≡ Equal) → IsTotalOrder cmp → (x : X) (xs : List X)
     → same x key ≡ true → AllByRecursion (λ y. cmp x y ≡ Less) xs → filter (λ y. same y key) xs ≡ []
 one_more cmp same key means total x [] h up = refl
 one_more cmp same key means total x (y ∷ ys) h up = go (same y key) refl (one_more cmp same key means total x ys h up.1)
   where
     go : (b : Bool) → same y key ≡ b → filter (λ z. same z key) ys ≡ [] → cond b (y ∷ filter (λ z. same z key) ys) (filter (λ z. same z key) ys) ≡ []
     go false e more = more
-    go true e more = absurd (let less = total.congr x key y (means x h) in let tie = tied_back total y key (means y e) in let both : cmp x y ≡ Equal = less ∙ tie in let first = up.0 in cc)
+    go true e more = absurd (let less = total.congr x key y (means x h) in
+        let tie = tied_back total y key (means y e) in let both : cmp x y ≡ Equal = less ∙ tie in let first =
+        up.0 in cc)
 
-pub comes_once : {X : Type 0} (cmp : X → X → Ordering) (same : X → X → Bool) (key : X) → ((x : X) → same x key ≡ true → cmp x key ≡ Equal) → IsTotalOrder cmp → (xs : List X)
+pub comes_once : {X : Type 0} (cmp : X → X → Ordering) (same : X → X → Bool) (key : X)
+    → ((x : X) → same x key ≡ true → cmp x key ≡ Equal) → IsTotalOrder cmp → (xs : List X)
     → Rises cmp xs → length (filter (λ y. same y key) xs) ≤ 1
 comes_once cmp same key means total [] up = omega arith
 comes_once cmp same key means total (x ∷ xs) up = go (same x key) refl (comes_once cmp same key means total xs up.1)
   where
-    go : (b : Bool) → same x key ≡ b → length (filter (λ y. same y key) xs) ≤ 1 → length (cond b (x ∷ filter (λ y. same y key) xs) (filter (λ y. same y key) xs)) ≤ 1
+    go : (b : Bool) → same x key ≡ b → length (filter (λ y. same y key) xs) ≤ 1
+        → length (cond b (x ∷ filter (λ y. same y key) xs) (filter (λ y. same y key) xs)) ≤ 1
     go false e more = more
     go true e more = rw (one_more cmp same key means total x xs e up.0) (omega arith)
 
@@ -81,7 +114,8 @@ module _ {X : Type 0} (cmp : X → X → Ordering) (total : IsTotalOrder cmp) wh
   all_replaced P new [] p h = (p, tt)
   all_replaced P new (x ∷ xs) p h = go (cmp new x) (all_replaced P new xs p h.1)
     where
-      go : (o : Ordering) → AllByRecursion P (replace_key cmp xs new) → AllByRecursion P (match_ordering o (new ∷ x ∷ xs) (new ∷ xs) (x ∷ replace_key cmp xs new))
+      go : (o : Ordering) → AllByRecursion P (replace_key cmp xs new)
+          → AllByRecursion P (match_ordering o (new ∷ x ∷ xs) (new ∷ xs) (x ∷ replace_key cmp xs new))
       go Less more = (p, h)
       go Equal more = (p, h.1)
       go Greater more = (h.0, more)
@@ -91,7 +125,8 @@ module _ {X : Type 0} (cmp : X → X → Ordering) (total : IsTotalOrder cmp) wh
   replaced_rises new [] up = (tt, tt)
   replaced_rises new (x ∷ xs) up = go (cmp new x) refl (replaced_rises new xs up.1)
     where
-      go : (o : Ordering) → cmp new x ≡ o → Rises cmp (replace_key cmp xs new) → Rises cmp (match_ordering o (new ∷ x ∷ xs) (new ∷ xs) (x ∷ replace_key cmp xs new))
+      go : (o : Ordering) → cmp new x ≡ o → Rises cmp (replace_key cmp xs new)
+          → Rises cmp (match_ordering o (new ∷ x ∷ xs) (new ∷ xs) (x ∷ replace_key cmp xs new))
       go Less e more = ((e, raise new x xs e up.0), up)
       go Equal e more = (level new x xs e up.0, up.1)
       go Greater e more = (all_replaced (λ y. cmp x y ≡ Less) new xs (total.antisymm x new ∙ ap ordering_reverse e) up.0, more)
@@ -117,14 +152,16 @@ module _ {X : Type 0} (cmp : X → X → Ordering) (total : IsTotalOrder cmp) wh
       go Greater e more =
           let stays : others new (x ∷ xs) ≡ x ∷ others new xs = rw (below new x e) in
           ap (λ (l : List X). replace_key cmp l new) stays
-          ∙ (ap (λ o. match_ordering o (new ∷ x ∷ others new xs) (new ∷ others new xs) (x ∷ replace_key cmp (others new xs) new)) e ∙ ap (λ (l : List X). x ∷ l) more)
+          ∙ (ap (λ o. match_ordering o (new ∷ x ∷ others new xs) (new ∷ others new xs)
+          (x ∷ replace_key cmp (others new xs) new)) e ∙ ap (λ (l : List X). x ∷ l) more)
 
   -- at most one has a key
   pub one_at : (new : X) (xs : List X) → Rises cmp xs → length (filter (λ x. is_eq (cmp x new)) xs) ≤ 1
   one_at new = comes_once cmp (λ x y. is_eq (cmp x y)) new (λ x h. equal_is _ h) total
 
 -- where equal keys are equal members, it makes no difference which of the two stays
-pub inserted_same : {X : Type 0} (cmp : X → X → Ordering) → ((x y : X) → cmp x y ≡ Equal → x ≡ y) → (new : X) (xs : List X) → insert_key cmp xs new ≡ replace_key cmp xs new
+pub inserted_same : {X : Type 0} (cmp : X → X → Ordering) → ((x y : X) → cmp x y ≡ Equal → x ≡ y)
+    → (new : X) (xs : List X) → insert_key cmp xs new ≡ replace_key cmp xs new
 inserted_same cmp same new [] = refl
 inserted_same cmp same new (x ∷ xs) = go (cmp new x) refl (inserted_same cmp same new xs)
   where
@@ -143,7 +180,10 @@ then_eq Greater b = refl
 -- a list whose members are below all later ones rises
 pub pairs_rise : {X : Type 0} (cmp : X → X → Ordering) (xs : List X) → AllPairs (λ a b. cmp a b ≡ Less) xs → Rises cmp xs
 pairs_rise cmp [] h = tt
-pairs_rise {X} cmp (x ∷ xs) h = (first xs (λ i d low. h 0 (suc i) d (omega arith) (omega arith)), pairs_rise cmp xs (λ i j d less low. h (suc i) (suc j) d (omega arith) (omega arith)))
+pairs_rise {X} cmp (x ∷ xs) h = (
+  first xs (λ i d low. h 0 (suc i) d (omega arith) (omega arith)),
+  pairs_rise cmp xs (λ i j d less low. h (suc i) (suc j) d (omega arith) (omega arith)),
+)
   where
     first : (ys : List X) → ((i : ℕ) (d : X) → i < length ys → cmp x (slice_index_or ys i d) ≡ Less) → AllByRecursion (λ y. cmp x y ≡ Less) ys
     first [] all = tt

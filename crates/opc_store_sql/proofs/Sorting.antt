@@ -1,8 +1,46 @@
--- What the rows of a table tell of the members that they stand for: decoded, and sorted by their keys, they are the list.
-use Rattle.std.proofs.Common.{◌≡◌, ℕ, ◌+◌, List, [], ◌∷◌, map, filter, drop, Bool, false, refl, sym, ap, ap₂, subst, ◌∙◌, IsPermutation, IsSorted, Ordering, Less, Equal, Greater, is_eq, is_lt, zero, suc, arith, add-one}
+-- What the rows of a table tell of the members that they stand for: decoded, and sorted by their keys, they are the
+-- list.
+use Rattle.std.proofs.Common.{
+  ◌≡◌,
+  ℕ,
+  ◌+◌,
+  List,
+  [],
+  ◌∷◌,
+  map,
+  filter,
+  drop,
+  Bool,
+  false,
+  refl,
+  sym,
+  ap,
+  ap₂,
+  subst,
+  ◌∙◌,
+  IsPermutation,
+  IsSorted,
+  Ordering,
+  Less,
+  Equal,
+  Greater,
+  is_eq,
+  is_lt,
+  zero,
+  suc,
+  arith,
+  add-one,
+}
 use Rattle.std.specs.Cmp.{IsTotalOrder}
 use Rattle.std.specs.Ordering.{ordering_reverse}
-use Rattle.std.proofs.lemmas.List.Sorted.{IsPermutation-sym, IsPermutation-trans, IsPermutation-map, IsPermutation-refl, IsPermutation-cons, IsPermutation-middle}
+use Rattle.std.proofs.lemmas.List.Sorted.{
+  IsPermutation-sym,
+  IsPermutation-trans,
+  IsPermutation-map,
+  IsPermutation-refl,
+  IsPermutation-cons,
+  IsPermutation-middle,
+}
 use Rattle.sqlite.specs.Order.{Row}
 use Rattle.sqlite_keyed.specs.Lists.{sort_by}
 use Rattle.sqlite_keyed.proofs.ListLemmas.{along_permutation, all_weaker, map-map, map_back, IsPermutation-filter}
@@ -51,12 +89,17 @@ module _ {X : Type 0} (cmp : X → X → Ordering) (total : IsTotalOrder cmp) wh
 
   -- a list in the order of its keys is each list of its members, sorted
   pub in_order : (xs ys : List X) → Rises cmp xs → IsPermutation xs ys → sort_by cmp ys ≡ xs
-  in_order xs ys up same = sym (sorted_is-sort_by cmp total ys xs ((apart_along xs ys same).1 (no_ties xs up)) (IsPermutation-sym xs ys same) (rises_sorted xs up))
+  in_order xs ys up same =
+      sym (sorted_is-sort_by cmp total ys xs ((apart_along xs ys same).1 (no_ties xs up)) (IsPermutation-sym xs ys same)
+      (rises_sorted xs up))
 
   -- the rows of a table, decoded and sorted, are the members that its values tell
-  pub decoded_as : (back : Row → X) (have : List Row) (xs : List X) (rows : List Row) → Rises cmp xs → map back have ≡ xs → HasRows have rows → sort_by cmp (map (λ (r : Row). back (drop 1 r)) rows) ≡ xs
+  pub decoded_as : (back : Row → X) (have : List Row) (xs : List X) (rows : List Row) → Rises cmp xs
+      → map back have ≡ xs → HasRows have rows → sort_by cmp (map (λ (r : Row). back (drop 1 r)) rows) ≡ xs
   decoded_as back have xs rows up tells has =
-      let same : IsPermutation (map back have) (map (λ (r : Row). back (drop 1 r)) rows) = subst (IsPermutation (map back have)) (map-map back (λ (r : Row). drop 1 r) rows) (IsPermutation-map back _ _ has.each) in
+      let same : IsPermutation (map back have) (map (λ (r : Row). back (drop 1 r)) rows) =
+      subst (IsPermutation (map back have)) (map-map back (λ (r : Row). drop 1 r) rows)
+      (IsPermutation-map back _ _ has.each) in
       in_order xs _ up (subst (λ (l : List X). IsPermutation l (map (λ (r : Row). back (drop 1 r)) rows)) tells same)
 
   module _ (row : X → Row) (back : Row → X) (reads : (x : X) → back (row x) ≡ x) where
@@ -71,11 +114,16 @@ module _ {X : Type 0} (cmp : X → X → Ordering) (total : IsTotalOrder cmp) wh
     pub decoded_part : (q : Row → Bool) (have : List Row) (xs : List X) (rows : List Row) → Rises cmp xs → filter q have ≡ map row xs → HasRows have rows
         → sort_by cmp (map back (filter q (map (λ (r : Row). drop 1 r) rows))) ≡ xs
     decoded_part q have xs rows up mine has =
-        let picked : IsPermutation (map row xs) (filter q (map (λ (r : Row). drop 1 r) rows)) = subst (λ (l : List Row). IsPermutation l (filter q (map (λ (r : Row). drop 1 r) rows))) mine (IsPermutation-filter q _ _ has.each) in
-        let moved = subst (λ (l : List X). IsPermutation l (map back (filter q (map (λ (r : Row). drop 1 r) rows)))) (map_back row back reads xs) (IsPermutation-map back _ _ picked) in
+        let picked : IsPermutation (map row xs) (filter q (map (λ (r : Row). drop 1 r) rows)) =
+        subst (λ (l : List Row). IsPermutation l (filter q (map (λ (r : Row). drop 1 r) rows))) mine
+        (IsPermutation-filter q _ _ has.each) in
+        let moved = subst (λ (l : List X). IsPermutation l (map back (filter q (map (λ (r : Row). drop 1 r) rows))))
+        (map_back row back reads xs) (IsPermutation-map back _ _ picked) in
         in_order xs _ up moved
 
 -- a table whose key is the place
-pub places_back : {X : Type 0} (values : X → Row) (back : Row → X) → ((n : ℕ) (x : X) → back (numbered_row values n x) ≡ x) → (n : ℕ) (xs : List X) → map back (numbered_rows values n xs) ≡ xs
+pub places_back : {X : Type 0} (values : X → Row) (back : Row → X)
+    → ((n : ℕ) (x : X) → back (numbered_row values n x) ≡ x) → (n : ℕ) (xs : List X)
+    → map back (numbered_rows values n xs) ≡ xs
 places_back values back reads n [] = refl
 places_back values back reads n (x ∷ xs) = ap₂ ◌∷◌ (reads n x) (places_back values back reads (n + 1) xs)

@@ -1,5 +1,36 @@
 -- What a statement of each kind does to the tables, whatever its text and its table are.
-use Rattle.std.proofs.Common.{◌≡◌, ◌⊎◌, inl, inr, ℕ, ◌==◌, ℤ, List, [], ◌∷◌, length, slice_get, Bool, true, false, cond, ◌&&◌, Option, Some, None, unwrap_or, Ok, Err, Result, refl, sym, ap, subst, ◌∙◌, append-nil}
+use Rattle.std.proofs.Common.{
+  ◌≡◌,
+  ◌⊎◌,
+  inl,
+  inr,
+  ℕ,
+  ◌==◌,
+  ℤ,
+  List,
+  [],
+  ◌∷◌,
+  length,
+  slice_get,
+  Bool,
+  true,
+  false,
+  cond,
+  ◌&&◌,
+  Option,
+  Some,
+  None,
+  unwrap_or,
+  Ok,
+  Err,
+  Result,
+  refl,
+  sym,
+  ap,
+  subst,
+  ◌∙◌,
+  append-nil,
+}
 use Rattle.std.specs.List.{filter_map, flat_map}
 use Rattle.sqlite.specs.declared.types.Value.{Value}
 use Rattle.sqlite.specs.declared.types.Value.TheVariants.{Null, Int}
@@ -57,7 +88,15 @@ same_value e = cc
 no_work : (depth tree : ℕ) (child : Table) (ref : Reference) (deed : Option Deed) (key : Option ParentKey) → work_by depth tree [] child ref deed key ≡ None
 no_work depth tree child ref None key = refl
 no_work depth tree child ref (Some deed) None = refl
-no_work depth tree child ref (Some deed) (Some key) = go (key.0 == tree) (record { depth = depth; child = child; ref = ref; places = key.1; order = key.2; deed = deed; moves = [] })
+no_work depth tree child ref (Some deed) (Some key) = go (key.0 == tree) (record {
+  depth = depth;
+  child = child;
+  ref = ref;
+  places = key.1;
+  order = key.2;
+  deed = deed;
+  moves = [];
+})
   where
     go : (b : Bool) (w : Work) → cond (b && false) (Some w) None ≡ None
     go true w = refl
@@ -86,7 +125,8 @@ second P Q true c none h = absurd cc
 second P Q false c none h = h
 
 module _ (task : Task) where
-  pub concluded : (mode : Mode) (returning : Option Returning) (w : Written) (tally : Tally) (after : Database) → Concludes task mode returning w (Ok (tally, after))
+  pub concluded : (mode : Mode) (returning : Option Returning) (w : Written) (tally : Tally) (after : Database)
+      → Concludes task mode returning w (Ok (tally, after))
       → (after ≡ record { schema = task.schema; trees = w.trees }) × (tally.rows ≡ Some (length w.rows))
   concluded mode returning w tally after h =
       let both = same_value (went (went h).2).2 in
@@ -96,7 +136,10 @@ module _ (task : Task) where
   WritesBy db edit next = WritesEdit task.schema task.keys db edit (Ok next)
 
   pub inserted : (from : Source) (db : Trees) (w : Written) → task.table.is_counted ≡ false → Inserts task from db (Ok w)
-      → (rows : List Row) × IsSource (record { schema = task.schema; trees = db }) (stamped task.table task.params) from rows × WritesBy db (edit_of db task.table [] Chosen 0 rows) w.trees
+      → (rows : List Row) × IsSource (record {
+        schema = task.schema;
+        trees = db;
+      }) (stamped task.table task.params) from rows × WritesBy db (edit_of db task.table [] Chosen 0 rows) w.trees
   inserted from db w none h =
       let given = went h in
       let counter = went given.2 in
@@ -104,26 +147,46 @@ module _ (task : Task) where
       let counted = went written.2 in
       let same : counted.0 ≡ written.0 = same_value (second _ _ task.table.is_counted _ none counted.1) in
       let trees : w.trees ≡ written.0 = ap (λ (it : Written). it.trees) (same_value counted.2) ∙ same in
-      let chosen : rowids_for task.table (count_of counter.0) ≡ Chosen = ap (λ b. cond b (Above (count_of counter.0)) Chosen) none in
-      (given.0, given.1, subst (λ (t : Trees). WritesBy db (edit_of db task.table [] Chosen 0 given.0) t) (sym trees) (subst (λ r. WritesBy db (edit_of db task.table [] r 0 given.0) written.0) chosen written.1))
+      let chosen : rowids_for task.table (count_of counter.0) ≡ Chosen = ap (λ b. cond b (Above (count_of counter.0)) Chosen) none in (
+        given.0,
+        given.1,
+        subst (λ (t : Trees). WritesBy db (edit_of db task.table [] Chosen 0 given.0) t) (sym trees)
+            (subst (λ r. WritesBy db (edit_of db task.table [] r 0 given.0) written.0) chosen written.1),
+      )
 
   pub updated : (q : Program) (given : Row) (db : Trees) (w : Written) → Updates task q given db (Ok w)
-      → (rows : List Row) × Answers (record { schema = task.schema; trees = db }) q given rows × WritesBy db (edit_of db task.table (ids_of rows) Given 1 rows) w.trees
+      → (rows : List Row) × Answers (record {
+        schema = task.schema;
+        trees = db;
+      }) q given rows × WritesBy db (edit_of db task.table (ids_of rows) Given 1 rows) w.trees
       × (w.rows ≡ (edit_of db task.table (ids_of rows) Given 1 rows).news)
   updated q given db w h =
       let found = went h in
       let written = went found.2 in
-      let is = same_value written.2 in
-      (found.0, found.1, subst (λ (t : Trees). WritesBy db (edit_of db task.table (ids_of found.0) Given 1 found.0) t) (sym (ap (λ (it : Written). it.trees) is)) written.1, ap (λ (it : Written). it.rows) is)
+      let is = same_value written.2 in (
+        found.0,
+        found.1,
+        subst (λ (t : Trees). WritesBy db (edit_of db task.table (ids_of found.0) Given 1 found.0) t)
+            (sym (ap (λ (it : Written). it.trees) is)) written.1,
+        ap (λ (it : Written). it.rows) is,
+      )
 
   pub deleted : (q : Program) (db : Trees) (w : Written) → Deletes task q db (Ok w)
-      → (rows : List Row) × Answers (record { schema = task.schema; trees = db }) q task.params rows × WritesBy db (edit_of db task.table (ids_of rows) Given 0 []) w.trees
+      → (rows : List Row) × Answers (record {
+        schema = task.schema;
+        trees = db;
+      }) q task.params rows × WritesBy db (edit_of db task.table (ids_of rows) Given 0 []) w.trees
       × (w.rows ≡ taken_by db (edit_of db task.table (ids_of rows) Given 0 []))
   deleted q db w h =
       let found = went h in
       let written = went found.2 in
-      let is = same_value written.2 in
-      (found.0, found.1, subst (λ (t : Trees). WritesBy db (edit_of db task.table (ids_of found.0) Given 0 []) t) (sym (ap (λ (it : Written). it.trees) is)) written.1, ap (λ (it : Written). it.rows) is)
+      let is = same_value written.2 in (
+        found.0,
+        found.1,
+        subst (λ (t : Trees). WritesBy db (edit_of db task.table (ids_of found.0) Given 0 []) t)
+            (sym (ap (λ (it : Written). it.trees) is)) written.1,
+        ap (λ (it : Written). it.rows) is,
+      )
 
 -- ---- a whole statement
 
@@ -133,38 +196,64 @@ pub record Edits (schema : Schema) (edit : Edit) (old : Trees) (new : Database) 
   pub sound : IsDatabase new
   pub writes : WritesEdit schema Enforced old edit (Ok new.trees)
 
-module _ (schema : Schema) (text : List ℕ) (at : ℕ) (table : Table) (params : Row) (plain : IsPlain (understood schema text)) (found : slice_get schema.tables at ≡ Some table) where
+module _ (schema : Schema) (text : List ℕ) (at : ℕ) (table : Table) (params : Row)
+    (plain : IsPlain (understood schema text)) (found : slice_get schema.tables at ≡ Some table) where
   abbrev pub task_at : Option ℕ → Task
   task_at limit = record { limit = limit; keys = Enforced; schema = schema; table = table; params = params }
 
   -- what a statement on the rows of the table did
   abbrev Did : (Task → Trees → Written → Type 0) → State → Database → ℕ → Type 0
-  Did By old now count = (w : Written) × By (task_at old.step_limit) old.now.trees w × (now ≡ record { schema = schema; trees = w.trees }) × (count ≡ length w.rows) × IsDatabase now
+  Did By old now count = (w : Written) × By (task_at old.step_limit) old.now.trees w × (now ≡ record {
+    schema = schema;
+    trees = w.trees;
+  }) × (count ≡ length w.rows) × IsDatabase now
 
   module _ (old new : State) (has : old.now.schema ≡ schema) (count : ℕ) where
-    did_insert : (from : Source) → Writes old new None (Insert at from) (statement_of text (understood schema text)) params count → Did (λ task db w. Inserts task from db (Ok w)) old new.now count
+    did_insert : (from : Source) → Writes old new None (Insert at from) (statement_of text (understood schema text))
+        params count → Did (λ task db w. Inserts task from db (Ok w)) old new.now count
     did_insert from w =
-        let done = went (rw found at (subst (λ s. Does old.step_limit (mode_of old) params (record { schema = s; trees = old.now.trees }) (statement_of text (understood schema text)) None (Insert at from) (Ok (w.tally, new.now))) has w.changed)) in
+        let done = went (rw found at (subst (λ s. Does old.step_limit (mode_of old) params (record {
+          schema = s;
+          trees = old.now.trees;
+        }) (statement_of text (understood schema text)) None (Insert at from) (Ok (w.tally, new.now))) has w.changed)) in
         let end = concluded (task_at old.step_limit) (mode_of old) None done.0 w.tally new.now done.2 in
         (done.0, done.1, end.0, w.counted ∙ ap (λ o. unwrap_or o 0) end.1, w.sound)
 
-    did_update : (q : Program) → Writes old new None (Update at q) (statement_of text (understood schema text)) params count → Did (λ task db w. Updates task q params db (Ok w)) old new.now count
+    did_update : (q : Program) → Writes old new None (Update at q) (statement_of text (understood schema text)) params
+        count → Did (λ task db w. Updates task q params db (Ok w)) old new.now count
     did_update q w =
-        let done = went (rw found at (subst (λ s. Does old.step_limit (mode_of old) params (record { schema = s; trees = old.now.trees }) (statement_of text (understood schema text)) None (Update at q) (Ok (w.tally, new.now))) has w.changed)) in
+        let done = went (rw found at (subst (λ s. Does old.step_limit (mode_of old) params (record {
+          schema = s;
+          trees = old.now.trees;
+        }) (statement_of text (understood schema text)) None (Update at q) (Ok (w.tally, new.now))) has w.changed)) in
         let end = concluded (task_at old.step_limit) (mode_of old) None done.0 w.tally new.now done.2 in
         (done.0, done.1, end.0, w.counted ∙ ap (λ o. unwrap_or o 0) end.1, w.sound)
 
-    did_delete : (q : Program) → Writes old new None (Delete at q) (statement_of text (understood schema text)) params count → Did (λ task db w. Deletes task q db (Ok w)) old new.now count
+    did_delete : (q : Program) → Writes old new None (Delete at q) (statement_of text (understood schema text)) params
+        count → Did (λ task db w. Deletes task q db (Ok w)) old new.now count
     did_delete q w =
-        let done = went (rw found at (subst (λ s. Does old.step_limit (mode_of old) params (record { schema = s; trees = old.now.trees }) (statement_of text (understood schema text)) None (Delete at q) (Ok (w.tally, new.now))) has w.changed)) in
+        let done = went (rw found at (subst (λ s. Does old.step_limit (mode_of old) params (record {
+          schema = s;
+          trees = old.now.trees;
+        }) (statement_of text (understood schema text)) None (Delete at q) (Ok (w.tally, new.now))) has w.changed)) in
         let end = concluded (task_at old.step_limit) (mode_of old) None done.0 w.tally new.now done.2 in
         (done.0, done.1, end.0, w.counted ∙ ap (λ o. unwrap_or o 0) end.1, w.sound)
 
-    as_edits : (edit : Edit) (trees : Trees) → IsDatabase new.now → new.now ≡ record { schema = schema; trees = trees } → WritesEdit schema Enforced old.now.trees edit (Ok trees) → Edits schema edit old.now.trees new.now
-    as_edits edit trees sound is writes = record { sound = sound; schema_is = ap (λ (d : Database). d.schema) is; writes = subst (λ (t : Trees). WritesEdit schema Enforced old.now.trees edit (Ok t)) (sym (ap (λ (d : Database). d.trees) is)) writes }
+    as_edits : (edit : Edit) (trees : Trees) → IsDatabase new.now → new.now ≡ record {
+      schema = schema;
+      trees = trees;
+    } → WritesEdit schema Enforced old.now.trees edit (Ok trees) → Edits schema edit old.now.trees new.now
+    as_edits edit trees sound is writes = record {
+      sound = sound;
+      schema_is = ap (λ (d : Database). d.schema) is;
+      writes = subst (λ (t : Trees). WritesEdit schema Enforced old.now.trees edit (Ok t)) (sym (ap (λ (d : Database). d.trees) is)) writes;
+    }
 
     pub inserts : (from : Source) → command_of (understood schema text) ≡ Insert at from → IsSimple table → Executes text params old new (Ok count)
-        → (rows : List Row) × IsSource (record { schema = schema; trees = old.now.trees }) params from rows × Edits schema (edit_of old.now.trees table [] Chosen 0 rows) old.now.trees new.now
+        → (rows : List Row) × IsSource (record {
+          schema = schema;
+          trees = old.now.trees;
+        }) params from rows × Edits schema (edit_of old.now.trees table [] Chosen 0 rows) old.now.trees new.now
     inserts from is simple h =
         let did = did_insert from (runs_as text params old new schema has (Insert at from) is plain count h) in
         let it = inserted (task_at old.step_limit) from old.now.trees did.0 simple.uncounted did.1 in
@@ -172,7 +261,10 @@ module _ (schema : Schema) (text : List ℕ) (at : ℕ) (table : Table) (params 
         (it.0, subst (λ (p : Row). IsSource (record { schema = schema; trees = old.now.trees }) p from it.0) same it.1, as_edits _ did.0.trees did.4 did.2 it.2)
 
     pub updates : (q : Program) → command_of (understood schema text) ≡ Update at q → Executes text params old new (Ok count)
-        → (rows : List Row) × Answers (record { schema = schema; trees = old.now.trees }) q params rows × Edits schema (edit_of old.now.trees table (ids_of rows) Given 1 rows) old.now.trees new.now
+        → (rows : List Row) × Answers (record {
+          schema = schema;
+          trees = old.now.trees;
+        }) q params rows × Edits schema (edit_of old.now.trees table (ids_of rows) Given 1 rows) old.now.trees new.now
         × (count ≡ length (edit_of old.now.trees table (ids_of rows) Given 1 rows).news)
     updates q is h =
         let did = did_update q (runs_as text params old new schema has (Update at q) is plain count h) in
@@ -180,7 +272,10 @@ module _ (schema : Schema) (text : List ℕ) (at : ℕ) (table : Table) (params 
         (it.0, it.1, as_edits _ did.0.trees did.4 did.2 it.2, did.3 ∙ ap length it.3)
 
     pub deletes : (q : Program) → command_of (understood schema text) ≡ Delete at q → Executes text params old new (Ok count)
-        → (rows : List Row) × Answers (record { schema = schema; trees = old.now.trees }) q params rows × Edits schema (edit_of old.now.trees table (ids_of rows) Given 0 []) old.now.trees new.now
+        → (rows : List Row) × Answers (record {
+          schema = schema;
+          trees = old.now.trees;
+        }) q params rows × Edits schema (edit_of old.now.trees table (ids_of rows) Given 0 []) old.now.trees new.now
         × (count ≡ length (taken_by old.now.trees (edit_of old.now.trees table (ids_of rows) Given 0 [])))
     deletes q is h =
         let did = did_delete q (runs_as text params old new schema has (Delete at q) is plain count h) in

@@ -1,5 +1,30 @@
 -- A query whose rows are taken one at a time, up to the first that passes.
-use Rattle.std.proofs.Common.{◌≡◌, ℕ, ◌+◌, List, [], ◌∷◌, ◌++◌, map, find, length, Bool, true, false, Some, None, refl, sym, ap, ◌∙◌, arith, append_assoc, append-nil, length-append, ap₂}
+use Rattle.std.proofs.Common.{
+  ◌≡◌,
+  ℕ,
+  ◌+◌,
+  List,
+  [],
+  ◌∷◌,
+  ◌++◌,
+  map,
+  find,
+  length,
+  Bool,
+  true,
+  false,
+  Some,
+  None,
+  refl,
+  sym,
+  ap,
+  ◌∙◌,
+  arith,
+  append_assoc,
+  append-nil,
+  length-append,
+  ap₂,
+}
 use Rattle.std.proofs.lemmas.List.{map-append}
 use Rattle.std.specs.List.{AllByRecursion}
 use Rattle.sqlite.specs.Order.{Row}
@@ -14,7 +39,8 @@ pub record HasTaken {X : Type 0} (row : X → Row) (p : X → Bool) (xs : List X
   pub many : length prefix ≡ n
   pub none : AllByRecursion (λ x. p x ≡ false) prefix
 
-find_past : {X : Type 0} (p : X → Bool) (prefix rest : List X) → AllByRecursion (λ x. p x ≡ false) prefix → (find p (prefix ++ rest) ≡ find p rest) × (taken_for p (prefix ++ rest) ≡ length prefix + taken_for p rest)
+find_past : {X : Type 0} (p : X → Bool) (prefix rest : List X) → AllByRecursion (λ x. p x ≡ false) prefix
+    → (find p (prefix ++ rest) ≡ find p rest) × (taken_for p (prefix ++ rest) ≡ length prefix + taken_for p rest)
 find_past p [] rest h = (refl, omega arith)
 find_past p (x ∷ prefix) rest h = let more = find_past p prefix rest h.1 in (rw h.0 more.0, rw h.0 (rw more.1 (omega arith)))
 
@@ -32,7 +58,9 @@ module _ {X : Type 0} (row : X → Row) (p : X → Bool) (xs : List X) where
 
   rest_is : (given more : List Row) (n : ℕ) (h : HasTaken row p xs given n) → map row xs ≡ given ++ more → map row h.rest ≡ more
   rest_is given more n h all =
-      let split : map row h.prefix ++ map row h.rest ≡ map row h.prefix ++ more = sym (map-append row h.prefix h.rest) ∙ (ap (map row) (sym h.whole) ∙ (all ∙ ap (λ (l : List Row). l ++ more) h.are)) in
+      let split : map row h.prefix ++ map row h.rest ≡ map row h.prefix ++ more =
+      sym (map-append row h.prefix h.rest)
+      ∙ (ap (map row) (sym h.whole) ∙ (all ∙ ap (λ (l : List Row). l ++ more) h.are)) in
       cancel (map row h.prefix) (map row h.rest) more split
 
   -- the rows were all

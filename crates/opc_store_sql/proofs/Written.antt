@@ -1,5 +1,31 @@
 -- What INSERT, UPDATE and DELETE on one table leave, in rows of values.
-use Rattle.std.proofs.Common.{◌≡◌, ◌≢◌, ℕ, ◌/◌, ℤ, List, [], ◌∷◌, ◌++◌, map, filter, not, drop, length, Bool, Ok, Some, sym, ap, subst, ◌∙◌, slice_get, arith, Ordering, is_eq}
+use Rattle.std.proofs.Common.{
+  ◌≡◌,
+  ◌≢◌,
+  ℕ,
+  ◌/◌,
+  ℤ,
+  List,
+  [],
+  ◌∷◌,
+  ◌++◌,
+  map,
+  filter,
+  not,
+  drop,
+  length,
+  Bool,
+  Ok,
+  Some,
+  sym,
+  ap,
+  subst,
+  ◌∙◌,
+  slice_get,
+  arith,
+  Ordering,
+  is_eq,
+}
 use Rattle.std.specs.List.{AllByRecursion}
 use Rattle.std.specs.BTreeSet.{replace_key}
 use Rattle.std.specs.Cmp.{IsTotalOrder}
@@ -70,12 +96,15 @@ pub record Takes (schema : Schema) (table : Table) (q : Row → Bool) (old : Tre
 pub record Sets (schema : Schema) (table : Table) (q : Row → Bool) (values : Row) (count : ℕ) (old : Trees) (new : Database) : Type 0 where
   pub spares : Spares schema table old new
   pub count_is : (have : List Row) → HasRows have (old table.tree) → count ≡ length (filter q have)
-  pub rows : (have : List Row) → HasRows have (old table.tree) → HasRows (map (λ (v : Row). values) (filter q have) ++ filter (λ v. not (q v)) have) (new.trees table.tree)
+  pub rows : (have : List Row) → HasRows have (old table.tree)
+      → HasRows (map (λ (v : Row). values) (filter q have) ++ filter (λ v. not (q v)) have) (new.trees table.tree)
 
-module _ (schema : Schema) (text : List ℕ) (at : ℕ) (table : Table) (params : Row) (plain : IsPlain (understood schema text)) (found : slice_get schema.tables at ≡ Some table)
+module _ (schema : Schema) (text : List ℕ) (at : ℕ) (table : Table) (params : Row)
+    (plain : IsPlain (understood schema text)) (found : slice_get schema.tables at ≡ Some table)
     (old new : State) (has : old.now.schema ≡ schema) (count : ℕ) where
   module _ (terms : List Term) (width : ℕ) (is : command_of (understood schema text) ≡ Insert at (Values terms width)) (simple : IsSimple table)
-      (values : Row) (gives : value_rows params width (length terms / width) terms ≡ (Null ∷ values) ∷ []) (stored : cast_row table (Null ∷ values) ≡ Null ∷ values) where
+      (values : Row) (gives : value_rows params width (length terms / width) terms ≡ (Null ∷ values) ∷ [])
+      (stored : cast_row table (Null ∷ values) ≡ Null ∷ values) where
     edits : Executes text params old new (Ok count) → Edits schema (edit_of old.now.trees table [] Chosen 0 ((Null ∷ values) ∷ [])) old.now.trees new.now
     edits h =
         let it = inserts schema text at table params plain found old new has count (Values terms width) is simple h in
@@ -92,19 +121,26 @@ module _ (schema : Schema) (text : List ℕ) (at : ℕ) (table : Table) (params 
 
   -- where the number is given
   pub adds_at : (terms : List Term) (width : ℕ) → command_of (understood schema text) ≡ Insert at (Values terms width) → IsSimple table
-      → (id : ℤ) (values : Row) → value_rows params width (length terms / width) terms ≡ (Int id ∷ values) ∷ [] → cast_row table (Int id ∷ values) ≡ Int id ∷ values
+      → (id : ℤ) (values : Row) → value_rows params width (length terms / width) terms ≡ (Int id ∷ values) ∷ []
+      → cast_row table (Int id ∷ values) ≡ Int id ∷ values
       → Executes text params old new (Ok count) → AddsAt schema table id values old.now.trees new.now
   adds_at terms width is simple id values gives stored h =
       let it = inserts schema text at table params plain found old new has count (Values terms width) is simple h in
       let edits = subst (λ (rows : List Row). Edits schema (edit_of old.now.trees table [] Chosen 0 rows) old.now.trees new.now) (it.1.1 ∙ gives) it.2 in
       record {
-        spares = record { schema_is = edits.schema_is; sound = edits.sound; tables = (applied schema table (Int id ∷ values) old.now.trees new.now edits).tables };
+        spares = record {
+          schema_is = edits.schema_is;
+          sound = edits.sound;
+          tables = (applied schema table (Int id ∷ values) old.now.trees new.now edits).tables;
+        };
         rows = adds_given schema table (Int id ∷ values) old.now.trees new.now edits id values stored;
       }
 
   pub takes_numbers : (tests : List Term) → command_of (understood schema text) ≡ Delete at (alone (selecting table.tree tests (col 1 0 ∷ []) []))
       → ((rows : List Row) → works schema Enforced 0 table.tree (taken_by old.now.trees (edit_of old.now.trees table (ids_of rows) Given 0 [])) [] ≡ [])
-      → Executes text params old new (Ok count) → TakesNumbers schema table (passes table.tree tests (col 1 0 ∷ []) [] old.now.trees params) old.now.trees new.now
+      → Executes text params old new (Ok count)
+      → TakesNumbers schema table (passes table.tree tests (col 1 0 ∷ []) [] old.now.trees params) old.now.trees
+      new.now
   takes_numbers tests is idle h =
       let it = deletes schema text at table params plain found old new has count (alone (selecting table.tree tests (col 1 0 ∷ []) [])) is h in
       let lists = answered table.tree tests (col 1 0 ∷ []) [] old.now.trees params schema it.0 it.1 in
@@ -121,7 +157,9 @@ module _ (schema : Schema) (text : List ℕ) (at : ℕ) (table : Table) (params 
     -- where what the rows that go set off leaves all else as it is
     pub takes_by : command_of (understood schema text) ≡ Delete at (alone (selecting table.tree tests (col 1 0 ∷ []) []))
         → ((r : Row) → passes table.tree tests (col 1 0 ∷ []) [] old.now.trees params r ≡ q (drop 1 r))
-        → ((rows : List Row) → Lists table.tree tests (col 1 0 ∷ []) [] old.now.trees params rows → WritesEdit schema Enforced old.now.trees (taking rows) (Ok new.now.trees) → Applies schema Enforced old.now.trees (taking rows) new.now.trees)
+        → ((rows : List Row) → Lists table.tree tests (col 1 0 ∷ []) [] old.now.trees params rows
+        → WritesEdit schema Enforced old.now.trees (taking rows) (Ok new.now.trees)
+        → Applies schema Enforced old.now.trees (taking rows) new.now.trees)
         → Executes text params old new (Ok count) → Takes schema table q old.now.trees new.now
     takes_by is meets alone_acts h =
         let it = deletes schema text at table params plain found old new has count (alone (selecting table.tree tests (col 1 0 ∷ []) [])) is h in
@@ -143,32 +181,45 @@ module _ (schema : Schema) (text : List ℕ) (at : ℕ) (table : Table) (params 
 
     pub sets_by : (terms : List Term) → command_of (understood schema text) ≡ Update at (alone (selecting table.tree tests (col 1 0 ∷ col 1 0 ∷ terms) []))
         → ((r : Row) → passes table.tree tests (col 1 0 ∷ col 1 0 ∷ terms) [] old.now.trees params r ≡ q (drop 1 r))
-        → (values : Row) → ((r : Row) → drop 1 (cast_row table (drop 1 (shown table.tree tests (col 1 0 ∷ col 1 0 ∷ terms) [] old.now.trees params r).1)) ≡ values)
-        → ((rows : List Row) → WritesEdit schema Enforced old.now.trees (setting rows) (Ok new.now.trees) → Applies schema Enforced old.now.trees (setting rows) new.now.trees)
+        → (values : Row)
+        → ((r : Row) → drop 1 (cast_row table
+        (drop 1 (shown table.tree tests (col 1 0 ∷ col 1 0 ∷ terms) [] old.now.trees params r).1)) ≡ values)
+        → ((rows : List Row) → WritesEdit schema Enforced old.now.trees (setting rows) (Ok new.now.trees)
+        → Applies schema Enforced old.now.trees (setting rows) new.now.trees)
         → Executes text params old new (Ok count) → Sets schema table q values count old.now.trees new.now
     sets_by terms is meets values set alone_acts h =
         let it = updates schema text at table params plain found old new has count (alone (selecting table.tree tests (col 1 0 ∷ col 1 0 ∷ terms) [])) is h in
         let lists = answered table.tree tests (col 1 0 ∷ col 1 0 ∷ terms) [] old.now.trees params schema it.0 it.1 in
         let writes : WritesEdit schema Enforced old.now.trees (setting it.0) (Ok new.now.trees) =
-        subst (λ (n : List Row). WritesEdit schema Enforced old.now.trees (record { table = table; gone = ids_of it.0; news = n }) (Ok new.now.trees)) (given (without_all (old.now.trees table.tree) (ids_of it.0)) (setting it.0).news) it.2.writes in
+        subst (λ (n : List Row). WritesEdit schema Enforced old.now.trees (record {
+          table = table;
+          gone = ids_of it.0;
+          news = n;
+        }) (Ok new.now.trees)) (given (without_all (old.now.trees table.tree) (ids_of it.0)) (setting it.0).news) it.2.writes in
         let done = alone_acts it.0 writes in
         record {
           spares = record { schema_is = it.2.schema_is; sound = it.2.sound; tables = done.tables };
-          count_is = λ have stored. counts schema table tests (col 1 0 ∷ terms) params old.now.trees new.now it.0 lists q meets have stored values set count it.3;
+          count_is = λ have stored. counts schema table tests (col 1 0 ∷ terms) params old.now.trees new.now it.0 lists
+              q meets have stored values set count it.3;
           rows = λ have stored. replaces schema table tests (col 1 0 ∷ terms) params old.now.trees new.now it.0 lists q meets have stored values set done;
         }
 
     pub sets : (terms : List Term) → command_of (understood schema text) ≡ Update at (alone (selecting table.tree tests (col 1 0 ∷ col 1 0 ∷ terms) []))
         → ((r : Row) → passes table.tree tests (col 1 0 ∷ col 1 0 ∷ terms) [] old.now.trees params r ≡ q (drop 1 r))
-        → (values : Row) → ((r : Row) → drop 1 (cast_row table (drop 1 (shown table.tree tests (col 1 0 ∷ col 1 0 ∷ terms) [] old.now.trees params r).1)) ≡ values)
+        → (values : Row)
+        → ((r : Row) → drop 1 (cast_row table
+        (drop 1 (shown table.tree tests (col 1 0 ∷ col 1 0 ∷ terms) [] old.now.trees params r).1)) ≡ values)
         → ((olds news : List Row) → works schema Enforced 0 table.tree olds news ≡ [])
         → Executes text params old new (Ok count) → Sets schema table q values count old.now.trees new.now
     sets terms is meets values set idle h =
-        sets_by terms is meets values set (λ rows writes. one_step schema Enforced old.now.trees new.now.trees (setting rows) (idle (taken_by old.now.trees (setting rows)) (setting rows).news) writes) h
+        sets_by terms is meets values set
+        (λ rows writes. one_step schema Enforced old.now.trees new.now.trees (setting rows)
+        (idle (taken_by old.now.trees (setting rows)) (setting rows).news) writes) h
 
 -- ---- the same, for a table with one row for each member of a list in the order of its key
 
-module _ {X : Type 0} (row : X → Row) (cmp : X → X → Ordering) (total : IsTotalOrder cmp) (new : X) (q : Row → Bool) (picks : (x : X) → q (row x) ≡ is_eq (cmp x new)) where
+module _ {X : Type 0} (row : X → Row) (cmp : X → X → Ordering) (total : IsTotalOrder cmp) (new : X) (q : Row → Bool)
+    (picks : (x : X) → q (row x) ≡ is_eq (cmp x new)) where
   abbrev hits : List X → List X
   hits xs = filter (λ x. is_eq (cmp x new)) xs
 
@@ -178,14 +229,17 @@ module _ {X : Type 0} (row : X → Row) (cmp : X → X → Ordering) (total : Is
   left : (xs : List X) → filter (λ v. not (q v)) (map row xs) ≡ map row (others cmp total new xs)
   left xs = filter-map (λ (v : Row). not (q v)) row xs ∙ ap (map row) (filter_same _ _ (λ x. ap not (picks x)) xs)
 
-  more_rows : (xs : List X) (rows : List Row) → Rises cmp xs → HasRows (row new ∷ map row (others cmp total new xs)) rows → HasRows (map row (replace_key cmp xs new)) rows
+  more_rows : (xs : List X) (rows : List Row) → Rises cmp xs
+      → HasRows (row new ∷ map row (others cmp total new xs)) rows → HasRows (map row (replace_key cmp xs new)) rows
   more_rows xs rows up h = record { each = IsPermutation-trans _ _ _ (IsPermutation-map row _ _ (replaced_is cmp total new xs up)) h.each; kept = h.kept }
 
-  none_of : (hit rest : List X) (rows : List Row) → length hit ≡ 0 → HasRows (map (λ (v : Row). row new) (map row hit) ++ map row rest) rows → HasRows (map row rest) rows
+  none_of : (hit rest : List X) (rows : List Row) → length hit ≡ 0
+      → HasRows (map (λ (v : Row). row new) (map row hit) ++ map row rest) rows → HasRows (map row rest) rows
   none_of [] rest rows none h = h
   none_of (x ∷ hit) rest rows none h = absurd (omega arith)
 
-  one_of : (hit rest : List X) (rows : List Row) → length hit ≡ 1 → HasRows (map (λ (v : Row). row new) (map row hit) ++ map row rest) rows → HasRows (row new ∷ map row rest) rows
+  one_of : (hit rest : List X) (rows : List Row) → length hit ≡ 1
+      → HasRows (map (λ (v : Row). row new) (map row hit) ++ map row rest) rows → HasRows (row new ∷ map row rest) rows
   one_of [] rest rows one h = absurd (omega arith)
   one_of (x ∷ []) rest rows one h = h
   one_of (x ∷ y ∷ hit) rest rows one h = absurd (omega arith)
@@ -203,7 +257,8 @@ module _ {X : Type 0} (row : X → Row) (cmp : X → X → Ordering) (total : Is
         both : HasRows (map (λ (v : Row). row new) (map row (hits xs)) ++ map row (others cmp total new xs)) (now.trees table.tree)
         both =
             subst (λ (l : List Row). HasRows (map (λ (v : Row). row new) (map row (hits xs)) ++ l) (now.trees table.tree)) (left xs)
-            (subst (λ (l : List Row). HasRows (map (λ (v : Row). row new) l ++ filter (λ v. not (q v)) (map row xs)) (now.trees table.tree)) (hit xs) (h.rows (map row xs) stored))
+            (subst (λ (l : List Row). HasRows (map (λ (v : Row). row new) l ++ filter (λ v. not (q v)) (map row xs))
+            (now.trees table.tree)) (hit xs) (h.rows (map row xs) stored))
 
         -- it was there, and is replaced
         pub set : count ≢ 0 → HasRows (map row (replace_key cmp xs new)) (now.trees table.tree)
@@ -217,5 +272,6 @@ module _ {X : Type 0} (row : X → Row) (cmp : X → X → Ordering) (total : Is
         missed none = none_of (hits xs) (others cmp total new xs) _ (sym count_hits ∙ none) both
 
     -- it was not there, and came
-    pub added : (old : Trees) (now : Database) → HasRows (map row (others cmp total new xs)) (old table.tree) → Adds schema table (row new) old now → HasRows (map row (replace_key cmp xs new)) (now.trees table.tree)
+    pub added : (old : Trees) (now : Database) → HasRows (map row (others cmp total new xs)) (old table.tree)
+        → Adds schema table (row new) old now → HasRows (map row (replace_key cmp xs new)) (now.trees table.tree)
     added old now stored h = more_rows xs _ up (h.rows _ stored)

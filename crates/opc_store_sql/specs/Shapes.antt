@@ -16,11 +16,25 @@ use Rattle.sqlite_catalog.specs.Change.{indexed}
 
 -- a column of a STRICT table, compared byte by byte
 abbrev pub column_of : Kind → Bool → List ℕ → Column
-column_of kind not_null name = record { name = name; kind = kind; is_strict = true; not_null = not_null; default = value.Null; collation = Binary }
+column_of kind not_null name = record {
+  name = name;
+  kind = kind;
+  is_strict = true;
+  not_null = not_null;
+  default = value.Null;
+  collation = Binary;
+}
 
 -- FOREIGN KEY (columns) REFERENCES parent
 abbrev pub reference_to : List ℕ → List ℕ → Action → Reference
-reference_to columns parent action = record { columns = columns; parent = parent; parent_columns = []; on_delete = action; on_update = NoAction; is_deferred = false }
+reference_to columns parent action = record {
+  columns = columns;
+  parent = parent;
+  parent_columns = [];
+  on_delete = action;
+  on_update = NoAction;
+  is_deferred = false;
+}
 
 abbrev pub plain_all : List (List ℕ) → List Order
 plain_all [] = []

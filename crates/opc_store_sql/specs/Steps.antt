@@ -32,7 +32,8 @@ module _ {S : Type 0} (g : Ghosts S) where
   RanAll [] old new = new ≡ old
   RanAll (sql ∷ more) old new = (mid : Held S) × (count : ℕ) × Ran sql [] old mid count × RanAll more mid new
 
-  -- The first statement ran; where it found no row, the second ran after it, with the same parameters, and else nothing did.
+  -- The first statement ran; where it found no row, the second ran after it, with the same parameters, and else nothing
+  -- did.
   pub record Puts (update insert : List ℕ) (params : Row) (old new : Held S) : Type 0 where
     pub mid : Held S
     pub found : ℕ
@@ -49,4 +50,5 @@ module _ {S : Type 0} (g : Ghosts S) where
 
   -- a query that succeeds gives the rows of its statement
   abbrev pub Reads : {E : Type 0} → List ℕ → Row → Held S → Held S → Result (Vec Row Global) E → Type 0
-  Reads sql params old new result = HasCleanDisk (state g new) → IfOk result (λ rows. Shown sql params (state g old) (state g new) rows.items)
+  Reads sql params old new result = HasCleanDisk (state g new)
+      → IfOk result (λ rows. Shown sql params (state g old) (state g new) rows.items)

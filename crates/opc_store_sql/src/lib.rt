@@ -20,7 +20,8 @@ pub fn run<S: Alter>(
 ) -> Result<usize, Error>
     ensures same_reference { tx.new.conn.ghost_name ≡ tx.old.conn.ghost_name }
     ensures stays { Stays S.Store tx.old.conn.now tx.new.conn.now result }
-    ensures ran { HasCleanDisk (state S.Store tx.new.conn.now) → IfOk result (Ran S.Store sql.now (bound params.now) tx.old.conn.now tx.new.conn.now) }
+    ensures ran { HasCleanDisk (state S.Store tx.new.conn.now)
+        → IfOk result (Ran S.Store sql.now (bound params.now) tx.old.conn.now tx.new.conn.now) }
 {
     tx.execute(sql, params)
 }
@@ -29,7 +30,8 @@ pub fn run<S: Alter>(
 pub fn run_all<S: Alter>(tx: &mut Transaction<'_, S>, statements: &[&str]) -> Result<(), Error>
     ensures same_reference { tx.new.conn.ghost_name ≡ tx.old.conn.ghost_name }
     ensures stays { Stays S.Store tx.old.conn.now tx.new.conn.now result }
-    ensures ran { HasCleanDisk (state S.Store tx.new.conn.now) → OnOk result (RanAll S.Store (map (λ s. s.now) statements.now) tx.old.conn.now tx.new.conn.now) }
+    ensures ran { HasCleanDisk (state S.Store tx.new.conn.now)
+        → OnOk result (RanAll S.Store (map (λ s. s.now) statements.now) tx.old.conn.now tx.new.conn.now) }
 {
     for statement in statements {
         run(tx, statement, &[])?;
@@ -37,8 +39,8 @@ pub fn run_all<S: Alter>(tx: &mut Transaction<'_, S>, statements: &[&str]) -> Re
     Ok(())
 }
 
-/// Puts a row at its key: `update` sets it where it is there, and `insert` adds it where it is not. Both take all of `params`.
-/// What a keyed table's statements do to its rows is proved once, in proofs/Keyed.antt.
+/// Puts a row at its key: `update` sets it where it is there, and `insert` adds it where it is not. Both take all of
+/// `params`. What a keyed table's statements do to its rows is proved once, in proofs/Keyed.antt.
 pub fn put<S: Alter>(
     tx: &mut Transaction<'_, S>,
     update: &str,
@@ -47,7 +49,8 @@ pub fn put<S: Alter>(
 ) -> Result<(), Error>
     ensures same_reference { tx.new.conn.ghost_name ≡ tx.old.conn.ghost_name }
     ensures stays { Stays S.Store tx.old.conn.now tx.new.conn.now result }
-    ensures put { HasCleanDisk (state S.Store tx.new.conn.now) → OnOk result (Puts S.Store update.now insert.now (bound params.now) tx.old.conn.now tx.new.conn.now) }
+    ensures put { HasCleanDisk (state S.Store tx.new.conn.now)
+        → OnOk result (Puts S.Store update.now insert.now (bound params.now) tx.old.conn.now tx.new.conn.now) }
 {
     let found = run(tx, update, params)?;
     if found == 0 {
@@ -67,7 +70,8 @@ pub fn read<S: Alter>(
     ensures mode { conn.new.in_transaction ≡ false }
     ensures looks { Looks S.Store conn.old conn.new result }
     ensures shown { Reads S.Store sql.now (bound params.now) conn.old conn.new result }
-    ensures failed { HasCleanDisk (state S.Store conn.new) → IfErr result (FailsToQuery sql.now (bound params.now) (state S.Store conn.old) (state S.Store conn.new)) }
+    ensures failed { HasCleanDisk (state S.Store conn.new)
+        → IfErr result (FailsToQuery sql.now (bound params.now) (state S.Store conn.old) (state S.Store conn.new)) }
 {
     let _settled = conn.is_autocommit();
     conn.query_all(sql, params)

@@ -3,12 +3,13 @@
 //! A line is a verb and its words; a program of cases says which tables it is asked of. The lines:
 //!
 //! - `put KIND ROW` and `remove KIND KEY`: one more edit of the next change. A row of the policy, and one that is
-//!   removed, is a record of a policy file (`row`); `listed` is a profile with an entry; `-` is a part that is not there.
+//!   removed, is a record of a policy file (`row`); `listed` is a profile with an entry; `-` is a part that is not
+//! there.
 //! - `many FROM TO EDIT`: an edit for each number from FROM up to TO, for which `#` stands.
 //! - `commit`: the change. `commit CODE`: the change with a row of the account. A fault is printed.
 //! - `each SUBJECT KEY`: each edit is a change of its own, and what the tables load is printed after each.
-//! - `load SUBJECT KEY`: what the tables load. Rows of the board are printed as `put` writes them, rows of the policy as
-//!   records.
+//! - `load SUBJECT KEY`: what the tables load. Rows of the board are printed as `put` writes them, rows of the policy
+//!   as records.
 #![tactic(auto)]
 
 mod board_edits;

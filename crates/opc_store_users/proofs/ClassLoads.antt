@@ -20,7 +20,14 @@ use Rattle.opc_store_schema.specs.Tables.{the_schema}
 use Rattle.opc_store_schema.specs.Represented.{Represents, class_row}
 
 abbrev pub class : Asked
-class = record { schema = the_schema; text = codes "SELECT class, active FROM classes WHERE class = ?1 ORDER BY class"; tree = classes_at.tree; tests = same_columns 0 1; project = columns 1 2; order = by_columns 1 1 }
+class = record {
+  schema = the_schema;
+  text = codes "SELECT class, active FROM classes WHERE class = ?1 ORDER BY class";
+  tree = classes_at.tree;
+  tests = same_columns 0 1;
+  project = columns 1 2;
+  order = by_columns 1 1;
+}
 
 pub class_asked : IsAsked class
 unfolding understood everything
@@ -33,12 +40,19 @@ class_order x y = text_cmp (class_text x.0) (class_text y.0)
 abbrev classes_of : State → List (Class × Bool)
 classes_of s = (Console, s.policy.active.console) ∷ (Opercmds, s.policy.active.opercmds) ∷ []
 
-pub class_told : (old new : SqlState) (s : State) → Represents old.now s → (of : Class) (rows : List Row) → Shown class.text (Text (class_text of) ∷ []) old new rows → rows ≡ class_row (of, is_active s.policy.active of) ∷ []
+pub class_told : (old new : SqlState) (s : State) → Represents old.now s → (of : Class) (rows : List Row)
+    → Shown class.text (Text (class_text of) ∷ []) old new rows → rows ≡ class_row (of, is_active s.policy.active of)
+    ∷ []
 class_told old new s was of rows h =
-    told class (Text (class_text of) ∷ []) refl class_row class_order (λ _. refl) (λ x y h. rw (value_cmp-Text (class_text x.0) (class_text y.0), h)) (λ x. is_eq (text_cmp (class_text x.0) (class_text of))) (λ x. and_true _ ∙ equal_texts (class_text x.0) (class_text of))
+    told class (Text (class_text of) ∷ []) refl class_row class_order (λ _. refl)
+    (λ x y h. rw (value_cmp-Text (class_text x.0) (class_text y.0), h))
+    (λ x. is_eq (text_cmp (class_text x.0) (class_text of)))
+    (λ x. and_true _ ∙ equal_texts (class_text x.0) (class_text of))
     class_asked old new was.rows.schema (classes_of s) ((refl, tt), (tt, tt)) was.rows.holds.classes rows h
     ∙ one of
   where
-    one : (of : Class) → map class_row (filter (λ (x : Class × Bool). is_eq (text_cmp (class_text x.0) (class_text of))) (classes_of s)) ≡ class_row (of, is_active s.policy.active of) ∷ []
+    one : (of : Class)
+        → map class_row (filter (λ (x : Class × Bool). is_eq (text_cmp (class_text x.0) (class_text of)))
+        (classes_of s)) ≡ class_row (of, is_active s.policy.active of) ∷ []
     one Console = refl
     one Opercmds = refl

@@ -1,5 +1,29 @@
 -- What the statement on classes does.
-use Rattle.std.proofs.Common.{◌≡◌, ℕ, List, [], ◌∷◌, ◌++◌, map, filter, not, ◌&&◌, ◌==◌, drop, length, codes, Bool, true, false, Ok, refl, ap, subst, ◌∙◌, is_eq}
+use Rattle.std.proofs.Common.{
+  ◌≡◌,
+  ℕ,
+  List,
+  [],
+  ◌∷◌,
+  ◌++◌,
+  map,
+  filter,
+  not,
+  ◌&&◌,
+  ◌==◌,
+  drop,
+  length,
+  codes,
+  Bool,
+  true,
+  false,
+  Ok,
+  refl,
+  ap,
+  subst,
+  ◌∙◌,
+  is_eq,
+}
 use Rattle.std.specs.List.{flat_map, filter_map}
 use Rattle.sqlite.specs.declared.types.Value.TheVariants.{Text}
 use Rattle.sqlite.specs.Term.{Term, col, op2}
@@ -73,7 +97,10 @@ idle : (olds news : List Row) → works the_schema Enforced 0 classes_at.tree ol
 unfolding same_name joined
 idle olds news = go (length news == 0)
   where
-    go : (b : Bool) → flat_map (λ (child : Table). filter_map (λ (ref : Reference). work_by 0 classes_at.tree (pairs olds news) child ref (deed_for Enforced b ref) (parent_key the_schema.tables ref)) child.references) the_schema.tables ≡ []
+    go : (b : Bool)
+        → flat_map (λ (child : Table). filter_map
+        (λ (ref : Reference). work_by 0 classes_at.tree (pairs olds news) child ref (deed_for Enforced b ref)
+        (parent_key the_schema.tables ref)) child.references) the_schema.tables ≡ []
     go true = refl
     go false = refl
 
@@ -84,28 +111,40 @@ module _ (old new : SqlState) (count : ℕ) (s : State) (was : Tabulates old.now
   abbrev rows_of : State → List (Class × Bool)
   rows_of s = (Console, s.policy.active.console) ∷ (Opercmds, s.policy.active.opercmds) ∷ []
 
-  split : (class : Class) (active : Bool) (rows : List Row) → HasRows (map (λ (v : Row). class_row (class, active)) (filter (has_key class) (map class_row (rows_of s))) ++ filter (λ v. not (has_key class v)) (map class_row (rows_of s))) rows
-      → HasRows (map (λ (v : Row). class_row (class, active)) (map class_row (filter (is_of class) (rows_of s))) ++ map class_row (filter (λ x. not (is_of class x)) (rows_of s))) rows
+  split : (class : Class) (active : Bool) (rows : List Row)
+      → HasRows (map (λ (v : Row). class_row (class, active)) (filter (has_key class) (map class_row (rows_of s)))
+      ++ filter (λ v. not (has_key class v)) (map class_row (rows_of s))) rows
+      → HasRows (map (λ (v : Row). class_row (class, active)) (map class_row (filter (is_of class) (rows_of s)))
+      ++ map class_row (filter (λ x. not (is_of class x)) (rows_of s))) rows
   split class active rows h =
-      let hit : filter (has_key class) (map class_row (rows_of s)) ≡ map class_row (filter (is_of class) (rows_of s)) = filter-map (has_key class) class_row (rows_of s) ∙ ap (map class_row) (filter_same _ _ (picks class) (rows_of s)) in
+      let hit : filter (has_key class) (map class_row (rows_of s)) ≡ map class_row (filter (is_of class) (rows_of s)) =
+      filter-map (has_key class) class_row (rows_of s)
+      ∙ ap (map class_row) (filter_same _ _ (picks class) (rows_of s)) in
       let left : filter (λ v. not (has_key class v)) (map class_row (rows_of s)) ≡ map class_row (filter (λ x. not (is_of class x)) (rows_of s)) =
       filter-map (λ (v : Row). not (has_key class v)) class_row (rows_of s) ∙ ap (map class_row) (filter_same _ _ (λ x. ap not (picks class x)) (rows_of s)) in
       subst (λ (l : List Row). HasRows (map (λ (v : Row). class_row (class, active)) (map class_row (filter (is_of class) (rows_of s))) ++ l) rows) left
-      (subst (λ (l : List Row). HasRows (map (λ (v : Row). class_row (class, active)) l ++ filter (λ v. not (has_key class v)) (map class_row (rows_of s))) rows) hit h)
+      (subst (λ (l : List Row). HasRows (map (λ (v : Row). class_row (class, active)) l
+      ++ filter (λ v. not (has_key class v)) (map class_row (rows_of s))) rows) hit h)
 
   abbrev activated : Class → Bool → State
   activated class active = record s { policy = record s.policy { active = with_active class active s.policy.active } }
 
-  set_rows : (class : Class) (active : Bool) (rows : List Row) → HasRows (map (λ (v : Row). class_row (class, active)) (map class_row (filter (is_of class) (rows_of s))) ++ map class_row (filter (λ x. not (is_of class x)) (rows_of s))) rows
+  set_rows : (class : Class) (active : Bool) (rows : List Row)
+      → HasRows (map (λ (v : Row). class_row (class, active)) (map class_row (filter (is_of class) (rows_of s)))
+      ++ map class_row (filter (λ x. not (is_of class x)) (rows_of s))) rows
       → HasRows (map class_row (rows_of (activated class active))) rows
   set_rows Console active rows h = h
   set_rows Opercmds active rows h = swapped _ _ rows h
 
-  pub sets_class : (class : Class) (active : Bool) → Executes update_class (class_row (class, active)) old new (Ok count) → Tabulates new.now (activated class active)
+  pub sets_class : (class : Class) (active : Bool)
+      → Executes update_class (class_row (class, active)) old new (Ok count)
+      → Tabulates new.now (activated class active)
   sets_class class active h =
       let x : Class × Bool = (class, active) in
-      let it = sets the_schema update_class 1 classes_at (class_row x) update_plain refl old new was.schema count tests (has_key class) two update_is (below x old.now.trees) (class_row x) (λ r. cast_class x (column r 0)) idle h in
-      with_classes (contents_of s) old.now new.now was it.spares _ (set_rows class active _ (split class active _ (it.rows (map class_row (rows_of s)) was.holds.classes)))
+      let it = sets the_schema update_class 1 classes_at (class_row x) update_plain refl old new was.schema count tests
+      (has_key class) two update_is (below x old.now.trees) (class_row x) (λ r. cast_class x (column r 0)) idle h in
+      with_classes (contents_of s) old.now new.now was it.spares _
+      (set_rows class active _ (split class active _ (it.rows (map class_row (rows_of s)) was.holds.classes)))
 
 pub class_params : (sql text : List ℕ) (class : Class) (active : Bool) → text ≡ class_text class → (old new : SqlState) (count : ℕ)
     → Executes sql (Text text ∷ flag active ∷ []) old new (Ok count) → Executes sql (class_row (class, active)) old new (Ok count)

@@ -26,15 +26,25 @@ use Rattle.opc_store_schema.specs.Represented.{Represents, connect_row}
 -- ---- all of them
 
 abbrev pub connects : Asked
-connects = record { schema = the_schema; text = codes "SELECT usr, grp FROM connects ORDER BY usr, grp"; tree = connects_at.tree; tests = []; project = columns 1 2; order = by_columns 1 2 }
+connects = record {
+  schema = the_schema;
+  text = codes "SELECT usr, grp FROM connects ORDER BY usr, grp";
+  tree = connects_at.tree;
+  tests = [];
+  project = columns 1 2;
+  order = by_columns 1 2;
+}
 
 pub connects_asked : IsAsked connects
 unfolding understood everything
 connects_asked = record { selects = refl; unlisted = refl; plain = (refl, refl); shows = λ schema base. refl }
 
-pub connects_told : (old new : SqlState) (s : State) → Represents old.now s → (rows : List Row) → Shown connects.text [] old new rows → rows ≡ map connect_row s.policy.connects
+pub connects_told : (old new : SqlState) (s : State) → Represents old.now s → (rows : List Row)
+    → Shown connects.text [] old new rows → rows ≡ map connect_row s.policy.connects
 connects_told old new s was =
-    told_all connects [] refl connect_row connect_cmp (λ _. refl) (λ x y h. rw (value_cmp-Text x.user y.user, value_cmp-Text x.group y.group) (then_less (name_cmp x.user y.user) (name_cmp x.group y.group) h)) (λ _. refl)
+    told_all connects [] refl connect_row connect_cmp (λ _. refl)
+    (λ x y h. rw (value_cmp-Text x.user y.user, value_cmp-Text x.group y.group)
+    (then_less (name_cmp x.user y.user) (name_cmp x.group y.group) h)) (λ _. refl)
     connects_asked old new was.rows.schema s.policy.connects was.ordered.connects was.rows.holds.connects
 
 -- ---- those of a user, so many at most
@@ -46,13 +56,19 @@ pub of_user_asked : IsPaged of_user (col 0 1)
 unfolding understood everything
 of_user_asked = record { selects = refl; unlisted = refl; plain = (refl, refl); shows = λ schema base. refl }
 
-pub of_user_told : (old new : SqlState) (s : State) → Represents old.now s → (id : List ℕ) (most : ℕ) (rows : List Row) → Shown of_user.text (Text id ∷ Int (pos most) ∷ []) old new rows
+pub of_user_told : (old new : SqlState) (s : State) → Represents old.now s → (id : List ℕ) (most : ℕ) (rows : List Row)
+    → Shown of_user.text (Text id ∷ Int (pos most) ∷ []) old new rows
     → rows ≡ map connect_row (take most (filter (λ (c : Connect). bytes_eq c.user id) s.policy.connects))
 of_user_told old new s was id most rows h =
     let mine = λ (c : Connect). bytes_eq c.user id in
-    part_first of_user (Text id ∷ Int (pos most) ∷ []) refl connect_row connect_cmp (λ _. refl) (λ x y less. rw (value_cmp-Text x.user y.user, value_cmp-Text x.group y.group) (then_less (name_cmp x.user y.user) (name_cmp x.group y.group) less))
-    (col 0 1) of_user_asked old new was.rows.schema (map connect_row s.policy.connects) (filter mine s.policy.connects) (ascending-filter _ mine s.policy.connects was.ordered.connects)
-    (filter-map _ connect_row s.policy.connects ∙ ap (map connect_row) (filter_same _ _ (λ c. and_true _ ∙ same_texts c.user id) s.policy.connects)) was.rows.holds.connects rows h
+    part_first of_user (Text id ∷ Int (pos most) ∷ []) refl connect_row connect_cmp (λ _. refl)
+    (λ x y less. rw (value_cmp-Text x.user y.user, value_cmp-Text x.group y.group)
+    (then_less (name_cmp x.user y.user) (name_cmp x.group y.group) less))
+    (col 0 1) of_user_asked old new was.rows.schema (map connect_row s.policy.connects) (filter mine s.policy.connects)
+    (ascending-filter _ mine s.policy.connects was.ordered.connects)
+    (filter-map _ connect_row s.policy.connects
+    ∙ ap (map connect_row) (filter_same _ _ (λ c. and_true _ ∙ same_texts c.user id) s.policy.connects))
+    was.rows.holds.connects rows h
     ∙ take-map connect_row most (filter mine s.policy.connects)
 
 -- ---- whether a user has one, and whether a user is connected to a group
@@ -64,7 +80,9 @@ pub any_of_user_asked : IsPaged any_of_user one_row
 unfolding understood everything
 any_of_user_asked = record { selects = refl; unlisted = refl; plain = (refl, refl); shows = λ schema base. refl }
 
-pub any_of_user_told : (old new : SqlState) (s : State) → Represents old.now s → (id : List ℕ) (rows : List Row) → Shown any_of_user.text (Text id ∷ []) old new rows → not (length rows == 0) ≡ list_any (λ (c : Connect). bytes_eq c.user id) s.policy.connects
+pub any_of_user_told : (old new : SqlState) (s : State) → Represents old.now s → (id : List ℕ) (rows : List Row)
+    → Shown any_of_user.text (Text id ∷ []) old new rows
+    → not (length rows == 0) ≡ list_any (λ (c : Connect). bytes_eq c.user id) s.policy.connects
 any_of_user_told old new s was id rows h =
     told_any any_of_user (Text id ∷ []) refl any_of_user_asked old new was.rows.schema (map connect_row s.policy.connects) was.rows.holds.connects rows h
     ∙ any_map _ connect_row _ (λ (c : Connect). and_true _ ∙ same_texts c.user id) s.policy.connects
@@ -76,7 +94,9 @@ pub connect_asked : IsPaged connect one_row
 unfolding understood everything
 connect_asked = record { selects = refl; unlisted = refl; plain = (refl, refl); shows = λ schema base. refl }
 
-pub connect_told : (old new : SqlState) (s : State) → Represents old.now s → (user group : List ℕ) (rows : List Row) → Shown connect.text (Text user ∷ Text group ∷ []) old new rows → not (length rows == 0) ≡ is_connected s.policy user group
+pub connect_told : (old new : SqlState) (s : State) → Represents old.now s → (user group : List ℕ) (rows : List Row)
+    → Shown connect.text (Text user ∷ Text group ∷ []) old new rows
+    → not (length rows == 0) ≡ is_connected s.policy user group
 connect_told old new s was user group rows h =
     told_any connect (Text user ∷ Text group ∷ []) refl connect_asked old new was.rows.schema (map connect_row s.policy.connects) was.rows.holds.connects rows h
     ∙ any_map _ connect_row _ (λ (c : Connect). ap₂ (λ a b. a && b) (same_texts c.user user) (and_true _ ∙ same_texts c.group group)) s.policy.connects

@@ -58,23 +58,30 @@ keyed = record {
   gives = λ x. refl;
   tested = λ x rest. refl;
   total = connect_total;
-  picks = λ x y. ap₂ (λ a b. a && b) (equal_texts y.user x.user) (and_true _ ∙ equal_texts y.group x.group) ∙ sym (then_eq (text_cmp y.user x.user) (text_cmp y.group x.group));
+  picks = λ x y. ap₂ (λ a b. a && b) (equal_texts y.user x.user) (and_true _ ∙ equal_texts y.group x.group)
+      ∙ sym (then_eq (text_cmp y.user x.user) (text_cmp y.group x.group));
 }
 
-pub connect_put : {S : Type 0} (g : Ghosts S) (old new : Held S) (s : State) → Represents (state g old).now s → (connect : Connect) → Puts g connects.update connects.insert (connect_row connect) old new
+pub connect_put : {S : Type 0} (g : Ghosts S) (old new : Held S) (s : State) → Represents (state g old).now s
+    → (connect : Connect) → Puts g connects.update connects.insert (connect_row connect) old new
     → Represents (state g new).now (with_connects (with_connect connect s.policy.connects) s)
 connect_put g old new s was connect h =
     let it = puts g connects keyed old new was.rows.schema s.policy.connects was.ordered.connects was.rows.holds.connects connect h in
     record {
       ordered = with_connect_ordered s was.ordered connect;
-      rows = subst (λ (l : List Connect). Tabulates (state g new).now (with_connects l s)) (sym (inserted_same connect_cmp same_connect connect s.policy.connects)) (spares_connects _ _ _ was.rows it.spares _ it.rows);
+      rows = subst (λ (l : List Connect). Tabulates (state g new).now (with_connects l s))
+          (sym (inserted_same connect_cmp same_connect connect s.policy.connects))
+          (spares_connects _ _ _ was.rows it.spares _ it.rows);
     }
 
-pub connect_removed : (old new : SqlState) (count : ℕ) (s : State) → Represents old.now s → (connect : Connect) → Executes connects.delete (connect_row connect) old new (Ok count)
+pub connect_removed : (old new : SqlState) (count : ℕ) (s : State) → Represents old.now s → (connect : Connect)
+    → Executes connects.delete (connect_row connect) old new (Ok count)
     → Represents new.now (with_connects (without_connect connect s.policy.connects) s)
 connect_removed old new count s was connect h =
     let it = removes connects keyed connect old new count was.rows.schema s.policy.connects was.ordered.connects was.rows.holds.connects h in
-    let same = filter_same _ _ (λ d. ap not (then_eq (name_cmp d.user connect.user) (name_cmp d.group connect.group) ∙ ap₂ (λ a b. a && b) (is_eq-slice_cmp d.user connect.user) (is_eq-slice_cmp d.group connect.group))) s.policy.connects in
+    let same = filter_same _ _ (λ d. ap not (then_eq (name_cmp d.user connect.user) (name_cmp d.group connect.group)
+    ∙ ap₂ (λ a b. a && b) (is_eq-slice_cmp d.user connect.user) (is_eq-slice_cmp d.group connect.group)))
+    s.policy.connects in
     record {
       ordered = without_connect_ordered s was.ordered connect;
       rows = subst (λ (l : List Connect). Tabulates new.now (with_connects l s)) same (spares_connects _ _ _ was.rows it.spares _ it.rows);

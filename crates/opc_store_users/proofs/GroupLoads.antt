@@ -22,15 +22,24 @@ use Rattle.opc_store_users.proofs.UserLoads.{eq_back}
 -- ---- all of them
 
 abbrev pub groups : Asked
-groups = record { schema = the_schema; text = codes "SELECT name FROM grp ORDER BY name"; tree = grp_at.tree; tests = []; project = columns 1 1; order = by_columns 1 1 }
+groups = record {
+  schema = the_schema;
+  text = codes "SELECT name FROM grp ORDER BY name";
+  tree = grp_at.tree;
+  tests = [];
+  project = columns 1 1;
+  order = by_columns 1 1;
+}
 
 pub groups_asked : IsAsked groups
 unfolding understood everything
 groups_asked = record { selects = refl; unlisted = refl; plain = (refl, refl); shows = λ schema base. refl }
 
-pub groups_told : (old new : SqlState) (s : State) → Represents old.now s → (rows : List Row) → Shown groups.text [] old new rows → rows ≡ map group_row s.policy.groups
+pub groups_told : (old new : SqlState) (s : State) → Represents old.now s → (rows : List Row)
+    → Shown groups.text [] old new rows → rows ≡ map group_row s.policy.groups
 groups_told old new s was =
-    told_all groups [] refl group_row name_cmp (λ _. refl) (λ x y h. rw (value_cmp-Text x y, h)) (λ _. refl) groups_asked old new was.rows.schema s.policy.groups was.ordered.groups was.rows.holds.grp
+    told_all groups [] refl group_row name_cmp (λ _. refl) (λ x y h. rw (value_cmp-Text x y, h)) (λ _. refl)
+    groups_asked old new was.rows.schema s.policy.groups was.ordered.groups was.rows.holds.grp
 
 -- ---- whether a name is one of a group
 
@@ -41,7 +50,8 @@ pub named_group_asked : IsPaged named_group one_row
 unfolding understood everything
 named_group_asked = record { selects = refl; unlisted = refl; plain = (refl, refl); shows = λ schema base. refl }
 
-pub named_group_told : (old new : SqlState) (s : State) → Represents old.now s → (name : List ℕ) (rows : List Row) → Shown named_group.text (Text name ∷ []) old new rows → not (length rows == 0) ≡ has_group s.policy name
+pub named_group_told : (old new : SqlState) (s : State) → Represents old.now s → (name : List ℕ) (rows : List Row)
+    → Shown named_group.text (Text name ∷ []) old new rows → not (length rows == 0) ≡ has_group s.policy name
 named_group_told old new s was name rows h =
     told_any named_group (Text name ∷ []) refl named_group_asked old new was.rows.schema (map group_row s.policy.groups) was.rows.holds.grp rows h
     ∙ any_map _ group_row (bytes_eq name) (λ (x : List ℕ). and_true _ ∙ (equal_texts x name ∙ eq_back x name)) s.policy.groups

@@ -60,19 +60,25 @@ keyed = record {
   picks = λ x y. and_true _ ∙ equal_texts y x;
 }
 
-pub group_put : {S : Type 0} (g : Ghosts S) (old new : Held S) (s : State) → Represents (state g old).now s → (name : List ℕ) → Puts g groups.update groups.insert (group_row name) old new
+pub group_put : {S : Type 0} (g : Ghosts S) (old new : Held S) (s : State) → Represents (state g old).now s
+    → (name : List ℕ) → Puts g groups.update groups.insert (group_row name) old new
     → Represents (state g new).now (with_groups (with_group name s.policy.groups) s)
 group_put g old new s was name h =
     let it = puts g groups keyed old new was.rows.schema s.policy.groups was.ordered.groups was.rows.holds.grp name h in
     record {
       ordered = with_group_ordered s was.ordered name;
-      rows = subst (λ (l : List (List ℕ)). Tabulates (state g new).now (with_groups l s)) (sym (inserted_same name_cmp same_name name s.policy.groups)) (with_grp _ _ _ was.rows it.spares _ it.rows);
+      rows = subst (λ (l : List (List ℕ)). Tabulates (state g new).now (with_groups l s))
+          (sym (inserted_same name_cmp same_name name s.policy.groups)) (with_grp _ _ _ was.rows it.spares _ it.rows);
     }
 
-pub group_removed : (old new : SqlState) (count : ℕ) (s : State) → Represents old.now s → (name : List ℕ) → Executes groups.delete (Text name ∷ []) old new (Ok count) → Represents new.now (with_groups (without_group name s.policy.groups) s)
+pub group_removed : (old new : SqlState) (count : ℕ) (s : State) → Represents old.now s → (name : List ℕ)
+    → Executes groups.delete (Text name ∷ []) old new (Ok count)
+    → Represents new.now (with_groups (without_group name s.policy.groups) s)
 group_removed old new count s was name h =
     let it = removes groups keyed name old new count was.rows.schema s.policy.groups was.ordered.groups was.rows.holds.grp h in
     record {
       ordered = without_group_ordered s was.ordered name;
-      rows = subst (λ (l : List (List ℕ)). Tabulates new.now (with_groups l s)) (filter_same _ _ (λ x. ap not (is_eq-slice_cmp x name)) s.policy.groups) (with_grp _ _ _ was.rows it.spares _ it.rows);
+      rows = subst (λ (l : List (List ℕ)). Tabulates new.now (with_groups l s))
+          (filter_same _ _ (λ x. ap not (is_eq-slice_cmp x name)) s.policy.groups)
+          (with_grp _ _ _ was.rows it.spares _ it.rows);
     }

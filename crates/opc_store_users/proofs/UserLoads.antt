@@ -27,15 +27,24 @@ use Rattle.opc_store_schema.specs.Represented.{Represents, user_row}
 -- ---- all of them
 
 abbrev pub users : Asked
-users = record { schema = the_schema; text = codes "SELECT id, special, auditor, revoked, digest, restricted FROM usr ORDER BY id"; tree = usr_at.tree; tests = []; project = columns 1 6; order = by_columns 1 1 }
+users = record {
+  schema = the_schema;
+  text = codes "SELECT id, special, auditor, revoked, digest, restricted FROM usr ORDER BY id";
+  tree = usr_at.tree;
+  tests = [];
+  project = columns 1 6;
+  order = by_columns 1 1;
+}
 
 pub users_asked : IsAsked users
 unfolding understood everything
 users_asked = record { selects = refl; unlisted = refl; plain = (refl, refl); shows = λ schema base. refl }
 
-pub users_told : (old new : SqlState) (s : State) → Represents old.now s → (rows : List Row) → Shown users.text [] old new rows → rows ≡ map user_row s.policy.users
+pub users_told : (old new : SqlState) (s : State) → Represents old.now s → (rows : List Row)
+    → Shown users.text [] old new rows → rows ≡ map user_row s.policy.users
 users_told old new s was =
-    told_all users [] refl user_row user_cmp (λ _. refl) (λ x y h. rw (value_cmp-Text x.id y.id, h)) (λ _. refl) users_asked old new was.rows.schema s.policy.users was.ordered.users was.rows.holds.usr
+    told_all users [] refl user_row user_cmp (λ _. refl) (λ x y h. rw (value_cmp-Text x.id y.id, h)) (λ _. refl)
+    users_asked old new was.rows.schema s.policy.users was.ordered.users was.rows.holds.usr
 
 -- ---- that of an id
 
@@ -54,9 +63,13 @@ eq_back a b = ap is_eq (text_total.antisymm a b) ∙ (turned (text_cmp b a) ∙ 
     turned Equal = refl
     turned Greater = refl
 
-pub user_told : (old new : SqlState) (s : State) → Represents old.now s → (id : List ℕ) (rows : List Row) → Shown user.text (Text id ∷ []) old new rows → rows ≡ map user_row (filter (λ (u : User). bytes_eq id u.id) s.policy.users)
+pub user_told : (old new : SqlState) (s : State) → Represents old.now s → (id : List ℕ) (rows : List Row)
+    → Shown user.text (Text id ∷ []) old new rows
+    → rows ≡ map user_row (filter (λ (u : User). bytes_eq id u.id) s.policy.users)
 user_told old new s was id =
-    told user (Text id ∷ []) refl user_row user_cmp (λ _. refl) (λ x y h. rw (value_cmp-Text x.id y.id, h)) (λ u. bytes_eq id u.id) (λ u. and_true _ ∙ (equal_texts u.id id ∙ eq_back u.id id)) user_asked old new was.rows.schema s.policy.users was.ordered.users was.rows.holds.usr
+    told user (Text id ∷ []) refl user_row user_cmp (λ _. refl) (λ x y h. rw (value_cmp-Text x.id y.id, h))
+    (λ u. bytes_eq id u.id) (λ u. and_true _ ∙ (equal_texts u.id id ∙ eq_back u.id id)) user_asked old new
+    was.rows.schema s.policy.users was.ordered.users was.rows.holds.usr
 
 -- ---- whether an id is one of a user
 
@@ -67,7 +80,8 @@ pub named_user_asked : IsPaged named_user one_row
 unfolding understood everything
 named_user_asked = record { selects = refl; unlisted = refl; plain = (refl, refl); shows = λ schema base. refl }
 
-pub named_user_told : (old new : SqlState) (s : State) → Represents old.now s → (name : List ℕ) (rows : List Row) → Shown named_user.text (Text name ∷ []) old new rows → not (length rows == 0) ≡ has_user s.policy name
+pub named_user_told : (old new : SqlState) (s : State) → Represents old.now s → (name : List ℕ) (rows : List Row)
+    → Shown named_user.text (Text name ∷ []) old new rows → not (length rows == 0) ≡ has_user s.policy name
 named_user_told old new s was name rows h =
     let mine = λ (u : User). bytes_eq name u.id in
     told_any named_user (Text name ∷ []) refl named_user_asked old new was.rows.schema (map user_row s.policy.users) was.rows.holds.usr rows h
@@ -86,5 +100,7 @@ some_user : (users : List User) → list_any (λ (r : Row). true) (map user_row 
 some_user [] = refl
 some_user (u ∷ us) = refl
 
-pub any_user_told : (old new : SqlState) (s : State) → Represents old.now s → (rows : List Row) → Shown any_user.text [] old new rows → not (length rows == 0) ≡ has_users s.policy
-any_user_told old new s was rows h = told_any any_user [] refl any_user_asked old new was.rows.schema (map user_row s.policy.users) was.rows.holds.usr rows h ∙ some_user s.policy.users
+pub any_user_told : (old new : SqlState) (s : State) → Represents old.now s → (rows : List Row)
+    → Shown any_user.text [] old new rows → not (length rows == 0) ≡ has_users s.policy
+any_user_told old new s was rows h = told_any any_user [] refl any_user_asked old new was.rows.schema
+    (map user_row s.policy.users) was.rows.holds.usr rows h ∙ some_user s.policy.users

@@ -72,17 +72,22 @@ pub digest_is : (d : Option (Bor (List ℕ))) → digest_value d ≡ or_null (op
 digest_is None = refl
 digest_is (Some b) = refl
 
-pub user_put : {S : Type 0} (g : Ghosts S) (old new : Held S) (s : State) → Represents (state g old).now s → (user : User) → Puts g users.update users.insert (user_row user) old new
+pub user_put : {S : Type 0} (g : Ghosts S) (old new : Held S) (s : State) → Represents (state g old).now s
+    → (user : User) → Puts g users.update users.insert (user_row user) old new
     → Represents (state g new).now (with_users (with_user user s.policy.users) s)
 user_put g old new s was user h =
     let it = puts g users keyed old new was.rows.schema s.policy.users was.ordered.users was.rows.holds.usr user h in
     record { ordered = with_user_ordered s was.ordered user; rows = with_usr _ _ _ was.rows it.spares _ it.rows }
 
-pub user_removed : (old new : SqlState) (count : ℕ) (s : State) → Represents old.now s → (id : List ℕ) → Executes users.delete (Text id ∷ []) old new (Ok count) → Represents new.now (with_users (without_user id s.policy.users) s)
+pub user_removed : (old new : SqlState) (count : ℕ) (s : State) → Represents old.now s → (id : List ℕ)
+    → Executes users.delete (Text id ∷ []) old new (Ok count)
+    → Represents new.now (with_users (without_user id s.policy.users) s)
 user_removed old new count s was id h =
     let user : User = record { id = id; special = false; auditor = false; revoked = false; digest = None; restricted = false } in
     let it = removes users keyed user old new count was.rows.schema s.policy.users was.ordered.users was.rows.holds.usr h in
     record {
       ordered = without_user_ordered s was.ordered id;
-      rows = subst (λ (l : List User). Tabulates new.now (with_users l s)) (filter_same _ _ (λ x. ap not (is_eq-slice_cmp x.id id)) s.policy.users) (with_usr _ _ _ was.rows it.spares _ it.rows);
+      rows = subst (λ (l : List User). Tabulates new.now (with_users l s))
+          (filter_same _ _ (λ x. ap not (is_eq-slice_cmp x.id id)) s.policy.users)
+          (with_usr _ _ _ was.rows it.spares _ it.rows);
     }

@@ -23,7 +23,8 @@ pub fn set_active<S: Alter>(
 ) -> Result<(), Error>
     ensures same_reference { tx.new.conn.ghost_name ≡ tx.old.conn.ghost_name }
     ensures stays { Stays S.Store tx.old.conn.now tx.new.conn.now result }
-    ensures done { Makes S.Store tx.old.conn.now tx.new.conn.now result (λ s. record s { policy = record s.policy { active = with_active class active s.policy.active } }) }
+    ensures done { Makes S.Store tx.old.conn.now tx.new.conn.now result
+        (λ s. record s { policy = record s.policy { active = with_active class active s.policy.active } }) }
 {
     run(
         tx,
@@ -49,7 +50,8 @@ pub fn active_on<S: Alter>(conn: &mut Connection<S>, class: Class) -> Result<boo
 }
 
 fn active_in(rows: &[Row]) -> Result<bool, StoreFault>
-    ensures { (class : TheClass) → (active : Bool) → rows.now ≡ class_row (class, active) ∷ [] → IfOk result (λ v. v ≡ active) }
+    ensures { (class : TheClass) → (active : Bool) → rows.now ≡ class_row (class, active) ∷ []
+        → IfOk result (λ v. v ≡ active) }
 {
     match rows.get(0) {
         Some(row) => value_in(row, 1),

@@ -37,7 +37,8 @@ impl TableRow<Connect> for ConnectTable {
 pub fn put_connect<S: Alter>(tx: &mut Transaction<'_, S>, connect: &Connect) -> Result<(), Error>
     ensures same_reference { tx.new.conn.ghost_name ≡ tx.old.conn.ghost_name }
     ensures stays { Stays S.Store tx.old.conn.now tx.new.conn.now result }
-    ensures done { Makes S.Store tx.old.conn.now tx.new.conn.now result (λ s. with_connects (with_connect connect.now s.policy.connects) s) }
+    ensures done { Makes S.Store tx.old.conn.now tx.new.conn.now result
+        (λ s. with_connects (with_connect connect.now s.policy.connects) s) }
 {
     put(
         tx,
@@ -51,7 +52,8 @@ pub fn put_connect<S: Alter>(tx: &mut Transaction<'_, S>, connect: &Connect) -> 
 pub fn remove_connect<S: Alter>(tx: &mut Transaction<'_, S>, connect: &Connect) -> Result<(), Error>
     ensures same_reference { tx.new.conn.ghost_name ≡ tx.old.conn.ghost_name }
     ensures stays { Stays S.Store tx.old.conn.now tx.new.conn.now result }
-    ensures done { Makes S.Store tx.old.conn.now tx.new.conn.now result (λ s. with_connects (without_connect connect.now s.policy.connects) s) }
+    ensures done { Makes S.Store tx.old.conn.now tx.new.conn.now result
+        (λ s. with_connects (without_connect connect.now s.policy.connects) s) }
 {
     run(
         tx,
@@ -90,7 +92,8 @@ pub fn connects_on<S: Alter>(
 }
 
 fn groups_in(alloc: Global, rows: &[Row]) -> Result<Vec<GroupName>, StoreFault>
-    ensures { (connects : List TheConnect) → rows.now ≡ map connect_row connects → IfOk result (λ v. v.items ≡ map (λ (c : TheConnect). c.group) connects) }
+    ensures { (connects : List TheConnect) → rows.now ≡ map connect_row connects
+        → IfOk result (λ v. v.items ≡ map (λ (c : TheConnect). c.group) connects) }
 {
     let mut groups = Vec::new(alloc);
     for row in rows {
@@ -109,7 +112,8 @@ pub fn user_groups_on<S: Alter>(
     requires { conn.old.in_transaction ≡ false }
     ensures mode { conn.new.in_transaction ≡ false }
     ensures looks { Looks S.Store conn.old conn.new result }
-    ensures found { Finds S.Store conn.old conn.new result (λ s v. v.items ≡ take most (groups_of s.policy.connects user.now)) }
+    ensures found { Finds S.Store conn.old conn.new result
+        (λ s v. v.items ≡ take most (groups_of s.policy.connects user.now)) }
 {
     let rows = read(
         conn,
@@ -142,7 +146,8 @@ pub fn has_connect_on<S: Alter>(conn: &mut Connection<S>, user: &UserId) -> Resu
     requires { conn.old.in_transaction ≡ false }
     ensures mode { conn.new.in_transaction ≡ false }
     ensures looks { Looks S.Store conn.old conn.new result }
-    ensures found { Finds S.Store conn.old conn.new result (λ s v. v ≡ list_any (λ (c : TheConnect). bytes_eq c.user user.now) s.policy.connects) }
+    ensures found { Finds S.Store conn.old conn.new result
+        (λ s v. v ≡ list_any (λ (c : TheConnect). bytes_eq c.user user.now) s.policy.connects) }
 {
     is_there_on(
         conn,

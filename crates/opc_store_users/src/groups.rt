@@ -33,7 +33,8 @@ impl TableRow<GroupName> for GroupTable {
 pub fn put_group<S: Alter>(tx: &mut Transaction<'_, S>, name: &GroupName) -> Result<(), Error>
     ensures same_reference { tx.new.conn.ghost_name ≡ tx.old.conn.ghost_name }
     ensures stays { Stays S.Store tx.old.conn.now tx.new.conn.now result }
-    ensures done { Makes S.Store tx.old.conn.now tx.new.conn.now result (λ s. with_groups (with_group name.now s.policy.groups) s) }
+    ensures done { Makes S.Store tx.old.conn.now tx.new.conn.now result
+        (λ s. with_groups (with_group name.now s.policy.groups) s) }
 {
     put(
         tx,
@@ -47,7 +48,8 @@ pub fn put_group<S: Alter>(tx: &mut Transaction<'_, S>, name: &GroupName) -> Res
 pub fn remove_group<S: Alter>(tx: &mut Transaction<'_, S>, name: &GroupName) -> Result<(), Error>
     ensures same_reference { tx.new.conn.ghost_name ≡ tx.old.conn.ghost_name }
     ensures stays { Stays S.Store tx.old.conn.now tx.new.conn.now result }
-    ensures done { Makes S.Store tx.old.conn.now tx.new.conn.now result (λ s. with_groups (without_group name.now s.policy.groups) s) }
+    ensures done { Makes S.Store tx.old.conn.now tx.new.conn.now result
+        (λ s. with_groups (without_group name.now s.policy.groups) s) }
 {
     run(tx, "DELETE FROM grp WHERE name = ?1", params![name.text()])?;
     Ok(())

@@ -39,7 +39,8 @@ impl TableRow<User> for UserTable {
 pub fn put_user<S: Alter>(tx: &mut Transaction<'_, S>, user: &User) -> Result<(), Error>
     ensures same_reference { tx.new.conn.ghost_name ≡ tx.old.conn.ghost_name }
     ensures stays { Stays S.Store tx.old.conn.now tx.new.conn.now result }
-    ensures done { Makes S.Store tx.old.conn.now tx.new.conn.now result (λ s. with_users (with_user user.now s.policy.users) s) }
+    ensures done { Makes S.Store tx.old.conn.now tx.new.conn.now result
+        (λ s. with_users (with_user user.now s.policy.users) s) }
 {
     put(
         tx,
@@ -60,7 +61,8 @@ pub fn put_user<S: Alter>(tx: &mut Transaction<'_, S>, user: &User) -> Result<()
 pub fn remove_user<S: Alter>(tx: &mut Transaction<'_, S>, id: &UserId) -> Result<(), Error>
     ensures same_reference { tx.new.conn.ghost_name ≡ tx.old.conn.ghost_name }
     ensures stays { Stays S.Store tx.old.conn.now tx.new.conn.now result }
-    ensures done { Makes S.Store tx.old.conn.now tx.new.conn.now result (λ s. with_users (without_user id.now s.policy.users) s) }
+    ensures done { Makes S.Store tx.old.conn.now tx.new.conn.now result
+        (λ s. with_users (without_user id.now s.policy.users) s) }
 {
     run(tx, "DELETE FROM usr WHERE id = ?1", params![id.text()])?;
     Ok(())

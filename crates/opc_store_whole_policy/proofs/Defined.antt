@@ -16,9 +16,13 @@ absent_in x [] h = refl
 absent_in x (z ∷ prefix) h = ap (λ b. cond b (Some z) (profile_of prefix x.class x.pattern)) (not_of x z h.0) ∙ absent_in x prefix h.1
 
 -- the next profile comes after those before it
-pub more_defined : (ps : List Profile) → Rises profile_cmp ps → (i : ℕ) (y : Profile) → i < length ps → y ≡ get_or ps i y → (vs : List Profile) → vs ≡ take i ps → with_definition y vs ≡ take (i + 1) ps
+pub more_defined : (ps : List Profile) → Rises profile_cmp ps → (i : ℕ) (y : Profile) → i < length ps
+    → y ≡ get_or ps i y → (vs : List Profile) → vs ≡ take i ps → with_definition y vs ≡ take (i + 1) ps
 more_defined ps up i y low is vs so_far =
     let it = next profile_cmp profile_total (λ (p : Profile). p) ps up ps i y (sym (map-id ps)) low is in
     let defined : with_definition it.x (take i ps) ≡ with_profile it.x (take i ps) =
-    ap (λ (o : Option Profile). with_profile (record it.x { entries = option_map_or (λ (q : Profile). q.entries) o it.x.entries }) (take i ps)) (absent_in it.x (take i ps) it.below) in
-    ap₂ (λ (a : Profile) (l : List Profile). with_definition a l) it.here so_far ∙ (defined ∙ (comes_last profile_cmp profile_total it.x (take i ps) it.below ∙ sym it.more))
+    ap (λ (o : Option Profile). with_profile
+    (record it.x { entries = option_map_or (λ (q : Profile). q.entries) o it.x.entries }) (take i ps))
+    (absent_in it.x (take i ps) it.below) in
+    ap₂ (λ (a : Profile) (l : List Profile). with_definition a l) it.here so_far
+    ∙ (defined ∙ (comes_last profile_cmp profile_total it.x (take i ps) it.below ∙ sym it.more))

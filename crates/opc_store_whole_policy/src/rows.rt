@@ -4,7 +4,16 @@ ghost use Rattle.std.specs.List.{flat_map};
 ghost use Rattle.opc_store_sql.specs.Steps.{Looks};
 ghost use Rattle.opc_policy_members.specs.declared.policy.Policy.{Policy as ThePolicy};
 ghost use Rattle.opc_policy_members.specs.declared.row.Row.{Row as TheRow};
-ghost use Rattle.opc_state.specs.PolicyFile.{rows_of, row_of_group, row_of_user, row_of_connect, row_of_console, row_of_profile, row_of_entry, permits_of};
+ghost use Rattle.opc_state.specs.PolicyFile.{
+  rows_of,
+  row_of_group,
+  row_of_user,
+  row_of_connect,
+  row_of_console,
+  row_of_profile,
+  row_of_entry,
+  permits_of,
+};
 ghost use Rattle.opc_store_schema.specs.Asked.{Finds};
 
 use crate::lists::{Lists, lists_on};
@@ -126,7 +135,13 @@ fn add_permits(rows: &mut Vec<Row>, profiles: &[Profile]) -> Result<(), AllocErr
 
 /// The rows of a policy file, of lists of what it tells.
 fn rows_of(alloc: Global, lists: &Lists, consoles: &[ConsoleRow]) -> Result<Vec<Row>, AllocError>
-    ensures { let policy : ThePolicy = record { users = lists.now.members.users; groups = lists.now.members.groups; connects = lists.now.members.connects; profiles = lists.now.profiles.items; active = lists.now.active } in
+    ensures { let policy : ThePolicy = record {
+      users = lists.now.members.users;
+      groups = lists.now.members.groups;
+      connects = lists.now.members.connects;
+      profiles = lists.now.profiles.items;
+      active = lists.now.active;
+    } in
         IfOk result (λ v. v.items ≡ rows_of policy consoles.now) }
 {
     let mut rows = Vec::new(alloc);

@@ -8,7 +8,37 @@ use Rattle.opc_terms.specs.declared.need.Need.{Need}
 use Rattle.opc_terms.specs.declared.unit_kind.UnitKindAt.{UnitKindAt}
 use Rattle.opc_terms.specs.declared.unit_kind.UnitKindAt.TheVariants.{Absent, Job, Stc, Tsu}
 use Rattle.opc_reader_commands.specs.declared.command.Command.{Command}
-use Rattle.opc_reader_commands.specs.declared.command.Command.TheVariants.{DisplayUnits, DisplayUnit, DisplayDevices, DisplayConsoles, DisplayReplies, Cancel, CancelUser, Force, Start, StartAs, Stop, Modify, Reply, VaryDeviceOnline, VaryDeviceOffline, VaryConsoleOnline, VaryConsoleOffline, VaryConsoleAuth, Mount, Unload, Swap, ResetConsole, Send, Log, Monitor, StopMonitor, Halt, Logon, Logoff}
+use Rattle.opc_reader_commands.specs.declared.command.Command.TheVariants.{
+  DisplayUnits,
+  DisplayUnit,
+  DisplayDevices,
+  DisplayConsoles,
+  DisplayReplies,
+  Cancel,
+  CancelUser,
+  Force,
+  Start,
+  StartAs,
+  Stop,
+  Modify,
+  Reply,
+  VaryDeviceOnline,
+  VaryDeviceOffline,
+  VaryConsoleOnline,
+  VaryConsoleOffline,
+  VaryConsoleAuth,
+  Mount,
+  Unload,
+  Swap,
+  ResetConsole,
+  Send,
+  Log,
+  Monitor,
+  StopMonitor,
+  Halt,
+  Logon,
+  Logoff,
+}
 
 abbrev pub needs : Group → Level → List ℕ → Option Need
 needs group level resource = Some (record { resource = resource; level = level; group = group })
@@ -47,7 +77,8 @@ need (Force name) kind = needs Master Control (forced kind name.value)
 need (Start member) kind = needs Sys Update (started (codes "MVS.START.STC") member.value member.value)
 need (StartAs member id) kind = needs Sys Update (started (codes "MVS.START.STC") member.value id.value)
 need (Stop name) kind = needs Sys Update (of_unit (codes "MVS.STOP.JOB") (codes "MVS.STOP.STC") kind name.value)
-need (Modify name text) kind = needs Sys Update (of_unit (codes "MVS.MODIFY.JOB") (codes "MVS.MODIFY.STC") kind name.value)
+need (Modify name text) kind = needs Sys Update
+    (of_unit (codes "MVS.MODIFY.JOB") (codes "MVS.MODIFY.STC") kind name.value)
 need (Reply id text) kind = needs Info Read (codes "MVS.REPLY")
 need (VaryDeviceOnline device) kind = needs Io Update (codes "MVS.VARY.DEV")
 need (VaryDeviceOffline device) kind = needs Io Update (codes "MVS.VARY.DEV")

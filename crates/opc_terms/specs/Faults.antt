@@ -2,7 +2,49 @@
 use Rattle.std.specs.Prelude.{ℕ, List, ◌++◌, codes}
 use Rattle.std.specs.Fmt.{decimal}
 use Rattle.opc_terms.specs.declared.fault.Fault.{Fault}
-use Rattle.opc_terms.specs.declared.fault.Fault.TheVariants.{Empty, TooLong, BadCharacter, UnknownVerb, BadOperand, OpenQuote, NoConsole, ConsoleOffline, LogonRequired, Revoked, BadLogon, AlreadyOn, NotOn, DeniedConsole, DeniedProfile, DeniedGroup, NoUnit, NonCancelable, Cancelable, UnitExists, NoDevice, DeviceState, DeviceInUse, NoVolume, NoReply, NoTarget, Halted, LastMaster, WrongKind, ReplyExists, NotSpecial, NotOwner, Exists, Missing, InUse, BatchChanged, NotEmpty, RowFault, NoMemory, Store, NotOurs}
+use Rattle.opc_terms.specs.declared.fault.Fault.TheVariants.{
+  Empty,
+  TooLong,
+  BadCharacter,
+  UnknownVerb,
+  BadOperand,
+  OpenQuote,
+  NoConsole,
+  ConsoleOffline,
+  LogonRequired,
+  Revoked,
+  BadLogon,
+  AlreadyOn,
+  NotOn,
+  DeniedConsole,
+  DeniedProfile,
+  DeniedGroup,
+  NoUnit,
+  NonCancelable,
+  Cancelable,
+  UnitExists,
+  NoDevice,
+  DeviceState,
+  DeviceInUse,
+  NoVolume,
+  NoReply,
+  NoTarget,
+  Halted,
+  LastMaster,
+  WrongKind,
+  ReplyExists,
+  NotSpecial,
+  NotOwner,
+  Exists,
+  Missing,
+  InUse,
+  BatchChanged,
+  NotEmpty,
+  RowFault,
+  NoMemory,
+  Store,
+  NotOurs,
+}
 use Rattle.opc_terms.specs.declared.fault.Why.{Why}
 use Rattle.opc_terms.specs.declared.fault.Why.TheVariants as why
 use Rattle.opc_terms.specs.declared.store_fault.StoreFault.{StoreFault}

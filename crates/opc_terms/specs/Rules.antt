@@ -6,7 +6,8 @@ use Rattle.opc_terms.specs.declared.rule.Rule.TheVariants.{Profile, NoProfile, C
 
 abbrev pub rule_text : Rule → List ℕ
 rule_text (Profile class pattern held needed warned) =
-    codes "PROFILE " ++ class_text class ++ codes " " ++ pattern ++ codes " HELD " ++ level_text held ++ codes " NEEDED " ++ level_text needed
+    codes "PROFILE " ++ class_text class ++ codes " " ++ pattern ++ codes " HELD " ++ level_text held
+    ++ codes " NEEDED " ++ level_text needed
     ++ (if warned then codes " WARNED" else [])
 rule_text NoProfile = codes "NOPROFILE"
 rule_text (ConsoleGroup group auth) = codes "GROUP " ++ group_text group ++ codes " AUTH " ++ auth_text auth

@@ -6,29 +6,39 @@ use Rattle.opc_cli.proofs.do_words.Goals as goal
 pub returns-in-Ok-Explain : goal.returns-in-Ok-Explain
 returns-in-Ok-Explain g c =
     let done = c.answer_question in
-    task_done _ _ _ g.W.Write.contents g.E.Write.contents _ (words_after c.args.words.now) c.args.output.now c.read_words.new.output (record c.read_words.new.output { inner = c.answer_question.new.output }) c.args.errors.now c.read_words.new.errors done.new.errors done.result
+    task_done _ _ _ g.W.Write.contents g.E.Write.contents _ (words_after c.args.words.now) c.args.output.now
+    c.read_words.new.output (record c.read_words.new.output { inner = c.answer_question.new.output })
+    c.args.errors.now c.read_words.new.errors done.new.errors done.result
     (task.Explain c.in-Ok-Explain.question) (rw c.in-Ok-Explain.field-0-is at c.in-Ok-Explain.ensures) done.ensures
 
 pub returns-in-Ok-Run : goal.returns-in-Ok-Run
 returns-in-Ok-Run g c =
     let done = c.run_over in
-    task_done _ _ _ g.W.Write.contents g.E.Write.contents _ (words_after c.args.words.now) c.args.output.now c.read_words.new.output c.run_over.new.output c.args.errors.now c.read_words.new.errors done.new.errors done.result
+    task_done _ _ _ g.W.Write.contents g.E.Write.contents _ (words_after c.args.words.now) c.args.output.now
+    c.read_words.new.output c.run_over.new.output c.args.errors.now c.read_words.new.errors done.new.errors
+    done.result
     (task.Run c.in-Ok-Run.paths) (rw c.in-Ok-Run.field-0-is at c.in-Ok-Run.ensures) done.ensures
 
 pub returns-in-Ok-Import : goal.returns-in-Ok-Import
 returns-in-Ok-Import g c =
     let done = c.work_in_file in
-    task_done _ _ _ g.W.Write.contents g.E.Write.contents _ (words_after c.args.words.now) c.args.output.now c.read_words.new.output c.work_in_file.new.output c.args.errors.now c.read_words.new.errors done.new.errors done.result
+    task_done _ _ _ g.W.Write.contents g.E.Write.contents _ (words_after c.args.words.now) c.args.output.now
+    c.read_words.new.output c.work_in_file.new.output c.args.errors.now c.read_words.new.errors done.new.errors
+    done.result
     (task.Import c.in-Ok-Import.import) (rw c.in-Ok-Import.field-0-is at c.in-Ok-Import.ensures) done.ensures
 
 pub returns-in-Ok-Export : goal.returns-in-Ok-Export
 returns-in-Ok-Export g c =
     let done = c.work_in_file-in-Ok-Export in
-    task_done _ _ _ g.W.Write.contents g.E.Write.contents _ (words_after c.args.words.now) c.args.output.now c.read_words.new.output c.work_in_file-in-Ok-Export.new.output c.args.errors.now c.read_words.new.errors done.new.errors done.result
+    task_done _ _ _ g.W.Write.contents g.E.Write.contents _ (words_after c.args.words.now) c.args.output.now
+    c.read_words.new.output c.work_in_file-in-Ok-Export.new.output c.args.errors.now c.read_words.new.errors
+    done.new.errors done.result
     (task.Export c.in-Ok-Export.path) (rw c.in-Ok-Export.field-0-is at c.in-Ok-Export.ensures) done.ensures
 
 pub returns-in-Ok-Serve : goal.returns-in-Ok-Serve
 returns-in-Ok-Serve g c =
     let done = c.work_in_file-in-Ok-Serve in
-    task_done _ _ _ g.W.Write.contents g.E.Write.contents _ (words_after c.args.words.now) c.args.output.now c.read_words.new.output c.work_in_file-in-Ok-Serve.new.output c.args.errors.now c.read_words.new.errors done.new.errors done.result
+    task_done _ _ _ g.W.Write.contents g.E.Write.contents _ (words_after c.args.words.now) c.args.output.now
+    c.read_words.new.output c.work_in_file-in-Ok-Serve.new.output c.args.errors.now c.read_words.new.errors
+    done.new.errors done.result
     (task.Serve c.in-Ok-Serve.serve) (rw c.in-Ok-Serve.field-0-is at c.in-Ok-Serve.ensures) done.ensures

@@ -1,4 +1,9 @@
 use Rattle.opc_cli.proofs.run_without_file.Goals as goal
 
 pub returns : goal.returns
-returns g c = record { end = c.run_in_memory.result; ran = c.run_in_memory.ensures.ran; status_is = c.reported.ensures.status; end_told = c.reported.ensures.reported }
+returns g c = record {
+  end = c.run_in_memory.result;
+  ran = c.run_in_memory.ensures.ran;
+  status_is = c.reported.ensures.status;
+  end_told = c.reported.ensures.reported;
+}

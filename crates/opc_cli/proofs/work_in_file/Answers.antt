@@ -4,7 +4,13 @@ use Rattle.opc_cli.proofs.Done.{openings_fail, same_fault}
 use Rattle.opc_cli.proofs.work_in_file.Goals as goal
 
 pub returns-in-Ok : goal.returns-in-Ok
-returns-in-Ok g c = inl (record { end = c.in-Ok.end; closed = c.in-Ok.closed; done = c.in-Ok.ensures.worked; status_is = c.ended.ensures.status; end_told = c.ended.ensures.reported })
+returns-in-Ok g c = inl (record {
+  end = c.in-Ok.end;
+  closed = c.in-Ok.closed;
+  done = c.in-Ok.ensures.worked;
+  status_is = c.ended.ensures.status;
+  end_told = c.ended.ensures.reported;
+})
 
 pub returns-in-Err : goal.returns-in-Err
 returns-in-Err g c = inr (record {

@@ -11,7 +11,8 @@ loop-statement-preserved g c =
     let now = c.in_ok-run.ensures in (
       now.same_reference ∙ was.0,
       stays_then g.S.Store _ _ Error Error tt tt _ c.loop-statement.tx.conn.now c.run.new.tx.conn.now was.1 (stays_for g.S.Store _ _ Error _ tt _ _ now.stays),
-      λ clean. ran_more g.S.Store (λ s. s.now) c.args.statements.now c.loop-statement.statement-index _ _ _ _ _ (omega arith) (was.2 (omega (arith, now.stays.survives.clean))) (now.ran clean),
+      λ clean. ran_more g.S.Store (λ s. s.now) c.args.statements.now c.loop-statement.statement-index _ _ _ _ _
+          (omega arith) (was.2 (omega (arith, now.stays.survives.clean))) (now.ran clean),
     )
 
 pub returns-clause-ran : goal.returns-clause-ran

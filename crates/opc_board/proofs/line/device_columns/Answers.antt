@@ -2,4 +2,11 @@ use Rattle.opc_board.proofs.Padding.{if_ok, padded_left}
 use Rattle.opc_board.proofs.line.device_columns.Goals as goal
 
 pub returns : goal.returns
-returns c = if_ok _ _ (λ text written. rw (c.laid_out.ensures, c.laid_out-2.ensures, padded_left 7 _ c.requires.state c.requires.state_short, padded_left 6 _ c.requires.volume c.requires.volume_short) at written) c.format.result c.format.ensures.ok
+returns c = if_ok _ _
+    (λ text written. rw (
+      c.laid_out.ensures,
+      c.laid_out-2.ensures,
+      padded_left 7 _ c.requires.state c.requires.state_short,
+      padded_left 6 _ c.requires.volume c.requires.volume_short,
+    )
+    at written) c.format.result c.format.ensures.ok

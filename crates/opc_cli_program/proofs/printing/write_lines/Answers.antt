@@ -13,5 +13,6 @@ returns-in_err-write_line-clause-text g c =
     let at = c.loop-line.line-index in
     let item = c.line-item.result in
     let shown : c.as_str.result.now ≡ (get_or lines at item).text = c.as_str.ensures ∙ ap (λ (line : Line). line.text) c.line-item.is in
-    let cut = subst (λ text. AppendsPrefix (g.K.Sink.held c.loop-line.output) (g.K.Sink.held c.write_line.new.output) (ended text)) shown c.in_err-write_line.ensures.text in
+    let cut = subst (λ text. AppendsPrefix (g.K.Sink.held c.loop-line.output) (g.K.Sink.held c.write_line.new.output)
+    (ended text)) shown c.in_err-write_line.ensures.text in
     rw err.1 (cut_in_one (λ (line : Line). ended line.text) _ _ _ lines at item (omega arith) c.loop-line.invariant.0 cut)

@@ -20,8 +20,10 @@ returns-clause-runs g c =
     let end = c.answer_script-end.result in
     let made = c.in-Ok.ensures.made in
     subst (λ tables. IsAnsweredInput t.is_sure t.represents t.may_leave k.held k.has_failed tables c.into_store.result left before written end) made.0
-    (subst (λ tables. IsAnsweredInput t.is_sure t.represents t.may_leave k.held k.has_failed c.in-Ok.gate.tables tables left before written end) (sym c.into_store.ensures)
-    (answered_input (λ (cached : Cached g.row.T.Denot). cached.tables) t.is_sure t.represents t.may_leave (λ (cached : Cached g.row.T.Denot) s. IsCached t.represents cached.tables cached.recent s)
+    (subst (λ tables. IsAnsweredInput t.is_sure t.represents t.may_leave k.held k.has_failed c.in-Ok.gate.tables tables
+    left before written end) (sym c.into_store.ensures)
+    (answered_input (λ (cached : Cached g.row.T.Denot). cached.tables) t.is_sure t.represents t.may_leave
+    (λ (cached : Cached g.row.T.Denot) s. IsCached t.represents cached.tables cached.recent s)
     (λ (cached : Cached g.row.T.Denot) s h. h.represented) c.in-Ok.gate c.answer_script-end.new.gate
     (λ s h. c.in-Ok.ensures.represents s (subst (λ tables. t.represents tables s) made.0 h))
     k.held k.has_failed left before written end c.answer_script-end.ensures.runs))

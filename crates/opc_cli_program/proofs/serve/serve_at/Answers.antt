@@ -13,4 +13,11 @@ returns-in_err-listener-clause-serves g c =
 
 pub returns-clause-serves : goal.returns-clause-serves
 returns-clause-serves g c =
-    inr ((c.in_ok-listener.listener, c.in_ok-listener.ensures.listens), record { served = c.serve_on.result; handled = c.serve_on.ensures.handled; ends = c.ended.ensures })
+    inr (
+      (c.in_ok-listener.listener, c.in_ok-listener.ensures.listens),
+      record {
+        served = c.serve_on.result;
+        handled = c.serve_on.ensures.handled;
+        ends = c.ended.ensures;
+      },
+    )

@@ -14,7 +14,8 @@ pub returns-clause-serves : goal.returns-clause-serves
 returns-clause-serves g c =
     let t = g.T.Tables in
     let made = c.in-Ok.ensures.made in
-    handed_back (λ (cached : Cached g.row.T.Denot). cached.tables) t.is_sure t.represents t.may_leave (λ (cached : Cached g.row.T.Denot) s. IsCached t.represents cached.tables cached.recent s)
+    handed_back (λ (cached : Cached g.row.T.Denot). cached.tables) t.is_sure t.represents t.may_leave
+    (λ (cached : Cached g.row.T.Denot) s. IsCached t.represents cached.tables cached.recent s)
     (λ (cached : Cached g.row.T.Denot) s h. h.represented) c.in-Ok.gate c.serve_at-end.new.gate
     (λ s h. c.in-Ok.ensures.represents s (subst (λ tables. t.represents tables s) made.0 h))
     _ _ _ _ _ made.0 c.into_store.ensures c.args.serve.now c.serve_at-end.result _ _ (says_where _ _ _ _ _ _) c.serve_at-end.ensures.serves

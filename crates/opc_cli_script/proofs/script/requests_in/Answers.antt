@@ -11,7 +11,8 @@ returns-in_err-read_line-clause-bad c =
     let short : nat_le (length c.args.script.now) script_limit ≡ true = grind (arith, nat_tests, c.if-script.false) in
     let line = line_at c.deref-line-items.result.now (lines c.args.script.now) c.loop-at.at _ c.loop-at.invariant.0 (omega arith) in
     let err = err_from_is_err_and c.from_residual-in_err-read_line.result c.from_residual-in_err-read_line.ensures.1 in
-    rw (err.1, err.2) (unread c.args.script.now _ c.loop-at.at c.loop-at.requests.items _ short line.0 line.1 c.loop-at.invariant.1 c.in_err-read_line.ensures.bad)
+    rw (err.1, err.2) (unread c.args.script.now _ c.loop-at.at c.loop-at.requests.items _ short line.0 line.1
+    c.loop-at.invariant.1 c.in_err-read_line.ensures.bad)
 
 pub loop-at-preserved : goal.loop-at-preserved
 loop-at-preserved c =

@@ -4,8 +4,11 @@ use Rattle.opc_cli_words.proofs.Asked.{fails_at, is_task}
 use Rattle.opc_cli_words.proofs.words.task_of.Goals as goal
 
 pub returns-in-Ok : goal.returns-in-Ok
-returns-in-Ok g c =
-    (is_task c.args.matches.now (found_of c.in-Some.chosen.now) c.in-Some.command.now c.in-Ok.task c.in-Some.ensures.name c.in-Some.ensures.rows c.in-Ok.ensures, refl)
+returns-in-Ok g c = (
+  is_task c.args.matches.now (found_of c.in-Some.chosen.now) c.in-Some.command.now c.in-Ok.task
+      c.in-Some.ensures.name c.in-Some.ensures.rows c.in-Ok.ensures,
+  refl,
+)
 
 pub returns-in-Err : goal.returns-in-Err
 returns-in-Err g c = (
@@ -13,7 +16,8 @@ returns-in-Err g c = (
   inr (record {
     command = c.in-Some.command.now;
     option = c.in-Err.option.now;
-    fails = fails_at c.args.matches.now (found_of c.in-Some.chosen.now) c.in-Some.command.now c.in-Err.option.now c.in-Some.ensures.name c.in-Some.ensures.rows c.in-Err.ensures;
+    fails = fails_at c.args.matches.now (found_of c.in-Some.chosen.now) c.in-Some.command.now c.in-Err.option.now
+        c.in-Some.ensures.name c.in-Some.ensures.rows c.in-Err.ensures;
     printed = c.tell_unread.ensures;
   }),
 )

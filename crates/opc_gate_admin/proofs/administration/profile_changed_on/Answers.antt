@@ -12,6 +12,10 @@ use Rattle.opc_gate_admin.proofs.administration.profile_changed_on.Goals as goal
 pub returns-in-RAlter-clause-outcome : goal.returns-in-RAlter-clause-outcome
 returns-in-RAlter-clause-outcome g c = λ sure s represents.
     let comes =
-    subst (λ (p : Profile). IfOk c.ralter.result (λ o. IsKeyed s → IsOutcome s (policy_outcome s (policy_changed s.board (operation.RAlter p.class p.pattern p.owner p.uacc p.warning) s.policy)) o))
+    subst (λ (p : Profile). IfOk c.ralter.result
+    (λ o. IsKeyed s
+    → IsOutcome s
+    (policy_outcome s (policy_changed s.board (operation.RAlter p.class p.pattern p.owner p.uacc p.warning)
+    s.policy)) o))
     c.definition-profile-in-RAlter.ensures (c.ralter.ensures.outcome sure s represents) in
     subst (λ (op : Operation). IfOk c.ralter.result (λ o. IsKeyed s → IsOutcome s (state_outcome (changed s op)) o)) (sym c.in-RAlter.is) (to_state s _ _ comes)

@@ -9,21 +9,25 @@ use Rattle.opc_gate_admin.proofs.consoles.define_console.Goals as goal
 pub returns-in-None-clause-outcome : goal.returns-in-None-clause-outcome
 returns-in-None-clause-outcome g c = λ sure s represents.
     let none : console_at s.board c.args.name ≡ None = sym (c.in_ok-stored.ensures.console sure s represents) ∙ c.in-None.is in
-    given _ _ (λ order. if_ok _ (one_change s _ _ (new_one s c.args.name c.args.auth c.args.mode none) (new_one_changes s c.args.name c.args.auth c.args.mode none))
+    given _ _ (λ order. if_ok _ (one_change s _ _ (new_one s c.args.name c.args.auth c.args.mode none)
+    (new_one_changes s c.args.name c.args.auth c.args.mode none))
     (subst (λ row. IfOk c.done_by.result (λ o. IsDoneBy (edit.PutConsole row) o)) c.new_console.ensures c.done_by.ensures))
 
 pub returns-then-same_setting-clause-outcome : goal.returns-then-same_setting-clause-outcome
 returns-then-same_setting-clause-outcome g c = λ sure s represents.
     let at : console_at s.board c.args.name ≡ Some c.in-Some.stored = sym (c.in_ok-stored.ensures.console sure s represents) ∙ c.in-Some.is in
     let none : c.new.result.items ≡ [] = cc in
-    given _ _ (λ order. state_alone s _ (set_again s c.args.name c.args.auth c.args.mode c.in-Some.stored order at (sym c.same_setting.ensures ∙ c.if-same_setting.true)) c.new.result none _ c.done.ensures)
+    given _ _ (λ order. state_alone s _ (set_again s c.args.name c.args.auth c.args.mode c.in-Some.stored order at
+    (sym c.same_setting.ensures ∙ c.if-same_setting.true)) c.new.result none _ c.done.ensures)
 
 pub returns-then-branch-clause-outcome : goal.returns-then-branch-clause-outcome
 returns-then-branch-clause-outcome g c = λ sure s represents.
     let one = c.in_ok-loses_master.ensures.kept.sure sure in
     let still = c.in_ok-stored.ensures.kept.same one s represents in
     let at : console_at s.board c.args.name ≡ Some c.in-Some.stored = sym (c.in_ok-stored.ensures.console one s represents) ∙ c.in-Some.is in
-    given _ _ (λ order. state_refused s _ _ (last_lost s c.args.name c.args.auth c.args.mode c.in-Some.stored order at (sym (c.in_ok-loses_master.ensures.lost sure s still order) ∙ c.if-branch.true)) _ c.denied.ensures)
+    given _ _ (λ order. state_refused s _ _
+    (last_lost s c.args.name c.args.auth c.args.mode c.in-Some.stored order at
+    (sym (c.in_ok-loses_master.ensures.lost sure s still order) ∙ c.if-branch.true)) _ c.denied.ensures)
 
 pub returns-clause-outcome : goal.returns-clause-outcome
 returns-clause-outcome g c = λ sure s represents.

@@ -6,4 +6,5 @@ use Rattle.opc_gate_admin.proofs.consoles.has_other_master.Goals as goal
 
 pub returns-clause-other : goal.returns-clause-other
 returns-clause-other g c = λ sure s represents order.
-    c.any_other.ensures ∙ ap (list_any (λ console. not (is console.name c.args.name.now))) (c.as_slice.ensures ∙ c.in_ok-masters.ensures.masters sure s represents) ∙ others s c.args.name.now order
+    c.any_other.ensures ∙ ap (list_any (λ console. not (is console.name c.args.name.now)))
+    (c.as_slice.ensures ∙ c.in_ok-masters.ensures.masters sure s represents) ∙ others s c.args.name.now order

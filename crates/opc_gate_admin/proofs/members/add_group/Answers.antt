@@ -7,5 +7,7 @@ use Rattle.opc_gate_admin.proofs.members.add_group.Goals as goal
 
 pub returns-clause-outcome : goal.returns-clause-outcome
 returns-clause-outcome g c = λ sure s represents.
-    let free : has_name s.policy c.args.name ≡ false = ap (has_name s.policy) (sym c.text.ensures.text) ∙ sym (c.in_ok-has_name.ensures.there sure s represents) ∙ c.if-branch.false in
+    let free : has_name s.policy c.args.name ≡ false =
+    ap (has_name s.policy) (sym c.text.ensures.text) ∙ sym (c.in_ok-has_name.ensures.there sure s represents)
+    ∙ c.if-branch.false in
     if_ok _ (one_edit s _ _ (edit.PutGroup c.args.name) (there_is_none _ _ _ free) refl (new_group_changes s c.args.name free)) c.done_by.ensures

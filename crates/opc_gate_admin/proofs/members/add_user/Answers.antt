@@ -7,5 +7,8 @@ use Rattle.opc_gate_admin.proofs.members.add_user.Goals as goal
 
 pub returns-clause-outcome : goal.returns-clause-outcome
 returns-clause-outcome g c = λ sure s represents.
-    let free : has_name s.policy c.args.user.id ≡ false = ap (has_name s.policy) (sym c.text.ensures.text) ∙ sym (c.in_ok-has_name.ensures.there sure s represents) ∙ c.if-branch.false in
-    if_ok _ (one_edit s _ _ (edit.PutUser c.args.user) (added s s.board c.args.user c.requires free) refl (new_user_changes s c.args.user free)) c.done_by.ensures
+    let free : has_name s.policy c.args.user.id ≡ false =
+    ap (has_name s.policy) (sym c.text.ensures.text) ∙ sym (c.in_ok-has_name.ensures.there sure s represents)
+    ∙ c.if-branch.false in
+    if_ok _ (one_edit s _ _ (edit.PutUser c.args.user) (added s s.board c.args.user c.requires free) refl
+    (new_user_changes s c.args.user free)) c.done_by.ensures

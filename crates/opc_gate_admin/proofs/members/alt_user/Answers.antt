@@ -9,7 +9,8 @@ pub returns-in-Some-clause-outcome : goal.returns-in-Some-clause-outcome
 returns-in-Some-clause-outcome g c = λ sure s represents.
     let found : user_of s.policy.users c.args.user.id ≡ Some c.in-Some.stored = sym (c.in_ok-user.ensures.user sure s represents) ∙ c.in-Some.is in
     let none : c.new.result.items ≡ [] = cc in
-    given _ _ (λ order. left_alone s _ (unaltered s s.board c.in-Some.stored c.args.user order found (sym c.same_user.ensures ∙ c.if-same_user.true)) c.new.result none _ c.done.ensures)
+    given _ _ (λ order. left_alone s _ (unaltered s s.board c.in-Some.stored c.args.user order found
+    (sym c.same_user.ensures ∙ c.if-same_user.true)) c.new.result none _ c.done.ensures)
 
 pub returns-in-Some-2-clause-outcome : goal.returns-in-Some-2-clause-outcome
 returns-in-Some-2-clause-outcome g c = λ sure s represents.

@@ -12,7 +12,15 @@ returns-clause-outcome g c = λ sure s represents.
     let one = c.in_ok-has_group.ensures.kept.sure two in
     let first = c.in_ok-has_user.ensures.kept.same one s represents in
     let second = c.in_ok-has_group.ensures.kept.same two s first in
-    let user : has_user s.policy c.args.connect.user ≡ true = ap (has_user s.policy) (sym c.text.ensures.text) ∙ sym (c.in_ok-has_user.ensures.there one s represents) ∙ c.if-not-branch.false in
-    let group : has_group s.policy c.args.connect.group ≡ true = ap (has_group s.policy) (sym c.text-2.ensures.text) ∙ sym (c.in_ok-has_group.ensures.there two s first) ∙ c.if-not-branch-2.false in
-    let connected : is_connected s.policy c.args.connect.user c.args.connect.group ≡ false = ap (is_connected s.policy c.args.connect.user) (sym c.text-3.ensures.text) ∙ sym (c.in_ok-is_connected.ensures.connected sure s second) ∙ c.if-branch.false in
-    if_ok _ (one_edit s _ _ (edit.PutConnect c.args.connect) (there_is _ _ _ user ∙ there_is _ _ _ group ∙ there_is_none _ _ _ connected) refl (new_connect_changes s c.args.connect connected)) c.done_by.ensures
+    let user : has_user s.policy c.args.connect.user ≡ true =
+    ap (has_user s.policy) (sym c.text.ensures.text) ∙ sym (c.in_ok-has_user.ensures.there one s represents)
+    ∙ c.if-not-branch.false in
+    let group : has_group s.policy c.args.connect.group ≡ true =
+    ap (has_group s.policy) (sym c.text-2.ensures.text) ∙ sym (c.in_ok-has_group.ensures.there two s first)
+    ∙ c.if-not-branch-2.false in
+    let connected : is_connected s.policy c.args.connect.user c.args.connect.group ≡ false =
+    ap (is_connected s.policy c.args.connect.user) (sym c.text-3.ensures.text)
+    ∙ sym (c.in_ok-is_connected.ensures.connected sure s second) ∙ c.if-branch.false in
+    if_ok _ (one_edit s _ _ (edit.PutConnect c.args.connect)
+    (there_is _ _ _ user ∙ there_is _ _ _ group ∙ there_is_none _ _ _ connected) refl
+    (new_connect_changes s c.args.connect connected)) c.done_by.ensures

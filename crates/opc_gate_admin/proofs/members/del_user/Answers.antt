@@ -10,6 +10,8 @@ pub returns-clause-outcome : goal.returns-clause-outcome
 returns-clause-outcome g c = λ sure s represents.
     let one = c.in_ok-is_in_use.ensures.kept.sure sure in
     let still = c.in_ok-has_user.ensures.kept.same one s represents in
-    let there : has_user s.policy c.args.id ≡ true = ap (has_user s.policy) (sym c.text.ensures.text) ∙ sym (c.in_ok-has_user.ensures.there one s represents) ∙ c.if-not-branch.false in
+    let there : has_user s.policy c.args.id ≡ true =
+    ap (has_user s.policy) (sym c.text.ensures.text) ∙ sym (c.in_ok-has_user.ensures.there one s represents)
+    ∙ c.if-not-branch.false in
     let used : is_in_use s.policy s.board c.args.id ≡ false = sym (c.in_ok-is_in_use.ensures.used sure s still) ∙ c.if-branch.false in
     if_ok _ (one_edit s _ _ (edit.RemoveUser c.args.id) (deleted s c.args.id there used) refl (user_removal_changes s c.args.id there)) c.done_by.ensures

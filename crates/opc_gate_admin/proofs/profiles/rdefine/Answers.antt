@@ -11,6 +11,9 @@ returns-clause-outcome g c = λ sure s represents.
     let q = c.args.profile in
     let one = c.in_ok-has_user.ensures.kept.sure sure in
     let still = c.in_ok-is_defined.ensures.kept.same one s represents in
-    let free : is_some (profile_of s.policy.profiles q.class q.pattern) ≡ false = sym (c.in_ok-is_defined.ensures.defined one s represents) ∙ c.if-branch.false in
-    let owner : has_user s.policy q.owner ≡ true = ap (has_user s.policy) (sym c.text.ensures.text) ∙ sym (c.in_ok-has_user.ensures.there sure s still) ∙ c.if-not-branch.false in
+    let free : is_some (profile_of s.policy.profiles q.class q.pattern) ≡ false =
+    sym (c.in_ok-is_defined.ensures.defined one s represents) ∙ c.if-branch.false in
+    let owner : has_user s.policy q.owner ≡ true =
+    ap (has_user s.policy) (sym c.text.ensures.text) ∙ sym (c.in_ok-has_user.ensures.there sure s still)
+    ∙ c.if-not-branch.false in
     if_ok _ (one_edit s _ _ (edit.PutProfile q) (defined s s.board q c.requires free owner) refl (definition_changes s q free)) c.done_by.ensures

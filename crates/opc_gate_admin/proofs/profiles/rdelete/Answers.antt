@@ -8,5 +8,7 @@ use Rattle.opc_gate_admin.proofs.profiles.rdelete.Goals as goal
 
 pub returns-clause-outcome : goal.returns-clause-outcome
 returns-clause-outcome g c = λ sure s represents.
-    let there : is_some (profile_of s.policy.profiles c.args.class c.args.pattern.now) ≡ true = sym (c.in_ok-is_defined.ensures.defined sure s represents) ∙ c.if-not-branch.false in
-    if_ok _ (one_edit s _ _ (edit.RemoveProfile c.args.class c.args.pattern.now) (there_is _ _ _ there) refl (profile_removal_changes s _ _ there)) c.done_by.ensures
+    let there : is_some (profile_of s.policy.profiles c.args.class c.args.pattern.now) ≡ true =
+    sym (c.in_ok-is_defined.ensures.defined sure s represents) ∙ c.if-not-branch.false in
+    if_ok _ (one_edit s _ _ (edit.RemoveProfile c.args.class c.args.pattern.now) (there_is _ _ _ there) refl
+    (profile_removal_changes s _ _ there)) c.done_by.ensures

@@ -8,7 +8,8 @@ returns-then-is_display-clause-outcome g c = λ sure s represents.
     let first = c.in_ok-rule.ensures.kept.sure before in
     let stands = c.in_ok-basis.ensures.basis first s represents in
     let loaded = c.in_ok-basis.ensures.kept.same first s represents in
-    rw (by_the_rule s c.args.console.now c.args.command.now c.args.need.now c.in-Allowed.rule (sym (c.in_ok-rule.ensures.ruling before s loaded stands) ∙ c.in-Allowed.is))
+    rw (by_the_rule s c.args.console.now c.args.command.now c.args.need.now c.in-Allowed.rule
+    (sym (c.in_ok-rule.ensures.ruling before s loaded stands) ∙ c.in-Allowed.is))
     (if_ok c.display_on.result (λ o is at. is stands) (c.display_on.ensures.outcome sure s (c.in_ok-rule.ensures.kept.same before s loaded)))
 
 pub returns-else-is_display-clause-outcome : goal.returns-else-is_display-clause-outcome
@@ -17,5 +18,6 @@ returns-else-is_display-clause-outcome g c = λ sure s represents.
     let first = c.in_ok-rule.ensures.kept.sure before in
     let stands = c.in_ok-basis.ensures.basis first s represents in
     let loaded = c.in_ok-basis.ensures.kept.same first s represents in
-    rw (by_the_rule s c.args.console.now c.args.command.now c.args.need.now c.in-Allowed.rule (sym (c.in_ok-rule.ensures.ruling before s loaded stands) ∙ c.in-Allowed.is))
+    rw (by_the_rule s c.args.console.now c.args.command.now c.args.need.now c.in-Allowed.rule
+    (sym (c.in_ok-rule.ensures.ruling before s loaded stands) ∙ c.in-Allowed.is))
     (if_ok c.deed_on.result (λ o is at. is at stands) (c.deed_on.ensures.outcome sure s (c.in_ok-rule.ensures.kept.same before s loaded)))

@@ -10,5 +10,7 @@ board_command-requires g c = needs_no_session _ _ c.in-Some.need (sym c.need.ens
 pub returns-in-Some-clause-outcome : goal.returns-in-Some-clause-outcome
 returns-in-Some-clause-outcome g c = λ sure s represents.
     let before = c.board_command.ensures.kept.sure sure in
-    let needs : need_of s.board c.args.command.now ≡ Some c.in-Some.need = ap (need c.args.command.now) (sym (c.in_ok-kind.ensures.kind before s represents)) ∙ sym c.need.ensures ∙ c.in-Some.is in
+    let needs : need_of s.board c.args.command.now ≡ Some c.in-Some.need =
+    ap (need c.args.command.now) (sym (c.in_ok-kind.ensures.kind before s represents)) ∙ sym c.need.ensures
+    ∙ c.in-Some.is in
     rw needs (c.board_command.ensures.outcome sure s (c.in_ok-kind.ensures.kept.same before s represents))

@@ -4,4 +4,6 @@ use Rattle.opc_gate_footprints.proofs.footprint.console_footprint_on.Goals as go
 pub returns-clause-footprint : goal.returns-clause-footprint
 returns-clause-footprint g c = λ sure s represents.
     if_ok c.board_of.result (λ board is at. console_footprint s c.args.console.now.name c.nothing-part.result c.add_console.new.part board
-    (c.in_ok-is_halted.ensures.keyed sure s represents) (c.nothing-part.ensures.part s (c.in_ok-is_halted.ensures.halted sure s represents)) (c.in_ok-add_console.ensures.footprint s at) is) c.board_of.ensures
+    (c.in_ok-is_halted.ensures.keyed sure s represents)
+    (c.nothing-part.ensures.part s (c.in_ok-is_halted.ensures.halted sure s represents))
+    (c.in_ok-add_console.ensures.footprint s at) is) c.board_of.ensures

@@ -5,4 +5,5 @@ pub returns-clause-footprint : goal.returns-clause-footprint
 returns-clause-footprint g c = λ sure s represents.
     let before = c.in_ok-load_holder.ensures.kept.sure sure in
     let holder = c.in_ok-load_holder.ensures.footprint sure s (c.in_ok-device.ensures.kept.same before s represents) in
-    on_ok c.add.result (held_device s c.args.part.now c.load_holder.new.part c.args.number.now c.in_ok-device.device c.add.new.rows holder (c.in_ok-device.ensures.device before s represents)) c.add.ensures
+    on_ok c.add.result (held_device s c.args.part.now c.load_holder.new.part c.args.number.now c.in_ok-device.device
+    c.add.new.rows holder (c.in_ok-device.ensures.device before s represents)) c.add.ensures

@@ -14,5 +14,6 @@ returns-clause-outcome g c = λ sure s represents.
     (λ name at.
     let asks : IsRequester s name (Ok c.in-Ok.asking) = subst (IsRequester s name) c.in-Ok.is (c.in_ok-asking.ensures.asking before s represents name at) in
     let lines = c.in_ok-lines.ensures.lines sure s (c.in_ok-asking.ensures.kept.same before s represents) in
-    let comes = account_told s name c.args.from c.args.count c.in-Ok.asking.console c.in-Ok.asking.user c.in_ok-lines.lines asks.0 asks.1 (sym c.if-not-sees_all.ensures) lines in
+    let comes = account_told s name c.args.from c.args.count c.in-Ok.asking.console c.in-Ok.asking.user
+    c.in_ok-lines.lines asks.0 asks.1 (sym c.if-not-sees_all.ensures) lines in
     subst (λ o. IfOk c.listing.result (IsOutcome s o)) (sym comes) (c.listing.ensures s))

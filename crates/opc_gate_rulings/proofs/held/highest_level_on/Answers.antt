@@ -14,7 +14,11 @@ loop-group-preserved g c =
       kept_again _ _ _ _ _ _ before.0 kept,
       λ sure s represents.
           let level = c.in_ok-level_of.ensures.level sure s (before.0.same (kept.sure sure) s represents) in
-          let more = at_drop_more (highest_level (access_list s.policy c.args.profile.now.class c.args.profile.now.pattern) (option_copied c.args.when)) c.args.groups.now c.loop-group.group-index c.group-item.result c.loop-group-test.true in
+          let more = at_drop_more (highest_level
+          (access_list s.policy c.args.profile.now.class c.args.profile.now.pattern) (option_copied c.args.when))
+          c.args.groups.now c.loop-group.group-index c.group-item.result c.loop-group-test.true in
           let first = rw (← c.group-item.is) at more in
-          rw (c.higher-highest.ensures, level, c.id_of.ensures) (higher_assoc c.loop-group.highest _ _ ∙ ap (higher c.loop-group.highest) (sym first) ∙ before.1 (kept.sure sure) s represents),
+          rw (c.higher-highest.ensures, level, c.id_of.ensures)
+          (higher_assoc c.loop-group.highest _ _ ∙ ap (higher c.loop-group.highest) (sym first)
+          ∙ before.1 (kept.sure sure) s represents),
     )

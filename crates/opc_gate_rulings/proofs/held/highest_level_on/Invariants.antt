@@ -10,4 +10,6 @@ abbrev pub invariant-loop-group : goal.invariant-loop-group
 invariant-loop-group g l =
     IsKept g.T.Tables.is_sure g.T.Tables.represents g.T.Tables.may_leave l.fn.tables l.tables
     × (g.T.Tables.is_sure l.tables → (s : State) → g.T.Tables.represents l.fn.tables s
-    → higher l.highest (highest_level (access_list s.policy l.profile.class l.profile.pattern) (option_copied l.when) (drop l.group-index l.groups)) ≡ highest_level (access_list s.policy l.profile.class l.profile.pattern) (option_copied l.when) l.groups)
+    → higher l.highest (highest_level (access_list s.policy l.profile.class l.profile.pattern) (option_copied l.when)
+    (drop l.group-index l.groups)) ≡ highest_level (access_list s.policy l.profile.class l.profile.pattern)
+    (option_copied l.when) l.groups)

@@ -7,4 +7,6 @@ returns-clause-level g c = λ sure s represents.
     let first = c.in_ok-plain.ensures in
     let second = c.in_ok-conditional.ensures in
     let before = second.kept.sure sure in
-    c.level_from.ensures ∙ by_levels s.policy c.args.profile.now c.args.user.now c.args.console.now c.args.groups.now c.in_ok-plain.plain c.in_ok-conditional.conditional (first.level before s represents) (second.level sure s (first.kept.same before s represents))
+    c.level_from.ensures ∙ by_levels s.policy c.args.profile.now c.args.user.now c.args.console.now c.args.groups.now
+    c.in_ok-plain.plain c.in_ok-conditional.conditional (first.level before s represents)
+    (second.level sure s (first.kept.same before s represents))

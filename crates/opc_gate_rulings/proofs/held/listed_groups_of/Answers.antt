@@ -16,9 +16,13 @@ loop-entry-preserved g c =
           elim c.if-branch.branch [
             | then-branch+in_ok-group_of+in_ok-push w ↦
                 rw (w.groups-is, w.in_ok-push.ensures.items, w.in_ok-group_of.ensures)
-                (one_listed (groups_of s.policy.connects c.args.user.now.id) c.args.entries.now c.loop-entry.entry-index c.entry-item.result c.loop-entry.groups.items c.loop-entry-test.true c.entry-item.is so_far (member ∙ w.if-branch.true))
+                (one_listed (groups_of s.policy.connects c.args.user.now.id) c.args.entries.now c.loop-entry.entry-index
+                c.entry-item.result c.loop-entry.groups.items c.loop-entry-test.true c.entry-item.is so_far
+                (member ∙ w.if-branch.true))
             | else-branch w ↦
                 rw w.groups-is
-                (none_listed (groups_of s.policy.connects c.args.user.now.id) c.args.entries.now c.loop-entry.entry-index c.entry-item.result c.loop-entry.groups.items c.loop-entry-test.true c.entry-item.is so_far (member ∙ w.if-branch.false))
+                (none_listed (groups_of s.policy.connects c.args.user.now.id) c.args.entries.now
+                c.loop-entry.entry-index c.entry-item.result c.loop-entry.groups.items c.loop-entry-test.true
+                c.entry-item.is so_far (member ∙ w.if-branch.false))
           ],
     )

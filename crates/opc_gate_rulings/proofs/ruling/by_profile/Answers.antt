@@ -9,4 +9,6 @@ use Rattle.opc_gate_rulings.proofs.ruling.by_profile.Goals as goal
 pub returns-clause-ruling : goal.returns-clause-ruling
 returns-clause-ruling g c = λ sure s represents.
     rw (c.unwrap_or.ensures, c.in_ok-ruling.ensures.ruling sure s represents, c.console_ruling.ensures)
-    (sym (ruled true (deciding_in s.policy Opercmds c.args.need.now.resource) c.args.user.now (Some c.args.console.now.name) (groups_of s.policy.connects c.args.user.now.id) c.args.need.now.level (console_ruling c.args.console.now.auth c.args.need.now)))
+    (sym (ruled true (deciding_in s.policy Opercmds c.args.need.now.resource) c.args.user.now
+    (Some c.args.console.now.name) (groups_of s.policy.connects c.args.user.now.id) c.args.need.now.level
+    (console_ruling c.args.console.now.auth c.args.need.now)))

@@ -17,4 +17,5 @@ returns-clause-ruling g c = λ sure s represents.
     let active : is_active s.policy.active Console ≡ true = sym (first.active before s represents) ∙ c.if-not-branch.false in
     let ruling = second.ruling sure s (first.kept.same before s represents) in
     unless c.args.user.now.revoked _ _ _ c.if-user.false (rw (c.unwrap_or.ensures, ruling, c.resource_of.ensures, active)
-    (sym (ruled true (deciding_in s.policy Console c.args.console.now.name) c.args.user.now (Some c.args.console.now.name) (groups_of s.policy.connects c.args.user.now.id) Read (Allowed rule.NoProfile))))
+    (sym (ruled true (deciding_in s.policy Console c.args.console.now.name) c.args.user.now
+    (Some c.args.console.now.name) (groups_of s.policy.connects c.args.user.now.id) Read (Allowed rule.NoProfile))))

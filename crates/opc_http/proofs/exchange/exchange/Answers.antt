@@ -6,15 +6,28 @@ use Rattle.opc_http.proofs.exchange.exchange.Goals as goal
 
 pub returns-in-Ok-clause-served : goal.returns-in-Ok-clause-served
 returns-in-Ok-clause-served g c =
-    served _ _ _ _ _ _ _ _ _ _ (Ok c.handle.result) (record { request = c.in-Ok.request; asked = c.in-Ok.ensures.asked; handled = c.handle.ensures.handled }) c.send_answer.result c.send_answer.ensures.reported
+    served _ _ _ _ _ _ _ _ _ _ (Ok c.handle.result) (record {
+      request = c.in-Ok.request;
+      asked = c.in-Ok.ensures.asked;
+      handled = c.handle.ensures.handled;
+    }) c.send_answer.result c.send_answer.ensures.reported
 
 pub returns-in-Ok-clause-fault : goal.returns-in-Ok-clause-fault
 returns-in-Ok-clause-fault g c =
-    faulty _ _ _ _ _ _ _ _ _ _ (Ok c.handle.result) (record { request = c.in-Ok.request; asked = c.in-Ok.ensures.asked; handled = c.handle.ensures.handled }) c.send_answer.result c.send_answer.ensures.cut_off
+    faulty _ _ _ _ _ _ _ _ _ _ (Ok c.handle.result) (record {
+      request = c.in-Ok.request;
+      asked = c.in-Ok.ensures.asked;
+      handled = c.handle.ensures.handled;
+    }) c.send_answer.result c.send_answer.ensures.cut_off
 
 pub returns-in-Err-Refused-clause-fault : goal.returns-in-Err-Refused-clause-fault
 returns-in-Err-Refused-clause-fault g c =
-    faulty _ _ _ _ _ _ _ _ _ _ (Err c.in-Err-Refused.refusal) (subst (λ fault. IfRefused fault (λ why. IsAsked (g.S.Source.left c.args.source.now) (Err why))) c.in-Err-Refused.field-0-is c.in-Err-Refused.ensures.refused, refl) c.send_refusal.result c.send_refusal.ensures.cut_off
+    faulty _ _ _ _ _ _ _ _ _ _ (Err c.in-Err-Refused.refusal) (
+      subst (λ fault. IfRefused fault (λ why. IsAsked (g.S.Source.left c.args.source.now) (Err why)))
+          c.in-Err-Refused.field-0-is c.in-Err-Refused.ensures.refused,
+      refl,
+    ) c.send_refusal.result
+    c.send_refusal.ensures.cut_off
 
 pub returns-in-Ok-clause-read : goal.returns-in-Ok-clause-read
 returns-in-Ok-clause-read g c = rw (not_read g.K.Sink.held (Ok c.handle.result) _ _ c.send_answer.result c.send_answer.ensures.cut_off) c.in-Ok.ensures.failed

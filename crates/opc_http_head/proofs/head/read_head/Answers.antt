@@ -17,7 +17,9 @@ returns-in-Never-clause-head g c =
 pub returns-then-len-eq-HEAD_LIMIT-clause-head : goal.returns-then-len-eq-HEAD_LIMIT-clause-head
 returns-then-len-eq-HEAD_LIMIT-clause-head g c =
     let inv = c.loop-turn.invariant in
-    let full : length c.loop-turn.buf.items ≡ 8192 = ap length (sym c.as_slice.ensures.value) ∙ c.as_slice.ensures.len ∙ sym c.len.ensures ∙ c.if-len-eq-HEAD_LIMIT.true in
+    let full : length c.loop-turn.buf.items ≡ 8192 =
+    ap length (sym c.as_slice.ensures.value) ∙ c.as_slice.ensures.len ∙ sym c.len.ensures
+    ∙ c.if-len-eq-HEAD_LIMIT.true in
     none-by-room _ _ _ inv.0 full (rw c.as_slice.ensures.value at c.in-Part.ensures.start).no_head
 
 pub returns-then-branch-eq0-clause-head : goal.returns-then-branch-eq0-clause-head

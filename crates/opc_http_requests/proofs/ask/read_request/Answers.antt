@@ -13,7 +13,9 @@ use Rattle.opc_http_requests.proofs.ask.read_request.Goals as goal
 pub returns-in_default-clause-refused : goal.returns-in_default-clause-refused
 returns-in_default-clause-refused g c =
     let known = g.S.Source.left c.args.source.now in
-    asks-headless known (none-found known c.in_ok-spans.field-0 NoHead (λ all. FoundHead all c.read_head.new.buf.items c.read_head.new.headers) c.in_default.not-Some c.in_ok-spans.ensures.head)
+    asks-headless known (none-found known c.in_ok-spans.field-0 NoHead
+    (λ all. FoundHead all c.read_head.new.buf.items c.read_head.new.headers) c.in_default.not-Some
+    c.in_ok-spans.ensures.head)
 
 pub returns-in_err-plan-clause-refused : goal.returns-in_err-plan-clause-refused
 returns-in_err-plan-clause-refused g c =
@@ -38,7 +40,8 @@ returns-clause-asked g c =
     IfOk-weaker c.read_planned.result
     (λ request. IfSome mid (λ left. planned (span_bytes buf spans.path) (drop spans.len (buf ++ left)) c.in_ok-plan.plan ≡ Ok request))
     (λ request. IfSome known (λ all. AsksOnly all (Ok request)))
-    (λ request done. asks-planned known mid buf headers spans c.in_ok-plan.plan (Ok request) c.in_ok-spans.ensures.taken head plan done) c.read_planned.ensures.asked
+    (λ request done. asks-planned known mid buf headers spans c.in_ok-plan.plan (Ok request) c.in_ok-spans.ensures.taken
+    head plan done) c.read_planned.ensures.asked
 
 pub returns-clause-refused : goal.returns-clause-refused
 returns-clause-refused g c =
@@ -52,7 +55,8 @@ returns-clause-refused g c =
     fault-weaker c.read_planned.result
     (λ why. IfSome mid (λ left. planned (span_bytes buf spans.path) (drop spans.len (buf ++ left)) c.in_ok-plan.plan ≡ Err why))
     (λ why. IfSome known (λ all. AsksOnly all (Err why)))
-    (λ why failed. asks-planned known mid buf headers spans c.in_ok-plan.plan (Err why) c.in_ok-spans.ensures.taken head plan failed) c.read_planned.ensures.refused
+    (λ why failed. asks-planned known mid buf headers spans c.in_ok-plan.plan (Err why) c.in_ok-spans.ensures.taken head
+    plan failed) c.read_planned.ensures.refused
 
 pub returns-in_err-spans-clause-reads : goal.returns-in_err-spans-clause-reads
 returns-in_err-spans-clause-reads g c = looked-only g.S.Source.left g.S.Source.gives _ _ _ _ c.read_head.ensures.reads
@@ -82,7 +86,8 @@ returns-clause-reads g c =
     let looked = c.in_ok-spans.ensures.reads in
     let found = rw c.in-Some.is at c.in_ok-spans.ensures.found in
     let plan = subst (λ (t : List ℕ). plan_in t headers spans ≡ Ok c.in_ok-plan.plan) c.as_slice.ensures.value (sym c.in_ok-plan.ensures.plan) in
-    body-only left gives c.args.source.now c.read_head.new.source c.read_planned.new.source buf looked.bytes headers spans c.in_ok-plan.plan looked.reads looked.buffer found plan c.read_planned.ensures.reads
+    body-only left gives c.args.source.now c.read_head.new.source c.read_planned.new.source buf looked.bytes headers
+    spans c.in_ok-plan.plan looked.reads looked.buffer found plan c.read_planned.ensures.reads
 
 pub returns-clause-stops : goal.returns-clause-stops
 returns-clause-stops g c = stops g.S.Source.left g.S.Source.gives c.args.source.now c.read_planned.new.source (returns-clause-reads g c)
@@ -97,4 +102,6 @@ returns-clause-most g c =
     let within = rw c.in-Some.is at c.in_ok-spans.ensures.within in
     let is : length buf ≡ vec_len c.read_head.new.buf = omega (arith, c.read_head.new.buf.ok.0) in
     let short : spans.len ≤ 8192 = omega (arith, within.section.len_fits, is, c.in_ok-spans.ensures.few) in
-    takes-whole spans.len c.in_ok-plan.plan.length (vec_len c.read_head.new.buf) known mid after buf c.in_ok-spans.ensures.taken is c.in_ok-spans.ensures.few short c.in_ok-plan.ensures.few c.read_planned.ensures.most
+    takes-whole spans.len c.in_ok-plan.plan.length (vec_len c.read_head.new.buf) known mid after buf
+    c.in_ok-spans.ensures.taken is c.in_ok-spans.ensures.few short c.in_ok-plan.ensures.few
+    c.read_planned.ensures.most

@@ -9,5 +9,8 @@ use Rattle.opc_names.proofs.cover.+cover_suffixes.Goals as goal
 pub returns-then-is_stars : goal.returns-then-is_stars
 returns-then-is_stars t c =
     let others = qualifiers_left (option_copied c.split_qualifier.result.1) in
-    let of_pattern : qualifiers_left (option_copied c.args.pattern) ≡ (42 ∷ 42 ∷ []) ∷ others = rw c.in-Some.is (c.split_qualifier.ensures.parts ∙ ap (λ q. q ∷ others) (c.is_stars.ensures.0 c.if-is_stars.true)) in
-    rw of_pattern (c.prepend_stars.ensures.suffixes ∙ ap any_from_here c.cover_suffixes.ensures ∙ prepended_stars [] (map tokens others) (qualifiers c.args.name.now))
+    let of_pattern : qualifiers_left (option_copied c.args.pattern) ≡ (42 ∷ 42 ∷ []) ∷ others =
+    rw c.in-Some.is (c.split_qualifier.ensures.parts
+    ∙ ap (λ q. q ∷ others) (c.is_stars.ensures.0 c.if-is_stars.true)) in
+    rw of_pattern (c.prepend_stars.ensures.suffixes ∙ ap any_from_here c.cover_suffixes.ensures
+    ∙ prepended_stars [] (map tokens others) (qualifiers c.args.name.now))

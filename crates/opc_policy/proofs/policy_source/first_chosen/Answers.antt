@@ -15,8 +15,10 @@ overflow_add-rows c =
     let seen : List Profile = map deref c.loop-profile.yielded in
     let start : c.into_iter-profile-iterator.result ≡ c.args.profiles.now = search rules in
     let so_far = rest_so_far deref c.loop-profile.yielded _ _ c.loop-profile.yielded_by in
-    let all_is : c.args.profiles.now ≡ seen ++ c.in-Some.profile.now ∷ c.next.new.self = sym start ∙ so_far ∙ ap (λ (t : List Profile). seen ++ t) c.in-Some.ensures.steps in
-    let few = few_rows (is_chosen c.args.class (option_copied c.args.head)) c.args.resource.now seen c.loop-profile.rows c.args.profiles.now c.in-Some.profile.now c.next.new.self c.loop-profile.invariant all_is in
+    let all_is : c.args.profiles.now ≡ seen ++ c.in-Some.profile.now ∷ c.next.new.self =
+    sym start ∙ so_far ∙ ap (λ (t : List Profile). seen ++ t) c.in-Some.ensures.steps in
+    let few = few_rows (is_chosen c.args.class (option_copied c.args.head)) c.args.resource.now seen c.loop-profile.rows
+    c.args.profiles.now c.in-Some.profile.now c.next.new.self c.loop-profile.invariant all_is in
     let fits = c.iter-profile-items.ensures.fits in
     omega (arith, few, fits)
 
@@ -25,8 +27,13 @@ returns-then-covers-clause-first c =
     let seen : List Profile = map deref c.loop-profile.yielded in
     let start : c.into_iter-profile-iterator.result ≡ c.args.profiles.now = search rules in
     let so_far = rest_so_far deref c.loop-profile.yielded _ _ c.loop-profile.yielded_by in
-    let all_is : c.args.profiles.now ≡ seen ++ c.in-Some.profile.now ∷ c.next.new.self = sym start ∙ so_far ∙ ap (λ (t : List Profile). seen ++ t) c.in-Some.ensures.steps in
-    let now = unfound_now (is_chosen c.args.class (option_copied c.args.head)) c.args.resource.now seen c.loop-profile.rows c.loop-profile.invariant c.in-Some.profile.now c.args.profiles.now c.next.new.self all_is (chosen_order c.args.class (option_copied c.args.head) c.args.profiles.now c.iter-profile-items.ensures.in_order) (sym c.if-is_chosen.ensures) (covered_text c.in-Some.profile.now c.args.resource.now (c.if-covers.ensures.0 refl)) in
+    let all_is : c.args.profiles.now ≡ seen ++ c.in-Some.profile.now ∷ c.next.new.self =
+    sym start ∙ so_far ∙ ap (λ (t : List Profile). seen ++ t) c.in-Some.ensures.steps in
+    let now = unfound_now (is_chosen c.args.class (option_copied c.args.head)) c.args.resource.now seen
+    c.loop-profile.rows c.loop-profile.invariant c.in-Some.profile.now c.args.profiles.now c.next.new.self all_is
+    (chosen_order c.args.class (option_copied c.args.head) c.args.profiles.now
+    c.iter-profile-items.ensures.in_order) (sym c.if-is_chosen.ensures)
+    (covered_text c.in-Some.profile.now c.args.resource.now (c.if-covers.ensures.0 refl)) in
     IfOk-weaker c.of.result _ _ (λ taken h. h.0 ∙ now) c.of.ensures
 
 pub returns-then-covers-clause-rows : goal.returns-then-covers-clause-rows
@@ -34,14 +41,20 @@ returns-then-covers-clause-rows c =
     let seen : List Profile = map deref c.loop-profile.yielded in
     let start : c.into_iter-profile-iterator.result ≡ c.args.profiles.now = search rules in
     let so_far = rest_so_far deref c.loop-profile.yielded _ _ c.loop-profile.yielded_by in
-    let all_is : c.args.profiles.now ≡ seen ++ c.in-Some.profile.now ∷ c.next.new.self = sym start ∙ so_far ∙ ap (λ (t : List Profile). seen ++ t) c.in-Some.ensures.steps in
-    let now = read_now (is_chosen c.args.class (option_copied c.args.head)) c.args.resource.now seen c.loop-profile.rows c.loop-profile.invariant c.in-Some.profile.now c.args.profiles.now c.next.new.self all_is (chosen_order c.args.class (option_copied c.args.head) c.args.profiles.now c.iter-profile-items.ensures.in_order) (sym c.if-is_chosen.ensures) in
+    let all_is : c.args.profiles.now ≡ seen ++ c.in-Some.profile.now ∷ c.next.new.self =
+    sym start ∙ so_far ∙ ap (λ (t : List Profile). seen ++ t) c.in-Some.ensures.steps in
+    let now = read_now (is_chosen c.args.class (option_copied c.args.head)) c.args.resource.now seen c.loop-profile.rows
+    c.loop-profile.invariant c.in-Some.profile.now c.args.profiles.now c.next.new.self all_is
+    (chosen_order c.args.class (option_copied c.args.head) c.args.profiles.now
+    c.iter-profile-items.ensures.in_order) (sym c.if-is_chosen.ensures) in
     IfOk-weaker c.of.result _ _ (λ taken h. rw (h.0) (h.1 ∙ now)) c.of.ensures
 
 pub loop-profile-preserved-else-covers : goal.loop-profile-preserved-else-covers
 loop-profile-preserved-else-covers c =
     let uncovered = uncovered_text c.in-Some.profile.now c.args.resource.now (λ k. false≢true (c.if-covers.ensures.1 k)) in
-    rw map-append (unfound_more (is_chosen c.args.class (option_copied c.args.head)) c.args.resource.now (map deref c.loop-profile.yielded) c.loop-profile.rows c.loop-profile.invariant c.in-Some.profile.now (sym c.if-is_chosen.ensures) uncovered)
+    rw map-append (unfound_more (is_chosen c.args.class (option_copied c.args.head)) c.args.resource.now
+    (map deref c.loop-profile.yielded) c.loop-profile.rows c.loop-profile.invariant c.in-Some.profile.now
+    (sym c.if-is_chosen.ensures) uncovered)
 
 pub returns-clause-first : goal.returns-clause-first
 returns-clause-first c =

@@ -25,7 +25,8 @@ returns-then-is_some-clause-deciding g c profiles has = λ faithful.
     let rows = rw head at (c.in_ok-taken.ensures.rows profiles told.same faithful) in
     let sound = c.in_ok-taken.ensures.profiles profiles told.same faithful in
     let asked = rw c.text-name.ensures.text at (told.asked sound) in
-    (asked_last profiles c.args.class c.args.resource.now sound c.heads.length c.heads.rows c.in_ok-taken.taken.rows asked c.in_ok-taken.taken.profile first rows (rw c.is_some.ensures at c.then-is_some.either)).0
+    (asked_last profiles c.args.class c.args.resource.now sound c.heads.length c.heads.rows c.in_ok-taken.taken.rows
+    asked c.in_ok-taken.taken.profile first rows (rw c.is_some.ensures at c.then-is_some.either)).0
 
 pub returns-then-is_some-clause-most_specific : goal.returns-then-is_some-clause-most_specific
 returns-then-is_some-clause-most_specific g c profiles has = λ faithful.
@@ -36,7 +37,9 @@ returns-then-is_some-clause-most_specific g c profiles has = λ faithful.
     let rows = rw head at (c.in_ok-taken.ensures.rows profiles told.same faithful) in
     let sound = c.in_ok-taken.ensures.profiles profiles told.same faithful in
     let asked = rw c.text-name.ensures.text at (told.asked sound) in
-    let decides = (asked_last profiles c.args.class c.args.resource.now sound c.heads.length c.heads.rows c.in_ok-taken.taken.rows asked c.in_ok-taken.taken.profile first rows (rw c.is_some.ensures at c.then-is_some.either)).0 in
+    let decides =
+    (asked_last profiles c.args.class c.args.resource.now sound c.heads.length c.heads.rows c.in_ok-taken.taken.rows
+    asked c.in_ok-taken.taken.profile first rows (rw c.is_some.ensures at c.then-is_some.either)).0 in
     rw decides (deciding_is_most_specific profiles c.args.class c.args.resource.now sound)
 
 pub returns-then-is_some-clause-ranges : goal.returns-then-is_some-clause-ranges
@@ -48,7 +51,9 @@ returns-then-is_some-clause-ranges g c profiles has = λ faithful.
     let rows = rw head at (c.in_ok-taken.ensures.rows profiles told.same faithful) in
     let sound = c.in_ok-taken.ensures.profiles profiles told.same faithful in
     let asked = rw c.text-name.ensures.text at (told.asked sound) in
-    rw c.text-name.ensures.text (asked_last profiles c.args.class c.args.resource.now sound c.heads.length c.heads.rows c.in_ok-taken.taken.rows asked c.in_ok-taken.taken.profile first rows (rw c.is_some.ensures at c.then-is_some.either)).2
+    rw c.text-name.ensures.text (asked_last profiles c.args.class c.args.resource.now sound c.heads.length c.heads.rows
+    c.in_ok-taken.taken.rows asked c.in_ok-taken.taken.profile first rows
+    (rw c.is_some.ensures at c.then-is_some.either)).2
 
 pub returns-then-is_some-clause-rows : goal.returns-then-is_some-clause-rows
 returns-then-is_some-clause-rows g c profiles has = λ faithful.
@@ -59,7 +64,10 @@ returns-then-is_some-clause-rows g c profiles has = λ faithful.
     let rows = rw head at (c.in_ok-taken.ensures.rows profiles told.same faithful) in
     let sound = c.in_ok-taken.ensures.profiles profiles told.same faithful in
     let asked = rw c.text-name.ensures.text at (told.asked sound) in
-    c.in_ok-rows.ensures ∙ (asked_last profiles c.args.class c.args.resource.now sound c.heads.length c.heads.rows c.in_ok-taken.taken.rows asked c.in_ok-taken.taken.profile first rows (rw c.is_some.ensures at c.then-is_some.either)).1
+    c.in_ok-rows.ensures
+    ∙ (asked_last profiles c.args.class c.args.resource.now sound c.heads.length c.heads.rows
+    c.in_ok-taken.taken.rows asked c.in_ok-taken.taken.profile first rows
+    (rw c.is_some.ensures at c.then-is_some.either)).1
 
 pub heads-preserved : goal.heads-preserved
 heads-preserved g c = record {
@@ -78,7 +86,10 @@ heads-preserved g c = record {
       let less : c.heads.length ≡ (c.heads.length - 1) + 1 = omega (arith, c.if-length-eq0.false) in
       record {
         same = c.in_ok-taken.ensures.same profiles told.same faithful c.in_ok-taken.ensures.answered;
-        asked = λ _. rw (c.text-name.ensures.text, c.in_ok-rows.ensures) (asked_next profiles c.args.class c.args.resource.now sound c.heads.length c.heads.rows c.in_ok-taken.taken.rows asked c.in_ok-taken.taken.profile first rows (c.heads.length - 1) less (sym c.is_some.ensures ∙ c.if-is_some.false));
+        asked = λ _. rw (c.text-name.ensures.text, c.in_ok-rows.ensures)
+            (asked_next profiles c.args.class c.args.resource.now sound c.heads.length c.heads.rows
+            c.in_ok-taken.taken.rows asked c.in_ok-taken.taken.profile first rows (c.heads.length - 1) less
+            (sym c.is_some.ensures ∙ c.if-is_some.false));
       };
 }
 
@@ -91,6 +102,7 @@ returns-in_err-rows-clause-fault g c profiles has faithful =
     let rows = rw head at (c.in_ok-taken.ensures.rows profiles told.same faithful) in
     let sound = c.in_ok-taken.ensures.profiles profiles told.same faithful in
     let asked = rw c.text-name.ensures.text at (told.asked sound) in
-    let few = asked_few profiles c.args.class c.args.resource.now sound c.heads.length c.heads.rows c.in_ok-taken.taken.rows asked c.in_ok-taken.taken.profile first rows in
+    let few = asked_few profiles c.args.class c.args.resource.now sound c.heads.length c.heads.rows
+    c.in_ok-taken.taken.rows asked c.in_ok-taken.taken.profile first rows in
     let err = err_from_is_err_and c.from_residual-in_err-rows.result c.from_residual-in_err-rows.ensures.1 in
     rw (err.1, err.2) (inr (c.in_err-rows.ensures.0, omega (arith, few, c.in_err-rows.ensures.1)))

@@ -10,9 +10,11 @@ loop-row-preserved g c =
     let is : c.row-item.result ≡ get_or c.args.old.now c.loop-row.row-index c.row-item.result = rw c.as_slice-row-items.ensures at c.row-item.is in
     elim c.if-lacks.branch [
       | then-lacks+in_ok-push w ↦ rw (w.edits-is, w.in_ok-push.ensures.items)
-          (passed (λ r. is_none (find (λ q. g.R.Key.PartialEq.eq (g.R.Keyed.key_of q) (g.R.Keyed.key_of r)) c.args.new.now)) g.R.Member.removal _ _ c.args.old.now _ c.row-item.result within is c.loop-row.invariant
+          (passed (λ r. is_none (find (λ q. g.R.Key.PartialEq.eq (g.R.Keyed.key_of q) (g.R.Keyed.key_of r))
+          c.args.new.now)) g.R.Member.removal _ _ c.args.old.now _ c.row-item.result within is c.loop-row.invariant
           (sym c.lacks.ensures ∙ w.if-lacks.true) _ w.removal.ensures)
       | else-lacks w ↦ rw w.edits-is
-          (failed (λ r. is_none (find (λ q. g.R.Key.PartialEq.eq (g.R.Keyed.key_of q) (g.R.Keyed.key_of r)) c.args.new.now)) g.R.Member.removal _ _ c.args.old.now _ c.row-item.result within is c.loop-row.invariant
+          (failed (λ r. is_none (find (λ q. g.R.Key.PartialEq.eq (g.R.Keyed.key_of q) (g.R.Keyed.key_of r))
+          c.args.new.now)) g.R.Member.removal _ _ c.args.old.now _ c.row-item.result within is c.loop-row.invariant
           (sym c.lacks.ensures ∙ w.if-lacks.false))
     ]

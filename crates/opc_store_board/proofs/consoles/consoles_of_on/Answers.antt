@@ -7,4 +7,6 @@ pub members_on-requires-clause-quiet : goal.members_on-requires-clause-quiet
 members_on-requires-clause-quiet g c = never_writes consoles_of_asked
 
 pub returns-clause-found : goal.returns-clause-found
-returns-clause-found g c clean s was = c.members_on.ensures.found clean (consoles_of s.board c.args.user.now) (λ rows shown. consoles_of_told _ _ s was c.args.user.now rows (rw (c.params-to_sql.ensures, c.text.ensures.text) at shown))
+returns-clause-found g c clean s was = c.members_on.ensures.found clean (consoles_of s.board c.args.user.now)
+    (λ rows shown. consoles_of_told _ _ s was c.args.user.now rows
+    (rw (c.params-to_sql.ensures, c.text.ensures.text) at shown))

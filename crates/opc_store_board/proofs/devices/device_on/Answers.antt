@@ -7,4 +7,6 @@ pub member_on-requires-clause-quiet : goal.member_on-requires-clause-quiet
 member_on-requires-clause-quiet g c = never_writes device_asked
 
 pub returns-clause-found : goal.returns-clause-found
-returns-clause-found g c clean s was = c.member_on.ensures.found clean (λ x. bytes_eq x.number c.args.number.now) s.board.devices (λ rows shown. device_told _ _ s was c.args.number.now rows (rw (c.params-to_sql.ensures, c.text.ensures.text) at shown))
+returns-clause-found g c clean s was = c.member_on.ensures.found clean (λ x. bytes_eq x.number c.args.number.now)
+    s.board.devices (λ rows shown. device_told _ _ s was c.args.number.now rows
+    (rw (c.params-to_sql.ensures, c.text.ensures.text) at shown))

@@ -7,4 +7,5 @@ pub member_on-requires-clause-quiet : goal.member_on-requires-clause-quiet
 member_on-requires-clause-quiet g c = never_writes reply_asked
 
 pub returns-clause-found : goal.returns-clause-found
-returns-clause-found g c clean s was = c.member_on.ensures.found clean (λ r. r.id == c.args.id) s.board.replies (λ rows shown. reply_told _ _ s was c.args.id rows (rw (c.params-to_sql.ensures, c.reply_number.ensures) at shown))
+returns-clause-found g c clean s was = c.member_on.ensures.found clean (λ r. r.id == c.args.id) s.board.replies
+    (λ rows shown. reply_told _ _ s was c.args.id rows (rw (c.params-to_sql.ensures, c.reply_number.ensures) at shown))

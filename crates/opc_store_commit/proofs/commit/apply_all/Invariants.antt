@@ -15,4 +15,5 @@ invariant-loop-edit g l =
     let ok : Result (Unit {0}) Error = Ok tt in
     (l.tx.conn.ghost_name ≡ l.fn.tx.conn.ghost_name)
     × Stays g.S.Store old now ok
-    × (HasCleanDisk (state g.S.Store now) → (s : _) → Represents (state g.S.Store old).now s → IsOnTheWay (drop l.edit-index l.edits) (all_edited l.edits s) (state g.S.Store now).now)
+    × (HasCleanDisk (state g.S.Store now) → (s : _) → Represents (state g.S.Store old).now s
+    → IsOnTheWay (drop l.edit-index l.edits) (all_edited l.edits s) (state g.S.Store now).now)

@@ -24,10 +24,12 @@ returns-clause-done g c clean =
     let edits_done = rw c.as_slice.ensures.value at first.done in
     let did : HasCleanDisk (state g.S.Store two) → P (state g.S.Store two).now = λ fine s was.
     second.done fine (all_edited change.edits.items s) (edits_done (omega (arith, second.stays.survives.clean)) s (rw c.transaction-tx.ensures.begun was)) in
-    let inside = survives_then (state g.S.Store tx) (state g.S.Store one) (state g.S.Store two) _ _ (λ _. ⊥) (λ _ db none. none) (λ _ db none. none) first.stays.survives second.stays.survives in
+    let inside = survives_then (state g.S.Store tx) (state g.S.Store one) (state g.S.Store two) _ _ (λ _. ⊥)
+    (λ _ db none. none) (λ _ db none. none) first.stays.survives second.stays.survives in
     let same : end ≡ c.conn-2-1.given.0 = search rules in
     let late : HasCleanDisk (state g.S.Store end) = search rules in
-    let done = transacted g.S.Store old tx two end c.transaction-tx.ensures.begun P inside did c.commit.ensures.survives c.commit.result (c.commit.ensures.ok late) late in
+    let done = transacted g.S.Store old tx two end c.transaction-tx.ensures.begun P inside did c.commit.ensures.survives
+    c.commit.result (c.commit.ensures.ok late) late in
     subst (λ (h : Held _). OnOk c.commit.result (P (state g.S.Store h).now)) same done
 
 pub returns-clause-survives : goal.returns-clause-survives
@@ -45,8 +47,11 @@ returns-clause-survives g c =
     let edits_done = rw c.as_slice.ensures.value at first.done in
     let did : HasCleanDisk (state g.S.Store two) → P (state g.S.Store two).now = λ fine s was.
     second.done fine (all_edited change.edits.items s) (edits_done (omega (arith, second.stays.survives.clean)) s (rw c.transaction-tx.ensures.begun was)) in
-    let inside = survives_then (state g.S.Store tx) (state g.S.Store one) (state g.S.Store two) _ _ (λ _. ⊥) (λ _ db none. none) (λ _ db none. none) first.stays.survives second.stays.survives in
+    let inside = survives_then (state g.S.Store tx) (state g.S.Store one) (state g.S.Store two) _ _ (λ _. ⊥)
+    (λ _ db none. none) (λ _ db none. none) first.stays.survives second.stays.survives in
     let same : end ≡ c.conn-2-1.given.0 = search rules in
     let crash = crashes g.S.Store old tx two end c.transaction-tx.ensures.begun P inside did c.commit.ensures.survives in
-    let whole = survives_weaker (state g.S.Store old) (state g.S.Store end) (Leaves P) Q (λ _ db h s was. subst (λ t. AreTablesOf t (changed_by change s)) (sym h.is) (alone_from h.db (changed_by change s) (h.holds s was))) crash in
+    let whole = survives_weaker (state g.S.Store old) (state g.S.Store end) (Leaves P) Q
+    (λ _ db h s was. subst (λ t. AreTablesOf t (changed_by change s)) (sym h.is)
+    (alone_from h.db (changed_by change s) (h.holds s was))) crash in
     subst (λ h. Survives (state g.S.Store old) (state g.S.Store h) Q) same whole

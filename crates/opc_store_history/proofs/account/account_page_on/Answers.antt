@@ -19,5 +19,6 @@ returns-clause-found g c clean s was =
     let shown = account_params _ _ _ last c.args.count _ given asked in
     let are = account_told _ _ s was last c.args.count _ shown in
     let long = numbered_long 1 s.account in
-    let page = ap (λ l. map numbered_shown (take c.args.count l)) (within_table (c.args.from - 1) (2 ^ 63 - 1) (numbered s.account) (omega (arith, short, long))) in
+    let page = ap (λ l. map numbered_shown (take c.args.count l))
+    (within_table (c.args.from - 1) (2 ^ 63 - 1) (numbered s.account) (omega (arith, short, long))) in
     c.page_in.ensures (asked_for c.args.from c.args.count s.account) (c.as_slice.ensures.value ∙ (are ∙ page))

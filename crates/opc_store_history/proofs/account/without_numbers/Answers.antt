@@ -17,10 +17,13 @@ loop-numbered-preserved c =
     let xs = c.args.page.items in
     let gives = c.into_iter-numbered-iterator.ensures.into_iter_gives in
     let long : c.into_iter-numbered-iterator.result.rest.len ≡ length xs = search rules in
-    let t = YieldsList-turn (YieldsList-from_vec xs gives.0 long) c.loop-numbered.yielded c.loop-numbered.numbered-iterator c.loop-numbered.yielded_by c.next.result c.next.new.self c.in-Some.numbered c.in-Some.is c.next.ensures.steps in
+    let t = YieldsList-turn (YieldsList-from_vec xs gives.0 long) c.loop-numbered.yielded
+    c.loop-numbered.numbered-iterator c.loop-numbered.yielded_by c.next.result c.next.new.self c.in-Some.numbered
+    c.in-Some.is c.next.ensures.steps in
     let y = c.in-Some.numbered in
     c.in_ok-push.ensures.ok
-    ∙ (more_told (λ x. x) (λ (p : ℕ × AccountRow). p.1) xs xs c.loop-numbered.rows (length c.loop-numbered.yielded) y y.1 (sym (map-id xs)) t.0 t.1 (λ x e. ap (λ (p : ℕ × AccountRow). p.1) e) c.loop-numbered.invariant
+    ∙ (more_told (λ x. x) (λ (p : ℕ × AccountRow). p.1) xs xs c.loop-numbered.rows (length c.loop-numbered.yielded) y
+    y.1 (sym (map-id xs)) t.0 t.1 (λ x e. ap (λ (p : ℕ × AccountRow). p.1) e) c.loop-numbered.invariant
     ∙ ap (λ k. take k (rows_of xs)) (sym (length_push c.loop-numbered.yielded y)))
 
 pub returns : goal.returns
@@ -28,6 +31,8 @@ returns c =
     let xs = c.args.page.items in
     let gives = c.into_iter-numbered-iterator.ensures.into_iter_gives in
     let long : c.into_iter-numbered-iterator.result.rest.len ≡ length xs = search rules in
-    let t = YieldsList-end (YieldsList-from_vec xs gives.0 long) c.loop-numbered.yielded c.loop-numbered.numbered-iterator c.loop-numbered.yielded_by c.next.result c.next.new.self c.in-None.is c.next.ensures.steps in
+    let t = YieldsList-end (YieldsList-from_vec xs gives.0 long) c.loop-numbered.yielded
+    c.loop-numbered.numbered-iterator c.loop-numbered.yielded_by c.next.result c.next.new.self c.in-None.is
+    c.next.ensures.steps in
     let many = length-map xs (λ (p : ℕ × AccountRow). p.1) in
     c.loop-numbered.invariant ∙ take_all (length c.loop-numbered.yielded) (rows_of xs) (omega (arith, t.1, many))

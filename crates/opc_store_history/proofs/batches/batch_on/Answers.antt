@@ -15,12 +15,15 @@ returns-in-Some-clause-found g c clean s was =
     let number = c.args.number in
     let shown = rw c.params-to_sql.ensures at (c.in_ok-rows.ensures.shown clean) in
     let are = batch_told _ _ s was number _ shown in
-    first_told batch_shown (λ b. b.number == number) (λ b. policy_text b.rows) s.batches c.as_slice.result.now c.in-Some.row.now c.in_ok-text_in-in-Some.field-0 (c.as_slice.ensures.value ∙ are)
-    (let h = c.in-Some.ensures.lookup in slice_get_read c.as_slice.result.now _ 0 c.in-Some.row.now refl h.3.0 h.1) (λ b is. c.in_ok-text_in-in-Some.ensures (policy_text b.rows) (ap (λ (r : Row). column r 0) is))
+    first_told batch_shown (λ b. b.number == number) (λ b. policy_text b.rows) s.batches c.as_slice.result.now
+    c.in-Some.row.now c.in_ok-text_in-in-Some.field-0 (c.as_slice.ensures.value ∙ are)
+    (let h = c.in-Some.ensures.lookup in slice_get_read c.as_slice.result.now _ 0 c.in-Some.row.now refl h.3.0 h.1)
+    (λ b is. c.in_ok-text_in-in-Some.ensures (policy_text b.rows) (ap (λ (r : Row). column r 0) is))
 
 pub returns-clause-found : goal.returns-clause-found
 returns-clause-found g c clean s was =
     let number = c.args.number in
     let shown = rw c.params-to_sql.ensures at (c.in_ok-rows.ensures.shown clean) in
     let are = batch_told _ _ s was number _ shown in
-    none_told batch_shown (λ b. b.number == number) (λ b. policy_text b.rows) s.batches c.as_slice.result.now (c.as_slice.ensures.value ∙ are) (slice_get_past c.as_slice.result.now 0 c.in-None.ensures.lookup.3)
+    none_told batch_shown (λ b. b.number == number) (λ b. policy_text b.rows) s.batches c.as_slice.result.now
+    (c.as_slice.ensures.value ∙ are) (slice_get_past c.as_slice.result.now 0 c.in-None.ensures.lookup.3)

@@ -18,6 +18,12 @@ returns-clause-done g c clean s was =
     let few : length c.as_slice-rows.result.now ≤ 10000 = search rules in
     let text_is = c.in_ok-text.ensures.text in
     let back = c.in_ok-text.ensures.reads_back few in
-    let again : IsReadBack batch = subst (λ (rows : List Row). policy_of (policy_text rows) ≡ Ok rows) rows_are (subst (λ (text : List ℕ). policy_of text ≡ Ok c.as_slice-rows.result.now) text_is back) in
+    let again : IsReadBack batch = subst (λ (rows : List Row). policy_of (policy_text rows) ≡ Ok rows) rows_are
+    (subst (λ (text : List ℕ). policy_of text ≡ Ok c.as_slice-rows.result.now) text_is back) in
     let same = c.as_str.ensures.value ∙ (text_is ∙ ap policy_text rows_are) in
-    record { ordered = with_batch_ordered s was.ordered batch again; rows = inserts_batch _ _ _ s batch was.ordered.batches gone (batch_given _ batch _ same _ _ _ (rw (c.params-to_sql-2.ensures, c.params-to_sql-3.ensures) at (c.in_ok-run-2.ensures.ran clean).executes)) }
+    record {
+      ordered = with_batch_ordered s was.ordered batch again;
+      rows = inserts_batch _ _ _ s batch was.ordered.batches gone
+          (batch_given _ batch _ same _ _ _
+          (rw (c.params-to_sql-2.ensures, c.params-to_sql-3.ensures) at (c.in_ok-run-2.ensures.ran clean).executes));
+    }

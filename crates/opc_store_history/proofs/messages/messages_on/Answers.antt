@@ -7,4 +7,5 @@ pub read-requires-clause-quiet : goal.read-requires-clause-quiet
 read-requires-clause-quiet g c = never_writes messages_asked
 
 pub returns-clause-found : goal.returns-clause-found
-returns-clause-found g c clean s was = c.decode_all.ensures s.board.messages (c.as_slice.ensures.value ∙ messages_told _ _ s was _ (c.in_ok-rows.ensures.shown clean))
+returns-clause-found g c clean s was = c.decode_all.ensures s.board.messages
+    (c.as_slice.ensures.value ∙ messages_told _ _ s was _ (c.in_ok-rows.ensures.shown clean))

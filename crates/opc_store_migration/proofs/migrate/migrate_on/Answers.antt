@@ -11,7 +11,9 @@ pub returns-in-Ok-clause-done : goal.returns-in-Ok-clause-done
 returns-in-Ok-clause-done g c clean version s was =
     let read = c.in_ok-puts.ensures in
     let early : HasCleanDisk (state g.S.Store c.migration_edits_on.new.conn) = omega (arith, c.in-Ok.ensures.survives.clean) in
-    c.in-Ok.ensures.done clean version s (looked g.S.Store _ _ _ _ _ read.looks early (λ (d : Database). RepresentsOld version d s) was) (read.found early version s was)
+    c.in-Ok.ensures.done clean version s
+    (looked g.S.Store _ _ _ _ _ read.looks early (λ (d : Database). RepresentsOld version d s) was)
+    (read.found early version s was)
 
 pub returns-in-Ok-clause-survives : goal.returns-in-Ok-clause-survives
 returns-in-Ok-clause-survives g c =
@@ -22,7 +24,8 @@ returns-in-Ok-clause-survives g c =
     survives_then (state g.S.Store old) (state g.S.Store mid) (state g.S.Store new) (λ _. ⊥) _ _ (λ _ db none. absurd none)
     (λ clean db made version s was.
     let early : HasCleanDisk (state g.S.Store mid) = omega (arith, c.in-Ok.ensures.survives.clean) in
-    made version s (looked g.S.Store _ _ _ _ _ read.looks early (λ (d : Database). RepresentsOld version d s) was) (read.found early version s was)) read.looks.survives c.in-Ok.ensures.survives
+    made version s (looked g.S.Store _ _ _ _ _ read.looks early (λ (d : Database). RepresentsOld version d s) was)
+    (read.found early version s was)) read.looks.survives c.in-Ok.ensures.survives
 
 pub returns-clause-survives : goal.returns-clause-survives
 returns-clause-survives g c =
@@ -33,4 +36,5 @@ returns-clause-survives g c =
     survives_then (state g.S.Store old) (state g.S.Store mid) (state g.S.Store new) (λ _. ⊥) _ _ (λ _ db none. absurd none)
     (λ clean db made version s was.
     let early : HasCleanDisk (state g.S.Store mid) = omega (arith, c.in-Err.ensures.survives.clean) in
-    made version s (looked g.S.Store _ _ _ _ _ read.looks early (λ (d : Database). RepresentsOld version d s) was) (read.found early version s was)) read.looks.survives c.in-Err.ensures.survives
+    made version s (looked g.S.Store _ _ _ _ _ read.looks early (λ (d : Database). RepresentsOld version d s) was)
+    (read.found early version s was)) read.looks.survives c.in-Err.ensures.survives

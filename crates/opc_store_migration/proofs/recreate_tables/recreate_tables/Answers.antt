@@ -9,4 +9,7 @@ use Rattle.opc_store_migration.proofs.recreate_tables.recreate_tables.Goals as g
 pub returns-clause-remade : goal.returns-clause-remade
 returns-clause-remade g c clean =
     let early : HasCleanDisk (state g.S.Store c.drop_last_tables.new.tx.conn.now) = omega (arith, c.create_last_tables.ensures.stays.survives.clean) in
-    on_ok_weaker c.create_last_tables.result (λ made version had has. remade had _ (made (lasting_rows had) (c.in_ok-drop_last_tables.ensures.dropped early version had has))) (c.create_last_tables.ensures.made clean)
+    on_ok_weaker c.create_last_tables.result
+    (λ made version had has. remade had _
+    (made (lasting_rows had) (c.in_ok-drop_last_tables.ensures.dropped early version had has)))
+    (c.create_last_tables.ensures.made clean)

@@ -8,4 +8,6 @@ pub read-requires-clause-quiet : goal.read-requires-clause-quiet
 read-requires-clause-quiet g c = never_writes (batches_asked First)
 
 pub returns-clause-found : goal.returns-clause-found
-returns-clause-found g c clean version s was = c.batches_in.ensures was.text_of s.batches was.state.said (c.as_slice.ensures.value ∙ batches_told version _ _ s was _ (c.in_ok-rows.ensures.shown clean))
+returns-clause-found g c clean version s was =
+    c.batches_in.ensures was.text_of s.batches was.state.said
+    (c.as_slice.ensures.value ∙ batches_told version _ _ s was _ (c.in_ok-rows.ensures.shown clean))

@@ -14,4 +14,5 @@ returns-clause-found g c clean version s was =
     let class = c.args.class in
     let pattern = c.args.pattern.now in
     let shown = rw (c.params-to_sql.ensures, c.params-to_sql-2.ensures, c.text.ensures.text, c.text-2.ensures.text) at (c.in_ok-rows.ensures.shown clean) in
-    c.entries_in.ensures class pattern _ (list_ordered (with_batches [] s) was.state.ordered class pattern) (c.as_slice.ensures.value ∙ entries_told version _ _ s was class pattern _ shown)
+    c.entries_in.ensures class pattern _ (list_ordered (with_batches [] s) was.state.ordered class pattern)
+    (c.as_slice.ensures.value ∙ entries_told version _ _ s was class pattern _ shown)

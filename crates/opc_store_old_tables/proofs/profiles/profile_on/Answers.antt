@@ -10,5 +10,6 @@ returns-clause-found g c clean version s was p is here =
     let read = c.in_ok-profile.profile in
     let definition : read ≡ bare p = c.in_ok-profile.ensures p [] is in
     let list = c.in_ok-entries.ensures.found clean version s was in
-    let own = ap (λ (q : Profile). access_list s.policy q.class q.pattern) definition ∙ ap (λ (o : Option Profile). option_map_or (λ (q : Profile). q.entries) o []) here in
+    let own = ap (λ (q : Profile). access_list s.policy q.class q.pattern) definition
+    ∙ ap (λ (o : Option Profile). option_map_or (λ (q : Profile). q.entries) o []) here in
     ap₂ (λ (q : Profile) (entries : List Entry). record q { entries = entries }) definition (list ∙ own)

@@ -25,14 +25,18 @@ loop-row-preserved g c =
           let so_far = was.2 early version s begun ps all are in (
             looked g.S.Store _ _ _ _ _ step.looks clean (λ (d : Database). RepresentsOld version d s) so_far.0,
             c.in_ok-push.ensures.items
-                ∙ more_of (λ (x : Profile). profile_of s.policy.profiles x.class x.pattern ≡ Some x) definition_row (λ (x : Profile). edit.PutProfile x) ps all c.args.rows.now c.loop-row.puts.items c.loop-row.row-index c.row-item.result (edit.PutProfile c.in_ok-profile_on.field-0) are c.loop-row-test.true c.row-item.is
+                ∙ more_of (λ (x : Profile). profile_of s.policy.profiles x.class x.pattern ≡ Some x) definition_row
+                (λ (x : Profile). edit.PutProfile x) ps all c.args.rows.now c.loop-row.puts.items
+                c.loop-row.row-index c.row-item.result (edit.PutProfile c.in_ok-profile_on.field-0) are
+                c.loop-row-test.true c.row-item.is
                 (λ x here found. ap (λ (p : Profile). let e : Edit = edit.PutProfile p in e) (step.found clean version s so_far.0 x here found)) so_far.1,
           ),
     )
 
 pub returns-in_err-push-clause-looks : goal.returns-in_err-push-clause-looks
 returns-in_err-push-clause-looks g c = λ fresh.
-    looks_on g.S.Store _ c.args.conn.now c.loop-row.conn c.profile_on.new.conn (c.loop-row.invariant.1 fresh) c.in_ok-profile_on.field-0 _ c.in_ok-profile_on.ensures.looks
+    looks_on g.S.Store _ c.args.conn.now c.loop-row.conn c.profile_on.new.conn (c.loop-row.invariant.1 fresh)
+    c.in_ok-profile_on.field-0 _ c.in_ok-profile_on.ensures.looks
 
 pub returns-clause-found : goal.returns-clause-found
 returns-clause-found g c clean version s begun ps all are =

@@ -16,5 +16,6 @@ invariant-loop-row g l =
     let ok : Result (Unit {0}) Error = Ok tt in
     (now.in_transaction ≡ false)
     × ((HasCleanDisk (state g.S.Store old) → IsTrue (state g.S.Store old).is_open) → Looks g.S.Store old now ok)
-    × (HasCleanDisk (state g.S.Store now) → (version : _) → (s : _) → RepresentsOld version (state g.S.Store old).now s → (ps : List Profile) → AreAmong s.policy.profiles ps → l.rows ≡ map definition_row ps
+    × (HasCleanDisk (state g.S.Store now) → (version : _) → (s : _) → RepresentsOld version (state g.S.Store old).now s
+    → (ps : List Profile) → AreAmong s.policy.profiles ps → l.rows ≡ map definition_row ps
     → RepresentsOld version (state g.S.Store now).now s × (l.puts.items ≡ take l.row-index (profile_puts ps)))

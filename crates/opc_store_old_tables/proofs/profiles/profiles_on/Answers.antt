@@ -24,4 +24,6 @@ returns-clause-found g c clean version s was =
     let second = c.profiles_in.ensures.looks first.opened in
     let early : HasCleanDisk (state g.S.Store c.read.new.conn) = omega (arith, second.survives.clean) in
     let mid = looked g.S.Store _ _ _ _ _ first early (λ (d : Database). RepresentsOld version d s) was in
-    c.profiles_in.ensures.found clean version s mid (by_text s.policy.profiles) (all_among s.policy.profiles was.state.ordered.profiles) (c.as_slice.ensures.value ∙ profiles_told version _ _ s was _ (c.in_ok-rows.ensures.shown early))
+    c.profiles_in.ensures.found clean version s mid (by_text s.policy.profiles)
+    (all_among s.policy.profiles was.state.ordered.profiles)
+    (c.as_slice.ensures.value ∙ profiles_told version _ _ s was _ (c.in_ok-rows.ensures.shown early))

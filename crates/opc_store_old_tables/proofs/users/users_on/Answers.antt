@@ -8,4 +8,6 @@ pub read-requires-clause-quiet : goal.read-requires-clause-quiet
 read-requires-clause-quiet g c = never_writes (users_asked First)
 
 pub returns-clause-found : goal.returns-clause-found
-returns-clause-found g c clean version s was = c.users_in.ensures s.policy.users (c.as_slice.ensures.value ∙ users_told version _ _ s was _ (c.in_ok-rows.ensures.shown clean))
+returns-clause-found g c clean version s was =
+    c.users_in.ensures s.policy.users (c.as_slice.ensures.value
+    ∙ users_told version _ _ s was _ (c.in_ok-rows.ensures.shown clean))

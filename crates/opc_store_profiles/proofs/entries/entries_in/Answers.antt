@@ -20,4 +20,5 @@ loop-row-preserved c class pattern xs list are =
     let named = one_named (take i xs) it.x (drop (suc i) xs) (subst (AllByRecursion IsNamed) it.whole list.1) in
     let read = c.in_ok-entry_in.ensures class pattern it.x named it.here in
     c.in_ok-set.ensures.ok
-    ∙ (ap₂ (λ (l : List Entry) (e : Entry). replace_key entry_cmp l e) (c.loop-row.invariant class pattern xs list are) read ∙ (comes_last entry_cmp entry_total it.x (take i xs) it.below ∙ sym it.more))
+    ∙ (ap₂ (λ (l : List Entry) (e : Entry). replace_key entry_cmp l e) (c.loop-row.invariant class pattern xs list are)
+    read ∙ (comes_last entry_cmp entry_total it.x (take i xs) it.below ∙ sym it.more))

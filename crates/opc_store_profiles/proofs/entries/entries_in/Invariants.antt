@@ -6,4 +6,5 @@ use Rattle.opc_store_schema.specs.State.{IsAccessList}
 use Rattle.opc_store_profiles.proofs.entries.entries_in.Given as goal
 
 abbrev pub invariant-loop-row : goal.invariant-loop-row
-invariant-loop-row l = (class : Class) (pattern : List ℕ) (entries : List Entry) → IsAccessList entries → l.rows ≡ map (entry_row class pattern) entries → l.entries ≡ take l.row-index entries
+invariant-loop-row l = (class : Class) (pattern : List ℕ) (entries : List Entry) → IsAccessList entries
+    → l.rows ≡ map (entry_row class pattern) entries → l.entries ≡ take l.row-index entries

@@ -12,8 +12,15 @@ returns-clause-found g c clean s was =
     let class = c.args.class in
     let pattern = c.args.pattern.now in
     let most = c.args.most in
-    let shown = rw (c.params-to_sql.ensures, c.params-to_sql-2.ensures, c.params-to_sql-3.ensures, c.text.ensures.text, c.text-2.ensures.text) at (c.in_ok-rows.ensures.shown clean) in
-    c.entries_in.ensures class pattern _ (first_listed most _ (list_ordered s was.ordered class pattern)) (c.as_slice.ensures.value ∙ first_entries_told _ _ s was class pattern most _ shown)
+    let shown = rw (
+      c.params-to_sql.ensures,
+      c.params-to_sql-2.ensures,
+      c.params-to_sql-3.ensures,
+      c.text.ensures.text,
+      c.text-2.ensures.text,
+    ) at (c.in_ok-rows.ensures.shown clean) in
+    c.entries_in.ensures class pattern _ (first_listed most _ (list_ordered s was.ordered class pattern))
+    (c.as_slice.ensures.value ∙ first_entries_told _ _ s was class pattern most _ shown)
 
 pub returns-clause-looks : goal.returns-clause-looks
 returns-clause-looks g c = looks_for g.S.Store _ c.entries_in.result _ _ c.in_ok-rows.ensures.looks

@@ -8,4 +8,5 @@ read-requires-clause-quiet g c = never_writes lists_asked
 
 pub returns-clause-found : goal.returns-clause-found
 returns-clause-found g c clean s was =
-    IfOk-weaker c.read.result _ _ (λ rows shown. lists_told _ _ s was c.args.class rows.items (rw (c.params-to_sql.ensures, c.text.ensures.text) at shown)) (c.read.ensures.shown clean)
+    IfOk-weaker c.read.result _ _ (λ rows shown. lists_told _ _ s was c.args.class rows.items
+    (rw (c.params-to_sql.ensures, c.text.ensures.text) at shown)) (c.read.ensures.shown clean)

@@ -19,8 +19,14 @@ loop-entry-preserved g c =
     let now = c.in_ok-insert_entry.ensures in (
       now.same_reference ∙ was.0,
       stays_then g.S.Store _ _ Error Error tt tt _ c.loop-entry.tx.conn.now c.insert_entry.new.tx.conn.now was.1 now.stays,
-      subst (AllByRecursion IsNamed) (sym (one_more c.args.entries.now c.loop-entry.entry-index c.entry-item.result (omega arith) c.entry-item.is)) (all-append IsNamed (take c.loop-entry.entry-index c.args.entries.now) (c.entry-item.result ∷ []) was.2 (now.named, tt)),
-      λ clean contents made. entries_so_far _ contents c.args.class c.args.pattern.now (take c.loop-entry.entry-index c.args.entries.now) c.entry-item.result _ (one_more c.args.entries.now c.loop-entry.entry-index c.entry-item.result (omega arith) c.entry-item.is) (now.added clean _ (was.3 (omega (arith, now.stays.survives.clean)) contents made)),
+      subst (AllByRecursion IsNamed) (sym
+          (one_more c.args.entries.now c.loop-entry.entry-index c.entry-item.result (omega arith) c.entry-item.is))
+          (all-append IsNamed (take c.loop-entry.entry-index c.args.entries.now) (c.entry-item.result ∷ []) was.2
+          (now.named, tt)),
+      λ clean contents made. entries_so_far _ contents c.args.class c.args.pattern.now
+          (take c.loop-entry.entry-index c.args.entries.now) c.entry-item.result _
+          (one_more c.args.entries.now c.loop-entry.entry-index c.entry-item.result (omega arith) c.entry-item.is)
+          (now.added clean _ (was.3 (omega (arith, now.stays.survives.clean)) contents made)),
     )
 
 pub returns-clause-named : goal.returns-clause-named
@@ -31,4 +37,6 @@ returns-clause-named g c =
 pub returns-clause-added : goal.returns-clause-added
 returns-clause-added g c clean contents made =
     let all : take c.loop-entry.entry-index c.args.entries.now ≡ c.args.entries.now = take_all c.loop-entry.entry-index c.args.entries.now (omega arith) in
-    subst (λ (l : List Entry). IsMade (record contents { entries = map (entry_row c.args.class c.args.pattern.now) l ++ contents.entries }) (state g.S.Store c.loop-entry.tx.conn.now).now) all (c.loop-entry.invariant.3 clean contents made)
+    subst (λ (l : List Entry). IsMade (record contents
+    { entries = map (entry_row c.args.class c.args.pattern.now) l ++ contents.entries })
+    (state g.S.Store c.loop-entry.tx.conn.now).now) all (c.loop-entry.invariant.3 clean contents made)

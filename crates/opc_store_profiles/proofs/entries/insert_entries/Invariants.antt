@@ -18,4 +18,6 @@ invariant-loop-entry g l =
     (l.tx.conn.ghost_name ≡ l.fn.tx.conn.ghost_name)
     × Stays g.S.Store old now ok
     × AllByRecursion IsNamed (take l.entry-index l.entries)
-    × (HasCleanDisk (state g.S.Store now) → (c : Contents) → IsMade c (state g.S.Store old).now → IsMade (record c { entries = map (entry_row l.class l.pattern) (take l.entry-index l.entries) ++ c.entries }) (state g.S.Store now).now)
+    × (HasCleanDisk (state g.S.Store now) → (c : Contents) → IsMade c (state g.S.Store old).now
+    → IsMade (record c { entries = map (entry_row l.class l.pattern) (take l.entry-index l.entries) ++ c.entries })
+    (state g.S.Store now).now)

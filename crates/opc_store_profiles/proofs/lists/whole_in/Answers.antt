@@ -8,7 +8,8 @@ use Rattle.opc_store_profiles.proofs.lists.whole_in.Goals as goal
 pub loop-row-preserved : goal.loop-row-preserved
 loop-row-preserved c profiles have are =
     c.in_ok-push.ensures.items
-    ∙ one_more_profile (HasList c.args.entries.now) profiles have.1 c.args.rows.now c.loop-row.profiles.items c.loop-row.row-index c.row-item.result c.in_ok-whole_of.field-0 are c.loop-row-test.true c.row-item.is
+    ∙ one_more_profile (HasList c.args.entries.now) profiles have.1 c.args.rows.now c.loop-row.profiles.items
+    c.loop-row.row-index c.row-item.result c.in_ok-whole_of.field-0 are c.loop-row-test.true c.row-item.is
     (λ x here has. c.in_ok-whole_of.ensures x here have.0 has) (c.loop-row.invariant profiles have are)
 
 pub returns : goal.returns

@@ -18,7 +18,9 @@ returns-in-Some-clause-found g c clean s was =
     let shown = rw (c.params-to_sql.ensures, c.params-to_sql-2.ensures, c.text.ensures.text, c.text-2.ensures.text) at (c.in_ok-rows.ensures.shown clean) in
     let are = profile_told _ _ s was class pattern _ shown in
     let h = c.in-Some.ensures.lookup in
-    first_told profile_row (is_of class pattern) bare s.policy.profiles c.as_slice.result.now c.in-Some.row.now c.in_ok-profile_in-in-Some.field-0 (c.as_slice.ensures.value ∙ are) (slice_get_read c.as_slice.result.now _ 0 c.in-Some.row.now refl h.3.0 h.1) c.in_ok-profile_in-in-Some.ensures
+    first_told profile_row (is_of class pattern) bare s.policy.profiles c.as_slice.result.now c.in-Some.row.now
+    c.in_ok-profile_in-in-Some.field-0 (c.as_slice.ensures.value ∙ are)
+    (slice_get_read c.as_slice.result.now _ 0 c.in-Some.row.now refl h.3.0 h.1) c.in_ok-profile_in-in-Some.ensures
 
 pub returns-clause-found : goal.returns-clause-found
 returns-clause-found g c clean s was =
@@ -26,4 +28,5 @@ returns-clause-found g c clean s was =
     let pattern = c.args.pattern.now in
     let shown = rw (c.params-to_sql.ensures, c.params-to_sql-2.ensures, c.text.ensures.text, c.text-2.ensures.text) at (c.in_ok-rows.ensures.shown clean) in
     let are = profile_told _ _ s was class pattern _ shown in
-    none_told profile_row (is_of class pattern) bare s.policy.profiles c.as_slice.result.now (c.as_slice.ensures.value ∙ are) (slice_get_past c.as_slice.result.now 0 c.in-None.ensures.lookup.3)
+    none_told profile_row (is_of class pattern) bare s.policy.profiles c.as_slice.result.now
+    (c.as_slice.ensures.value ∙ are) (slice_get_past c.as_slice.result.now 0 c.in-None.ensures.lookup.3)

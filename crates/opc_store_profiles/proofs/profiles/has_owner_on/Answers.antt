@@ -6,4 +6,6 @@ pub is_there_on-requires-clause-quiet : goal.is_there_on-requires-clause-quiet
 is_there_on-requires-clause-quiet g c = never_writes any_owned_asked
 
 pub returns-clause-found : goal.returns-clause-found
-returns-clause-found g c clean s was = c.is_there_on.ensures.found clean _ (λ rows shown. any_owned_told _ _ s was c.args.user.now rows (rw (c.params-to_sql.ensures, c.text.ensures.text) at shown))
+returns-clause-found g c clean s was = c.is_there_on.ensures.found clean _
+    (λ rows shown. any_owned_told _ _ s was c.args.user.now rows
+    (rw (c.params-to_sql.ensures, c.text.ensures.text) at shown))

@@ -24,7 +24,10 @@ returns-in-Some-clause-found g c clean s was =
     let mid = looked g.S.Store _ _ _ _ _ first early (λ (d : Database). Represents d s) was in
     let shown = rw (c.params-to_sql.ensures, c.params-to_sql-2.ensures, c.text.ensures.text, c.text-2.ensures.text) at (c.in_ok-rows.ensures.shown early) in
     let are = profile_told _ _ s was class pattern _ shown in
-    let it = first_is profile_row (is_of class pattern) s.policy.profiles c.as_slice.result.now c.in-Some.row.now (c.as_slice.ensures.value ∙ are) (let h = c.in-Some.ensures.lookup in slice_get_read c.as_slice.result.now _ 0 c.in-Some.row.now refl h.3.0 h.1) in
+    let it = first_is profile_row (is_of class pattern) s.policy.profiles c.as_slice.result.now c.in-Some.row.now
+    (c.as_slice.ensures.value ∙ are)
+    (let h = c.in-Some.ensures.lookup in slice_get_read c.as_slice.result.now _ 0 c.in-Some.row.now refl h.3.0 h.1)
+    in
     ap (λ p. Some p) (step.found clean s mid it.0 it.1 (own_key s was.ordered class pattern it.0 (sym it.2))) ∙ it.2
 
 pub returns-clause-found : goal.returns-clause-found
@@ -33,7 +36,8 @@ returns-clause-found g c clean s was =
     let pattern = c.args.pattern.now in
     let shown = rw (c.params-to_sql.ensures, c.params-to_sql-2.ensures, c.text.ensures.text, c.text-2.ensures.text) at (c.in_ok-rows.ensures.shown clean) in
     let are = profile_told _ _ s was class pattern _ shown in
-    none_found profile_row (λ p. p) (is_of class pattern) s.policy.profiles c.as_slice.result.now (c.as_slice.ensures.value ∙ are) (slice_get_past c.as_slice.result.now 0 c.in-None.ensures.lookup.3)
+    none_found profile_row (λ p. p) (is_of class pattern) s.policy.profiles c.as_slice.result.now
+    (c.as_slice.ensures.value ∙ are) (slice_get_past c.as_slice.result.now 0 c.in-None.ensures.lookup.3)
 
 pub returns-in-Some-clause-looks : goal.returns-in-Some-clause-looks
 returns-in-Some-clause-looks g c =

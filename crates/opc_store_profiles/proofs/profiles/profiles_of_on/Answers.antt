@@ -19,7 +19,8 @@ returns-clause-found g c clean s was =
     let shown = rw (c.params-to_sql.ensures, c.text.ensures.text) at (c.in_ok-rows.ensures.shown early) in
     let mid = looked g.S.Store _ _ _ _ _ c.in_ok-rows.ensures.looks early (λ (d : Database). Represents d s) was in
     let lists = next.found clean s mid in
-    c.whole_in.ensures (of_class c.args.class s.policy.profiles) (rw c.as_slice-2.ensures.value lists) (c.as_slice.ensures.value ∙ class_told c.args.class _ _ s was _ shown)
+    c.whole_in.ensures (of_class c.args.class s.policy.profiles) (rw c.as_slice-2.ensures.value lists)
+    (c.as_slice.ensures.value ∙ class_told c.args.class _ _ s was _ shown)
 
 pub returns-clause-looks : goal.returns-clause-looks
 returns-clause-looks g c = looks_on g.S.Store _ _ c.read.new.conn _ c.in_ok-rows.ensures.looks _ c.whole_in.result c.in_ok-entries.ensures.looks

@@ -14,7 +14,9 @@ returns-clause-found g c clean s was =
     let second = c.in_ok-others.ensures in
     let early : HasCleanDisk (state g.S.Store c.profiles_of_on.new.conn) = omega (arith, second.looks.survives.clean) in
     let mid = looked g.S.Store _ _ _ _ _ first.looks early (λ (d : Database). Represents d s) was in
-    c.in_ok-append.ensures.items ∙ (ap₂ (λ (a b : List Profile). a ++ b) (first.found early s was) (second.found clean s mid) ∙ by_classes s.policy.profiles was.ordered.profiles)
+    c.in_ok-append.ensures.items
+    ∙ (ap₂ (λ (a b : List Profile). a ++ b) (first.found early s was) (second.found clean s mid)
+    ∙ by_classes s.policy.profiles was.ordered.profiles)
 
 pub returns-clause-looks : goal.returns-clause-looks
 returns-clause-looks g c =

@@ -12,10 +12,14 @@ returns-clause-done g c clean s was =
     let early : HasCleanDisk (state g.S.Store c.run.new.tx.conn.now) = omega (arith, c.in_ok-run-2.ensures.stays.survives.clean) in
     let class = c.args.class in
     let pattern = c.args.pattern.now in
-    let gone = list_goes _ _ _ s class pattern was.rows (rw (c.params-to_sql.ensures, c.params-to_sql-2.ensures, c.text.ensures.text, c.text-2.ensures.text) at (c.in_ok-run.ensures.ran early).executes) in
+    let gone = list_goes _ _ _ s class pattern was.rows
+    (rw (c.params-to_sql.ensures, c.params-to_sql-2.ensures, c.text.ensures.text, c.text-2.ensures.text) at
+    (c.in_ok-run.ensures.ran early).executes) in
     record {
       ordered = without_profile_ordered s was.ordered class pattern;
-      rows = profile_goes _ _ _ s class pattern gone (rw (c.params-to_sql-3.ensures, c.params-to_sql-4.ensures, c.text-3.ensures.text, c.text-4.ensures.text) at (c.in_ok-run-2.ensures.ran clean).executes);
+      rows = profile_goes _ _ _ s class pattern gone
+          (rw (c.params-to_sql-3.ensures, c.params-to_sql-4.ensures, c.text-3.ensures.text, c.text-4.ensures.text) at
+          (c.in_ok-run-2.ensures.ran clean).executes);
     }
 
 pub returns-clause-stays : goal.returns-clause-stays

@@ -25,10 +25,12 @@ returns-clause-ran g c clean =
     let second = c.in_ok-fill.ensures in
     let did : HasCleanDisk (state g.S.Store two) → P (state g.S.Store two).now = λ fine.
     made_over g.S.Store old tx one two c.transaction-tx.ensures.begun (first.ran (omega (arith, second.stays.survives.clean))) (second.ran fine) in
-    let inside = survives_then (state g.S.Store tx) (state g.S.Store one) (state g.S.Store two) _ _ (λ _. ⊥) (λ _ db none. none) (λ _ db none. none) first.stays.survives second.stays.survives in
+    let inside = survives_then (state g.S.Store tx) (state g.S.Store one) (state g.S.Store two) _ _ (λ _. ⊥)
+    (λ _ db none. none) (λ _ db none. none) first.stays.survives second.stays.survives in
     let same : end ≡ c.conn-2-1.given.0 = search rules in
     let late : HasCleanDisk (state g.S.Store end) = search rules in
-    let done = transacted g.S.Store old tx two end c.transaction-tx.ensures.begun P inside did c.commit.ensures.survives c.commit.result (c.commit.ensures.ok late) late in
+    let done = transacted g.S.Store old tx two end c.transaction-tx.ensures.begun P inside did c.commit.ensures.survives
+    c.commit.result (c.commit.ensures.ok late) late in
     subst (λ (h : Held _). OnOk c.commit.result (P (state g.S.Store h).now)) same done
 
 pub returns-clause-made : goal.returns-clause-made
@@ -43,10 +45,12 @@ returns-clause-made g c clean =
     let second = c.in_ok-fill.ensures in
     let did : HasCleanDisk (state g.S.Store two) → P (state g.S.Store two).now = λ fine none.
     second.filled fine (first.made (omega (arith, second.stays.survives.clean)) (rw c.transaction-tx.ensures.begun none)) in
-    let inside = survives_then (state g.S.Store tx) (state g.S.Store one) (state g.S.Store two) _ _ (λ _. ⊥) (λ _ db none. none) (λ _ db none. none) first.stays.survives second.stays.survives in
+    let inside = survives_then (state g.S.Store tx) (state g.S.Store one) (state g.S.Store two) _ _ (λ _. ⊥)
+    (λ _ db none. none) (λ _ db none. none) first.stays.survives second.stays.survives in
     let same : end ≡ c.conn-2-1.given.0 = search rules in
     let late : HasCleanDisk (state g.S.Store end) = search rules in
-    let done = transacted g.S.Store old tx two end c.transaction-tx.ensures.begun P inside did c.commit.ensures.survives c.commit.result (c.commit.ensures.ok late) late in
+    let done = transacted g.S.Store old tx two end c.transaction-tx.ensures.begun P inside did c.commit.ensures.survives
+    c.commit.result (c.commit.ensures.ok late) late in
     subst (λ (h : Held _). OnOk c.commit.result (P (state g.S.Store h).now)) same done
 
 pub returns-clause-survives : goal.returns-clause-survives
@@ -65,9 +69,13 @@ returns-clause-survives g c =
       made_over g.S.Store old tx one two c.transaction-tx.ensures.begun (first.ran early) (second.ran fine),
       λ none. second.filled fine (first.made early (rw c.transaction-tx.ensures.begun none)),
     ) in
-    let inside = survives_then (state g.S.Store tx) (state g.S.Store one) (state g.S.Store two) _ _ (λ _. ⊥) (λ _ db none. none) (λ _ db none. none) first.stays.survives second.stays.survives in
+    let inside = survives_then (state g.S.Store tx) (state g.S.Store one) (state g.S.Store two) _ _ (λ _. ⊥)
+    (λ _ db none. none) (λ _ db none. none) first.stays.survives second.stays.survives in
     let same : end ≡ c.conn-2-1.given.0 = search rules in
     let crash = crashes g.S.Store old tx two end c.transaction-tx.ensures.begun P inside did c.commit.ensures.survives in
     let whole = survives_weaker (state g.S.Store old) (state g.S.Store end) (Leaves P) Q
-    (λ _ db h. (subst (AreMadeOver g.S.Store old) (sym h.is) h.holds.0, λ none. subst (λ t. AreTablesOf t empty) (sym h.is) (alone_from h.db empty (h.holds.1 none)))) crash in
+    (λ _ db h. (
+      subst (AreMadeOver g.S.Store old) (sym h.is) h.holds.0,
+      λ none. subst (λ t. AreTablesOf t empty) (sym h.is) (alone_from h.db empty (h.holds.1 none)),
+    )) crash in
     subst (λ h. Survives (state g.S.Store old) (state g.S.Store h) Q) same whole

@@ -18,7 +18,9 @@ returns-clause-looks g c =
 
 pub returns-clause-names : goal.returns-clause-names
 returns-clause-names g c clean =
-    IfOk-weaker c.version_in.result _ _ (λ v is. (_, c.in_ok-rows.ensures.shown clean, sym (is ∙ ap version_of c.as_slice.ensures.value))) c.version_in.ensures.version
+    IfOk-weaker c.version_in.result _ _ (λ v is.
+    (_, c.in_ok-rows.ensures.shown clean, sym (is ∙ ap version_of c.as_slice.ensures.value)))
+    c.version_in.ensures.version
 
 pub returns-clause-unasked : goal.returns-clause-unasked
 returns-clause-unasked g c clean = IfErr-weaker c.version_in.result _ _ (λ e is. inl is) c.version_in.ensures.memory

@@ -29,4 +29,6 @@ returns-clause-rows g c clean s was =
     let ps = s.policy.profiles in
     let resource = c.args.resource.now in
     on_success c.search.result (c.search.ensures.rows (map bare ps) (s, was, refl))
-    (λ found h. h here ∙ (ap (λ (l : List Profile). length (examined found.profile resource l)) (of_class_bare c.args.class ps) ∙ examined_bare found.profile resource (of_class c.args.class ps)))
+    (λ found h. h here
+    ∙ (ap (λ (l : List Profile). length (examined found.profile resource l)) (of_class_bare c.args.class ps)
+    ∙ examined_bare found.profile resource (of_class c.args.class ps)))

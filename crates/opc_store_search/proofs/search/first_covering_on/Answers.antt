@@ -31,7 +31,8 @@ rows-init g c =
       made.mode c.requires.mode,
       reads_survive c.args.sql.now _ _ _ c.requires.quiet made.survives,
       λ clean.
-          let begun = begun_quiet g.S.Store c.args.sql.now (bound c.args.params.now) c.args.conn.now c.in-Ok.rows.conn.now c.requires.quiet (made.begun clean) in
+          let begun = begun_quiet g.S.Store c.args.sql.now (bound c.args.params.now) c.args.conn.now
+          c.in-Ok.rows.conn.now c.requires.quiet (made.begun clean) in
           (begun.1, [], begun.0, λ select selects s was. none_taken profile_row (covers c.args.resource.now) (select s)),
     )
 
@@ -42,7 +43,8 @@ returns-in_default-clause-found g c clean select selects s sees =
     let late : HasCleanDisk (state g.S.Store now) = search rules in
     let was = c.rows.invariant.3 (omega (arith, moved.survives.clean)) in
     let shown = (rw (c.in-Ok-next.is, c.in_default.is) at (moved.ok late)) c.args.sql.now (bound c.args.params.now) was.1 was.2 in
-    let none = no_profile g.S.Store c.args.sql.now (bound c.args.params.now) select selects (covers c.args.resource.now) c.args.conn.now c.rows.rows.conn.now s sees was.0 was.1 c.rows.at (was.3 select selects s sees) now shown in
+    let none = no_profile g.S.Store c.args.sql.now (bound c.args.params.now) select selects (covers c.args.resource.now)
+    c.args.conn.now c.rows.rows.conn.now s sees was.0 was.1 c.rows.at (was.3 select selects s sees) now shown in
     (ap (option_map bare) none.0, none.1)
 
 pub returns-then-covers-clause-looks : goal.returns-then-covers-clause-looks
@@ -50,7 +52,9 @@ returns-then-covers-clause-looks g c =
     let moved = c.next.follows.holds-at-none in
     let now = c.next.follows.lender-at-none.conn.now in
     let was = c.rows.invariant in
-    looks_at g.S.Store _ c.args.conn.now now _ (search rules) (looks_moved g.S.Store _ c.args.conn.now c.rows.rows.conn.now now was.2 (λ clean. (was.3 clean).0) moved.survives (λ clean. rw c.in-Ok-next.is at (moved.same clean)))
+    looks_at g.S.Store _ c.args.conn.now now _ (search rules)
+    (looks_moved g.S.Store _ c.args.conn.now c.rows.rows.conn.now now was.2 (λ clean. (was.3 clean).0)
+    moved.survives (λ clean. rw c.in-Ok-next.is at (moved.same clean)))
 
 pub returns-then-covers-clause-found : goal.returns-then-covers-clause-found
 returns-then-covers-clause-found g c clean select selects s sees =
@@ -64,7 +68,9 @@ returns-then-covers-clause-found g c clean select selects s sees =
     let y = c.in-Some.row.now in
     let given = (rw (c.in-Ok-next.is, c.in-Some.is) at (moved.ok late)) c.args.sql.now (bound c.args.params.now) was.1 was.2 in
     let unchanged = unchanged_then old mid (state g.S.Store now) was.0 (rw c.in-Ok-next.is at (moved.same late)) in
-    let on = next_profile g.S.Store c.args.sql.now (bound c.args.params.now) select selects (covers resource) c.args.conn.now now s sees unchanged was.1 c.rows.at (was.3 select selects s sees) y (given_begin g.S.Store c.args.sql.now (bound c.args.params.now) now (was.1 ++ y ∷ []) given) in
+    let on = next_profile g.S.Store c.args.sql.now (bound c.args.params.now) select selects (covers resource)
+    c.args.conn.now now s sees unchanged was.1 c.rows.at (was.3 select selects s sees) y
+    (given_begin g.S.Store c.args.sql.now (bound c.args.params.now) now (was.1 ++ y ∷ []) given) in
     let is : c.in_ok-profile.profile ≡ bare on.x = IfOk-at_ok (λ (v : Profile). v ≡ bare on.x) c.in_ok-profile.was (c.profile_in.ensures on.x on.is) in
     let yes : covers resource on.x ≡ true = ap (covers resource) (sym is) ∙ covered_text c.in_ok-profile.profile resource (c.if-covers.ensures.0 refl) in
     let both = on.passes yes in
@@ -89,8 +95,11 @@ rows-preserved g c =
             was.1 ++ y ∷ [],
             given,
             λ select selects s sees.
-                let on = next_profile g.S.Store c.args.sql.now (bound c.args.params.now) select selects (covers resource) c.args.conn.now now s sees unchanged was.1 c.rows.at (was.3 select selects s sees) y (given_begin g.S.Store c.args.sql.now (bound c.args.params.now) now (was.1 ++ y ∷ []) given) in
-                let is : c.in_ok-profile.profile ≡ bare on.x = IfOk-at_ok (λ (v : Profile). v ≡ bare on.x) c.in_ok-profile.was (c.profile_in.ensures on.x on.is) in
+                let on = next_profile g.S.Store c.args.sql.now (bound c.args.params.now) select selects
+                (covers resource) c.args.conn.now now s sees unchanged was.1 c.rows.at (was.3 select selects s sees)
+                y (given_begin g.S.Store c.args.sql.now (bound c.args.params.now) now (was.1 ++ y ∷ []) given) in
+                let is : c.in_ok-profile.profile ≡ bare on.x =
+                IfOk-at_ok (λ (v : Profile). v ≡ bare on.x) c.in_ok-profile.was (c.profile_in.ensures on.x on.is) in
                 on.fails (ap (covers resource) (sym is) ∙ uncovered_text c.in_ok-profile.profile resource (λ k. false≢true (c.if-covers.ensures.1 k))),
           ),
     )

@@ -17,4 +17,5 @@ invariant-rows g l =
     let now = state g.S.Store l.rows.conn.now in
     (l.rows.conn.ghost_name ≡ l.initial.rows.conn.ghost_name) × (l.rows.conn.now.in_transaction ≡ false) × Survives old now (λ _. ⊥)
     × (HasCleanDisk now → IsUnchanged old now × (given : List Row) × HasGiven g.S.Store l.fn.sql (bound l.fn.params) l.rows.conn.now given
-    × ((select : State → List Profile) → Selects g.S.Store l.fn.sql (bound l.fn.params) select → (s : State) → Represents old.now s → HasTaken profile_row (covers l.resource) (select s) given l.at))
+    × ((select : State → List Profile) → Selects g.S.Store l.fn.sql (bound l.fn.params) select → (s : State)
+    → Represents old.now s → HasTaken profile_row (covers l.resource) (select s) given l.at))

@@ -22,7 +22,8 @@ pub returns-in_default-clause-first : goal.returns-in_default-clause-first
 returns-in_default-clause-first g c clean s was =
     let resource = c.args.resource.now in
     let n = c.in_ok-taken.taken.rows in
-    let this = c.in_ok-taken.ensures.found clean (λ (s : State). of_class c.args.class s.policy.profiles) (rw (c.params-to_sql.ensures, c.text.ensures.text) (selects_class c.args.class g.S.Store)) s was in
+    let this = c.in_ok-taken.ensures.found clean (λ (s : State). of_class c.args.class s.policy.profiles)
+    (rw (c.params-to_sql.ensures, c.text.ensures.text) (selects_class c.args.class g.S.Store)) s was in
     let none = found_none s was.ordered c.args.class None resource n this.1 (sym c.in_default.is ∙ this.0) in
     none.0
 
@@ -30,7 +31,8 @@ pub returns-in_default-clause-rows : goal.returns-in_default-clause-rows
 returns-in_default-clause-rows g c clean s was =
     let resource = c.args.resource.now in
     let n = c.in_ok-taken.taken.rows in
-    let this = c.in_ok-taken.ensures.found clean (λ (s : State). of_class c.args.class s.policy.profiles) (rw (c.params-to_sql.ensures, c.text.ensures.text) (selects_class c.args.class g.S.Store)) s was in
+    let this = c.in_ok-taken.ensures.found clean (λ (s : State). of_class c.args.class s.policy.profiles)
+    (rw (c.params-to_sql.ensures, c.text.ensures.text) (selects_class c.args.class g.S.Store)) s was in
     let none = found_none s was.ordered c.args.class None resource n this.1 (sym c.in_default.is ∙ this.0) in
     none.1
 
@@ -39,7 +41,8 @@ returns-clause-first g c clean s was =
     let early : HasCleanDisk (state g.S.Store c.first_covering_on.new.conn) = omega (arith, c.in_ok-entries.ensures.looks.survives.clean) in
     let resource = c.args.resource.now in
     let n = c.in_ok-taken.taken.rows in
-    let this = c.in_ok-taken.ensures.found early (λ (s : State). of_class c.args.class s.policy.profiles) (rw (c.params-to_sql.ensures, c.text.ensures.text) (selects_class c.args.class g.S.Store)) s was in
+    let this = c.in_ok-taken.ensures.found early (λ (s : State). of_class c.args.class s.policy.profiles)
+    (rw (c.params-to_sql.ensures, c.text.ensures.text) (selects_class c.args.class g.S.Store)) s was in
     let q = c.in-Some.profile in
     let w = found_some s was.ordered c.args.class None resource n this.1 q (sym c.in-Some.is ∙ this.0) in
     let mid = looked g.S.Store _ _ _ _ _ c.in_ok-taken.ensures.looks early (λ (d : Database). Represents d s) was in
@@ -52,7 +55,8 @@ returns-clause-rows g c clean s was =
     let early : HasCleanDisk (state g.S.Store c.first_covering_on.new.conn) = omega (arith, c.in_ok-entries.ensures.looks.survives.clean) in
     let resource = c.args.resource.now in
     let n = c.in_ok-taken.taken.rows in
-    let this = c.in_ok-taken.ensures.found early (λ (s : State). of_class c.args.class s.policy.profiles) (rw (c.params-to_sql.ensures, c.text.ensures.text) (selects_class c.args.class g.S.Store)) s was in
+    let this = c.in_ok-taken.ensures.found early (λ (s : State). of_class c.args.class s.policy.profiles)
+    (rw (c.params-to_sql.ensures, c.text.ensures.text) (selects_class c.args.class g.S.Store)) s was in
     let q = c.in-Some.profile in
     let w = found_some s was.ordered c.args.class None resource n this.1 q (sym c.in-Some.is ∙ this.0) in
     let mid = looked g.S.Store _ _ _ _ _ c.in_ok-taken.ensures.looks early (λ (d : Database). Represents d s) was in

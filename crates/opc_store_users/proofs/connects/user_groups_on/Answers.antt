@@ -16,7 +16,9 @@ returns-clause-found g c clean s was =
     let user = c.args.user.now in
     let mine = filter (λ (d : Connect). bytes_eq d.user user) s.policy.connects in
     let shown = rw (c.params-to_sql.ensures, c.params-to_sql-2.ensures, c.text.ensures.text) at (c.in_ok-rows.ensures.shown clean) in
-    rw (take-map (λ (d : Connect). d.group) c.args.most mine) (c.groups_in.ensures (take c.args.most mine) (c.as_slice.ensures.value ∙ of_user_told _ _ s was user c.args.most _ shown))
+    rw (take-map (λ (d : Connect). d.group) c.args.most mine)
+    (c.groups_in.ensures (take c.args.most mine)
+    (c.as_slice.ensures.value ∙ of_user_told _ _ s was user c.args.most _ shown))
 
 pub returns-clause-looks : goal.returns-clause-looks
 returns-clause-looks g c = looks_for g.S.Store _ c.groups_in.result _ _ c.in_ok-rows.ensures.looks

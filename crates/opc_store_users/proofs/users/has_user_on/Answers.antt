@@ -6,4 +6,5 @@ pub is_there_on-requires-clause-quiet : goal.is_there_on-requires-clause-quiet
 is_there_on-requires-clause-quiet g c = never_writes named_user_asked
 
 pub returns-clause-found : goal.returns-clause-found
-returns-clause-found g c clean s was = c.is_there_on.ensures.found clean _ (λ rows shown. named_user_told _ _ s was c.args.name.now rows (rw (c.params-to_sql.ensures) at shown))
+returns-clause-found g c clean s was = c.is_there_on.ensures.found clean _
+    (λ rows shown. named_user_told _ _ s was c.args.name.now rows (rw (c.params-to_sql.ensures) at shown))

@@ -13,7 +13,9 @@ use Rattle.opc_state.specs.Loads.{has_entry, is_named}
 use Rattle.opc_store_schema.specs.Represented.{Represents}
 use Rattle.opc_store_whole_policy.proofs.named.is_named_on.Goals as goal
 
-three : (p : Policy) (id : List ℕ) → is_named p id ≡ (list_any (λ (c : Connect). bytes_eq c.user id) p.connects || (list_any (λ (q : Profile). bytes_eq q.owner id) p.profiles || list_any (has_entry id) p.profiles))
+three : (p : Policy) (id : List ℕ) → is_named p
+    id ≡ (list_any (λ (c : Connect). bytes_eq c.user id) p.connects
+    || (list_any (λ (q : Profile). bytes_eq q.owner id) p.profiles || list_any (has_entry id) p.profiles))
 three p id = ap (λ b. list_any (λ (c : Connect). bytes_eq c.user id) p.connects || b) (any_or (λ (q : Profile). bytes_eq q.owner id) (has_entry id) p.profiles)
 
 pub returns-then-owner-clause-found : goal.returns-then-owner-clause-found

@@ -13,7 +13,8 @@ loop-profile-preserved c up =
     let xs = c.args.list.items in
     let gives = c.into_iter-profile-iterator.ensures.into_iter_gives in
     let long : c.into_iter-profile-iterator.result.rest.len ≡ length xs = search rules in
-    let t = YieldsList-turn (YieldsList-from_vec xs gives.0 long) c.loop-profile.yielded c.loop-profile.profile-iterator c.loop-profile.yielded_by c.next.result c.next.new.self c.in-Some.profile c.in-Some.is c.next.ensures.steps in
+    let t = YieldsList-turn (YieldsList-from_vec xs gives.0 long) c.loop-profile.yielded c.loop-profile.profile-iterator
+    c.loop-profile.yielded_by c.next.result c.next.new.self c.in-Some.profile c.in-Some.is c.next.ensures.steps in
     c.in_ok-define.ensures.ok
     ∙ (more_defined xs up (length c.loop-profile.yielded) c.in-Some.profile t.0 t.1 c.loop-profile.profiles (c.loop-profile.invariant up)
     ∙ ap (λ k. take k xs) (sym (length_push c.loop-profile.yielded c.in-Some.profile)))
@@ -23,5 +24,6 @@ returns c up =
     let xs = c.args.list.items in
     let gives = c.into_iter-profile-iterator.ensures.into_iter_gives in
     let long : c.into_iter-profile-iterator.result.rest.len ≡ length xs = search rules in
-    let t = YieldsList-end (YieldsList-from_vec xs gives.0 long) c.loop-profile.yielded c.loop-profile.profile-iterator c.loop-profile.yielded_by c.next.result c.next.new.self c.in-None.is c.next.ensures.steps in
+    let t = YieldsList-end (YieldsList-from_vec xs gives.0 long) c.loop-profile.yielded c.loop-profile.profile-iterator
+    c.loop-profile.yielded_by c.next.result c.next.new.self c.in-None.is c.next.ensures.steps in
     c.loop-profile.invariant up ∙ take_all (length c.loop-profile.yielded) xs (omega (arith, t.1))

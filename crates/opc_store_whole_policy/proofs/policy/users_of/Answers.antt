@@ -9,4 +9,6 @@ pub loop-user-preserved : goal.loop-user-preserved
 loop-user-preserved c up =
     let xs = c.args.list.now in
     c.in_ok-insert.ensures.ok
-    ∙ more_put user_cmp user_total (λ x. x) xs up xs c.loop-user.user-index c.user-item.result (sym (map-id xs)) c.loop-user-test.true c.user-item.is c.loop-user.users c.user-item.result (λ x is. is) (c.loop-user.invariant up)
+    ∙ more_put user_cmp user_total (λ x. x) xs up xs c.loop-user.user-index c.user-item.result (sym (map-id xs))
+    c.loop-user-test.true c.user-item.is c.loop-user.users c.user-item.result (λ x is. is)
+    (c.loop-user.invariant up)

@@ -22,6 +22,7 @@ loop-request-preserved g c =
       counted = omega arith;
       each = search rules;
       run = rw c.push_reserved.ensures.items
-          (sure_more g.T.Tables.is_sure g.T.Tables.represents g.T.Tables.may_leave c.args.requests.now c.loop-request.request-index c.request-item.result _ _ _ _ c.handle.result (omega arith) c.request-item.is
+          (sure_more g.T.Tables.is_sure g.T.Tables.represents g.T.Tables.may_leave c.args.requests.now
+          c.loop-request.request-index c.request-item.result _ _ _ _ c.handle.result (omega arith) c.request-item.is
           was.run (handled.sure, handled.handled));
     }

@@ -11,7 +11,9 @@ pub returns-in_default-clause-ok : goal.returns-in_default-clause-ok
 returns-in_default-clause-ok c =
     let entries = c.self.inside.by_key.entries in
     let value = rw c.sort_key-key.ensures.key at c.get_mut.ensures.value in
-    let found : profile_of (values_of entries) c.args.class c.args.pattern.now ≡ None = sym (lookup-profile c.args.class c.args.pattern.now entries c.sort_key-key.ensures.valid c.self.invariant) ∙ sym value ∙ ap option_copied_mut c.in_default.is in
+    let found : profile_of (values_of entries) c.args.class c.args.pattern.now ≡ None =
+    sym (lookup-profile c.args.class c.args.pattern.now entries c.sort_key-key.ensures.valid c.self.invariant)
+    ∙ sym value ∙ ap option_copied_mut c.in_default.is in
     ap (λ m. values_of m.entries) c.get_mut.follows.holds-at-none
     ∙ without_profile c.args.class c.args.pattern.now c.args.entry (values_of entries) found
     ∙ ap (with_permission c.args.class c.args.pattern.now c.args.entry) c.self.view_is
@@ -20,7 +22,9 @@ pub returns-in_default-clause-found : goal.returns-in_default-clause-found
 returns-in_default-clause-found c =
     let entries = c.self.inside.by_key.entries in
     let value = rw c.sort_key-key.ensures.key at c.get_mut.ensures.value in
-    let found : profile_of (values_of entries) c.args.class c.args.pattern.now ≡ None = sym (lookup-profile c.args.class c.args.pattern.now entries c.sort_key-key.ensures.valid c.self.invariant) ∙ sym value ∙ ap option_copied_mut c.in_default.is in
+    let found : profile_of (values_of entries) c.args.class c.args.pattern.now ≡ None =
+    sym (lookup-profile c.args.class c.args.pattern.now entries c.sort_key-key.ensures.valid c.self.invariant)
+    ∙ sym value ∙ ap option_copied_mut c.in_default.is in
     sym (ap is_some found) ∙ ap (λ profiles. is_some (profile_of profiles c.args.class c.args.pattern.now)) c.self.view_is
 
 pub invariant_of-self-2 : goal.invariant_of-self-2
@@ -29,7 +33,9 @@ invariant_of-self-2 c =
     let valid = c.sort_key-key.ensures.valid in
     let stored = c.in-Some.stored.now in
     let value = rw c.sort_key-key.ensures.key at c.get_mut.ensures.value in
-    let found : profile_of (values_of entries) c.args.class c.args.pattern.now ≡ Some stored = sym (lookup-profile c.args.class c.args.pattern.now entries valid c.self.invariant) ∙ sym value ∙ ap option_copied_mut c.in-Some.is in
+    let found : profile_of (values_of entries) c.args.class c.args.pattern.now ≡ Some stored =
+    sym (lookup-profile c.args.class c.args.pattern.now entries valid c.self.invariant) ∙ sym value
+    ∙ ap option_copied_mut c.in-Some.is in
     rw ((c.get_mut.follows.holds (permitted stored c.set.new.self)).0, c.sort_key-key.ensures.key)
     (AreByKey-permitted c.args.class c.args.pattern.now c.set.new.self stored entries valid c.get_mut.ensures.ordered c.self.invariant found)
 
@@ -39,7 +45,9 @@ invariant_of-self-in_err-set c =
     let valid = c.sort_key-key.ensures.valid in
     let stored = c.in-Some.stored.now in
     let value = rw c.sort_key-key.ensures.key at c.get_mut.ensures.value in
-    let found : profile_of (values_of entries) c.args.class c.args.pattern.now ≡ Some stored = sym (lookup-profile c.args.class c.args.pattern.now entries valid c.self.invariant) ∙ sym value ∙ ap option_copied_mut c.in-Some.is in
+    let found : profile_of (values_of entries) c.args.class c.args.pattern.now ≡ Some stored =
+    sym (lookup-profile c.args.class c.args.pattern.now entries valid c.self.invariant) ∙ sym value
+    ∙ ap option_copied_mut c.in-Some.is in
     rw ((c.get_mut.follows.holds (permitted stored c.set.new.self)).0, c.sort_key-key.ensures.key)
     (AreByKey-permitted c.args.class c.args.pattern.now c.set.new.self stored entries valid c.get_mut.ensures.ordered c.self.invariant found)
 
@@ -49,7 +57,9 @@ returns-clause-ok c =
     let valid = c.sort_key-key.ensures.valid in
     let stored = c.in-Some.stored.now in
     let value = rw c.sort_key-key.ensures.key at c.get_mut.ensures.value in
-    let found : profile_of (values_of entries) c.args.class c.args.pattern.now ≡ Some stored = sym (lookup-profile c.args.class c.args.pattern.now entries valid c.self.invariant) ∙ sym value ∙ ap option_copied_mut c.in-Some.is in
+    let found : profile_of (values_of entries) c.args.class c.args.pattern.now ≡ Some stored =
+    sym (lookup-profile c.args.class c.args.pattern.now entries valid c.self.invariant) ∙ sym value
+    ∙ ap option_copied_mut c.in-Some.is in
     rw ((c.get_mut.follows.holds (permitted stored c.set.new.self)).0, c.sort_key-key.ensures.key, c.in_ok-set.ensures.ok)
     (values-permitted c.args.class c.args.pattern.now c.args.entry stored entries valid c.get_mut.ensures.ordered c.self.invariant found)
     ∙ ap (with_permission c.args.class c.args.pattern.now c.args.entry) c.self.view_is
@@ -60,7 +70,9 @@ returns-clause-found c =
     let valid = c.sort_key-key.ensures.valid in
     let stored = c.in-Some.stored.now in
     let value = rw c.sort_key-key.ensures.key at c.get_mut.ensures.value in
-    let found : profile_of (values_of entries) c.args.class c.args.pattern.now ≡ Some stored = sym (lookup-profile c.args.class c.args.pattern.now entries valid c.self.invariant) ∙ sym value ∙ ap option_copied_mut c.in-Some.is in
+    let found : profile_of (values_of entries) c.args.class c.args.pattern.now ≡ Some stored =
+    sym (lookup-profile c.args.class c.args.pattern.now entries valid c.self.invariant) ∙ sym value
+    ∙ ap option_copied_mut c.in-Some.is in
     sym (ap is_some found) ∙ ap (λ profiles. is_some (profile_of profiles c.args.class c.args.pattern.now)) c.self.view_is
 
 pub returns-in_err-set-clause-there : goal.returns-in_err-set-clause-there
@@ -69,7 +81,9 @@ returns-in_err-set-clause-there c =
     let valid = c.sort_key-key.ensures.valid in
     let stored = c.in-Some.stored.now in
     let value = rw c.sort_key-key.ensures.key at c.get_mut.ensures.value in
-    let found : profile_of (values_of entries) c.args.class c.args.pattern.now ≡ Some stored = sym (lookup-profile c.args.class c.args.pattern.now entries valid c.self.invariant) ∙ sym value ∙ ap option_copied_mut c.in-Some.is in
+    let found : profile_of (values_of entries) c.args.class c.args.pattern.now ≡ Some stored =
+    sym (lookup-profile c.args.class c.args.pattern.now entries valid c.self.invariant) ∙ sym value
+    ∙ ap option_copied_mut c.in-Some.is in
     let err = err_from_is_err_and c.from_residual.result c.from_residual.ensures.1 in
     rw err.1 (sym (ap (λ profiles. is_some (profile_of profiles c.args.class c.args.pattern.now)) c.self.view_is) ∙ ap is_some found)
 

@@ -5,7 +5,8 @@ use Rattle.opc_policy_members.specs.Profiles.{profile_of, with_profile}
 use Rattle.opc_policy_members.proofs.profiles.Profiles.put.Goals as goal
 
 pub invariant_of-self-2 : goal.invariant_of-self-2
-invariant_of-self-2 c = rw (c.in_ok-replaced.ensures.entries, c.sort_key.ensures.key) (AreByKey-insert c.args.profile c.self.inside.by_key.entries c.sort_key.ensures.valid c.self.invariant)
+invariant_of-self-2 c = rw (c.in_ok-replaced.ensures.entries, c.sort_key.ensures.key)
+    (AreByKey-insert c.args.profile c.self.inside.by_key.entries c.sort_key.ensures.valid c.self.invariant)
 
 pub returns-clause-ok : goal.returns-clause-ok
 returns-clause-ok c =

@@ -12,5 +12,9 @@ upper_prefix text prefix rest e ascii =
     subst IsAscii (sym (take_at prefix rest (length text) count)) upper
 
 pub invariant_of-result : goal.invariant_of-result
-invariant_of-result c =
-    (c.requires.fits, upper_prefix _ _ _ (c.make_ascii_uppercase.ensures.after ∙ ap (map to_ascii_uppercase) (c.copy_from_slice.ensures.after ∙ c.as_bytes.ensures.value)) c.requires.ascii)
+invariant_of-result c = (
+  c.requires.fits,
+  upper_prefix _ _ _
+      (c.make_ascii_uppercase.ensures.after
+      ∙ ap (map to_ascii_uppercase) (c.copy_from_slice.ensures.after ∙ c.as_bytes.ensures.value)) c.requires.ascii,
+)

@@ -8,18 +8,23 @@ pub returns-in-Some-clause-kept : goal.returns-in-Some-clause-kept
 returns-in-Some-clause-kept g c =
     let t = g.T.Tables in
     cached_kept t.is_sure t.represents t.may_leave c.args.self.now _ c.cached_pattern.ensures.kept
-    (λ sure s represented h. subst (λ entries. Holds entries s) (sym c.get.ensures.first) (promoted_holds (c.args.class, c.args.resource.now) c.args.self.now.recent s h))
+    (λ sure s represented h. subst (λ entries. Holds entries s) (sym c.get.ensures.first)
+    (promoted_holds (c.args.class, c.args.resource.now) c.args.self.now.recent s h))
 
 pub returns-in-Some-clause-found : goal.returns-in-Some-clause-found
 returns-in-Some-clause-found g c = λ sure s h.
     let t = g.T.Tables in
-    let decides = hit_decides (c.args.class, c.args.resource.now) c.args.self.now.recent s c.in-Some.pattern (held t.is_sure t.represents t.may_leave c.args.self.now.tables c.args.self.now.recent s h) (sym c.get.ensures.found ∙ c.in-Some.is) in
+    let decides = hit_decides (c.args.class, c.args.resource.now) c.args.self.now.recent s c.in-Some.pattern
+    (held t.is_sure t.represents t.may_leave c.args.self.now.tables c.args.self.now.recent s h)
+    (sym c.get.ensures.found ∙ c.in-Some.is) in
     subst (λ o. IfOk c.cached_pattern.result (λ found. found.profile ≡ option_map bare o)) decides (c.cached_pattern.ensures.found sure s h.represented)
 
 pub returns-in-Some-clause-keyed : goal.returns-in-Some-clause-keyed
 returns-in-Some-clause-keyed g c = λ sure s h.
     let t = g.T.Tables in
-    if_ok c.cached_pattern.result (hit_keyed (c.args.class, c.args.resource.now) c.args.self.now.recent s c.in-Some.pattern (held t.is_sure t.represents t.may_leave c.args.self.now.tables c.args.self.now.recent s h) (sym c.get.ensures.found ∙ c.in-Some.is))
+    if_ok c.cached_pattern.result (hit_keyed (c.args.class, c.args.resource.now) c.args.self.now.recent s
+    c.in-Some.pattern (held t.is_sure t.represents t.may_leave c.args.self.now.tables c.args.self.now.recent s h)
+    (sym c.get.ensures.found ∙ c.in-Some.is))
 
 pub returns-in-None-clause-kept : goal.returns-in-None-clause-kept
 returns-in-None-clause-kept g c =

@@ -31,7 +31,9 @@ returns-in-Ok-open_files g c = record {
       let found = (file_state conn).committed in (
         found.trees,
         (c.in-Ok.ensures.found early).reads,
-        λ bare. c.in-Ok-open_files.ensures.made clean (ap (λ (d : Database). d.schema) opened.0.clean ∙ lists_once (found.trees catalog_tree) found.schema no_schema (opened.1 opened.0.is_open).1.lists bare),
+        λ bare. c.in-Ok-open_files.ensures.made clean
+            (ap (λ (d : Database). d.schema) opened.0.clean
+            ∙ lists_once (found.trees catalog_tree) found.schema no_schema (opened.1 opened.0.is_open).1.lists bare),
       );
   settled = c.in-Ok-open_files.ensures.settled;
   adopted = λ clean.
@@ -55,7 +57,8 @@ returns-in-Err-clause-failed g c =
 pub returns-clause-failed : goal.returns-clause-failed
 returns-clause-failed g c =
     let failed = c.in-Err-open_files.ensures in
-    let early : HasCleanDisk (file_state c.in-Err-open_files.field-0-1) → HasCleanDisk (file_state c.in-Ok.conn) = λ clean. omega (arith, failed.crash_at_fault.clean) in
+    let early : HasCleanDisk (file_state c.in-Err-open_files.field-0-1) → HasCleanDisk (file_state c.in-Ok.conn) =
+    λ clean. omega (arith, failed.crash_at_fault.clean) in
     inr (
       c.in-Ok.conn,
       c.in-Err-open_files.field-0-1,

@@ -51,12 +51,15 @@ pub returns-in-Ok-eq3-clause-settled : goal.returns-in-Ok-eq3-clause-settled
 returns-in-Ok-eq3-clause-settled g c clean db leaves =
     let new = c.version_on.new.conn in
     let is_open = c.in-Ok-eq3.ensures.looks.opened clean in
-    g.met.S.Store.settled new.store db is_open leaves ∙ sym (ap (λ (d : Database). d.trees) (c.is_autocommit-settled-in-Ok-eq3.ensures.settled (search rules) is_open))
+    g.met.S.Store.settled new.store db is_open leaves
+    ∙ sym (ap (λ (d : Database). d.trees)
+    (c.is_autocommit-settled-in-Ok-eq3.ensures.settled (search rules) is_open))
 
 pub returns-in-Err-clause-crash_at_fault : goal.returns-in-Err-clause-crash_at_fault
 returns-in-Err-clause-crash_at_fault g c =
     let no : has_our_name c.args.conn.schema ≡ false = search rules in
-    survives_weaker (state g.S.Store c.args.conn) (state g.S.Store c.make_tables.new.conn) _ _ (λ _ db h. (c.open_fault.ensures.no_version, inl (no, h.0, h.1))) c.make_tables.ensures.survives
+    survives_weaker (state g.S.Store c.args.conn) (state g.S.Store c.make_tables.new.conn) _ _
+    (λ _ db h. (c.open_fault.ensures.no_version, inl (no, h.0, h.1))) c.make_tables.ensures.survives
 
 pub returns-in-Ok-eq3-clause-copied : goal.returns-in-Ok-eq3-clause-copied
 returns-in-Ok-eq3-clause-copied g c clean is_open version s alone =
@@ -64,39 +67,64 @@ returns-in-Ok-eq3-clause-copied g c clean is_open version s alone =
     never_older version c.in-Ok-eq3.field-0 (search rules) (names_own version _ _ s was_old _ (c.in-Ok-eq3.ensures.names clean))
 
 pub returns-in-Ok-eq1-clause-found : goal.returns-in-Ok-eq1-clause-found
-returns-in-Ok-eq1-clause-found g c = found g.S.Store c.in-Ok-eq1.field-0 c.args.conn c.version_on.new.conn c.schema.ensures.live c.in-Ok-eq1.ensures.looks c.copied.result (λ e. e.0) (λ e. e.1) (older_between c.in-Ok-eq1.field-0 (search rules) (search rules)) c.in-Ok-eq1.ensures.names c.copied.ensures.crash c.in-Ok-eq1.ensures.ours
+returns-in-Ok-eq1-clause-found g c = found g.S.Store c.in-Ok-eq1.field-0 c.args.conn c.version_on.new.conn
+    c.schema.ensures.live c.in-Ok-eq1.ensures.looks c.copied.result (λ e. e.0) (λ e. e.1)
+    (older_between c.in-Ok-eq1.field-0 (search rules) (search rules)) c.in-Ok-eq1.ensures.names c.copied.ensures.crash
+    c.in-Ok-eq1.ensures.ours
 
 pub returns-in-Ok-eq1-clause-copied : goal.returns-in-Ok-eq1-clause-copied
-returns-in-Ok-eq1-clause-copied g c = copied g.S.Store c.in-Ok-eq1.field-0 c.args.conn c.version_on.new.conn c.schema.ensures.live c.in-Ok-eq1.ensures.looks c.copied.result (λ e. e.0) (λ e. e.1) c.copied.ensures.crash c.copied.ensures.copied
+returns-in-Ok-eq1-clause-copied g c = copied g.S.Store c.in-Ok-eq1.field-0 c.args.conn c.version_on.new.conn
+    c.schema.ensures.live c.in-Ok-eq1.ensures.looks c.copied.result (λ e. e.0) (λ e. e.1) c.copied.ensures.crash
+    c.copied.ensures.copied
 
 pub returns-in-Ok-eq1-clause-ours : goal.returns-in-Ok-eq1-clause-ours
-returns-in-Ok-eq1-clause-ours g c = known g.S.Store c.in-Ok-eq1.field-0 c.args.conn c.version_on.new.conn c.schema.ensures.live c.in-Ok-eq1.ensures.looks c.copied.result (λ e. e.0) (λ e. e.1) (older_between c.in-Ok-eq1.field-0 (search rules) (search rules)) c.in-Ok-eq1.ensures.names c.copied.ensures.crash
+returns-in-Ok-eq1-clause-ours g c = known g.S.Store c.in-Ok-eq1.field-0 c.args.conn c.version_on.new.conn
+    c.schema.ensures.live c.in-Ok-eq1.ensures.looks c.copied.result (λ e. e.0) (λ e. e.1)
+    (older_between c.in-Ok-eq1.field-0 (search rules) (search rules)) c.in-Ok-eq1.ensures.names c.copied.ensures.crash
 
 pub returns-in-Ok-eq1-clause-refused : goal.returns-in-Ok-eq1-clause-refused
-returns-in-Ok-eq1-clause-refused g c = refused g.S.Store c.in-Ok-eq1.field-0 c.args.conn c.version_on.new.conn c.schema.ensures.live c.in-Ok-eq1.ensures.looks c.copied.result (λ e. e.0) (λ e. e.1) (older_between c.in-Ok-eq1.field-0 (search rules) (search rules)) c.in-Ok-eq1.ensures.names c.copied.ensures.crash_at_fault c.copied.ensures.returned
+returns-in-Ok-eq1-clause-refused g c = refused g.S.Store c.in-Ok-eq1.field-0 c.args.conn c.version_on.new.conn
+    c.schema.ensures.live c.in-Ok-eq1.ensures.looks c.copied.result (λ e. e.0) (λ e. e.1)
+    (older_between c.in-Ok-eq1.field-0 (search rules) (search rules)) c.in-Ok-eq1.ensures.names
+    c.copied.ensures.crash_at_fault c.copied.ensures.returned
 
 pub returns-in-Ok-eq1-clause-unharmed : goal.returns-in-Ok-eq1-clause-unharmed
-returns-in-Ok-eq1-clause-unharmed g c = unharmed g.S.Store c.in-Ok-eq1.field-0 c.args.conn c.version_on.new.conn c.schema.ensures.live c.in-Ok-eq1.ensures.looks c.copied.result (λ e. e.0) (λ e. e.1) c.copied.ensures.crash_at_fault c.copied.ensures.unharmed
+returns-in-Ok-eq1-clause-unharmed g c = unharmed g.S.Store c.in-Ok-eq1.field-0 c.args.conn c.version_on.new.conn
+    c.schema.ensures.live c.in-Ok-eq1.ensures.looks c.copied.result (λ e. e.0) (λ e. e.1)
+    c.copied.ensures.crash_at_fault c.copied.ensures.unharmed
 
 pub returns-in-Ok-eq1-clause-unnamed : goal.returns-in-Ok-eq1-clause-unnamed
-returns-in-Ok-eq1-clause-unnamed g c = unnamed g.S.Store c.in-Ok-eq1.field-0 c.args.conn c.version_on.new.conn c.schema.ensures.live c.in-Ok-eq1.ensures.looks c.copied.result (λ e. e.0) (λ e. e.1) (search rules)
+returns-in-Ok-eq1-clause-unnamed g c = unnamed g.S.Store c.in-Ok-eq1.field-0 c.args.conn c.version_on.new.conn
+    c.schema.ensures.live c.in-Ok-eq1.ensures.looks c.copied.result (λ e. e.0) (λ e. e.1) (search rules)
 
 pub returns-in-Ok-eq1-clause-crash : goal.returns-in-Ok-eq1-clause-crash
-returns-in-Ok-eq1-clause-crash g c = crash g.S.Store c.in-Ok-eq1.field-0 c.args.conn c.version_on.new.conn c.schema.ensures.live c.in-Ok-eq1.ensures.looks c.copied.result (λ e. e.0) (λ e. e.1) (older_between c.in-Ok-eq1.field-0 (search rules) (search rules)) c.in-Ok-eq1.ensures.names (search rules) c.copied.ensures.crash
+returns-in-Ok-eq1-clause-crash g c = crash g.S.Store c.in-Ok-eq1.field-0 c.args.conn c.version_on.new.conn
+    c.schema.ensures.live c.in-Ok-eq1.ensures.looks c.copied.result (λ e. e.0) (λ e. e.1)
+    (older_between c.in-Ok-eq1.field-0 (search rules) (search rules)) c.in-Ok-eq1.ensures.names (search rules)
+    c.copied.ensures.crash
 
 pub returns-in-Ok-eq1-clause-crash_at_fault : goal.returns-in-Ok-eq1-clause-crash_at_fault
-returns-in-Ok-eq1-clause-crash_at_fault g c = crash_at_fault g.S.Store c.in-Ok-eq1.field-0 c.args.conn c.version_on.new.conn c.schema.ensures.live c.in-Ok-eq1.ensures.looks c.copied.result (λ e. e.0) (λ e. e.1) (older_between c.in-Ok-eq1.field-0 (search rules) (search rules)) c.in-Ok-eq1.ensures.names (search rules) c.copied.ensures.crash_at_fault c.copied.ensures.returned
+returns-in-Ok-eq1-clause-crash_at_fault g c =
+    crash_at_fault g.S.Store c.in-Ok-eq1.field-0 c.args.conn c.version_on.new.conn c.schema.ensures.live
+    c.in-Ok-eq1.ensures.looks c.copied.result (λ e. e.0) (λ e. e.1)
+    (older_between c.in-Ok-eq1.field-0 (search rules) (search rules)) c.in-Ok-eq1.ensures.names (search rules)
+    c.copied.ensures.crash_at_fault c.copied.ensures.returned
 
 -- ---- where it was only asked for its version, nothing is left that was not
 
 pub returns-in-Ok-eq3-clause-crash : goal.returns-in-Ok-eq3-clause-crash
-returns-in-Ok-eq3-clause-crash g c = survives_weaker (state g.S.Store c.args.conn) (state g.S.Store c.version_on.new.conn) _ _ (λ _ db none. absurd none) c.version_on.ensures.looks.survives
+returns-in-Ok-eq3-clause-crash g c = survives_weaker (state g.S.Store c.args.conn)
+    (state g.S.Store c.version_on.new.conn) _ _ (λ _ db none. absurd none) c.version_on.ensures.looks.survives
 
 pub returns-in-Ok-version_on-clause-crash_at_fault : goal.returns-in-Ok-version_on-clause-crash_at_fault
-returns-in-Ok-version_on-clause-crash_at_fault g c = survives_weaker (state g.S.Store c.args.conn) (state g.S.Store c.version_on.new.conn) _ _ (λ _ db none. absurd none) c.version_on.ensures.looks.survives
+returns-in-Ok-version_on-clause-crash_at_fault g c =
+    survives_weaker (state g.S.Store c.args.conn) (state g.S.Store c.version_on.new.conn) _ _ (λ _ db none. absurd none)
+    c.version_on.ensures.looks.survives
 
 pub returns-in-Err-version_on-clause-crash_at_fault : goal.returns-in-Err-version_on-clause-crash_at_fault
-returns-in-Err-version_on-clause-crash_at_fault g c = survives_weaker (state g.S.Store c.args.conn) (state g.S.Store c.version_on.new.conn) _ _ (λ _ db none. absurd none) c.version_on.ensures.looks.survives
+returns-in-Err-version_on-clause-crash_at_fault g c =
+    survives_weaker (state g.S.Store c.args.conn) (state g.S.Store c.version_on.new.conn) _ _ (λ _ db none. absurd none)
+    c.version_on.ensures.looks.survives
 
 -- ---- where a name is ours, no clause speaks of one without
 

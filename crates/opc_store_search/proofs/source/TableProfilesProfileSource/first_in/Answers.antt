@@ -10,8 +10,10 @@ use Rattle.opc_store_search.proofs.SearchFound.{on_clean, on_clean_both}
 use Rattle.opc_store_search.proofs.source.TableProfilesProfileSource.first_in.Goals as goal
 
 -- those of a class with a head, each without its access list
-chosen : (class : Class) (head : List ℕ) (ps given : List Profile) → given ≡ map bare ps → with_head head (of_class class given) ≡ map bare (with_head head (of_class class ps))
-chosen class head ps given are = ap (λ (l : List Profile). with_head head (of_class class l)) are ∙ (ap (with_head head) (of_class_bare class ps) ∙ with_head_bare head (of_class class ps))
+chosen : (class : Class) (head : List ℕ) (ps given : List Profile) → given ≡ map bare ps
+    → with_head head (of_class class given) ≡ map bare (with_head head (of_class class ps))
+chosen class head ps given are = ap (λ (l : List Profile). with_head head (of_class class l)) are
+    ∙ (ap (with_head head) (of_class_bare class ps) ∙ with_head_bare head (of_class class ps))
 
 pub returns-clause-profiles : goal.returns-clause-profiles
 returns-clause-profiles g c profiles has clean = rw has.2 (bare_are_profiles has.0.policy.profiles has.1.ordered.patterns has.1.ordered.profiles)
@@ -29,5 +31,8 @@ returns-clause-rows g c profiles has =
     let ps = has.0.policy.profiles in
     let is = chosen c.args.class c.args.head.now ps profiles has.2 in
     let mine = with_head c.args.head.now (of_class c.args.class ps) in
-    on_clean_both c.first_with_head_on.result _ (λ clean. c.first_with_head_on.ensures.first clean has.0 has.1) (λ clean. c.first_with_head_on.ensures.rows clean has.0 has.1)
-    (λ taken first rows. rows ∙ sym (ap (λ (l : List Profile). length (read_until taken.profile l)) is ∙ (ap (λ (o : Option Profile). length (read_until o (map bare mine))) first ∙ read_until_bare (deciding mine c.args.resource.now) mine)))
+    on_clean_both c.first_with_head_on.result _ (λ clean. c.first_with_head_on.ensures.first clean has.0 has.1)
+    (λ clean. c.first_with_head_on.ensures.rows clean has.0 has.1)
+    (λ taken first rows. rows ∙ sym (ap (λ (l : List Profile). length (read_until taken.profile l)) is
+    ∙ (ap (λ (o : Option Profile). length (read_until o (map bare mine))) first
+    ∙ read_until_bare (deciding mine c.args.resource.now) mine)))

@@ -94,7 +94,8 @@ use Rattle.opc_machine.specs.Rulings.{acting, logon_ruling, ruling, shown}
 use Rattle.opc_machine_invariants.proofs.Boards.{IfDone, IsKeptBoard, changed_kept, defined_kept, effect_kept, event_kept}
 use Rattle.opc_machine.proofs.Inversion.{found_ok}
 use Rattle.opc_machine_invariants.proofs.Orders.{policy_ordered, rows_ordered}
-use Rattle.opc_machine_invariants.proofs.Policies.{Extends, IfMade, board_on, policy_kept, rows_kept}
+use Rattle.opc_machine_invariants.proofs.Policies.{IfMade, policy_kept, rows_kept}
+use Rattle.opc_machine_invariants.proofs.Extending.{Extends, board_on}
 
 -- where something is done the state meets the invariants
 abbrev pub IfDoes : Outcome → Type 0

@@ -1,6 +1,7 @@
 pub mod Boards
 pub mod Keeping
 pub mod Orders
+pub mod Extending
 pub mod Policies
 pub mod Appending
 pub mod Taken

@@ -35,7 +35,8 @@ use Rattle.opc_machine.specs.Bootstrap.{policy_after, then_policy}
 use Rattle.opc_machine.specs.declared.operation.Operation.{Operation}
 use Rattle.opc_machine.specs.declared.operation.Operation.TheVariants as operation
 use Rattle.opc_machine_invariants.specs.KeptInvariants.{IsOrdered}
-use Rattle.opc_machine_invariants.proofs.Policies.{IfMade, all_replaced, in_use_made, needing_made, unless_made}
+use Rattle.opc_machine_invariants.proofs.Policies.{IfMade, in_use_made, needing_made, unless_made}
+use Rattle.opc_machine_invariants.proofs.Extending.{all_replaced}
 
 -- lists with one more
 

@@ -5,3 +5,4 @@ pub mod effects;
 pub mod laws;
 pub mod meanings;
 pub mod rows;
+pub mod rulings;

@@ -168,7 +168,9 @@ changed_is_map before p f once [] order = refl
 changed_is_map before p f once (x ∷ xs) order =
     elim (p x) as (λ b. p x ≡ b → cond b (f x ∷ xs) (x ∷ changed p f xs) ≡ cond b (f x) x
     ∷ map (λ x. cond (p x) (f x) x) xs) [
-      | true ↦ λ here. ap (λ ws. f x ∷ ws) (not_changed p f xs (all_weaker (λ y. before x y ≡ true) (λ y. p y ≡ false) (λ y after. once x y here after) xs order.0))
+      | true ↦ λ here. ap (λ ws. f x ∷ ws)
+          (not_changed p f xs (all_weaker (λ y. before x y ≡ true) (λ y. p y ≡ false) (λ y after. once x y here after)
+          xs order.0))
       | false ↦ λ here. ap (λ ws. x ∷ ws) (changed_is_map before p f once xs order.1)
     ] refl
 

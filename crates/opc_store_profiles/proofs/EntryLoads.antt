@@ -67,7 +67,7 @@ use Rattle.opc_store_schema.specs.Represented.{Represents, or_empty, entry_row, 
 use Rattle.opc_store_schema.proofs.AccessLists.{split, lack, list_hit, is_of_means, entries_hit, no_entries}
 use Rattle.opc_store_schema.proofs.Decoded.{filter_on}
 use Rattle.opc_store_schema.proofs.ProfileTexts.{entry_key, has_entry, has_profile, is_at, of_entry, profile_key}
-use Rattle.opc_store_profiles.proofs.EntryRows.{at_console}
+use Rattle.opc_store_profiles.proofs.EntryKeys.{at_console}
 
 abbrev pub entries : Asked
 entries = record {

@@ -12,7 +12,6 @@ use Rattle.std.proofs.Common.{
   not,
   ◌&&◌,
   ◌||◌,
-  ◌==◌,
   drop,
   length,
   Bool,
@@ -34,8 +33,7 @@ use Rattle.std.proofs.Common.{
   zero,
   suc,
 }
-use Rattle.std.specs.List.{flat_map, filter_map, list_any, list_all, AllByRecursion}
-use Rattle.std.specs.Str.{bytes_eq}
+use Rattle.std.specs.List.{flat_map, list_any, list_all, AllByRecursion}
 use Rattle.std.proofs.lemmas.Bool.{and_parts}
 use Rattle.std.proofs.lemmas.List.{length-map}
 use Rattle.std.proofs.lemmas.List.Sorted.{
@@ -52,21 +50,18 @@ use Rattle.sqlite.specs.Term.{lit, col}
 use Rattle.sqlite.specs.Order.{Row, column}
 use Rattle.sqlite.specs.State.{State as SqlState, Executes}
 use Rattle.sqlite.specs.Table.{Table}
-use Rattle.sqlite_rules.specs.Action.{works, work_by, pairs, deed_for}
 use Rattle.sqlite.specs.Effect.{Database, IsDatabase}
 use Rattle.sqlite.specs.Schema.{Schema}
 use Rattle.sqlite.specs.Tree.{Trees}
 use Rattle.sqlite_sql.specs.Ops.{is_null}
-use Rattle.sqlite_schema.specs.Rules.{parent_key, has_parent, has_null, equal, TableRow}
-use Rattle.std.specs.Option.{option_map_or, option_eq, option_cmp}
+use Rattle.sqlite_schema.specs.Rules.{has_parent, has_null, equal, Keeps}
+use Rattle.std.specs.Option.{option_map_or}
 use Rattle.sqlite_schema.specs.Names.{same_name}
-use Rattle.sqlite_schema.specs.declared.schema.Reference.{Reference}
 use Rattle.sqlite_schema.specs.declared.schema.Constraint.TheVariants.{ForeignKey}
-use Rattle.sqlite_schema.specs.declared.schema.Keys.TheVariants.{Enforced}
 use Rattle.sqlite_value.specs.Keys.{joined, first_key}
 use Rattle.sqlite_value.specs.declared.keys.Collation.TheVariants.{Binary}
 use Rattle.sqlite_keyed.proofs.ListLemmas.{all_weaker, all_map, all_unmap, any_from_none, IsPermutation-same, all-slice_get}
-use Rattle.opc_store_sql.specs.Order.{Rises, text_cmp}
+use Rattle.opc_store_sql.specs.Order.{Rises}
 use Rattle.sqlite_trees.specs.declared.store.Store.{Ghosts}
 use Rattle.sqlite.specs.Held.{Held, state}
 use Rattle.opc_store_sql.specs.Steps.{Puts}
@@ -80,7 +75,7 @@ use Rattle.opc_names.specs.declared.class.Class.{Class}
 use Rattle.opc_names.specs.Spellings.{class_text}
 use Rattle.opc_policy_members.specs.declared.entry.Entry.{Entry}
 use Rattle.opc_policy_members.specs.declared.profile.Profile.{Profile}
-use Rattle.opc_policy_members.specs.Access.{entry_cmp, is_for, with_entry}
+use Rattle.opc_policy_members.specs.Access.{entry_cmp, with_entry}
 use Rattle.opc_policy_members.specs.Profiles.{profile_cmp, is_of, profile_of, with_profile, with_permission}
 use Rattle.opc_state.specs.Members.{without_entry, without_permission}
 use Rattle.opc_state.specs.State.{State}
@@ -116,65 +111,8 @@ use Rattle.opc_store_schema.proofs.ProfileTexts.{
   entry_cast,
   is_at,
 }
-use Rattle.opc_store_schema.proofs.AccessLists.{
-  split,
-  Split,
-  is_of_means,
-  listing,
-  same_profiles,
-  split_entries,
-  entries_hit,
-  entries_rest,
-  no_entries,
-  all_entries,
-}
-
-same_rows : (xs ys rows : List Row) → IsPermutation xs ys → HasRows xs rows → HasRows ys rows
-same_rows xs ys rows same h = record { each = IsPermutation-trans _ _ _ (IsPermutation-sym _ _ same) h.each; kept = h.kept }
-
-idle : (olds news : List Row) → works the_schema Enforced 0 entries_at.tree olds news ≡ []
-unfolding same_name joined
-idle olds news = go (length news == 0)
-  where
-    go : (b : Bool)
-        → flat_map (λ (child : Table). filter_map
-        (λ (ref : Reference). work_by 0 entries_at.tree (pairs olds news) child ref (deed_for Enforced b ref)
-        (parent_key the_schema.tables ref)) child.references) the_schema.tables ≡ []
-    go true = refl
-    go false = refl
-
--- where an access list changes
-module _ (s : State) (class : Class) (pattern : List ℕ) (p : Profile) (it : Split class pattern s.policy.profiles p) (change : List Entry → List Entry) where
-  abbrev after : List Profile
-  after = with_profile (listing class pattern s.policy.profiles p it change) s.policy.profiles
-
-  -- the profiles' own rows are the same, so it is the entries alone that have to come
-  same_contents : contents_of (with_profiles after s) ≡ record (contents_of s) { entries = flat_map entry_rows after }
-  same_contents = ap (λ (l : List Row). let c : Contents = record (contents_of s) {
-    profiles = l;
-    entries = flat_map entry_rows after;
-  } in c) (same_profiles class pattern s.policy.profiles p it change)
-
--- ---- consoles, as the column keeps them
-
-same_consoles : (a b : Option (List ℕ)) → a ≢ Some [] → b ≢ Some [] → bytes_eq (or_empty a) (or_empty b) ≡ option_eq bytes_eq a b
-same_consoles None None h k = refl
-same_consoles None (Some []) h k = absurd (k refl)
-same_consoles None (Some (d ∷ ds)) h k = refl
-same_consoles (Some []) b h k = absurd (h refl)
-same_consoles (Some (c ∷ cs)) None h k = refl
-same_consoles (Some (c ∷ cs)) (Some b) h k = refl
-
-tied_consoles : (a b : Option (List ℕ)) → a ≢ Some [] → b ≢ Some [] → is_eq (option_cmp text_cmp a b) ≡ bytes_eq (or_empty a) (or_empty b)
-tied_consoles None None h k = refl
-tied_consoles None (Some []) h k = absurd (k refl)
-tied_consoles None (Some (d ∷ ds)) h k = refl
-tied_consoles (Some []) b h k = absurd (h refl)
-tied_consoles (Some (c ∷ cs)) None h k = refl
-tied_consoles (Some (c ∷ cs)) (Some b) h k = is_eq-slice_cmp (c ∷ cs) b
-
-pub at_console : (id : List ℕ) (when : Option (List ℕ)) → when ≢ Some [] → (e : Entry) → IsNamed e → is_at id (or_empty when) e ≡ is_for when id e
-at_console id when named e is = ap (λ b. bytes_eq e.id id && b) (same_consoles e.when when is named)
+use Rattle.opc_store_schema.proofs.AccessLists.{split, Split, is_of_means, listing, split_entries, entries_hit, entries_rest, no_entries, all_entries}
+use Rattle.opc_store_profiles.proofs.EntryKeys.{same_rows, idle, after, same_contents, tied_consoles, at_console}
 
 -- ---- an entry goes
 
@@ -287,7 +225,7 @@ no_parent : (class : Class) (pattern : List ℕ) (e : Entry) (ps : List Profile)
     → (db : Database) → IsDatabase db → db.schema ≡ the_schema → (rest : List Row)
     → HasRows (entry_row class pattern e ∷ rest) (db.trees entries_at.tree) → HasRows (map profile_row ps) (db.trees profiles_at.tree) → ⊥
 no_parent class pattern e ps absent db sound is rest has profiles =
-    let keys : TableRow ForeignKey the_schema db.trees = subst (λ (sc : Schema). TableRow ForeignKey sc db.trees) is (sound.obeys.rules ForeignKey) in
+    let keys : Keeps ForeignKey the_schema db.trees = subst (λ (sc : Schema). Keeps ForeignKey sc db.trees) is (sound.obeys.rules ForeignKey) in
     let each = all_weaker _ (λ row. is_child db.trees (drop 1 row) ≡ true) (child_is db.trees)
     (db.trees entries_at.tree) (all-slice_get
     (λ (t : Table). AllByRecursion (λ row. list_all (has_parent the_schema.tables db.trees row) t.references ≡ true)

@@ -2,8 +2,6 @@
 use Rattle.std.proofs.Common.{
   ◌≡◌,
   ◌≢◌,
-  inl,
-  inr,
   ℕ,
   suc,
   List,
@@ -13,7 +11,6 @@ use Rattle.std.proofs.Common.{
   map,
   filter,
   not,
-  ◌&&◌,
   ◌==◌,
   drop,
   length,
@@ -34,13 +31,12 @@ use Rattle.std.proofs.Common.{
   arith,
   IsPermutation,
 }
-use Rattle.std.specs.List.{flat_map, filter_map, list_any, AllByRecursion}
+use Rattle.std.specs.List.{flat_map, filter_map, AllByRecursion}
 use Rattle.std.specs.Option.{option_map_or}
-use Rattle.std.proofs.lemmas.Bool.{cases_Bool}
 use Rattle.std.proofs.lemmas.Bool.Decides.{nat_tests}
 use Rattle.std.proofs.lemmas.List.{length-map, map-append}
-use Rattle.std.proofs.lemmas.List.Sorted.{IsPermutation-sym, IsPermutation-trans, IsPermutation-map, IsPermutation-middle}
-use Rattle.sqlite.specs.declared.types.Value.TheVariants.{Null, Text}
+use Rattle.std.proofs.lemmas.List.Sorted.{IsPermutation-sym, IsPermutation-map, IsPermutation-middle}
+use Rattle.sqlite.specs.declared.types.Value.TheVariants.{Null}
 use Rattle.sqlite.specs.Term.{lit, col}
 use Rattle.sqlite.specs.Order.{Row, column}
 use Rattle.sqlite.specs.Cast.{cast_row}
@@ -51,28 +47,16 @@ use Rattle.sqlite.specs.Effect.{Database}
 use Rattle.sqlite.specs.Table.{Table}
 use Rattle.sqlite.specs.Tree.{Trees}
 use Rattle.sqlite.proofs.Callers.{one_step}
-use Rattle.sqlite_rules.specs.Action.{Work, works, work_by, pairs, loses, deed_for, is_child_of, Writes as WritesEdit}
+use Rattle.sqlite_rules.specs.Action.{Work, works, work_by, pairs, deed_for, Writes as WritesEdit}
 use Rattle.sqlite_rules.specs.Calls.{ids_of}
 use Rattle.sqlite_rules.specs.Lists.{Has}
 use Rattle.sqlite_rules.proofs.ListLemmas.{all_has}
-use Rattle.sqlite_schema.specs.Rules.{parent_key, agree, equal}
+use Rattle.sqlite_schema.specs.Rules.{parent_key}
 use Rattle.sqlite_schema.specs.Names.{same_name}
 use Rattle.sqlite_schema.specs.declared.schema.Reference.{Reference}
 use Rattle.sqlite_schema.specs.declared.schema.Keys.TheVariants.{Enforced}
-use Rattle.sqlite_value.specs.Keys.{plain, joined, first_key}
-use Rattle.sqlite_value.specs.declared.keys.Collation.TheVariants.{Binary}
-use Rattle.sqlite_keyed.proofs.ListLemmas.{
-  IsPermutation-flat_map,
-  filter-map,
-  filter_same,
-  filter_none,
-  all_weaker,
-  all_both,
-  all-filter,
-  all-map,
-  all_map,
-  all_unmap,
-}
+use Rattle.sqlite_value.specs.Keys.{joined}
+use Rattle.sqlite_keyed.proofs.ListLemmas.{IsPermutation-flat_map, filter-map, filter_same, filter_none, all_weaker, all_both, all-filter, all_map, all_unmap}
 use Rattle.opc_store_sql.specs.Order.{Rises}
 use Rattle.opc_store_sql.specs.Rows.{HasRows}
 use Rattle.opc_store_sql.proofs.Steps.{cast_null, nothing_goes}
@@ -86,7 +70,6 @@ use Rattle.opc_store_sql.proofs.Written.{Sets, adds, takes_by, sets_by}
 use Rattle.opc_names.specs.declared.class.Class.{Class}
 use Rattle.opc_names.specs.Names.{IsPattern}
 use Rattle.opc_names.specs.Laws.{KeysDiffer}
-use Rattle.opc_names.specs.Spellings.{class_text}
 use Rattle.opc_policy_members.specs.declared.entry.Entry.{Entry}
 use Rattle.opc_policy_members.specs.declared.profile.Profile.{Profile}
 use Rattle.opc_policy_members.specs.Profiles.{profile_cmp, is_of, profile_of, with_profile, with_definition}
@@ -127,87 +110,8 @@ use Rattle.opc_store_schema.proofs.ProfileTexts.{
   picks_profile,
   profile_cast,
 }
-use Rattle.opc_store_schema.proofs.AccessLists.{
-  is_of_means,
-  split,
-  entries_left,
-  profiles_left,
-  entries_lack,
-  keeping,
-  same_entries,
-  profile_replaced,
-  comes_in,
-}
-
-same_rows : (xs ys rows : List Row) → IsPermutation xs ys → HasRows xs rows → HasRows ys rows
-same_rows xs ys rows same h = record { each = IsPermutation-trans _ _ _ (IsPermutation-sym _ _ same) h.each; kept = h.kept }
-
--- ---- what rows of profiles that go set off: nothing, where no entry is left of them
-
-pub record IsOnEntries (olds : List Row) (w : Work) : Type 0 where
-  pub tree : w.child.tree ≡ entries_at.tree
-  pub columns : w.ref.columns ≡ 1 ∷ 2 ∷ []
-  pub places : w.places ≡ 1 ∷ 2 ∷ []
-  pub order : w.order ≡ plain
-  pub moves : w.moves ≡ pairs olds []
-
-profile_works : (olds : List Row) (w : Work) → Has (works the_schema Enforced 0 profiles_at.tree olds []) w → IsOnEntries olds w
-unfolding same_name joined
-profile_works olds w h = elim (cases_Bool (list_any (loses plain (1 ∷ 2 ∷ [])) (pairs olds []))) [
-  | inl some ↦ (elim (rw some at h) [
-    | inl e ↦ record {
-      tree = ap (λ (x : Work). x.child.tree) e;
-      columns = ap (λ (x : Work). x.ref.columns) e;
-      places = ap (λ (x : Work). x.places) e;
-      order = ap (λ (x : Work). x.order) e;
-      moves = ap (λ (x : Work). x.moves) e;
-    }
-    | inr nothing ↦ absurd nothing
-  ])
-  | inr none ↦ absurd (rw none at h)
-]
-
--- a row with this key, and one without it
-abbrev HasKey : Class → List ℕ → Row → Type 0
-HasKey class pattern r = (column r 1 ≡ Text (class_text class)) × (column r 2 ≡ Text pattern)
-
-abbrev lacks : Class → List ℕ → Row → Bool
-lacks class pattern r = equal Binary (column r 1) (Text (class_text class)) && (equal Binary (column r 2) (Text pattern) && true)
-
-and_false : (b : Bool) → (b && false) ≡ false
-and_false true = refl
-and_false false = refl
-
-no_child_in : (class : Class) (pattern : List ℕ) (olds : List Row) (r : Row) → AllByRecursion (HasKey class pattern) olds → lacks class pattern r ≡ false
-    → list_any (λ (move : Row × Row). loses plain (1 ∷ 2 ∷ []) move && agree plain (1 ∷ 2 ∷ []) r (1 ∷ 2 ∷ []) move.0) (pairs olds []) ≡ false
-unfolding first_key
-no_child_in class pattern [] r keys not_here = refl
-no_child_in class pattern (old ∷ olds) r keys not_here =
-    let miss : agree plain (1 ∷ 2 ∷ []) r (1 ∷ 2 ∷ []) old ≡ false = rw (keys.0.0, keys.0.1) not_here in
-    rw (miss, and_false (loses plain (1 ∷ 2 ∷ []) (old, []))) (no_child_in class pattern olds r keys.1 not_here)
-
-no_child : (class : Class) (pattern : List ℕ) (olds : List Row) (w : Work) (r : Row) → IsOnEntries olds w
-    → AllByRecursion (HasKey class pattern) olds → lacks class pattern r ≡ false
-    → list_any (is_child_of w r) w.moves ≡ false
-no_child class pattern olds w r on keys not_here = rw (on.order, on.places, on.columns, on.moves) (no_child_in class pattern olds r keys not_here)
-
-lacks_is : (class : Class) (pattern : List ℕ) (r : Row) → has_profile class pattern (drop 1 r) ≡ lacks class pattern r
-lacks_is class pattern [] = refl
-lacks_is class pattern (v ∷ r) = refl
-
--- the values are those of a profile
-abbrev IsProfile : Row → Type 0
-IsProfile v = (p : Profile) × (v ≡ profile_row p)
-
-keyed : (class : Class) (pattern : List ℕ) (r : Row) → IsProfile (drop 1 r) → has_profile class pattern (drop 1 r) ≡ true → HasKey class pattern r
-keyed class pattern [] is hit = absurd (let e = is.1 in cc)
-keyed class pattern (v ∷ r) is hit =
-    let p = is.0 in
-    let mine = is_of_means class pattern p (sym (picks_profile class pattern p) ∙ (ap (has_profile class pattern) (sym is.1) ∙ hit)) in
-    (ap (λ (l : Row). column l 0) is.1 ∙ ap (λ c. Text (class_text c)) mine.0, ap (λ (l : Row). column l 1) is.1 ∙ ap (λ t. Text t) mine.1)
-
-all_profiles : (ps : List Profile) (rows : List Row) → HasRows (map profile_row ps) rows → AllByRecursion (λ r. IsProfile (drop 1 r)) rows
-all_profiles ps rows h = all_unmap IsProfile (λ (r : Row). drop 1 r) rows (all_along IsProfile _ _ h.each (all-map IsProfile profile_row (λ p. (p, refl)) ps))
+use Rattle.opc_store_schema.proofs.AccessLists.{split, entries_left, profiles_left, entries_lack, keeping, same_entries, profile_replaced, comes_in}
+use Rattle.opc_store_profiles.proofs.ProfileKeys.{same_rows, profile_works, HasKey, lacks, no_child, lacks_is, IsProfile, keyed, all_profiles}
 
 -- ---- a profile goes, after its access list
 

@@ -1,5 +1,6 @@
 pub mod AccessLists
 pub mod Cast
+pub mod DecodedRows
 pub mod Decoded
 pub mod Filled
 pub mod KeyOrder

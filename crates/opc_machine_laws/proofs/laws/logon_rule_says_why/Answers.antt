@@ -1,5 +1,0 @@
-use Rattle.opc_machine_laws.proofs.Reasons.{at_logon}
-use Rattle.opc_machine_laws.proofs.laws.logon_rule_says_why.Goals as goal
-
-pub returns : goal.returns
-returns c = at_logon

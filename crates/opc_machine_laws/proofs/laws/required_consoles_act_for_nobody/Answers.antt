@@ -1,5 +1,0 @@
-use Rattle.opc_machine_laws.proofs.Consoles.{required_for_nobody}
-use Rattle.opc_machine_laws.proofs.laws.required_consoles_act_for_nobody.Goals as goal
-
-pub returns : goal.returns
-returns c = required_for_nobody

@@ -1,0 +1,96 @@
+//! Why something is ruled as it is, what a user holds, and for whom a console acts. Each law is what a call without a
+//! body ensures.
+ghost use Rattle.opc_machine_laws.specs.ActingLaws.{
+  AutoConsolesActForTheirOwn,
+  OptionalConsolesActAlone,
+  OtherAutoConsolesActAlone,
+  OthersAreAccountedToNobody,
+  RequiredConsolesActForNobody,
+  WhoIsOnComesFirst,
+};
+ghost use Rattle.opc_machine_laws.specs.HoldingLaws.{
+  ConsoleEntriesRaise,
+  ConsolesNeverLower,
+  EntriesCountAtTheirConsole,
+  FirstSourceDecides,
+  LevelsAreGiven,
+  RestrictedUsersAreNamed,
+};
+ghost use Rattle.opc_machine_laws.specs.RulingLaws.{LogonRuleSaysWhy, LogonRulingsSayWhy, RulingsSayWhy};
+
+/// The logon rule denies where nobody is on at a REQUIRED console, and then where whoever acts is revoked.
+pub fn logon_rule_says_why()
+    ensures { LogonRuleSaysWhy }
+{}
+
+/// A ruling is that of the logon rule, else that of the profile of OPERCMDS that decides on whoever acts, else that of
+/// the console's authority.
+pub fn rulings_say_why()
+    ensures { RulingsSayWhy }
+{}
+
+/// Whoever logs on is refused where revoked, then ruled on by the profile of CONSOLE that decides, and else admitted.
+pub fn logon_rulings_say_why()
+    ensures { LogonRulingsSayWhy }
+{}
+
+/// A level above NONE is held by an entry for the user, at every console or at this one, or by the universal access.
+pub fn levels_are_given()
+    ensures { LevelsAreGiven }
+{}
+
+/// An entry for a console never lowers what a user holds there,
+pub fn consoles_never_lower()
+    ensures { ConsolesNeverLower }
+{}
+
+/// and the first source among those for a console raises it there to its level.
+pub fn console_entries_raise()
+    ensures { ConsoleEntriesRaise }
+{}
+
+/// An entry for a console counts there alone.
+pub fn entries_count_at_their_console()
+    ensures { EntriesCountAtTheirConsole }
+{}
+
+/// A RESTRICTED user has nothing of what is given everyone: neither by `*` nor by universal access.
+pub fn restricted_users_are_named()
+    ensures { RestrictedUsersAreNamed }
+{}
+
+/// The user's own entry decides, then those for the user's groups, then that for everyone, then the universal access:
+/// the first that is there, also where it says NONE.
+pub fn the_first_source_decides()
+    ensures { FirstSourceDecides }
+{}
+
+/// An AUTO console where nobody is on acts for the user of its own name,
+pub fn auto_consoles_act_for_their_own()
+    ensures { AutoConsolesActForTheirOwn }
+{}
+
+/// and for nobody where no such user is stored.
+pub fn other_auto_consoles_act_alone()
+    ensures { OtherAutoConsolesActAlone }
+{}
+
+/// An OPTIONAL console where nobody is on acts for nobody.
+pub fn optional_consoles_act_alone()
+    ensures { OptionalConsolesActAlone }
+{}
+
+/// A REQUIRED console where nobody is on acts for nobody.
+pub fn required_consoles_act_for_nobody()
+    ensures { RequiredConsolesActForNobody }
+{}
+
+/// A console of any mode acts for the user who is on there.
+pub fn who_is_on_comes_first()
+    ensures { WhoIsOnComesFirst }
+{}
+
+/// What is asked at no console, or at one that is not there, is accounted to nobody.
+pub fn others_are_accounted_to_nobody()
+    ensures { OthersAreAccountedToNobody }
+{}

@@ -25,14 +25,30 @@ use opc_cli_works::memory::run_in_memory;
 use opc_io::watched::Watched;
 use opc_store::opening::OpenFault;
 use opc_terms::fault::Fault;
-use sqlite::{Error, ErrorCode, FileFrom, Start};
+use sqlite::{Error, ErrorCode, FileFrom, Start, Wary};
 use sqlite_disk::Disk;
 use std::io::{Read, Write};
 
 /// Does what the words of a command line ask for, the first of which is the program's own name, and returns the status:
-/// 0 done, 1 refused, 2 words or input that are bad, 3 something failed. `start` stands for what a database file that
-/// is named holds, and says what a torn write may leave.
-pub fn run_words<S: Start, R: Read, W: Write, E: Write>(
+/// 0 done, 1 refused, 2 words or input that are bad, 3 something failed.
+pub fn run_words<R: Read, W: Write, E: Write>(
+    rt: &HostRuntime,
+    words: &[String],
+    input: &mut R,
+    output: &mut Watched<W>,
+    errors: &mut Watched<E>,
+) -> u8
+    ensures most { result ≤ 3 }
+    ensures done { (status : _) × (result ≡ number_of status)
+        × AreDone ⟦<FileFrom<Wary> as Disk>⟧ IsFresh (image_at ⟦<Wary as Start>⟧) W.contents E.contents
+        (R.remaining input.old) output.old output.new errors.old errors.new status (words_after words.now) }
+{
+    run_words_from(rt, Wary, words, input, output, errors)
+}
+
+/// The same, whatever the database file holds that the words name: `start` stands for that, and says what a torn write
+/// may leave.
+pub fn run_words_from<S: Start, R: Read, W: Write, E: Write>(
     rt: &HostRuntime,
     start: S,
     words: &[String],

@@ -6,7 +6,6 @@ use opc_cli_failures::failure::{Failure, NO_PATHS};
 use opc_cli_failures::status::Status;
 use opc_io::watched::Watched;
 use opc_terms::fault::Fault;
-use sqlite::Wary;
 use std::io::{ErrorKind, Write};
 use std::process::ExitCode;
 use std::{env, io};
@@ -20,7 +19,6 @@ fn status(rt: &HostRuntime) -> u8 {
     match given_words(rt) {
         Ok(words) => run_words(
             rt,
-            Wary,
             words.as_slice(),
             &mut rt.stdin(),
             &mut Watched::new(rt.stdout()),

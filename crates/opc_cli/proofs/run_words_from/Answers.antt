@@ -1,6 +1,6 @@
 use Rattle.std.proofs.Common.{◌≤◌, subst, sym}
 use Rattle.opc_cli.proofs.Done.{at_most_three}
-use Rattle.opc_cli.proofs.run_words.Goals as goal
+use Rattle.opc_cli.proofs.run_words_from.Goals as goal
 
 pub returns : goal.returns
 returns g c = record {

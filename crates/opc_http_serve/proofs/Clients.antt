@@ -190,7 +190,7 @@ module _ {T : Type 0} (is_sure : T → Type 0) (represents may_leave : T → Sta
     module _ (before after : Option (List ℕ)) where
       replied : (served : Served) → IsReplyServed is_sure represents may_leave (λ held. held) left before after mid new moment served
           → (more : Handled) × RepliesOnce handled left moment before after (Ok served) more × IsRunOf is_sure represents may_leave old new more
-      replied served one = let r = by_reply one.reply one.replies in (r.0, record { reply = one.reply; replied = r.1; written = one.said }, r.2)
+      replied served one = let r = by_reply one.reply one.replies in (r.0, record { reply = one.reply; replied = r.1; written = one.reported }, r.2)
 
       cut_off : (f : LinkFault) → IsUnserved is_sure represents may_leave (λ held. held) left before after mid new moment f
           → (more : Handled) × RepliesOnce handled left moment before after (Err f) more × IsRunOf is_sure represents may_leave old new more

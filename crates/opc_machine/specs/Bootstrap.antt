@@ -37,6 +37,8 @@ abbrev pub mastered : Bool → State → Result State Fault
 mastered true s = Err LastMaster
 mastered false s = Ok s
 
+-- Administration, imports and the first policy all come to this: a policy, or the first thing in the way; then the
+-- consoles, unless the last master is lost.
 abbrev pub with_rows_of : State → BoardRows → Result Policy Fault → Result State Fault
 with_rows_of s board (Ok policy) = mastered (loses_master s.board board) (record s { policy = policy; board = board })
 with_rows_of s board (Err fault) = Err fault

@@ -53,6 +53,7 @@ impl Board {
             Command::DisplayConsoles => Ok(console_lines(alloc, self.rows.consoles.as_slice())?),
             Command::DisplayReplies => Ok(reply_lines(alloc, self.rows.replies.as_slice())?),
             Command::Reply(id, text) => self.reply(alloc, id.value, kept(alloc, text)?),
+            // Logging on and off are calls of their own, and the caller keeps these commands away.
             Command::Logon(..) | Command::Logoff => unreachable!(),
             _ => {
                 self.change(alloc, command, console)?;
@@ -100,6 +101,7 @@ impl Board {
                 Ok(())
             }
             Command::Halt => self.halt(),
+            // `act` answers what changes nothing itself: displays, replies, LOGON and LOGOFF.
             _ => unreachable!(),
         }
     }

@@ -13,3 +13,8 @@ pub mod replies;
 pub mod rows;
 pub mod text;
 mod units;
+
+pub use crate::board::{Board, BoardRows};
+pub use crate::event::Event;
+pub use crate::fault::BoardFault;
+pub use crate::line::{Item, Line};

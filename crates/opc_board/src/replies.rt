@@ -29,6 +29,7 @@ pub fn session_of(user: &UserId) -> UnitName
 {
     match UnitName::read(user.text()) {
         Ok(name) => name,
+        // The syntax of unit names is that of user ids.
         Err(_) => unreachable!(),
     }
 }

@@ -14,6 +14,8 @@ pub mod script;
 pub mod service;
 
 use crate::database::reason_at;
+pub use crate::script::run_script;
+pub use crate::service::serve_on;
 use opc_cli_failures::failure::{Failure, Paths, Place, reported};
 use opc_cli_failures::reason::Reason;
 use opc_cli_failures::status::Status;

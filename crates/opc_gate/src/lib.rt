@@ -5,4 +5,8 @@ pub mod gate;
 pub mod listener;
 pub mod run;
 
-pub use opc_machine::{outcome, request};
+pub use crate::gate::Gate;
+pub use crate::listener::Listener;
+pub use opc_machine::operation::Operation;
+pub use opc_machine::request::{Answer, Request};
+pub use opc_machine::{operation, outcome, request};

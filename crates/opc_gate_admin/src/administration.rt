@@ -176,6 +176,7 @@ fn profile_changed_on<T: Tables>(tables: &mut T, alloc: Global, op: &Operation) 
             id,
             when,
         } => permit_delete(tables, alloc, class, &pattern, &id, when),
+        // The caller asks for operations on profiles alone.
         _ => unreachable!(),
     }
 }

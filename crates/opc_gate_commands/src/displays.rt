@@ -50,6 +50,7 @@ fn lines_on<T: Tables>(
         Command::DisplayDevices => device_lines(alloc, tables.devices(alloc)?.as_slice())?,
         Command::DisplayConsoles => console_lines(alloc, tables.consoles(alloc)?.as_slice())?,
         Command::DisplayReplies => reply_lines(alloc, tables.replies(alloc)?.as_slice())?,
+        // The caller asks for displays alone.
         _ => unreachable!(),
     };
     Ok(lines)

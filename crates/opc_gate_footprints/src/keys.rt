@@ -63,6 +63,7 @@ pub(crate) fn keys_of_command(command: &Command<'_>) -> BoardKeys
         Command::Halt => BoardKeys::Nothing,
         Command::Logon(..) => BoardKeys::Nothing,
         Command::Logoff => BoardKeys::Nothing,
+        // Displays load whole tables, not a footprint.
         Command::DisplayUnits
         | Command::DisplayUnit(_)
         | Command::DisplayDevices

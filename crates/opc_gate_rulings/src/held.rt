@@ -240,6 +240,7 @@ fn id_of(group: &GroupName) -> EntryId
 {
     match UserId::read(group.text()) {
         Ok(name) => EntryId::from(name),
+        // The syntax of group names is that of user ids.
         Err(_) => unreachable!(),
     }
 }

@@ -113,6 +113,7 @@ fn own_id(name: &ConsoleName) -> UserId
 {
     match UserId::read(name.text()) {
         Ok(id) => id,
+        // Every console name is a valid user id.
         Err(_) => unreachable!(),
     }
 }
@@ -228,6 +229,7 @@ fn resource_of(name: &ConsoleName) -> Resource
 {
     match Resource::read(name.text()) {
         Ok(resource) => resource,
+        // A console name is a valid resource of one qualifier.
         Err(_) => unreachable!(),
     }
 }

@@ -8,9 +8,9 @@ use Rattle.opc_http_requests.specs.declared.fault.ReadingFault.{ReadingFault}
 use Rattle.opc_http_requests.specs.declared.fault.ReadingFault.TheVariants as reading
 use Rattle.opc_state.specs.State.{State}
 use Rattle.opc_http.specs.Exchange.{IsCutOff, IsFaulty, IsServed, IsReported, Replies, Reply, is_read}
-use Rattle.opc_http.specs.declared.exchange.LinkFault.{LinkFault}
-use Rattle.opc_http.specs.declared.exchange.LinkFault.TheVariants as fault
-use Rattle.opc_http.specs.declared.exchange.Served.{Served}
+use Rattle.opc_http.specs.declared.exchanging.LinkFault.{LinkFault}
+use Rattle.opc_http.specs.declared.exchanging.LinkFault.TheVariants as fault
+use Rattle.opc_http.specs.declared.exchanging.Served.{Served}
 
 module _ {T K : Type 0} (is_sure : T → Type 0) (represents may_leave : T → State → Type 0) (held : K → Option (List ℕ))
     (left : Option (List ℕ)) (before after : K) (old new : T) (moment : ℕ) where

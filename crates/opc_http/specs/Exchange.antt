@@ -11,9 +11,9 @@ use Rattle.opc_machine.specs.declared.request.Request.{Request}
 use Rattle.opc_machine.specs.declared.request.Answer.{Answer}
 use Rattle.opc_machine.specs.Inputs.{input_of}
 use Rattle.opc_gate.specs.Handling.{IsHandled}
-use Rattle.opc_http.specs.declared.exchange.LinkFault.{LinkFault}
-use Rattle.opc_http.specs.declared.exchange.LinkFault.TheVariants as fault
-use Rattle.opc_http.specs.declared.exchange.Served.{Served}
+use Rattle.opc_http.specs.declared.exchanging.LinkFault.{LinkFault}
+use Rattle.opc_http.specs.declared.exchanging.LinkFault.TheVariants as fault
+use Rattle.opc_http.specs.declared.exchanging.Served.{Served}
 
 -- what is replied: the answer to a request, or the refusal of what is none
 abbrev pub Reply : Type 0

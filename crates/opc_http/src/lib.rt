@@ -3,8 +3,10 @@
 //! tests.
 #![tactic(auto)]
 
-pub mod exchange;
+mod exchanging;
 
+pub use crate::exchanging::{LinkFault, Served, exchange};
 pub use opc_http_head::routes;
+pub use opc_http_head::routes::Routes;
 pub use opc_io::{sink, source, watched};
 pub use opc_io_failing::{reader, writer};

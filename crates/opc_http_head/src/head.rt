@@ -78,5 +78,6 @@ pub fn read_head<S: Source>(
             return Ok(None);
         }
     }
+    // Each turn before the last takes at least one byte, and the buffer is full after `HEAD_LIMIT` bytes.
     unreachable!()
 }

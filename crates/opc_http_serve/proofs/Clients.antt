@@ -41,9 +41,9 @@ use Rattle.opc_machine.specs.Inputs.{input_of}
 use Rattle.opc_gate.specs.Handling.{IsHandled, IsRun}
 use Rattle.opc_gate.proofs.Running.{run_more}
 use Rattle.opc_http.specs.Exchange.{IsFaulty, IsServed as IsReplyServed, IsUnserved, Replies, Reply}
-use Rattle.opc_http.specs.declared.exchange.LinkFault.{LinkFault}
-use Rattle.opc_http.specs.declared.exchange.LinkFault.TheVariants as fault
-use Rattle.opc_http.specs.declared.exchange.Served.{Served}
+use Rattle.opc_http.specs.declared.exchanging.LinkFault.{LinkFault}
+use Rattle.opc_http.specs.declared.exchanging.LinkFault.TheVariants as fault
+use Rattle.opc_http.specs.declared.exchanging.Served.{Served}
 use Rattle.opc_http_serve.specs.declared.clock.TheConstants.{LAST_MOMENT}
 use Rattle.opc_http_serve.specs.Handled.{AreHandled, Handled, IsConversation, IsExchange, IsReplied, IsRunOf, RepliesOnce, handled_with, none_handled}
 use Rattle.opc_http_serve.specs.Arriving.{Arrives, IsArrival}

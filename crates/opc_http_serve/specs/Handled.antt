@@ -7,9 +7,9 @@ use Rattle.opc_machine.specs.declared.request.Request.{Request}
 use Rattle.opc_machine.specs.declared.request.Answer.{Answer}
 use Rattle.opc_gate.specs.Handling.{IsRun}
 use Rattle.opc_http.specs.Exchange.{IsAsked, IsCutOff, IsFaulty, IsServed, IsReported, Reply}
-use Rattle.opc_http.specs.declared.exchange.LinkFault.{LinkFault}
-use Rattle.opc_http.specs.declared.exchange.LinkFault.TheVariants as fault
-use Rattle.opc_http.specs.declared.exchange.Served.{Served}
+use Rattle.opc_http.specs.declared.exchanging.LinkFault.{LinkFault}
+use Rattle.opc_http.specs.declared.exchanging.LinkFault.TheVariants as fault
+use Rattle.opc_http.specs.declared.exchanging.Served.{Served}
 use Rattle.opc_http_serve.specs.declared.arrival.ServeFault.{ServeFault}
 use Rattle.opc_http_serve.specs.declared.clock.TheConstants.{LAST_MOMENT}
 use Rattle.opc_http_serve.specs.Serving.{ServesClients}

@@ -20,8 +20,8 @@ use Rattle.std.specs.Prelude.{
 }
 use Rattle.std.specs.declared.io.Error.{Error}
 use Rattle.std.specs.declared.time.Duration.{Duration}
-use Rattle.opc_http.specs.declared.exchange.LinkFault.{LinkFault}
-use Rattle.opc_http.specs.declared.exchange.Served.{Served}
+use Rattle.opc_http.specs.declared.exchanging.LinkFault.{LinkFault}
+use Rattle.opc_http.specs.declared.exchanging.Served.{Served}
 use Rattle.opc_http_serve.specs.declared.arrival.Arrival.{Arrival}
 use Rattle.opc_http_serve.specs.declared.arrival.ServeFault.{ServeFault}
 use Rattle.opc_http_serve.specs.Arriving.{Arrives, IsArrival}

@@ -2,7 +2,7 @@
 ghost use Rattle.opc_http_serve.specs.Handled.{IsExchange};
 
 use opc_gate::gate::Gate;
-use opc_http::exchange::{LinkFault, Served, exchange};
+use opc_http::{LinkFault, Served, exchange};
 use opc_http_head::routes::Routes;
 use opc_io::sink::Sink;
 use opc_io::source::Source;
@@ -12,8 +12,8 @@ use std::alloc::Global;
 /// What serves one client after another, each by one exchange.
 pub trait Exchanges {
     ghost use Rattle.std.specs.Prelude.{ℕ, List, Option, Result};
-    ghost use Rattle.opc_http.specs.declared.exchange.LinkFault.{LinkFault};
-    ghost use Rattle.opc_http.specs.declared.exchange.Served.{Served};
+    ghost use Rattle.opc_http.specs.declared.exchanging.LinkFault.{LinkFault};
+    ghost use Rattle.opc_http.specs.declared.exchanging.Served.{Served};
 
     /// That an exchange was made: with what the reader had left, at this moment, with what the writer held before it
     /// and after it, and how it ended. What a function over any of these says by it can only be shown by such an

@@ -3,7 +3,7 @@ use crate::message::bytes_of;
 use crate::room::{ABORTED, Outcome, Room};
 use crate::spans::Spans;
 use anyhow::{Result, bail};
-use opc_http::exchange::LinkFault;
+use opc_http::LinkFault;
 use opc_io_failing::reader::FailingReader;
 use opc_io_failing::writer::FailingWriter;
 use opc_state::tables::Tables;

@@ -10,3 +10,7 @@ mod line;
 pub mod read;
 mod records;
 pub mod write;
+
+pub use crate::fault::ImportFault;
+pub use crate::read::read_policy;
+pub use crate::write::write_policy;

@@ -189,6 +189,7 @@ fn push_digits(line: &mut ByteRecord, digest: &[u8; 32]) -> Result<(), AllocErro
     let mut digits = [0; 64];
     match hex::encode_to_slice(digest.as_slice(), &mut digits) {
         Ok(()) => push(line, &digits),
+        // 32 bytes have exactly 64 digits.
         Err(_) => unreachable!(),
     }
 }

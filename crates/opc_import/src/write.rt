@@ -47,6 +47,7 @@ pub fn write_policy(alloc: Global, rows: &[Row]) -> Result<String, AllocError>
 {
     let bytes = lines_of(alloc, rows)?;
     let Ok(text) = String::from_utf8(bytes) else {
+        // Each field is ASCII text.
         unreachable!()
     };
     Ok(text)

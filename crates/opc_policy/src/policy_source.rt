@@ -1,9 +1,10 @@
 //! A policy in memory as a source of profiles.
-ghost use Rattle.std.specs.Prelude.{◌≡◌, IfOk, IsOkUnless, filter, length};
+ghost use Rattle.std.specs.Prelude.{◌≡◌, IfOk, IsOkUnless, List, filter, length};
 ghost use Rattle.std.specs.Option.{option_copied};
 ghost use Rattle.opc_policy_members.specs.Profiles.{AreProfiles, of_class};
 ghost use Rattle.opc_policy.specs.Deciding.{deciding};
 ghost use Rattle.opc_policy.specs.Examined.{is_chosen, read_until};
+ghost use Rattle.opc_policy_members.specs.declared.profile.Profile.{Profile as TheProfile};
 ghost use Rattle.opc_terms.specs.declared.store_fault.StoreFault.TheVariants.{NoMemory};
 
 use crate::source::{ProfileSource, Taken};
@@ -59,32 +60,37 @@ fn copies_of(alloc: Global, profiles: &Profiles, class: Class) -> Result<Vec<Pro
     Ok(copies)
 }
 
-/// Copies of the profiles of a class in a policy, in the order of their patterns.
-pub fn profiles_of_class(
-    alloc: Global,
-    policy: &Policy,
-    class: Class,
-) -> Result<Vec<Profile>, StoreFault>
-    ensures profiles { IfOk result (λ profiles. profiles.items ≡ of_class class policy.now.profiles) }
-    ensures sound { IfOk result (λ profiles. AreProfiles profiles.items) }
-    ensures fault { IsOkUnless result NoMemory }
-{
-    Ok(copies_of(alloc, &policy.profiles, class)?)
+/// What answers for the profiles of a whole class.
+pub trait ClassProfiles {
+    /// The profiles, in the order of their patterns.
+    ghost profiles: { Self → List TheProfile };
+
+    /// Copies of the profiles of a class, in the order of their patterns.
+    fn all(&self, alloc: Global, class: Class) -> Result<Vec<Profile>, StoreFault>
+        ensures profiles { IfOk result (λ found. found.items ≡ of_class class (profiles self.now)) }
+        ensures sound { IfOk result (λ found. AreProfiles found.items) }
+        ensures fault { IsOkUnless result NoMemory };
+
+    /// The first profile of a class, in the order of the patterns, that covers a resource, and how many were read for
+    /// it.
+    fn first(&self, class: Class, resource: &Resource) -> Result<Taken, StoreFault>
+        ensures first { IfOk result (λ taken.
+            taken.profile ≡ deciding (of_class class (profiles self.now)) resource.now) }
+        ensures rows { IfOk result (λ taken.
+            taken.rows ≡ length (read_until taken.profile (of_class class (profiles self.now)))) }
+        ensures fault { IsOkUnless result NoMemory };
 }
 
-/// The first profile of a class in a policy, in the order of the patterns, that covers a resource, and how many were
-/// read for it.
-pub fn first_of_class(
-    policy: &Policy,
-    class: Class,
-    resource: &Resource,
-) -> Result<Taken, StoreFault>
-    ensures first { IfOk result (λ taken. taken.profile ≡ deciding (of_class class policy.now.profiles) resource.now) }
-    ensures rows { IfOk result (λ taken. taken.rows ≡ length
-        (read_until taken.profile (of_class class policy.now.profiles))) }
-    ensures fault { IsOkUnless result NoMemory }
-{
-    Ok(first_chosen(&policy.profiles, class, None, resource)?)
+impl ClassProfiles for Policy {
+    ghost profiles = { λ policy. policy.profiles };
+
+    fn all(&self, alloc: Global, class: Class) -> Result<Vec<Profile>, StoreFault> {
+        Ok(copies_of(alloc, &self.profiles, class)?)
+    }
+
+    fn first(&self, class: Class, resource: &Resource) -> Result<Taken, StoreFault> {
+        Ok(first_chosen(&self.profiles, class, None, resource)?)
+    }
 }
 
 impl ProfileSource for Policy {

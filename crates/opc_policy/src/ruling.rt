@@ -13,7 +13,7 @@ ghost use Rattle.opc_policy.specs.Rulings.{
   console_ruling,
 };
 
-use crate::search::Found;
+use crate::searching::Found;
 use crate::verdict::Verdict;
 use opc_names::auth::Auth;
 use opc_names::level::Level;

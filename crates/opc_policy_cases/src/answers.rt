@@ -6,8 +6,8 @@ use anyhow::{Context, Result, bail};
 use opc_import::read::read_policy;
 use opc_policy::explained::explain;
 use opc_policy::plain::deciding_by_pairs;
-use opc_policy::policy_source::{first_of_class, profiles_of_class};
-use opc_policy::search::search;
+use opc_policy::ClassProfiles;
+use opc_policy::search;
 use opc_policy_members::policy::Policy;
 use opc_policy_members::profile::Profile;
 use opc_terms::entry_id::EntryId;
@@ -103,8 +103,8 @@ fn in_one_line(alloc: Global, text: &str) -> Result<String, AllocError> {
 fn searched(alloc: Global, policy: &mut Policy, words: &Words<'_>) -> Result<String> {
     let (class, resource) = (words.class(0)?, words.resource(1)?);
     let found = search(policy, class, &resource)?;
-    let first = first_of_class(policy, class, &resource)?;
-    let profiles = profiles_of_class(alloc, policy, class)?;
+    let first = policy.first(class, &resource)?;
+    let profiles = policy.all(alloc, class)?;
     let by_pairs = deciding_by_pairs(profiles.as_slice(), class, &resource);
     Ok(format!(in alloc;
         "{} RANGES {} ROWS {}; {} ROWS {}; {}",

@@ -4,7 +4,7 @@ use opc_import::read::read_policy;
 use opc_import::write::write_policy;
 use opc_names::class::Class;
 use opc_names::name::Resource;
-use opc_policy::search::search;
+use opc_policy::search;
 use opc_policy::source::{ProfileSource, Taken};
 use opc_policy_members::policy::Policy;
 use opc_terms::store_fault::StoreFault;

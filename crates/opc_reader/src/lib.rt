@@ -7,4 +7,7 @@ pub mod line;
 mod operand;
 mod verb;
 
+pub use crate::line::{ReadFault, read_command};
+pub use opc_reader_commands::command::{Command, Operand, Text};
+pub use opc_reader_commands::piece::{Piece, Span};
 pub use opc_reader_commands::{command, piece};

@@ -47,6 +47,7 @@ impl Folded {
     {
         match str::from_utf8(&self.room[..self.len]) {
             Ok(text) => text,
+            // Folding changes ASCII letters alone, so what was UTF-8 is UTF-8.
             Err(_) => unreachable!(),
         }
     }

@@ -48,7 +48,7 @@ use Rattle.opc_policy_members.specs.declared.profile.Profile.{Profile}
 use Rattle.opc_policy_members.specs.Profiles.{profile_of}
 use Rattle.opc_policy_members.proofs.Classes.{same_class_is}
 use Rattle.opc_policy_members.specs.declared.policy.Policy.{Policy}
-use Rattle.opc_policy.specs.declared.search.Found.{Found}
+use Rattle.opc_policy.specs.declared.searching.Found.{Found}
 use Rattle.opc_terms.specs.declared.store_fault.StoreFault.{StoreFault}
 use Rattle.opc_state.specs.declared.change.Change.{Change}
 use Rattle.opc_state.specs.declared.change.Edit.{Edit}

@@ -21,7 +21,7 @@ ghost use Rattle.opc_state_cache.specs.Cache.{
 use crate::deciding_cache::DecidingCache;
 use opc_names::class::Class;
 use opc_names::name::{Pattern, Resource};
-use opc_policy::search::Found;
+use opc_policy::Found;
 use opc_policy_members::profile::Profile;
 use opc_state::change::{Change, Edit};
 use opc_state::tables::Tables;

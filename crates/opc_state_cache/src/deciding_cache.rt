@@ -42,6 +42,7 @@ impl DecidingCache {
         ensures { IfOk result (λ recent. recent ≡ []) }
     {
         let Some(most) = NonZeroUsize::new(MOST) else {
+            // 256 is not zero.
             unreachable!()
         };
         Ok(DecidingCache {

@@ -7,3 +7,7 @@ mod source;
 pub mod store;
 mod tables;
 mod whole;
+
+pub use crate::opening::OpenFault;
+pub use crate::store::Store;
+pub use opc_state::change::Change;

@@ -19,7 +19,7 @@ ghost use Rattle.opc_store_search.specs.Search.{Selects, covers};
 use crate::source::TableProfiles;
 use opc_names::class::Class;
 use opc_names::name::Resource;
-use opc_policy::search::{Found, search};
+use opc_policy::{Found, search};
 use opc_policy::source::Taken;
 use opc_policy_members::profile::Profile;
 use opc_store_profiles::entries::access_list_on;

@@ -4,8 +4,8 @@ use crate::records::{add_profile, profile_row, profiles_records, records_of, row
 use anyhow::{Result, bail};
 use opc_names::class::Class;
 use opc_names::name::Resource;
-use opc_policy::policy_source::{first_of_class, profiles_of_class};
-use opc_policy::search::{Found, search};
+use opc_policy::ClassProfiles;
+use opc_policy::{Found, search};
 use opc_policy::source::{ProfileSource, Taken};
 use opc_policy_members::policy::Policy;
 use opc_state::tables::Tables;
@@ -47,10 +47,10 @@ pub fn in_memory(alloc: Global, file: &str, kind: &str, key: &str) -> Result<Str
         }
         "order" => {
             let name = Resource::read(key)?;
-            taken_lines(alloc, &first_of_class(&policy, Class::Opercmds, &name)?)
+            taken_lines(alloc, &policy.first(Class::Opercmds, &name)?)
         }
         "all" => {
-            let profiles = profiles_of_class(alloc, &policy, class_of(key)?)?;
+            let profiles = policy.all(alloc, class_of(key)?)?;
             profiles_records(alloc, profiles.as_slice())
         }
         _ => bail!("no search: {kind}"),

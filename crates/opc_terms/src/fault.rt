@@ -57,6 +57,7 @@ impl Subject {
     {
         match str::from_utf8(self.bytes.as_slice()) {
             Ok(text) => text,
+            // The bytes were copied from a name.
             Err(_) => unreachable!(),
         }
     }

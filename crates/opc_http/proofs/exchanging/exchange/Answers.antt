@@ -2,7 +2,7 @@ use Rattle.std.proofs.Common.{Ok, Err, refl, subst}
 use Rattle.opc_http_requests.specs.Faults.{IfRefused}
 use Rattle.opc_http.specs.Exchange.{IsAsked}
 use Rattle.opc_http.proofs.Replies.{faulty, not_read, refused_read, served}
-use Rattle.opc_http.proofs.exchange.exchange.Goals as goal
+use Rattle.opc_http.proofs.exchanging.exchange.Goals as goal
 
 pub returns-in-Ok-clause-served : goal.returns-in-Ok-clause-served
 returns-in-Ok-clause-served g c =

@@ -2,7 +2,7 @@ use Rattle.std.proofs.Common.{◌≡◌, ◌-◌, ◌+◌, take, ◌∙◌, refl
 use Rattle.std.proofs.lemmas.Result.{err_from_is_err_and}
 use Rattle.opc_policy.proofs.ByHeads.{asked_start, asked_last, asked_few, asked_next}
 use Rattle.opc_policy.proofs.MostSpecific.{deciding_is_most_specific}
-use Rattle.opc_policy.proofs.search.search.Goals as goal
+use Rattle.opc_policy.proofs.searching.search.Goals as goal
 
 pub heads-init : goal.heads-init
 heads-init g c = record {

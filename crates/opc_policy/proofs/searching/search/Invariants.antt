@@ -2,7 +2,7 @@ use Rattle.std.proofs.Common.{◌≤◌, List, length}
 use Rattle.opc_policy.proofs.ByHeads.{Asked}
 use Rattle.opc_policy_members.specs.Profiles.{AreProfiles, of_class}
 use Rattle.opc_policy_members.specs.declared.profile.Profile.{Profile}
-use Rattle.opc_policy.proofs.search.search.Given as goal
+use Rattle.opc_policy.proofs.searching.search.Given as goal
 
 abbrev pub invariant-heads : goal.invariant-heads
 invariant-heads g l = record {

@@ -1,4 +1,4 @@
-//! The rows of a board, told in words.
+//! The rows of a board, written as words.
 use anyhow::{Context, Result};
 use opc_board::board::BoardRows;
 use opc_board::rows::{ConsoleRow, DeviceRow, ReplyRow, UnitKind, UnitRow};
@@ -10,19 +10,19 @@ use opc_rows::Rows;
 use opc_terms::mode::Mode;
 use std::alloc::Global;
 
-// A row that a word tells: its kind, an equals sign, and its parts with commas between them.
-trait Told: Sized {
+// A row that a word describes: its kind, an equals sign, and its parts with commas between them.
+trait Parsed: Sized {
     fn kind() -> &'static str;
 
-    fn told(alloc: Global, parts: &str) -> Result<Self>;
+    fn parsed(alloc: Global, parts: &str) -> Result<Self>;
 }
 
-impl Told for UnitRow {
+impl Parsed for UnitRow {
     fn kind() -> &'static str {
         "unit"
     }
 
-    fn told(_alloc: Global, parts: &str) -> Result<Self> {
+    fn parsed(_alloc: Global, parts: &str) -> Result<Self> {
         Ok(UnitRow {
             name: UnitName::read(parts)?,
             kind: UnitKind::Job,
@@ -33,13 +33,13 @@ impl Told for UnitRow {
     }
 }
 
-impl Told for DeviceRow {
+impl Parsed for DeviceRow {
     fn kind() -> &'static str {
         "device"
     }
 
     // Its number and state, and the unit that has it where there is one.
-    fn told(_alloc: Global, parts: &str) -> Result<Self> {
+    fn parsed(_alloc: Global, parts: &str) -> Result<Self> {
         let (number, state) = parts.split_once(',').context("a state")?;
         let (online, unit) = match state.split_once(',') {
             Some((state, name)) => (state == "ONLINE", Some(UnitName::read(name)?)),
@@ -54,13 +54,13 @@ impl Told for DeviceRow {
     }
 }
 
-impl Told for ConsoleRow {
+impl Parsed for ConsoleRow {
     fn kind() -> &'static str {
         "console"
     }
 
     // Its name, authority and state, and the user who is on there where there is one.
-    fn told(_alloc: Global, parts: &str) -> Result<Self> {
+    fn parsed(_alloc: Global, parts: &str) -> Result<Self> {
         let (name, parts) = parts.split_once(',').context("an authority")?;
         let (auth, state) = parts.split_once(',').context("a state")?;
         let (online, user) = match state.split_once(',') {
@@ -78,12 +78,12 @@ impl Told for ConsoleRow {
     }
 }
 
-impl Told for ReplyRow {
+impl Parsed for ReplyRow {
     fn kind() -> &'static str {
         "reply"
     }
 
-    fn told(alloc: Global, parts: &str) -> Result<Self> {
+    fn parsed(alloc: Global, parts: &str) -> Result<Self> {
         Ok(ReplyRow {
             id: ReplyId::new(parts.parse::<u8>()?).context("the number of a reply")?,
             text: KeptText::new(alloc, "MOUNT")?,
@@ -91,19 +91,19 @@ impl Told for ReplyRow {
     }
 }
 
-// The rows of one kind, in the order in which they are told.
-fn rows_of<R: Told + Drop>(alloc: Global, text: &str) -> Result<Rows<R>> {
+// The rows of one kind, in the order of the text.
+fn rows_of<R: Parsed + Drop>(alloc: Global, text: &str) -> Result<Rows<R>> {
     let mut rows = Rows::new(alloc);
     for word in text.split(' ') {
         let (kind, parts) = word.split_once('=').unwrap_or((word, ""));
         if kind == R::kind() {
-            rows.push(R::told(alloc, parts)?)?;
+            rows.push(R::parsed(alloc, parts)?)?;
         }
     }
     Ok(rows)
 }
 
-/// The rows of a board, as a text tells them; its histories are empty.
+/// The rows of a board, as a text has them; its histories are empty.
 pub fn gathered(alloc: Global, text: &str) -> Result<BoardRows> {
     Ok(BoardRows {
         units: rows_of(alloc, text)?,

@@ -1,4 +1,4 @@
-//! Boards of rows that no run of commands and events makes, told line by line on standard input.
+//! Boards of rows that no run of commands and events makes, given line by line on standard input.
 #![tactic(auto)]
 
 mod gathered;
@@ -12,8 +12,8 @@ fn main(rt: HostRuntime) -> Result<()> {
     let mut board = no_rows(alloc)?;
     for line in rt.lines(alloc) {
         let line = line?;
-        let told = step(alloc, &mut board, line.as_str())?;
-        print!(rt; "{line}\n{told}")?;
+        let answer = step(alloc, &mut board, line.as_str())?;
+        print!(rt; "{line}\n{answer}")?;
     }
     Ok(())
 }

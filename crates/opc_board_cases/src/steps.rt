@@ -8,14 +8,15 @@ use opc_board::board::{Board, BoardRows};
 use opc_board::fault::BoardFault;
 use opc_board::line::Line;
 use opc_names::auth::Auth;
-use opc_names::name::ConsoleName;
+use opc_names::name::{ConsoleName, UnitName};
 use opc_reader::line::read_command;
 use opc_reader_commands::command::Command;
 use opc_terms::mode::Mode;
+use opc_terms::unit_kind::UnitKindAt;
 use std::alloc::{AllocError, Global};
 
 // How many rows of each kind came back, where they are no board.
-fn told_rows(alloc: Global, back: &BoardRows) -> Result<String, AllocError> {
+fn rows_text(alloc: Global, back: &BoardRows) -> Result<String, AllocError> {
     let units = back.units.as_slice().len();
     let devices = back.devices.as_slice().len();
     let consoles = back.consoles.as_slice().len();
@@ -25,18 +26,18 @@ fn told_rows(alloc: Global, back: &BoardRows) -> Result<String, AllocError> {
     )
 }
 
-fn told_lines(alloc: Global, lines: &[Line]) -> Result<String, AllocError> {
-    let mut told = String::new(alloc);
+fn lines_text(alloc: Global, lines: &[Line]) -> Result<String, AllocError> {
+    let mut texts = String::new(alloc);
     for line in lines {
         let text = line.text.as_str();
-        writeln!(told, "  {text}")?;
+        writeln!(texts, "  {text}")?;
     }
-    Ok(told)
+    Ok(texts)
 }
 
-fn told_answer(alloc: Global, answer: Result<Vec<Line>, BoardFault>) -> Result<String, AllocError> {
+fn answer_text(alloc: Global, answer: Result<Vec<Line>, BoardFault>) -> Result<String, AllocError> {
     match answer {
-        Ok(lines) => told_lines(alloc, lines.as_slice()),
+        Ok(lines) => lines_text(alloc, lines.as_slice()),
         Err(fault) => format!(in alloc; "  {fault:?}\n"),
     }
 }
@@ -54,7 +55,7 @@ fn typed(alloc: Global, board: &mut Board, text: &str) -> Result<String> {
     let there = has_console(board, &name);
     match read_command(line)? {
         Command::Logon(..) | Command::Logoff => Ok(String::from_str(alloc, "  a session's\n")?),
-        command if there => Ok(told_answer(alloc, board.act(alloc, &command, &name))?),
+        command if there => Ok(answer_text(alloc, board.act(alloc, &command, &name))?),
         _ => Ok(String::from_str(alloc, "  no console\n")?),
     }
 }
@@ -74,7 +75,20 @@ fn make(alloc: Global, board: &mut Board, text: &str) -> Result<String> {
             *board = made;
             Ok(String::from_str(alloc, "  a board\n")?)
         }
-        Err(back) => Ok(told_rows(alloc, &back)?),
+        Err(back) => Ok(rows_text(alloc, &back)?),
+    }
+}
+
+// What a unit of this name is.
+fn kind(alloc: Global, board: &Board, name: &str) -> Result<String> {
+    match board.kind_at(&UnitName::read(name)?) {
+        UnitKindAt::Absent => Ok(String::from_str(alloc, "  absent\n")?),
+        UnitKindAt::Job => Ok(String::from_str(alloc, "  a job\n")?),
+        UnitKindAt::Stc { member } => {
+            let member = member.text();
+            Ok(format!(in alloc; "  a started task of {member}\n")?)
+        }
+        UnitKindAt::Tsu => Ok(String::from_str(alloc, "  a session\n")?),
     }
 }
 
@@ -86,8 +100,8 @@ pub fn no_rows(alloc: Global) -> Result<Board> {
     }
 }
 
-/// What a line is answered: `board` asks whether the rows after it are one, and `define`, `type` and `master` are of
-/// the last that was.
+/// What a line is answered: `board` asks whether the rows after it are one, and `define`, `kind`, `type` and `master`
+/// are of the last that was.
 pub fn step(alloc: Global, board: &mut Board, line: &str) -> Result<String> {
     let (verb, text) = line.split_once(' ').unwrap_or((line, ""));
     match verb {
@@ -96,6 +110,7 @@ pub fn step(alloc: Global, board: &mut Board, line: &str) -> Result<String> {
             define(board, text)?;
             Ok(String::new(alloc))
         }
+        "kind" => kind(alloc, board, text),
         "master" if board.has_master() => Ok(String::from_str(alloc, "  online\n")?),
         "master" => Ok(String::from_str(alloc, "  none\n")?),
         _ => typed(alloc, board, text),

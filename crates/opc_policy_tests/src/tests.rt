@@ -1,13 +1,13 @@
-//! Sources of profiles that fail, and memory that is refused.
+//! Rulings over a policy, sources of profiles that fail, and memory that is refused.
 use opc_import::fault::ImportFault;
 use opc_import::read::read_policy;
 use opc_import::write::write_policy;
+use opc_names::auth::Auth;
 use opc_names::class::Class;
-use opc_names::name::Resource;
-use opc_policy::search;
-use opc_policy::source::{ProfileSource, Taken};
-use opc_policy_members::policy::Policy;
-use opc_terms::store_fault::StoreFault;
+use opc_names::group::Group;
+use opc_names::level::Level;
+use opc_names::name::{ConsoleName, GroupName, Resource, UserId};
+use opc_policy::{ClassProfiles, Need, Policy, ProfileSource, StoreFault, Taken, rule_on, search};
 use std::alloc::Global;
 use std::test::Fail;
 
@@ -95,6 +95,61 @@ fn no_head_after_the_deciding_one_is_asked_for(rt: HostRuntime) -> Result<(), Fa
         source.least = head.saturating_add(1);
         let failed = search(&mut source, Class::Opercmds, &resource);
         assert_eq!(rt; failed.err(), Some(StoreFault::Store));
+    }
+    Ok(())
+}
+
+#[test]
+fn a_class_answers_whole_or_its_first(rt: HostRuntime) -> Result<(), Fail> {
+    let policy = policy(rt.alloc())?;
+    let all = policy.all(rt.alloc(), Class::Opercmds)?;
+    assert_eq!(rt; all.len(), 4);
+    let first = policy.first(Class::Opercmds, &Resource::read("MVS.CANCEL.JOB.BACKUP")?)?;
+    let pattern = first.profile.map(|profile| profile.pattern);
+    let pattern = pattern.as_ref().map_or("-", |pattern| pattern.text());
+    assert_eq!(rt; pattern, "MVS.CANCEL.JOB.*");
+    assert_eq!(rt; policy.all(rt.alloc(), Class::Console)?.len(), 0);
+    Ok(())
+}
+
+// The profile decides for a user where the class is active, and otherwise the authority of the console does.
+#[test]
+fn a_ruling_names_its_rule(rt: HostRuntime) -> Result<(), Fail> {
+    let mut policy = policy(rt.alloc())?;
+    let need = Need {
+        resource: Resource::read("MVS.CANCEL.JOB.BACKUP")?,
+        level: Level::Control,
+        group: Group::Sys,
+    };
+    let found = search(&mut policy, Class::Opercmds, &need.resource)?;
+    let user = policy.users.get(&UserId::read("SECADM")?);
+    let (console, groups) = (ConsoleName::read("C1")?, [GroupName::read("OPS")?]);
+    for (active, user, console, auth, wanted) in [
+        (
+            true,
+            user,
+            Some(&console),
+            Auth::Info,
+            "PROFILE OPERCMDS MVS.CANCEL.JOB.* HELD CONTROL NEEDED CONTROL",
+        ),
+        (
+            true,
+            user,
+            None,
+            Auth::Master,
+            "PROFILE OPERCMDS MVS.CANCEL.JOB.* HELD UPDATE NEEDED CONTROL",
+        ),
+        (false, user, None, Auth::Master, "GROUP SYS AUTH MASTER"),
+        (
+            true,
+            None,
+            Some(&console),
+            Auth::Info,
+            "GROUP SYS AUTH INFO",
+        ),
+    ] {
+        let ruling = rule_on(&found, active, user, console, &groups, auth, &need);
+        assert_eq!(rt; ruling.rule().text(rt.alloc())?.as_str(), wanted);
     }
     Ok(())
 }

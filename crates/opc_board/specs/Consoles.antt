@@ -59,7 +59,7 @@ reset_console name b = do
 abbrev pub at_console : Name → (ConsoleRow → ConsoleRow) → BoardRows → BoardRows
 at_console name change b = record b { consoles = changed (λ c. is c.name name) change b.consoles }
 
--- MN and PM: whether the console is told of jobs
+-- MN and PM: whether the console shows job messages
 abbrev pub monitored : Name → Bool → BoardRows → BoardRows
 monitored name monitor b = at_console name (λ c. record c { monitor = monitor }) b
 

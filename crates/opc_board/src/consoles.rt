@@ -139,7 +139,7 @@ impl Board {
         Ok(())
     }
 
-    // Sets whether a console is told of jobs.
+    // Sets whether a console shows job messages.
     pub(crate) fn monitor(&mut self, name: &ConsoleName, monitor: bool)
         ensures { self.new ≡ monitored name.now monitor self.old }
     {
@@ -190,7 +190,7 @@ impl Board {
     }
 
     /// Gives a console its authority and mode. A new console comes online with nobody on. Whether the last master is
-    /// lost by it isn't asked here: `has_master` tells it before and after.
+    /// lost by it isn't asked here: `has_master` answers that before and after.
     pub fn define_console(
         &mut self,
         name: ConsoleName,

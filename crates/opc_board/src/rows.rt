@@ -62,7 +62,7 @@ pub struct ConsoleRow {
     pub mode: Mode,
     pub online: bool,
     pub user: Option<UserId>,
-    /// Whether it is told of jobs that come and go.
+    /// Whether it shows messages of jobs that come and go.
     pub monitor: bool,
 }
 

@@ -26,7 +26,7 @@ status_of_service (Ok all) = Done
 status_of_service (Err fault) = Failed
 
 module _ {T : Type 0} (is_sure : T → Type 0) (represents may_leave : T → State → Type 0) (old new : T) where
-  -- A script was run, or its bad line was told and nothing was run; and this is the number of its status. It was cut by
+  -- A script was run, or its bad line was printed and nothing was; and this is the number of its status. It was cut by
   -- the output exactly where a write failed.
   pub record IsScript {K : Type 0} (held : K → Option (List ℕ)) (has_failed : K → Bool) (script : List ℕ)
       (before written : K) (number : ℕ) : Type 0 where

@@ -94,7 +94,7 @@ module _ {D : Type 0} (g : disk.Ghosts D) (is_fresh : Bool → D → Type 0) (im
   IsTaskDone (task.Export path) = IsWorkInFile work.Export
   IsTaskDone (task.Serve serve) = IsWorkInFile (work.Serve serve)
 
-  -- What the words ask for was done; or they ask for nothing that is done, and that was told.
+  -- What the words ask for was done; or they ask for nothing that is done, and that was reported.
   abbrev pub AreDone : (words : List (List ℕ)) → Type 0
   AreDone words = ((task : Task) × Ask words task × IsTaskDone task)
       ⊎ AskForNone words shown before written quiet reported status

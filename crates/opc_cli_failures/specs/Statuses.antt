@@ -34,7 +34,7 @@ abbrev pub status_of_end : Result Status Failure → Status
 status_of_end (Ok status) = status
 status_of_end (Err failure) = status_of failure.fault
 
--- The fault that a failed read, write or opening is told as: out of memory, or any other of a device.
+-- The fault that a failed read, write or opening is reported as: out of memory, or any other of a device.
 abbrev pub fault_of_kind : ErrorKind → Fault
 fault_of_kind OutOfMemory = NoMemory
 fault_of_kind kind = Store
@@ -43,7 +43,7 @@ fault_of_kind kind = Store
 abbrev pub IsFailure : Fault → Type 0
 IsFailure fault = (fault ≡ NoMemory) ⊎ (fault ≡ Store)
 
--- What a read or a write that failed there with this error is told as.
+-- What a read or a write that failed there with this error is reported as.
 abbrev pub IsErrorAt : Place → Error → Failure → Type 0
 IsErrorAt at error failure = (failure.fault ≡ fault_of_kind (error_kind error))
     × (failure.cause ≡ Some (at, System error))

@@ -1,4 +1,4 @@
-//! What made the program fail, and how that is told.
+//! What made the program fail, and how that is reported.
 ghost use Rattle.std.specs.Prelude.{◌≡◌, IfErr, OnOk, Some, false};
 ghost use Rattle.std.specs.IoError.{error_kind};
 ghost use Rattle.opc_cli_failures.specs.Printing.{IsReported};
@@ -99,13 +99,13 @@ impl Failure {
             → IsReported self.now.fault (K.held errors.old) (K.held errors.new) }
         ensures kept { K.has_failed errors.new ≡ false → K.has_failed errors.old ≡ false }
     {
-        // The status tells the fault too, where no word can be printed.
+        // The status says it too, if no word can be printed.
         let _ = print_failure(self, paths, errors);
         status_of(&self.fault)
     }
 }
 
-/// The status of what was to be done; where it failed, that is told.
+/// The status of what was to be done; if it failed, that is reported.
 pub fn reported<K: Sink>(end: Result<Status, Failure>, paths: &Paths<'_>, errors: &mut K) -> Status
     ensures status { result ≡ status_of_end end }
     ensures reported { IfErr end (λ failure. K.has_failed errors.new ≡ false

@@ -1,4 +1,4 @@
-//! What makes the program fail, how that is told on standard error, and the status.
+//! What makes the program fail, how that is reported on standard error, and the status.
 #![tactic(auto)]
 
 pub mod bad_row;

@@ -31,7 +31,7 @@ pub record IsBadFile (bytes : List ℕ) (fault : Fault) : Type 0 where
 abbrev pub IsNoText : List ℕ → Type 0
 IsNoText bytes = (policy_limit < length bytes) ⊎ ((length bytes ≤ policy_limit) × (IsUtf8 bytes → ⊥))
 
--- The bytes are no policy file, for this fault. Where they are no text, that is told as a bad header.
+-- The bytes are no policy file, for this fault. If they are no text, that is reported as a bad header.
 abbrev pub IsNoPolicyFile : List ℕ → Fault → Type 0
 IsNoPolicyFile bytes fault = (IsNoText bytes × (fault ≡ RowFault 0 Header)) ⊎ IsBadFile bytes fault
 

@@ -63,7 +63,7 @@ IsWritten text before written end = MatchResult end (λ _. Appends before writte
 abbrev pub FailsAsWritten : {K : Type 0} → (K → Bool) → (before written : K) → Result Status Failure → Type 0
 FailsAsWritten has_failed before written end = has_failed written ≡ (if is_err end then true else has_failed before)
 
--- An answer is told: what is done by its lines, and what is refused by its fault, of which nothing is printed.
+-- An answer is printed: what is done by its lines, and what is refused by its fault, of which nothing is printed.
 abbrev pub IsReported : {K : Type 0} → (K → Option (List ℕ)) → (K → Bool) → Answer → (before written : K)
     → Result Status Failure → Type 0
 IsReported held has_failed (answer.Done lines rule) before written end =
@@ -105,7 +105,7 @@ module _ {T : Type 0} (is_sure : T → Type 0) (represents may_leave : T → Sta
       pub same : new ≡ old
       pub silent : written ≡ before
 
-    -- One request was handled, in one step of the access machine, and its answer told.
+    -- One request was handled, in one step of the access machine, and its answer printed.
     pub record IsOneStep (moment : ℕ) (r : Input) : Type 0 where
       pub answer : Answer
       pub handled : is_sure new → (s : State) → represents old s

@@ -35,7 +35,7 @@ use Rattle.opc_cli_script.specs.Running.{IsAnswered, IsBadRun}
 use Rattle.opc_cli_script.specs.Scripts.{script_limit}
 use Rattle.opc_cli_program.specs.Imports.{IsPolicyTaken}
 
--- What the program makes of a script's run: that a line is bad was told on the output.
+-- What the program makes of a script's run: that a line is bad was printed on the output.
 abbrev pub IsEndOf : Result Status ScriptFault → Result Status Failure → Type 0
 IsEndOf (Ok status) end = end ≡ Ok status
 IsEndOf (Err (BadLine number)) end = end ≡ Ok BadInput
@@ -47,7 +47,7 @@ abbrev pub AreScriptBytes : Option (List ℕ) → List ℕ → Type 0
 AreScriptBytes left bytes = IfSome left (λ all. bytes ≡ take (script_limit + 1) all)
 
 module _ {T : Type 0} (is_sure : T → Type 0) (represents may_leave : T → State → Type 0) where
-  -- The bytes are run as a script where they are UTF-8. If they are not, that is told as a bad line with the number 0.
+  -- The bytes are run as a script where they are UTF-8. If they are not, that is reported as bad line 0.
   abbrev pub IsRunOfBytes : (old new : T) → (script : List ℕ) → (before written : Option (List ℕ))
       → Result Status ScriptFault → Type 0
   IsRunOfBytes old new script before written ran =

@@ -77,7 +77,7 @@ pub(crate) fn take_first<T: Tables>(
     }
 }
 
-/// Has one request handled, and tells its answer.
+/// Has one request handled, and prints its answer.
 fn handle_alone<T: Tables, K: Sink>(
     alloc: Global,
     gate: &mut Gate<T>,

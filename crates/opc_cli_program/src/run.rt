@@ -124,7 +124,7 @@ fn run_bytes<T: Tables, K: Sink>(
     }
 }
 
-/// What the program makes of a script's run: that a line is bad was told on the output.
+/// What the program makes of a script's run: that a line is bad was printed on the output.
 fn ended(ran: Result<Status, ScriptFault>) -> Result<Status, Failure>
     ensures { IsEndOf ran result }
 {

@@ -8,6 +8,6 @@ use Rattle.opc_cli_script.specs.Reading.{event_in}
 abbrev pub EventsReadBack : Type 0
 EventsReadBack = (e : Event) → IsEvent e → event_in (event_text e) ≡ Some e
 
--- A text tells an event only where it is that event's text.
+-- A text is read as an event only if it is that event's text.
 abbrev pub EventsAreSpelled : Type 0
 EventsAreSpelled = (text : List ℕ) (e : Event) → event_in text ≡ Some e → IsEvent e × (text ≡ event_text e)

@@ -129,6 +129,6 @@ abbrev pub event_of : List ℕ → Option (List ℕ × List ℕ) → Option Even
 event_of text None = if bytes_eq text (codes "RESUME") then Some event.Resume else None
 event_of text (Some words) = if bytes_eq words.0 (codes "ASK") then ask words.1 else event_by words.0 words.1
 
--- The event that a text tells.
+-- The event that a text is read as.
 abbrev pub event_in : List ℕ → Option Event
 event_in text = event_of text (separated text)

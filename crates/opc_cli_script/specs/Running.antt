@@ -74,7 +74,7 @@ abbrev pub IsBadRun : ℕ → (before written : Option (List ℕ)) → Result St
 IsBadRun number before written (Ok status) = ⊥
 IsBadRun number before written (Err fault) = IsBadLinePrinted number before written fault
 
--- A script was run, or its bad line was told and nothing was run.
+-- A script was run, or its bad line was reported and nothing was run.
 abbrev pub IsAnswered : {T : Type 0} → (T → Type 0) → (represents may_leave : T → State → Type 0) → (old new : T)
     → (script : List ℕ) → (before written : Option (List ℕ)) → Result Status ScriptFault → Type 0
 IsAnswered is_sure represents may_leave old new script before written result =

@@ -1,4 +1,4 @@
-//! Events, as a script tells them.
+//! Events, as a script has them.
 ghost use Rattle.std.specs.Prelude.{◌≡◌, IfOk, MatchOption, None, Some};
 ghost use Rattle.opc_cli_script.specs.Reading.{
   ask,
@@ -148,7 +148,7 @@ fn ask(alloc: Global, text: &str) -> Result<Option<Event>, AllocError>
     }
 }
 
-/// The event that a text tells.
+/// The event that a text is read as.
 pub(crate) fn event_in(alloc: Global, text: &str) -> Result<Option<Event>, AllocError>
     ensures { IfOk result (λ event. event ≡ event_in text.now) }
 {

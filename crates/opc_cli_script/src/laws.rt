@@ -6,7 +6,7 @@ pub fn events_read_back()
     ensures { EventsReadBack }
 {}
 
-/// A text tells an event only where it is that event's text.
+/// A text is read as an event only if it is that event's text.
 pub fn events_are_spelled()
     ensures { EventsAreSpelled }
 {}

@@ -1,4 +1,4 @@
--- What is read of the words of the command line, and what is told where they ask for no task.
+-- What is read of the words of the command line, and what is reported where they ask for no task.
 use Rattle.std.specs.Prelude.{
   ◌≡◌,
   ◌≢◌,
@@ -98,7 +98,7 @@ module _ {E : Type 0} (shown : E → Option (List ℕ)) (quiet reported : Watche
   IsHelpTold Failed = IsToldFailure
 
 module _ {W E : Type 0} (shown : E → Option (List ℕ)) (before written : W) (quiet reported : Watched E) where
-  -- What is told of an error of this kind, by the status.
+  -- What is reported of an error of this kind, by the status.
   abbrev pub IsKindTold : ErrorKind → Status → Type 0
   IsKindTold kind Done = IsHelp kind × (reported ≡ quiet)
   IsKindTold kind Refused = ⊥

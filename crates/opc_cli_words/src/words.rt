@@ -45,7 +45,7 @@ pub enum Task<'a> {
 }
 
 /// What the words ask for, of which the first is the program's own name. Where they ask for help or do not read, that
-/// is told, and the status is given.
+/// is reported, and the status is given.
 pub fn read_words<'a, W: Write, E: Write>(
     alloc: Global,
     words: &'a [String],
@@ -78,7 +78,7 @@ fn after_first<'a>(words: &'a [String]) -> &'a [String]
     }
 }
 
-/// The task of what `clap` found. Where an option's value does not read, that is told.
+/// The task of what `clap` found. Where an option's value does not read, that is reported.
 fn task_of<'a, E: Write>(
     matches: &ArgMatches<'a>,
     errors: &mut Watched<E>,
@@ -124,12 +124,12 @@ fn asked<'a>(command: &str, chosen: &ArgMatches<'a>) -> Result<Task<'a>, &'stati
     }
 }
 
-/// Tells that the value of an option does not read.
+/// Reports that the value of an option does not read.
 fn tell_unread<K: Sink>(command: &str, option: &str, errors: &mut K)
     ensures { K.has_failed errors.new ≡ false
         → Appends (K.held errors.old) (K.held errors.new) (unread_line command.now option.now) }
 {
-    // The status tells it too, where no word can be printed.
+    // The status says it too, if no word can be printed.
     let _ = print_unread(command, option, errors);
 }
 
@@ -144,7 +144,7 @@ fn print_unread<K: Sink>(command: &str, option: &str, errors: &mut K) -> Result<
     write_whole(errors, b" --help\n")
 }
 
-/// Tells what `clap` says: help to the output, a mistake to the errors.
+/// Prints what `clap` says: help to the output, a mistake to the errors.
 fn report_words<W: Write, E: Write>(
     error: &Error,
     output: &mut Watched<W>,
@@ -175,7 +175,7 @@ fn tell_help<W: Write, E: Write>(
     }
 }
 
-/// Tells that there was no memory, or that the output failed.
+/// Reports that there was no memory, or that the output failed.
 fn tell_failure<E: Write>(failure: &Failure, errors: &mut Watched<E>) -> Status
     requires { IsFailure failure.now.fault }
     ensures status { result ≡ Status.Failed }

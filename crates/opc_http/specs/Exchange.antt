@@ -47,7 +47,7 @@ abbrev pub IsAsked : Option (List ℕ) → Result Request Refusal → Type 0
 IsAsked left asked = IfSome left (λ all. AsksOnly all asked)
 
 module _ {K : Type 0} (held : K → Option (List ℕ)) where
-  -- The response was written, whole, and this is told of it.
+  -- The response was written, whole, and this is answered.
   pub record IsReported (reply : Reply) (before after : K) (served : Served) : Type 0 where
     pub written : Appends (held before) (held after) (reply_bytes reply)
     pub status : served.status ≡ reply_status reply

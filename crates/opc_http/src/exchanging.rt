@@ -86,7 +86,7 @@ fn send_refusal<K: Sink>(
 
 /// Reads one request, of 73,728 bytes at most, lets the gate handle it, and writes its response, which is built whole
 /// before its first byte is written. What is no request is refused, and the gate is not asked. It reads on only where
-/// the head or its body is not there yet, and a read that fails ends it: that is told, and nothing is answered.
+/// the head or its body is not there yet, and a read that fails ends it: that is reported, and nothing is answered.
 pub fn exchange<T: Tables, S: Source, K: Sink>(
     alloc: Global,
     routes: &Routes,

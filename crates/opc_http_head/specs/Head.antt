@@ -17,7 +17,7 @@ pub record HasHead (all : List ℕ) (head : RequestHead) : Type 0 where
 abbrev pub NoHead : List ℕ → Type 0
 NoHead all = (head : RequestHead) → ¬ (HasHead all head)
 
--- the bytes have a head, whose parts the spans tell in the bytes that were read
+-- the bytes have a head, whose parts the spans give in the bytes that were read
 pub record FoundHead (all buf : List ℕ) (headers : List HeaderSpan) (spans : RequestSpans) : Type 0 where
   pub head : RequestHead
   pub has : HasHead all head

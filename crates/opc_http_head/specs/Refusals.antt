@@ -16,7 +16,7 @@ abbrev pub required : {A : Type 0} → Option A → Result A Refusal
 required None = Err BadRequest
 required (Some x) = Ok x
 
--- a fault tells the refusal, or that memory was out
+-- a fault says the refusal, or that memory was out
 abbrev pub Refuses : {A : Type 0} → AskFault → Result A Refusal → Type 0
 Refuses (fault.Refused why) asked = asked ≡ Err why
 Refuses fault.NoMemory asked = ⊤

@@ -1,4 +1,4 @@
--- Bodies: what is told of an answer or of a refusal, as JSON without spaces.
+-- Bodies: what is written of an answer or of a refusal, as JSON without spaces.
 use Rattle.std.specs.Prelude.{ℕ, List, ◌++◌, codes, decimal, map, None}
 use Rattle.serde_json.specs.Data.{Data, Items, array, member, no_members, object, string}
 use Rattle.serde_json.specs.View.{items_of}
@@ -47,7 +47,7 @@ answer_body (Refused fault rule) = compact_text
 abbrev pub status_body : ℕ → List ℕ
 status_body status = compact_text (refused_value (codes "H" ++ decimal status) (codes "-") (phrase status))
 
--- a bad row is told as the fault that it is
+-- a bad row is reported as the fault that it is
 abbrev pub refusal_body : Refusal → List ℕ
 refusal_body (BadRow row why) = answer_body (Refused (RowFault row why) None)
 refusal_body BadRequest = status_body (refusal_status BadRequest)

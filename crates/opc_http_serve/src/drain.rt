@@ -53,7 +53,7 @@ fn drain_rest<S: Source>(source: &mut S)
     }
 }
 
-/// Ends a response: tells the peer that no more comes, and reads away what it still sends, in few reads that wait for a
+/// Ends a response: shuts down our half, and reads away what the peer still sends, in few reads that wait for a
 /// short time each. Otherwise the system would reset a connection that has bytes to read, and the peer might lose the
 /// response.
 pub fn drain<C: Connection>(reader: &mut Watched<C>)

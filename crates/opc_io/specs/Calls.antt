@@ -2,11 +2,11 @@
 use Rattle.std.specs.Prelude.{◌≡◌, ◌⊎◌, ◌<◌, ℕ, List, IsErr, Result, Ok, length}
 use Rattle.std.specs.declared.io.Error.{Error}
 
--- A write of these bytes is told as it was answered, or, where it took no byte of some, as a failure.
+-- A write of these bytes is reported as it was answered, or, where it took no byte of some, as a failure.
 abbrev pub IsToldAs : List ℕ → (answer told : Result ℕ Error) → Type 0
 IsToldAs bytes answer told = (told ≡ answer) ⊎ ((answer ≡ Ok 0) × (0 < length bytes) × IsErr told)
 
--- One write was made, and it is told so.
+-- One write was made, and it is reported so.
 pub record Writes {W : Type 0} (writes : W → List ℕ → Result ℕ Error → W → Type 0) (before : W) (bytes : List ℕ)
     (told : Result ℕ Error) (after : W) : Type 0 where
   pub answer : Result ℕ Error

@@ -92,8 +92,8 @@ ListsEachConsoleOnce =
     → Acts s console command.DisplayConsoles why (Done lines rule) new
     → lines ≡ filter (shown s console) (map console_line s.board.consoles)
 
--- The lines of a display are those of the board, in its order; R tells the reply that it answers, and no other command
--- tells anything.
+-- The lines of a display are those of the board, in its order; R shows the reply that it answers, and no other command
+-- shows anything.
 abbrev pub lines_on : BoardRows → Command → List Line
 lines_on b command.DisplayUnits = map unit_line b.units
 lines_on b (command.DisplayUnit name) = lines_of (unit_at b name.value)

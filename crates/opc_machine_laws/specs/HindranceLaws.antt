@@ -49,7 +49,7 @@ abbrev pub is_used : Option DeviceRow → Bool
 is_used None = false
 is_used (Some device) = is_some device.unit
 
--- What may be in the way of a command, in the order in which it is told. That the last online console with AUTH MASTER
+-- What may be in the way of a command, in the order of its report. That the last online console with AUTH MASTER
 -- were lost comes after all of this.
 abbrev pub board_obstacles : BoardRows → Command → List (Bool × BoardFault)
 board_obstacles b (command.Cancel name) =

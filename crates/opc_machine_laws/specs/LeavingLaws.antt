@@ -80,7 +80,7 @@ IsNamedIn (input.Event e) console = console ≡ None
 abbrev pub RequestsNameTheirConsole : Type 0
 RequestsNameTheirConsole = (r : Input) → IsNamedIn r (console_of r)
 
--- A row of the account tells the moment, the console or `*`, what came of it and by which rule.
+-- A row of the account has the moment, the console or `*`, what came of it and by which rule.
 pub record SaysWhat (at : ℕ) (r : Input) (what : List ℕ) (why : Option Rule) (row : AccountRow) : Type 0 where
   pub moment : row.moment ≡ at
   pub console : row.console ≡ text_or (codes "*") (console_of r)

@@ -1,4 +1,4 @@
--- By which number each fault of a line and of the board is told, to those who look it up.
+-- By which number each fault of a line and of the board is reported, to those who look it up.
 use Rattle.std.specs.Prelude.{◌≡◌, ◌++◌, ℕ, List, codes}
 use Rattle.std.specs.Fmt.{decimal}
 use Rattle.opc_names.specs.Spellings.{two_digits}
@@ -46,7 +46,7 @@ line_text (line.UnknownVerb span) = codes "UnknownVerb " ++ decimal span.from ++
 line_text (line.BadOperand span) = codes "BadOperand " ++ decimal span.from ++ codes " " ++ decimal span.to
 line_text (line.OpenQuote at) = codes "OpenQuote " ++ decimal at
 
--- Each fault of the board is told by its number, and no two are told alike;
+-- Each fault of the board is reported by its number, and no two have the same;
 pub record HasItsNumber (fault : BoardFault) : Type 0 where
   pub number : fault_code (board_fault fault) ≡ board_number fault
   pub alone : (other : BoardFault) → board_fault other ≡ board_fault fault → other ≡ fault

@@ -44,7 +44,7 @@ abbrev pub is_listed : Policy → Class → List ℕ → List ℕ → Option (Li
 is_listed p class pattern id when = option_map_or (λ (profile : Profile). list_any (is_for when id) profile.entries)
     (profile_of p.profiles class pattern) false
 
--- What may be in the way of an operation, in the order in which it is told: a name that a user or a group has already,
+-- What may be in the way of an operation, in the order of its report: a name that a user or a group has already,
 -- one that is not stored, a user whom a connect, an owner or an access list names, or who is on.
 abbrev pub obstacles : State → Operation → List (Bool × Fault)
 obstacles s (operation.AddUser id special auditor digest restricted) =

@@ -141,7 +141,7 @@ RowsNeverDelete = (all : List Row) (s new : State) → AllByRecursion HasPattern
     → AllByRecursion IsWritten all → with_rows all s ≡ Ok new → KeepsAll s.policy new.policy
     × KeepsConsoles s.board new.board
 
--- What may be in the way of a row, in the order in which it is told: a user of the group's name, or a group of the
+-- What may be in the way of a row, in the order in which it is reported: a user of the group's name, or a group of the
 -- user's; what it names and is not stored.
 abbrev pub row_obstacles : Policy → Row → List (Bool × Fault)
 row_obstacles p (rows.Class class on) = []

@@ -30,7 +30,7 @@ abbrev pub held_at : State → ConsoleRow → User → Profile → Level
 held_at s console user p = held p user (Some console.name) (groups_of s.policy.connects user.id)
 
 -- A profile of an active class decides: it allows a user who holds what is needed, and others where it only warns. The
--- rule names it, and tells of a warning exactly where that alone lets pass.
+-- rule names it, and names a warning exactly where that alone lets pass.
 pub record IsByProfile (s : State) (console : ConsoleRow) (user : User) (class : Class) (resource : List ℕ)
     (needed : Level) (ruled : Ruling) : Type 0 where
   pub profile : Profile

@@ -325,7 +325,7 @@ pub fn bad_lines_are_answered()
     ensures { BadLinesAreAnswered }
 {}
 
-/// What is in the way on the board, and what is wrong with a line, is told by its number, and no two are told alike.
+/// What is in the way on the board, and what is wrong with a line, is reported by its number, and no two have the same.
 pub fn faults_are_distinct()
     ensures board { BoardFaultsAreDistinct }
     ensures line { LineFaultsAreDistinct }
@@ -357,7 +357,7 @@ pub fn what_is_done_leaves_the_rest()
     ensures { WhatIsDoneLeavesRest }
 {}
 
-/// A row of the account tells the moment, the console, what came of it and by which rule.
+/// A row of the account has the moment, the console, what came of it and by which rule.
 pub fn account_rows_say()
     ensures { AccountRowsSay }
 {}

@@ -61,7 +61,7 @@ pub fn batches_are_kept()
     ensures { BatchesAreKept }
 {}
 
-/// A display lists what the board has, in its order, R tells the reply that it answers, and no other command tells
+/// A display lists what the board has, in its order, R shows the reply that it answers, and no other command shows
 /// anything.
 pub fn commands_tell_their_lines()
     ensures { CommandsTellTheirLines }

@@ -24,7 +24,7 @@ pub fn patterns_are_ordered()
     ensures total { OneIsBefore }
 {}
 
-/// Sort keys order patterns as the patterns are ordered, and tell them apart.
+/// Sort keys order patterns as the patterns are ordered, and are distinct.
 pub fn keys_order_patterns()
     ensures in_order { KeysAreInOrder }
     ensures differ { KeysDiffer }

@@ -95,9 +95,9 @@ pub enum Command<'a> {
     Send(Text<'a>, Operand<'a, UserId>),
     /// `L 'text'`: a line for the log.
     Log(Text<'a>),
-    /// `MN JOBNAMES`: the console is told of jobs.
+    /// `MN JOBNAMES`: the console shows job messages.
     Monitor,
-    /// `PM JOBNAMES`: the console is no longer told.
+    /// `PM JOBNAMES`: the console no longer does.
     StopMonitor,
     /// `Z EOD`: the end of the day.
     Halt,

@@ -59,7 +59,7 @@ opening_fault fault.NoMemory = the_fault.NoMemory
 opening_fault fault.Store = the_fault.Store
 opening_fault (fault.NotOurs version) = the_fault.NotOurs version
 
--- out of memory is told apart from every other cause
+-- out of memory is kept apart from every other cause
 abbrev pub open_fault : Error → OpenFault
 open_fault error = of_store (fault_of error)
 
@@ -139,7 +139,7 @@ pub record FailsToAdopt {S : Type 0} (g : Ghosts S) (image : Image) (returned : 
   pub refused : HasCleanDisk (state g left) → IsTrue (has_our_name (state g opened).now.schema)
       → IsRefused g returned (state g opened) (state g left)
   pub unharmed : HasCleanDisk (state g left) → IsTrue (state g left).is_open → (state g left).now ≡ (state g opened).now
-  -- where a version is told, a crash leaves what it would have left before the question
+  -- where a version is answered, a crash leaves what it would have left before the question
   pub survives : Survives (state g opened) (state g left) (λ db. IsNoVersion returned × MayLeave g opened db)
 
 -- Why an opening at a path fails: the files are not opened, or what they held is not adopted.

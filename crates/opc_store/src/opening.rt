@@ -181,7 +181,7 @@ impl<S: Alter> Store<S> {
 impl<S: Start> Store<FileStore<FileFrom<S>>> {
     /// Opens the database file at a path, or makes it, and adopts it as `open_files` does. `start` stands for what the
     /// files hold, and says what a torn write may leave. After a fault the files were not opened, or what they held was
-    /// not adopted and a crash may leave what `open_files` says. `NotOurs` is told only of what was opened.
+    /// not adopted and a crash may leave what `open_files` says. `NotOurs` is answered only of what was opened.
     pub fn open_at(rt: &HostRuntime, path: &str, start: S) -> Result<Self, OpenFault>
         ensures found { IfOk result (λ store. HasCleanDisk (file_state store) → (db : Trees)
             → HoldsDatabase (image_at S.Start) db → (s : _) → AreTablesOf db s → Represents (file_state store).now s) }

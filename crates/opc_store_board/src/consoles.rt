@@ -206,7 +206,7 @@ pub fn consoles_of_on<S: Alter>(
     )
 }
 
-/// The first two online consoles with AUTH MASTER, which is 2. Two suffice to tell whether one exists besides a named
+/// The first two online consoles with AUTH MASTER, which is 2. Two suffice to know whether one exists besides a named
 /// console.
 pub fn masters_on<S: Alter>(
     alloc: Global,

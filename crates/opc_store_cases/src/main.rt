@@ -11,7 +11,7 @@
 //! - `search deciding NAME`, `search listed NAME` (with its access list), `search order NAME`, `search head HEAD` and
 //!   `search all CLASS`: whether the tables find and count what a search over the base policy in memory does.
 //! - `older STATEMENT`: one more statement that makes the tables of an older version; `\n` stands for the end of a line.
-//! - `disk WORDS`: tables over files in memory, of which most stop. Such a case cannot tell refused memory from what it is
+//! - `disk WORDS`: tables over files in memory, of which most stop. Such a case takes refused memory for what it is
 //!   about.
 //! - `http LINE`: a line of `opc_http_trials`. `http new`: a new gate, over new tables in memory.
 #![tactic(auto)]

@@ -12,7 +12,7 @@ use Rattle.opc_store_schema.specs.Represented.{account_shown}
 abbrev pub account_page : ℕ → ℕ → List AccountRow → List AccountRow
 account_page from count account = take count (drop (from - 1) account)
 
--- a row of the account with its number, as a query tells it
+-- a row of the account with its number, as a query returns it
 abbrev pub numbered_shown : ℕ × AccountRow → Row
 numbered_shown p = Int (pos p.0) ∷ account_shown p.1
 

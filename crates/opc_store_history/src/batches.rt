@@ -86,7 +86,7 @@ fn kept<R: Drop>(alloc: Global, list: Vec<R>) -> Result<Rows<R>, AllocError>
     Ok(rows)
 }
 
-/// The rows that a text tells.
+/// The rows that a text has.
 pub fn rows_in(alloc: Global, text: &KeptText) -> Result<Rows<Row>, StoreFault>
     ensures { (rows : List TheRow) → policy_of text.now ≡ Ok rows → IfOk result (λ v. v ≡ rows) }
 {

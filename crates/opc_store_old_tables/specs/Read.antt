@@ -41,7 +41,7 @@ by_text profiles = sort_by text_order profiles
 abbrev pub AreAmong : List Profile → List Profile → Type 0
 AreAmong profiles some = AllByRecursion (λ (p : Profile). profile_of profiles p.class p.pattern ≡ Some p) some
 
--- as a query tells them
+-- as a query returns them
 abbrev pub batch_shown : (Batch → List ℕ) → Batch → Row
 batch_shown text_of b = Int (pos b.number) ∷ Text (text_of b) ∷ []
 

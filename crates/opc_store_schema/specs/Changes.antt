@@ -1,4 +1,4 @@
--- What becomes of the state that tables represent, and what a fault tells.
+-- What becomes of the state that tables represent, and what a fault says.
 use Rattle.sqlite.specs.Effect.{Database}
 use Rattle.sqlite.specs.declared.error.Error.{Error}
 use Rattle.sqlite.specs.declared.error.Error.TheVariants.{SqliteFailure}

@@ -166,7 +166,7 @@ account_values a = Null ∷ Int (pos a.moment) ∷ Text a.console ∷ Text a.use
 abbrev pub reply_row : ReplyRow → Row
 reply_row r = numbered_row reply_values r.id r
 
--- as a query tells them
+-- as a query returns them
 abbrev pub reply_shown : ReplyRow → Row
 reply_shown r = Int (pos r.id) ∷ Text r.text ∷ []
 

@@ -1,11 +1,11 @@
-//! What a caller is told of a failure.
+//! What a caller learns of a failure.
 ghost use Rattle.std.specs.Prelude.{◌≡◌};
 ghost use Rattle.opc_store_schema.specs.Changes.{fault_of};
 
 use opc_terms::store_fault::StoreFault;
 use sqlite::{Error, ErrorCode};
 
-/// Out of memory is told apart from every other cause.
+/// Out of memory is kept apart from every other cause.
 pub fn fault(error: Error) -> StoreFault
     ensures { result ≡ fault_of error }
 {

@@ -15,7 +15,7 @@ use sqlite::types::ValueRef;
 use sqlite::{Alter, Connection, Row};
 use std::alloc::Global;
 
-/// The rows of a query, outside any transaction, as `opc_store_sql::read` gives them. A failure is told as the store's.
+/// The rows of a query, outside any transaction, as `opc_store_sql::read` gives them. A failure is the store's.
 pub fn read<S: Alter>(
     conn: &mut Connection<S>,
     sql: &str,

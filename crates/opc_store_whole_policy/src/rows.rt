@@ -133,7 +133,7 @@ fn add_permits(rows: &mut Vec<Row>, profiles: &[Profile]) -> Result<(), AllocErr
     Ok(())
 }
 
-/// The rows of a policy file, of lists of what it tells.
+/// The rows of a policy file, of lists of its members.
 fn rows_of(alloc: Global, lists: &Lists, consoles: &[ConsoleRow]) -> Result<Vec<Row>, AllocError>
     ensures { let policy : ThePolicy = record {
       users = lists.now.members.users;

@@ -31,7 +31,7 @@ fn fixed(group: Group, level: Level, words: &str) -> Option<Need>
     needs(group, level, Resource::of_words(words))
 }
 
-/// What a command needs that only asks or tells.
+/// What a command needs that only displays or sends.
 fn info(words: &str) -> Option<Need>
     requires { IsTrue (is_resource words.now) }
     ensures { result ≡ needs Info Read words.now }

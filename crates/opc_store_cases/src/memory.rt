@@ -2,8 +2,8 @@
 use anyhow::Result;
 use opc_names::class::Class;
 use opc_names::name::Resource;
-use opc_policy::{Found, search};
 use opc_policy::source::{ProfileSource, Taken};
+use opc_policy::{Found, search};
 use opc_policy_members::profile::Profile;
 use opc_state::tables::Tables;
 use opc_store::store::Store;

@@ -4,9 +4,8 @@ use crate::records::{add_profile, profile_row, profiles_records, records_of, row
 use anyhow::{Result, bail};
 use opc_names::class::Class;
 use opc_names::name::Resource;
-use opc_policy::ClassProfiles;
-use opc_policy::{Found, search};
 use opc_policy::source::{ProfileSource, Taken};
+use opc_policy::{ClassProfiles, Found, search};
 use opc_policy_members::policy::Policy;
 use opc_state::tables::Tables;
 use std::alloc::Global;

@@ -1,4 +1,4 @@
-"""The modules of tools/edits: must-fail edits, the sources of crates, the checks that try them, and the kit."""
+"""The modules of tools/edits: must-fail edits, the sources of crates, and the checks that try them."""
 import sys
 
 # no tool leaves files in the repository

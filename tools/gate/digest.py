@@ -15,7 +15,7 @@ same on each computer. It does not cover a kit that was changed and kept its KIT
 that runs out of memory refuses nothing."""
 import functools, hashlib, os, re
 
-from . import kit
+from lib import kit
 from .edits import texts_of
 from .sources import BLOCK, functions
 

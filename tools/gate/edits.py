@@ -1,7 +1,7 @@
 """Must-fail edits: crates/NAME/must-fail/*.edit, in the form that rt ci reads."""
 import os, re
 
-from .kit import PARTS
+from lib.kit import PARTS
 from .sources import functions
 
 NAMED = re.compile(r"[A-Za-z0-9_-][A-Za-z0-9_.-]*\.edit")

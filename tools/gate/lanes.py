@@ -4,7 +4,7 @@ import threading
 import time
 from typing import Iterable, Iterator
 
-from . import kit
+from lib import kit
 from .trial import Trial
 
 

@@ -1,7 +1,7 @@
 """One run of the prover."""
 import os, subprocess, tempfile
 
-from . import kit
+from lib import kit
 
 
 class Ran:

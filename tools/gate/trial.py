@@ -1,7 +1,8 @@
 """A crate's must-fail edits, tried: as twins beside a control, else in place, else alone."""
 import itertools, os, shutil, tempfile
 
-from . import kit, stubs as stubbed, verdicts
+from lib import kit
+from . import stubs as stubbed, verdicts
 from .edits import BadEdit, edits_in, texts_of
 from .nearby import near
 from .prover import Ran

@@ -4,7 +4,7 @@ import subprocess
 import threading
 import time
 
-from gate import kit
+from lib import kit
 from .steps import Step
 
 # What needs no program is tried while it is compiled.

@@ -3,7 +3,7 @@ import os
 import tempfile
 import unittest
 
-from gate import kit
+from lib import kit
 
 
 class Made:

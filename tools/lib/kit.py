@@ -43,7 +43,7 @@ def needs_line(kit: str, line: str = LINE) -> None:
         found = file.read().split()[0]
     if found != wanted:
         sys.exit(
-            f"{kit} is {found}, and tools/kit-line names {wanted}. tools/gate/kit.py changes Crate.stamp and"
+            f"{kit} is {found}, and tools/kit-line names {wanted}. tools/lib/kit.py changes Crate.stamp and"
             " Crate.below of the kit's private bin/rtlib.py: see whether they still are what each_once and kept say of"
             f" them, run tools/selftest, and write {found} to tools/kit-line."
         )

@@ -4,12 +4,12 @@ import os
 import unittest
 from typing import Iterator
 
-from gate.digest import JUDGES
+from lib.edits.digest import JUDGES
 
 TOOLS = os.path.dirname(os.path.dirname(os.path.dirname(os.path.abspath(__file__))))
 MOST = 120
 # The modules whose texts the digests of must-fail edits cover; they change with a run of all edits alone.
-LATER = {f"gate/{name}.py" for name in JUDGES}
+LATER = {f"lib/edits/{name}.py" for name in JUDGES}
 
 
 def texts() -> Iterator[tuple[str, str]]:

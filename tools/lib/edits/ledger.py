@@ -1,4 +1,4 @@
-"""The ledger of must-fail edits: tools/gate/refused.txt, which only tools/edits writes.
+"""The ledger of must-fail edits: tools/lib/edits/refused.txt, which only tools/edits writes.
 
 A line names an edit that the prover refused, with the digest of all that this verdict depends on (digest.py), the
 seconds of a processor that it took beside the fixed cost of its crate's checks, and when it was last tried. An edit
@@ -12,7 +12,7 @@ import re
 import time
 from typing import Iterable, Iterator, NamedTuple
 
-FILE = "tools/gate/refused.txt"
+FILE = "tools/lib/edits/refused.txt"
 HEAD = """\
 # The must-fail edits that the prover refused: the edit, the digest of all that this depends on, seconds of a processor,
 # and when it was last tried (UTC). Only tools/edits writes this file; docs/TESTING.md says how.

@@ -2,7 +2,7 @@
 import unittest
 from types import SimpleNamespace
 
-from gate.verdicts import Verdict, must_fail
+from lib.edits.verdicts import Verdict, must_fail
 
 STUBS = {"low::stub": "Rattle.low.proofs.stub.Proof.stub_spec"}
 

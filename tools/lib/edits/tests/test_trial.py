@@ -7,8 +7,8 @@ import unittest
 from types import SimpleNamespace
 from unittest import mock
 
-from gate import trial
-from gate.sources import functions
+from lib.edits import trial
+from lib.edits.sources import functions
 
 SOURCE = """\
 const LIMIT: usize = 3;

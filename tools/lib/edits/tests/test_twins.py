@@ -3,8 +3,8 @@ import os
 import tempfile
 import unittest
 
-from gate.sources import functions
-from gate.twins import Twin, copy_proofs, module_of, stem_in, with_twins
+from lib.edits.sources import functions
+from lib.edits.twins import Twin, copy_proofs, module_of, stem_in, with_twins
 
 SOURCE = """\
 pub fn first() -> u32 {

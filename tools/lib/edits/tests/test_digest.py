@@ -4,8 +4,8 @@ import tempfile
 import unittest
 from unittest import mock
 
-from gate import digest as digests
-from gate.edits import Edit
+from lib.edits import digest as digests
+from lib.edits.edit import Edit
 
 SOURCE = """\
 #![tactic(auto)]
@@ -160,7 +160,7 @@ class Digests(unittest.TestCase):
             before, self.digest(edit=OF_CONSTANT, texts={"proofs/second/Answers.antt": "pub ensures-1 = refl\n"})
         )
 
-    def test_the_judges_are_modules_of_the_gate(self) -> None:
+    def test_the_judges_are_modules_of_this_package(self) -> None:
         here = os.path.dirname(digests.__file__)
         for name in digests.JUDGES:
             self.assertTrue(os.path.isfile(f"{here}/{name}.py"), name)

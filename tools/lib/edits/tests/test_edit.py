@@ -3,7 +3,7 @@ import os
 import tempfile
 import unittest
 
-from gate.edits import Edit, edits_in, texts_of
+from lib.edits.edit import Edit, edits_in, texts_of
 
 SOURCE = """\
 pub fn least(a: u32, b: u32) -> u32 {

@@ -3,7 +3,7 @@ import itertools, os, shutil, tempfile
 
 from lib import kit
 from . import stubs as stubbed, verdicts
-from .edits import BadEdit, edits_in, texts_of
+from .edit import BadEdit, edits_in, texts_of
 from .nearby import near
 from .prover import Ran
 from .sources import is_of_some

@@ -1,7 +1,7 @@
 """How the functions of a .rt file are found."""
 import unittest
 
-from gate.sources import functions
+from lib.edits.sources import functions
 
 TEXT = """\
 /// Doubles.

@@ -2,10 +2,10 @@
 import tempfile
 import unittest
 
-from gate.edits import Edit
-from gate.nearby import near
-from gate.sources import functions
-from gate.stubs import MANY, Stub, stubs_in, worth_it
+from lib.edits.edit import Edit
+from lib.edits.nearby import near
+from lib.edits.sources import functions
+from lib.edits.stubs import MANY, Stub, stubs_in, worth_it
 
 SOURCE = """\
 ghost use Rattle.low.specs.Numbers.{three, IsThree};

@@ -16,11 +16,11 @@ that runs out of memory refuses nothing."""
 import functools, hashlib, os, re
 
 from lib import kit
-from .edits import texts_of
+from .edit import texts_of
 from .sources import BLOCK, functions
 
 # The modules that make a verdict: a change of one of them changes each digest.
-JUDGES = ("digest", "edits", "nearby", "prover", "sources", "stubs", "subjects", "trial", "twins", "verdicts")
+JUDGES = ("digest", "edit", "nearby", "prover", "sources", "stubs", "subjects", "trial", "twins", "verdicts")
 OF_ONE_FUNCTION = ("Answers.antt", "Invariants.antt", "Proof.antt")
 ITEM = re.compile(r"\s+(?:unsafe )?(impl|trait|mod)\b")
 

@@ -6,7 +6,7 @@ import tempfile
 import unittest
 from typing import Iterable
 
-from gate.ledger import BadLedger, Ledger, Line, Sample, lines_in, moment
+from lib.edits.ledger import BadLedger, Ledger, Line, Sample, lines_in, moment
 
 NOW = 1_800_000_000
 DIGEST, OTHER = "0" * 32, "f" * 32

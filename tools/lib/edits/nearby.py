@@ -1,20 +1,22 @@
-"""The functions near an edit that lies in no one function: those that it changes, those that name a constant that it changes,
-and those whose clauses name what a file of specs/ defines that it changes. They are asked first, since a whole crate takes
-minutes."""
+"""The functions near an edit that lies in no one function: those that it changes, those that name a constant that it
+changes, and those whose clauses name what a file of specs/ defines that it changes. They are asked first, since a whole
+crate takes minutes."""
 import re
+from typing import Iterable
 
-from .sources import functions
+from .edit import Edit
+from .sources import Function, functions
 from .subjects import Placed
 
 CONSTANT = re.compile(r"(?:pub(?:\([^)]*\))? )?(?:const|static) (\w+)")
 ITEM = re.compile(r"(?:pub(?:\([^)]*\))? )?(?:const|static|struct|enum|trait|type|impl|fn|mod|use|macro_rules!)\b")
 
 
-def is_in(words, text):
-    return any(re.search(rf"\b{it}\b", text) for it in words)
+def is_in(words: Iterable[str], text: str) -> bool:
+    return any(re.search(rf"\b{word}\b", text) for word in words)
 
 
-def constants(texts):
+def constants(texts: dict[str, str]) -> dict[str, str]:
     """The constants of a crate with their lines."""
     found = {}
     for path, text in texts.items():
@@ -28,16 +30,17 @@ def constants(texts):
     return found
 
 
-def at_line(text, number):
+def at_line(text: str, number: int) -> tuple[Function | None, str | None]:
     """The function and the constant that a line of a file stands in, None for what it does not stand in."""
-    inside = [it for it in functions(text) if it.first <= number <= it.end]
-    heads = [it for it in text.split("\n")[: number + 1] if ITEM.match(it)]
+    inside = [function for function in functions(text) if function.first <= number <= function.end]
+    heads = [line for line in text.split("\n")[: number + 1] if ITEM.match(line)]
     constant = CONSTANT.match(heads[-1]) if heads else None
-    return max(inside, key=lambda it: it.at, default=None), constant and constant[1]
+    return max(inside, key=lambda function: function.at, default=None), constant and constant[1]
 
 
-def changed_by(edit, texts):
-    """The functions, the constants and the files of specs/ that an edit changes, None where it changes anything else."""
+def changed_by(edit: Edit, texts: dict[str, str]) -> tuple[set[tuple[str, str, str]], set[str], set[str]] | None:
+    """The functions, the constants and the files of specs/ that an edit changes, None where it changes anything
+    else."""
     now, keys, names, files = dict(texts), set(), set(), set()
     for path, old, new in edit.pairs:
         function, constant = at_line(now[path], now[path][: now[path].index(old)].count("\n"))
@@ -53,26 +56,32 @@ def changed_by(edit, texts):
     return keys, names, files
 
 
-def with_others(names, known):
+def with_others(names: set[str], known: dict[str, str]) -> set[str]:
     """These constants, and those that are computed by them."""
     more = names | {name for name, text in known.items() if is_in(names, text)}
     return names if more == names else with_others(more, known)
 
 
-def imported(text, files):
+def imported(text: str, files: Iterable[str]) -> set[str]:
     """What a file of src/ imports of these files of specs/."""
-    modules = [it[: -len(".antt")].replace("/", ".") for it in files]
-    lists = [found for it in modules for found in re.findall(rf"Rattle\.\w+\.{re.escape(it)}\.\{{([^}}]*)\}}", text)]
-    return {word for it in lists for word in re.findall(r"\w+", it)}
+    modules = [path[: -len(".antt")].replace("/", ".") for path in files]
+    lists = [
+        found
+        for module in modules
+        for found in re.findall(rf"Rattle\.\w+\.{re.escape(module)}\.\{{([^}}]*)\}}", text)
+    ]
+    return {word for names in lists for word in re.findall(r"\w+", names)}
 
 
-def near(edit, texts):
-    """The names by which a check is asked for the functions near an edit; none where there are none, or it changes other items."""
+def near(edit: Edit, texts: dict[str, str]) -> tuple[str, ...]:
+    """The names by which a check is asked for the functions near an edit; none where there are none, or it changes
+    other items."""
     keys, names, files = changed_by(edit, texts) or (set(), set(), set())
     names, found = with_others(names, constants(texts)), set()
     for path, text in texts.items():
         words = names | imported(text, files)
-        for it in functions(text) if path.startswith("src/") else ():
-            if (path, *it.key()) in keys or is_in(words, "\n".join(text.split("\n")[it.first : it.end + 1])):
-                found.add(Placed(path, it).asked())
+        for function in functions(text) if path.startswith("src/") else ():
+            is_changed = (path, *function.key()) in keys
+            if is_changed or is_in(words, "\n".join(text.split("\n")[function.first : function.end + 1])):
+                found.add(Placed(path, function).asked())
     return tuple(sorted(found))

@@ -1,5 +1,7 @@
 """One run of the prover."""
-import os, subprocess, tempfile
+import os
+import subprocess
+import tempfile
 
 from lib import kit
 
@@ -7,7 +9,7 @@ from lib import kit
 class Ran:
     """What a command printed, its status, and the seconds of a processor that it and what it started took."""
 
-    def __init__(self, words, folder):
+    def __init__(self, words: list[str], folder: str) -> None:
         with tempfile.TemporaryFile("w+", errors="replace") as out:
             how = {"cwd": folder, "stdin": subprocess.DEVNULL, "stdout": out, "stderr": subprocess.STDOUT}
             started = subprocess.Popen([*kit.rtlib().guarded(), *words], **how)

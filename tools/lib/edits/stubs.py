@@ -1,10 +1,16 @@
-"""Stubs: the other functions of a crate while twins are tried. A twin knows what it calls by its clauses, and that these hold
-is for rt ci to say. So each other function gets a body that does nothing and a proof that is one hole: then a check proves
-the twins alone, and not what they call. Where that is little, stubs gain nothing."""
-import os, re, shutil
+"""Stubs: the other functions of a crate while twins are tried.
 
-from .sources import BLOCK, functions, has_concrete, without_parameters
+A twin knows what it calls by its clauses, and that these hold is for rt ci to say. So each other function gets a body
+that does nothing and a proof that is one hole: then a check proves the twins alone, and not what they call. Where that
+is little, stubs gain nothing."""
+import os
+import re
+import shutil
+from typing import Iterable
+
+from .sources import BLOCK, Function, functions, has_concrete, without_parameters
 from .twins import module_of
+from .verdicts import Verdict
 
 PROOF = """use Rattle.{crate}.proofs.{module}.Statement.{{statement}}
 
@@ -17,26 +23,31 @@ MANY = 100
 
 
 class Stub:
-    def __init__(self, path, function, place):
+    """A function that can be a stub; `place` is where its proof stands below proofs/."""
+
+    def __init__(self, path: str, function: Function, place: str) -> None:
         self.path, self.function, self.place = path, function, place
 
-    def names(self, crate):
+    def names(self, crate: str) -> tuple[str, str]:
         """As a check names the function, and the hole that is its proof."""
-        return f"{crate}::{self.place.replace('/', '::')}", f"Rattle.{crate}.proofs.{self.place.replace('/', '.')}.Proof.{self.function.name}_spec"
+        module, name = self.place.replace("/", "."), self.function.name
+        return f"{crate}::{self.place.replace('/', '::')}", f"Rattle.{crate}.proofs.{module}.Proof.{name}_spec"
 
-    def proof(self, crate):
+    def proof(self, crate: str) -> str:
         return PROOF.format(crate=crate, module=self.place.replace("/", "."), name=self.function.name)
 
-    def is_refused(self, verdict):
+    def is_refused(self, verdict: Verdict) -> bool:
         """Whether a check that gave no verdict refuses the stub itself or the place of its proof."""
         proof = f"proofs/{self.place}/Proof.antt"
         lines = range(self.function.at + 1, self.function.end + 2)
-        return f"{proof}: error" in verdict.ran.text or any(it == proof or it == self.path and line in lines for it, line, _ in verdict.errors)
+        return f"{proof}: error" in verdict.ran.text or any(
+            path == proof or path == self.path and line in lines for path, line, _ in verdict.errors
+        )
 
 
-def place_of(path, types, function):
-    """Where the proof of a function stands below proofs/, None where its name is not plain from the source. A method's stands
-    below the module of its type, wherever its impl is."""
+def place_of(path: str, types: dict[str, str], function: Function) -> str | None:
+    """Where the proof of a function stands below proofs/, None where its name is not plain from the source. A method's
+    stands below the module of its type, wherever its impl is."""
     if not function.block:
         parts = [function.name]
     else:
@@ -55,69 +66,75 @@ def place_of(path, types, function):
     return "/".join([*module_of(path), *parts])
 
 
-def types_in(texts):
+def types_in(texts: dict[str, str]) -> dict[str, str]:
     """The types of a crate with their files, without those of a name that two files have."""
     named = [(name, path) for path, text in texts.items() if path.startswith("src/") for name in TYPE.findall(text)]
-    return {name: path for name, path in named if sum(it == name for it, _ in named) == 1}
+    return {name: path for name, path in named if sum(other == name for other, _ in named) == 1}
 
 
-def can_be_stub(function, lines):
+def can_be_stub(function: Function, lines: list[str]) -> bool:
     head = "\n".join(lines[function.first : function.at])
-    is_plain = not re.match(r" *(pub(\([^)]*\))? )?(const|unsafe) ", function.text[0]) and "#[cycle" not in head and "#[test]" not in head
+    is_marked = "#[cycle" in head or "#[test]" in head
+    is_plain = not re.match(r" *(pub(\([^)]*\))? )?(const|unsafe) ", function.text[0]) and not is_marked
     return is_plain and function.body != function.end
 
 
-def stubs_in(texts):
+def stubs_in(texts: dict[str, str]) -> list[Stub]:
     """The functions of a crate that can be stubs."""
     found, types = [], types_in(texts)
     for path, text in texts.items():
         if path.startswith("src/"):
             lines = text.split("\n")
-            placed = [(it, place_of(path, types, it)) for it in functions(text) if can_be_stub(it, lines)]
-            found += [Stub(path, it, place) for it, place in placed if place]
+            placed = [
+                (function, place_of(path, types, function))
+                for function in functions(text) if can_be_stub(function, lines)
+            ]
+            found += [Stub(path, function, place) for function, place in placed if place]
     return found
 
 
-def words_of(function):
+def words_of(function: Function) -> set[str]:
     """The words of a function's body."""
     return {*re.findall(r"\w+", "\n".join(function.text[function.body - function.at + 1 :]))}
 
 
-def worth_it(stubs, bodies):
+def worth_it(stubs: list[Stub], bodies: Iterable[Function]) -> list[Stub]:
     """These stubs where those that the bodies call, however deep, have many lines, else none."""
     named = {}
-    for it in stubs:
-        named.setdefault(it.function.name, []).append(it)
-    reached, words = {}, {word for it in bodies for word in words_of(it)}
+    for stub in stubs:
+        named.setdefault(stub.function.name, []).append(stub)
+    reached, words = {}, {word for body in bodies for word in words_of(body)}
     while words:
-        more = [it for word in words for it in named.pop(word, [])]
-        reached.update({id(it): it.function.end - it.function.body - 1 for it in more})
-        words = {word for it in more for word in words_of(it.function)}
+        more = [stub for word in words for stub in named.pop(word, [])]
+        reached.update({id(stub): stub.function.end - stub.function.body - 1 for stub in more})
+        words = {word for stub in more for word in words_of(stub.function)}
     return stubs if sum(reached.values()) >= MANY else []
 
 
-def with_stubs(texts, stubs):
+def with_stubs(texts: dict[str, str], stubs: list[Stub]) -> dict[str, str]:
     """The texts of src/ with a body of nothing for each of them; no line moves."""
     made = {}
-    for path in {it.path for it in stubs}:
+    for path in {stub.path for stub in stubs}:
         lines = texts[path].split("\n")
-        for it in (it for it in stubs if it.path == path):
-            at, end = it.function.body, it.function.end
+        for stub in stubs:
+            if stub.path != path:
+                continue
+            at, end = stub.function.body, stub.function.end
             indent = re.match(" *", lines[end])[0]
             lines[at + 1 : end] = [f"{indent}    unreachable!()", *[""] * (end - at - 2)] if end > at + 1 else []
         made[path] = "\n".join(lines)
     return made
 
 
-def write_proofs(folder, crate, stubs):
+def write_proofs(folder: str, crate: str, stubs: Iterable[Stub]) -> None:
     """Puts a hole in the place of what is written of each stub's proof, in a copy of the crate."""
-    for it in stubs:
-        above, _, name = it.place.rpartition("/")
+    for stub in stubs:
+        above, _, name = stub.place.rpartition("/")
         for place in (f"{above}/+{name}", f"{above}/fn/{name}"):
             shutil.rmtree(f"{folder}/proofs/{place}", ignore_errors=True)
-        os.makedirs(f"{folder}/proofs/{it.place}", exist_ok=True)
+        os.makedirs(f"{folder}/proofs/{stub.place}", exist_ok=True)
         for file in ("Answers.antt", "Invariants.antt"):
-            if os.path.isfile(f"{folder}/proofs/{it.place}/{file}"):
-                os.remove(f"{folder}/proofs/{it.place}/{file}")
-        with open(f"{folder}/proofs/{it.place}/Proof.antt", "w", encoding="utf-8") as out:
-            out.write(it.proof(crate))
+            if os.path.isfile(f"{folder}/proofs/{stub.place}/{file}"):
+                os.remove(f"{folder}/proofs/{stub.place}/{file}")
+        with open(f"{folder}/proofs/{stub.place}/Proof.antt", "w", encoding="utf-8") as out:
+            out.write(stub.proof(crate))

@@ -1,4 +1,4 @@
-"""How far a build is, told on standard error: one line that is rewritten on a terminal, else a line now and then."""
+"""How far a build is, on standard error: one line that is rewritten on a terminal, else a line now and then."""
 import re
 import shutil
 import sys
@@ -34,7 +34,7 @@ class Said:
         pass
 
     def last(self, number: int) -> list[str]:
-        """The last lines that tell of something wrong, or else the last ones."""
+        """The last lines that name something wrong, or else the last ones."""
         lines = [*self.lines, self.part]
         return [line[:300] for line in lines if not USUAL.match(line)][-number:] or lines[-number:]
 

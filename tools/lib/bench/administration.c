@@ -194,7 +194,7 @@ static void all_operations(int count) {
             name_turn(at), asking("C2", "SECADM");
             operations[work].once();
         }
-        tell(operations[work].name, count);
+        report(operations[work].name, count);
     }
 }
 
@@ -203,7 +203,7 @@ static void listing(int count) {
     start();
     for (int at = 0; at < count; at++)
         asking("C1", "ANNA"), ROWS(GROUPS_OF, "t", "ANNA"), ROWS(BY_CLASS, "t", CLASS), ROWS(ENTRIES_OF, "t", CLASS);
-    tell("ListProfiles", count);
+    report("ListProfiles", count);
 }
 
 /* A text of fields that are each ended by a tab, taken apart where it lies. */
@@ -256,7 +256,7 @@ static int import(const char *path) {
     for (char *at = rows, *end; (end = strchr(at, '\n')); at = end + 1, count++) *end = 0, put_row(at);
     run(&DEL_BATCH, "i", 7), run(&ADD_BATCH, "it", 7, kept), commit();
     int status = close_base();
-    tell("import", count);
+    report("import", count);
     return status;
 }
 

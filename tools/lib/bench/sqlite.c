@@ -151,7 +151,7 @@ static int done(const char *work, int count) {
         if (strcmp(work, works[at].name)) continue;
         start();
         for (int left = count; left > 0; left -= works[at].commands) works[at].once();
-        tell(work, count);
+        report(work, count);
         return 1;
     }
     return 0;
@@ -179,7 +179,7 @@ int main(int count, char **words) {
         start();
         open_base(path, SQLITE_OPEN_READWRITE);
         if (*work == 'c' && sqlite3_exec(base, "PRAGMA quick_check; PRAGMA foreign_key_check", 0, 0, 0)) fail("check");
-        tell("opening", ROWS(ACCOUNT, "ii", 0, 1));
+        report("opening", ROWS(ACCOUNT, "ii", 0, 1));
     } else {
         fprintf(stderr, "WORK FILE COUNT [memory], open FILE or check FILE\n");
         return 2;

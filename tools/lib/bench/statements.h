@@ -176,7 +176,7 @@ static long since(struct timespec then, clockid_t clock) {
     return (now.tv_sec - then.tv_sec) * 1000000 + (now.tv_nsec - then.tv_nsec) / 1000;
 }
 
-static void tell(const char *work, long count) {
+static void report(const char *work, long count) {
     long processor = since(begun_work, CLOCK_PROCESS_CPUTIME_ID), clock = since(begun, CLOCK_MONOTONIC);
     printf("%s: %ld in %ld microseconds, %ld of the processor\n", work, count, clock, processor);
 }

@@ -33,13 +33,13 @@ class Took(NamedTuple):
         """Microseconds, and thousands of instructions, of one of so many."""
         return Took(self.clock / count * 1e6, self.processor / count * 1e6, self.instructions / count / 1e3)
 
-    def told(self) -> str:
+    def text(self) -> str:
         """What one takes, by `each`."""
         if counting:
             return f"{self.instructions:9.1f} thousand instructions"
         return f"{self.clock:9.1f} microseconds, {self.processor:9.1f} of the processor"
 
-    def told_ratio(self) -> str:
+    def ratio_text(self) -> str:
         return f"{self.instructions:5.2f}" if counting else f"{self.clock:5.2f}, of the processor {self.processor:5.2f}"
 
 
@@ -91,13 +91,13 @@ def valgrind(log: str) -> list[str]:
 
 
 def counted_in(log: str) -> int:
-    """The instructions that valgrind's log tells."""
+    """The instructions that valgrind's log has."""
     with open(log) as file:
         found = re.search(r"I\s+refs:\s+([\d,]+)", file.read())
     return int(found[1].replace(",", "")) if found else 0
 
 
-TOLD = re.compile(r"^(.+): (\d+) in (\d+) microseconds, (\d+) of the processor$", re.M)
+MEASURED = re.compile(r"^(.+): (\d+) in (\d+) microseconds, (\d+) of the processor$", re.M)
 
 
 def library(words: list[str], **environment: str) -> dict[str, Took]:
@@ -108,7 +108,7 @@ def library(words: list[str], **environment: str) -> dict[str, Took]:
         sys.exit(f"status {status} of {words}")
     return {
         name: Took(int(clock) / 1e6, int(processor) / 1e6, took.instructions)
-        for name, _, clock, processor in TOLD.findall(output.decode())
+        for name, _, clock, processor in MEASURED.findall(output.decode())
     }
 
 

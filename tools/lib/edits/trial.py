@@ -143,7 +143,7 @@ class Trial:
             if verdict.is_judged or not twins:
                 return verdict, twins
             if wrong or not stubs:
-                # where no line tells which it is, the second half waits to be tried alone
+                # where no line says which it is, the second half waits to be tried alone
                 twins = [twin for twin in twins if twin not in (wrong or twins[len(twins) // 2 :])]
             else:
                 stubs = [stub for stub in stubs if stub not in odd] if odd else []
@@ -163,7 +163,7 @@ class Trial:
                 self.log(f"{self.name}/{edit.name}: not settled as a twin: {why[:200]}")
 
     def in_place(self, edits: list[Edit]) -> None:
-        """Tries edits in their own places, many in one check as long as what is said of their functions can be told
+        """Tries edits in their own places, many in one check as long as what is said of their functions can be kept
         apart."""
         while edits:
             subjects, changed = {}, {}

@@ -85,13 +85,13 @@ class Verdict:
             return False, said[0] if said else "the check says nothing of it"
         if any(subject.is_at(path, line) for path, line, _ in self.errors):
             return False, "its text cannot be read"
-        told = [text for path, line, text in self.notes if subject.is_at(path, line)]
+        reasons = [text for path, line, text in self.notes if subject.is_at(path, line)]
         errors = [text for path, _, text in self.errors if subject.is_proof(path)]
-        told += [text for text in errors if not NAMES.search(text)]
-        if not told and not errors and "`search` did not prove" in own[0]:
-            told = [own[0]]
-        if told:
-            return True, told[0]
+        reasons += [text for text in errors if not NAMES.search(text)]
+        if not reasons and not errors and "`search` did not prove" in own[0]:
+            reasons = [own[0]]
+        if reasons:
+            return True, reasons[0]
         return False, f"only a name in a proof file refuses it: {errors[0]}" if errors else own[0]
 
 
@@ -116,13 +116,13 @@ def must_fail(ran: Ran, changed: Container[str]) -> tuple[bool, str]:
     # (rt, unlike rattle, says more after that line)
     if ran.status != 1 or not any(map(NOT_PROVED.match, ran.lines)):
         return False, "it did not reach the prover: " + " ".join(ran.lines[:4])
-    told = [line for line in ran.lines if re.match(r"(note: )?\S+:\d+:\d+:", line)]
-    told = [line for line in told if ": error" in line or line.startswith("note: ")] or told
-    names = r"(\./)?proofs/.*(has no field|is not in scope|has no `|was not admitted)"
-    first = next((line for line in told if not re.match(names, line)), "")
-    if told and not first:
+    reasons = [line for line in ran.lines if re.match(r"(note: )?\S+:\d+:\d+:", line)]
+    reasons = [line for line in reasons if ": error" in line or line.startswith("note: ")] or reasons
+    names = r"(note: )?(\./)?proofs/.*(has no field|is not in scope|has no `|was not admitted)"
+    first = next((line for line in reasons if not re.match(names, line)), "")
+    if reasons and not first:
         return False, (
             "only a name in a proof file refuses it, which says little of the contract: change a value and keep the"
-            f" names: {told[0]}"
+            f" names: {reasons[0]}"
         )
     return True, first or "not proved"

@@ -77,7 +77,7 @@ def of_clients(tally: Tally, port: int) -> None:
     for name, (version, fields) in FIELDS.items():
         tally.equal(f"the header fields of {name}", clients.sent(port, request(fields, version)), DEVICES)
     expecting = clients.by_curl(port, "POST", COMMAND, DISPLAY.rjust(2_000), ["-H", "Expect: 100-continue"])
-    tally.equal("a curl that expects to be told to go on", expecting, DEVICES)
+    tally.equal("a curl that expects 100 before it goes on", expecting, DEVICES)
     streaming = clients.by_curl(port, "POST", COMMAND, DISPLAY, ["-H", "Transfer-Encoding: chunked"])
     tally.equal("a body in chunks", streaming, unread(400))
     chosen = clients.by_http_client(port, "POST", COMMAND, DISPLAY, {"Connection": "keep-alive", "Accept": "text/html"})

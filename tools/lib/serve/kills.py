@@ -16,7 +16,7 @@ from lib.service import Service
 from lib.tally import Tally
 
 COUNT = 40  # requests of one run
-# whether a file is as it should be, and what TOLD says
+# whether a file is as it should be, and what SEEN says
 Kept = tuple[bool, tuple[int, int | None, int]]
 
 
@@ -119,14 +119,14 @@ class Kills:
             return self.is_kept(file, answered), int(counted.read())
 
 
-TOLD = "requests answered, state of the file after so many requests, status of the next opening"
+SEEN = "requests answered, state of the file after so many requests, status of the next opening"
 
 
 def kills(tally: Tally, room: str, base: str, count: int) -> None:
     trial = Kills(tally, room, base, requests())
     with concurrent.futures.ThreadPoolExecutor(4) as pool:
         for at, (good, found) in enumerate(pool.map(trial.killed, range(count))):
-            tally.wants(f"kill {at}: {TOLD}", good, found)
+            tally.wants(f"kill {at}: {SEEN}", good, found)
 
 
 def stops(tally: Tally, room: str, base: str) -> None:
@@ -135,4 +135,4 @@ def stops(tally: Tally, room: str, base: str) -> None:
     _, writes = trial.stopped(0)
     with concurrent.futures.ThreadPoolExecutor(4) as pool:
         for at, ((good, found), _) in enumerate(pool.map(trial.stopped, range(1, writes + 1)), 1):
-            tally.wants(f"stop at write {at} of {writes}: {TOLD}", good, found)
+            tally.wants(f"stop at write {at} of {writes}: {SEEN}", good, found)

@@ -39,7 +39,7 @@ class Guests:
             self.next_is_served(title)
 
     def cut(self, title: str, data: bytes) -> None:
-        """A peer that ends in the middle is told so."""
+        """A peer that ends in the middle gets an answer that says so."""
         self.tally.equal(title, clients.sent(self.service.port, data, closes=True), unread(400))
         self.next_is_served(title)
 

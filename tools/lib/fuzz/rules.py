@@ -1,0 +1,164 @@
+"""The form of what the program prints, answers and says, by the tables of docs/RULES.md."""
+import functools
+import json
+import re
+from typing import NamedTuple
+
+from lib.answers import PHRASES
+from lib.places import TOP
+
+ROW = re.compile(r"^\| (E\d\d) \| `(\w+)`((?: \w+)*) \| .* \| ?(\d*) \| ?(\d*) \| [^|]* \|$", re.M)
+NUMBER, NAME = r"(?:0|[1-9]\d*)", r"[A-Z0-9#$@.%*]{1,39}"
+REASONS = "Header Columns Many Kind Class Name Id Value Owner Flags Digest When Restricted".split()
+DETAILS = {
+    "at": NUMBER, "from": NUMBER, "to": NUMBER, "row": NUMBER, "version": NUMBER, "user": NAME, "name": NAME,
+    "reason": f"(?:{'|'.join(REASONS)})",
+}
+GROUP, LEVEL = "(?:MASTER|INFO|SYS|IO|CONS)", "(?:NONE|READ|UPDATE|CONTROL|ALTER)"
+AUTH = "(?:MASTER|ALL|INFO|SYS(?:,IO)?(?:,CONS)?|IO(?:,CONS)?|CONS)"
+PROFILE = f"PROFILE (?:CONSOLE|OPERCMDS) {NAME} HELD {LEVEL} NEEDED {LEVEL}(?: WARNED)?"
+RULE = f"(?:-|NOPROFILE|LOGONREQUIRED|REVOKED|GROUP {GROUP} AUTH {AUTH}|{PROFILE})"
+# reasons for which the store does not take a database file that the system opens
+REASONS_OF_DATABASE = (
+    "not a database|tables of another program|tables of version [1-9][0-9]*|in use by another program|"
+    "it has a rollback journal; open it with sqlite3 first|not a plain file of one name|not the path of a file|"
+    "damaged, or its disk is full or fails|the disk is full"
+)
+DONE = re.compile(rf"\d{{1,13}} DONE {RULE}")
+REFUSED = re.compile(rf"\d{{1,13}} REFUSED (E\d\d) (.*?) ({RULE})")
+# what C0, DEL and C1 have, which a terminal would obey
+CONTROL = re.compile(r"[\x00-\x1f\x7f-\x9f]")
+ESCAPED = re.compile(r"\\u\{[0-9a-f]+\}|\\x[0-9a-f]{2}|\\.")
+FIELD = re.compile(rf'"((?:[^"\\]|{ESCAPED.pattern})*)"(\.\.)?$')
+MOST_SHOWN = 39  # characters of a field
+RESPONSE = re.compile(
+    rb"HTTP/1\.1 (\d{3}) ([A-Za-z ]+)\r\nContent-Type: application/json\r\nContent-Length: (\d+)\r\n"
+    rb"(?:Allow: (GET|POST)\r\n)?Connection: close\r\n\r\n(.*)", re.S
+)
+
+
+class Form(NamedTuple):
+    """What the table says of a fault: the form of its text, the status of a response with it, and that of a run."""
+    text: re.Pattern[str]
+    response: int | None
+    run: int | None
+
+
+@functools.cache
+def forms() -> dict[str, Form]:
+    with open(f"{TOP}/docs/RULES.md", encoding="utf-8") as file:
+        rows = ROW.findall(file.read())
+    found = {}
+    for code, name, details, response, run in rows:
+        text = " ".join([name, *(DETAILS[detail] for detail in details.split())])
+        found[code] = Form(re.compile(text), int(response) if response else None, int(run) if run else None)
+    return found
+
+
+def wrong_fault(code: str, text: str) -> str | None:
+    """What is wrong with the text of a fault."""
+    form = forms().get(code)
+    if form is None:
+        return f"no rule has the code {code}"
+    return None if form.text.fullmatch(text) else f"not the text of {code}: {text!r}"
+
+
+def wrong_answers(printed: bytes) -> str | None:
+    """What is wrong with what a script prints, whatever it says."""
+    try:
+        lines = printed.decode().split("\n")
+    except UnicodeDecodeError:
+        return "answers that are not UTF-8"
+    if lines.pop() != "":
+        return "the last line of the answers does not end"
+    if len(lines) == 1 and re.fullmatch(rf"BAD LINE {NUMBER}", lines[0]):
+        return None
+    for at, line in enumerate(lines):
+        found = REFUSED.fullmatch(line)
+        if line.startswith("  ") and at > 0 or DONE.fullmatch(line):
+            continue
+        wrong = wrong_fault(found[1], found[2]) if found else f"not the form of an answer: {line!r}"
+        if wrong:
+            return wrong
+    return None
+
+
+def wrong_said(status: int, said: bytes) -> str | None:
+    """What is wrong with what a run says on standard error, which ends with this status."""
+    text = said.decode(errors="backslashreplace")
+    if not text:
+        return None
+    if status == 0:
+        return f"it is done, and says {text[:200]!r}"
+    if status == 2 and text.startswith("error: "):
+        return None
+    first, end, rest = text.partition("\n")
+    wrong = wrong_fault(first[:3], first[4:])
+    if wrong:
+        return wrong
+    if forms()[first[:3]].run != status:
+        return f"{first} with the status {status}"
+    if first[:3] in ("E60", "E91", "E92"):
+        return wrong_reason(first, rest)
+    return None if end and not rest else f"not the fault alone the fault is said: {text[:300]!r}"
+
+
+def wrong_reason(first: str, line: str) -> str | None:
+    """What is wrong with the line after a fault. (The path in it may have line ends of its own.)"""
+    if not line.startswith("opcmds: ") or not line.endswith("\n") or line.endswith("\n\n"):
+        return f"not one line after {first}: {line[:400]!r}"
+    line = line[:-1]
+    number = re.fullmatch(rf"E60 RowFault ({NUMBER}) \w+", first)
+    if number and number[1] == "0":
+        good = re.search(": (the first row is not the header|more than 16,777,216 bytes|not UTF-8)$", line)
+        return None if good else f"not a reason for {first}: {line!r}"
+    if number:
+        reason = line.partition(f", row {number[1]}: ")[2]
+        return None if reason and is_clean(reason) else f"not a reason for {first}: {line!r}"
+    if first.startswith("E92") and not line.endswith(": " + reason_of_version(first)):
+        return f"not the reason for {first}: {line!r}"
+    return None
+
+
+def is_clean(reason: str) -> bool:
+    """Whether what is said of a row has no control characters, and at most 39 characters of the field."""
+    shown = FIELD.search(reason)
+    size = len(ESCAPED.sub("x", shown[1])) if shown else 0
+    return not CONTROL.search(reason) and (shown is None or size <= MOST_SHOWN and (not shown[2] or size == MOST_SHOWN))
+
+
+def reason_of_version(first: str) -> str:
+    version = first.rpartition(" ")[2]
+    return "tables of another program" if version == "0" else f"tables of version {version}"
+
+
+def wrong_response(data: bytes) -> str | None:
+    """What is wrong with a response, whatever was asked."""
+    found = RESPONSE.fullmatch(data)
+    if not found:
+        return f"not the form of a response: {data[:300]!r}"
+    status, phrase, length, allow, body = int(found[1]), found[2].decode(), int(found[3]), found[4], found[5]
+    if PHRASES.get(status) != phrase or length != len(body) or (allow is not None) != (status == 405):
+        return f"not a head of the rules: {data[:300]!r}"
+    try:
+        text = body.decode()
+        told = json.loads(text)
+        compact = json.dumps(told, separators=(",", ":"), ensure_ascii=False)
+    except ValueError:
+        return f"not a body of JSON: {body[:300]!r}"
+    keys = ["lines", "rule", "status"] if status == 200 else ["code", "rule", "status", "text"]
+    if list(told) != keys or told["status"] != ("done" if status == 200 else "refused") or compact != text:
+        return f"not a body of the rules: {body[:300]!r}"
+    if not re.fullmatch(RULE, told["rule"]):
+        return f"not the text of a rule: {told['rule']!r}"
+    return None if status == 200 else wrong_refusal(status, told["code"], told["text"])
+
+
+def wrong_refusal(status: int, code: str, text: str) -> str | None:
+    if code == f"H{status}":
+        good = text == PHRASES[status] and status in (400, 404, 405, 413)
+        return None if good else f"not the text of {code}: {text!r}"
+    wrong = wrong_fault(code, text)
+    if wrong:
+        return wrong
+    return None if forms()[code].response == status else f"{code} with the status {status}"

@@ -1,0 +1,1 @@
+"""Tests of how inputs are turned, read and judged: tools/selftest runs them."""

@@ -61,7 +61,7 @@ def made(folder: str) -> Base:
     state, file = base_state(), f"{folder}/plain"
     ran = run(["run", "--db", file, "--policy", POLICY], SCRIPT.encode())
     held = looked(file, folder)
-    if ran.status != 1 or held.faults or held.rows != tables.told(tables.of_state(state)):
+    if ran.status != 1 or held.faults or tables.told(held.rows) != tables.told(tables.of_state(state)):
         raise Wrong("the file to begin with", (built(), ran, held))
     base = Base(folder, state, held.schema)
     for version in (1, 2):
@@ -95,8 +95,7 @@ def remove(file: str) -> None:
 class Held(NamedTuple):
     """What SQLite finds wrong with a file, and the rows of its tables where they are ours; the version may be older."""
     faults: list[str]
-    rows: dict[str, str] | None
-    log: list[str]
+    rows: dict[str, list[tuple]] | None
     schema: list[str]
 
 
@@ -118,23 +117,22 @@ def read(reader: sqlite3.Connection) -> Held:
         faults += [f"foreign key {row}" for row in reader.execute("PRAGMA foreign_key_check")]
         schema = sorted(text or "" for (text,) in reader.execute("SELECT sql FROM sqlite_schema"))
     except (sqlite3.Error, UnicodeDecodeError) as error:
-        return Held([repr(error)], None, [], [])
+        return Held([repr(error)], None, [])
     try:
         rows = {
             table: reader.execute(f"SELECT {columns} FROM {table}").fetchall()
             for table, columns in tables.COLUMNS.items()
         }
     except (sqlite3.Error, UnicodeDecodeError, OverflowError):
-        return Held(faults, None, [], schema)
-    log = [text for _, text in sorted(rows["log"], key=lambda row: row[0])]
-    return Held(faults, tables.told(rows), log, schema)
+        return Held(faults, None, schema)
+    return Held(faults, rows, schema)
 
 
 def wants_rows(held: Held, wanted: dict[str, str]) -> None:
     """Wrong unless a file holds these rows; moments of the clock are all alike."""
     if held.rows is None:
         raise Wrong("the rows can't be read any more", held.faults)
-    found, wanted = without_moments(held.rows), without_moments(wanted)
+    found, wanted = without_moments(tables.told(held.rows)), without_moments(wanted)
     for table in wanted:
         if found[table] != wanted[table]:
             raise Wrong("not the rows of the model", (table, cut((found[table],), (wanted[table],))))

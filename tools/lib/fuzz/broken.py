@@ -75,11 +75,38 @@ WHOLE = (
 )
 
 
+# what keeps all facts, so that the answers are those of the model over these rows
+KEPT = (
+    "UPDATE profiles SET uacc = 1", "UPDATE profiles SET warning = 1 - warning", "UPDATE profiles SET owner = 'CARL'",
+    "UPDATE entries SET level = 4 - level", "DELETE FROM entries", "DELETE FROM connects",
+    "UPDATE board SET halted = 1", "UPDATE consoles SET auth = 2", "UPDATE consoles SET auth = 9",
+    "UPDATE consoles SET mode = 'R'", "UPDATE consoles SET mode = 'A', usr = NULL",
+    "UPDATE consoles SET usr = 'BERT' WHERE name <> 'C2'", "UPDATE consoles SET online = 0 WHERE name = 'C1'",
+    "UPDATE usr SET special = 1 - special", "UPDATE usr SET auditor = 1", "UPDATE usr SET restricted = 1",
+    "UPDATE usr SET revoked = 1 WHERE id = 'ANNA'", "UPDATE usr SET digest = NULL", "UPDATE classes SET active = 0",
+    "UPDATE units SET cancelable = 1 - cancelable", "UPDATE units SET stopping = 1",
+    "UPDATE units SET kind = 'T', member = NULL", "UPDATE units SET kind = 'S', member = 'PAY'", "DELETE FROM devices",
+    "UPDATE devices SET online = 1, unit = 'BACKUP'", "UPDATE devices SET volume = 'V$'", "DELETE FROM replies",
+    "INSERT INTO replies VALUES (99, 'x' || char(13) || char(27) || char(0) || 'y')", "DELETE FROM account",
+    "INSERT INTO usr VALUES ('C3', 0, 0, 0, NULL, 0); UPDATE consoles SET mode = 'A' WHERE name = 'C3'",
+    "INSERT INTO grp VALUES ('NEW'); INSERT INTO connects SELECT id, 'NEW' FROM usr; "
+    "INSERT INTO entries VALUES ('OPERCMDS', 'MVS.CANCEL.JOB.PAY*', 'NEW', 'C1', 4)",
+    "INSERT INTO entries VALUES ('OPERCMDS', 'MVS.**', '*', '', 3), ('OPERCMDS', 'MVS.VARY.DEV', '*', 'C2', 0)",
+    "INSERT INTO profiles VALUES ('CONSOLE', 'C%', 'SECADM', 0, 0, x'4380', 'C'), "
+    "('OPERCMDS', '**', 'ANNA', 4, 0, x'82ff', ''), ('OPERCMDS', 'MVS.*.JOB.%*', 'BERT', 1, 1, "
+    "x'4d56532e812e4a4f422e8081ff', 'MVS.')", "DELETE FROM entries; DELETE FROM profiles",
+    "DELETE FROM log; DELETE FROM answered; DELETE FROM messages",
+    "INSERT INTO batches VALUES (5, 'kind,class,name,id,value,owner,flags,digest,when,restricted' || char(10))",
+)
+
+
 def statement(chance: Random) -> str:
     """One statement: a column of one row or of all of them changed, a row more, or a row less."""
-    way = chance.randrange(8)
+    way = chance.randrange(10)
     if way <= 1:
         return chance.choice(WHOLE)
+    if way >= 8:
+        return chance.choice(KEPT)
     table = chance.choice(list(COLUMNS))
     columns = COLUMNS[table]
     if way == 2:

@@ -15,7 +15,7 @@ from lib.model.random_unread import post
 from lib.model.requests import Import
 from lib.model.steps import CLOCK, answered, without_clock
 from lib.service import Service
-from . import bases, broken, logs, requests, rules, runs
+from . import bases, broken, logs, requests, rules, runs, states
 from .bases import Base, Held
 from .inputs import Input, shown, written
 from .runs import Ran, Wrong, run, wants_answer, wants_end
@@ -92,22 +92,15 @@ class Database(Input):
         if state is None:
             wants_form(ran)
             if is_refused(ran) and held.rows and not self.name.startswith("version"):
-                bases.wants_rows(after, held.rows)
+                bases.wants_rows(after, tables.told(held.rows))
         else:
             wants_answer(ran, wanted)
             bases.wants_rows(after, tables.told(tables.of_state(state)))
 
     def state_of(self, held: Held) -> State | None:
-        """The model's state, where the file is sound and has the rows that it had: but for lines of the log, of which
-        a log that is cut may have lost the last ones."""
-        if held.faults or held.rows is None or self.name.startswith("version"):
-            return None
-        state = requests.copied(self.base.state)
-        known = state.board.log + [f"line {number}" for number in range(bases.LOGGED)]
-        if len(held.log) < len(state.board.log) or held.log != known[:len(held.log)]:
-            return None
-        state.board.log = held.log
-        return state if held.schema == self.base.schema and held.rows == tables.told(tables.of_state(state)) else None
+        """The model's state, where the file is sound, has the tables that it had, and rows that represent one."""
+        is_ours = not held.faults and held.rows is not None and held.schema == self.base.schema
+        return states.state_of(held.rows) if is_ours else None
 
     def asked(self, file: str, state: State | None) -> tuple[Ran, tuple[int, str, str] | None]:
         """The run, and what comes of it by the model, whose state goes on with it."""
@@ -120,7 +113,8 @@ class Database(Input):
             if state is None:
                 return ran, None
             answer = state.handle(CLOCK, Import("C2", 5, files.read(BATCH)))
-            return ran, (int(answer.code is not None), "".join(f"{line}\n" for line in answer.lines), "")
+            said = f"{answer.code} {answer.text}" if answer.code else ""
+            return ran, (int(answer.code is not None), "".join(f"{line}\n" for line in answer.lines), said)
         return run(["run", "--db", file], SCRIPT), state and (*scripts.run(state, SCRIPT), "")
 
     def served(self, file: str, state: State | None) -> tuple[Ran, tuple[int, str, str] | None]:

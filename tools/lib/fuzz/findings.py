@@ -5,7 +5,7 @@ import tempfile
 import time
 import traceback
 from random import Random
-from typing import Callable, NamedTuple
+from typing import Callable, Iterator, NamedTuple
 
 from lib.model import names
 from lib.model.comparing import shortened
@@ -67,7 +67,10 @@ class Fuzz:
 
     def made(self, kind: str, start: int, size: int) -> Input:
         """A group of inputs, which begins with this number; it depends on seed, kind and numbers alone."""
-        return KINDS[kind].make(Random(f"{self.seed} {kind} {start}"), self.base, size)
+        try:
+            return KINDS[kind].make(Random(f"{self.seed} {kind} {start}"), self.base, size)
+        except Exception as error:
+            raise RuntimeError(f"{kind}:{start} of seed {self.seed} can't be made") from error
 
     def all_of(self, kind: str, count: int) -> None:
         began, group, failed = time.monotonic(), KINDS[kind].group, self.failed
@@ -82,24 +85,26 @@ class Fuzz:
     def only(self, kind: str, number: int) -> None:
         """One input again, after those of its group that come before it."""
         start = number - number % KINDS[kind].group
-        made = self.made(kind, start, number - start + 1)
-        wrong = fault_of(made, self.room)
-        self.passed, self.failed = self.passed + (wrong is None), self.failed + (wrong is not None)
-        if wrong:
-            self.tell(kind, number, made, wrong)
+        found = [one for one in self.findings(kind, start, number - start + 1) if one[0] == number]
+        self.passed, self.failed = self.passed + (not found), self.failed + len(found)
+        for one in found:
+            self.tell(kind, *one)
 
     def group(self, kind: str, start: int, size: int) -> None:
-        """Tries a group; what comes after a finding is tried without it."""
-        made, numbers, failed = self.made(kind, start, size), list(range(start, start + size)), 0
-        while wrong := fault_of(made, self.room):
+        failed = 0
+        for one in self.findings(kind, start, size):
             failed += 1
-            is_group = KINDS[kind].group > 1
-            self.tell(kind, numbers[made.at if is_group else 0], made, wrong)
-            if not is_group or failed == MOST or len(made.pieces) == 1:
-                break
-            del numbers[made.at]
-            made = made.with_pieces(made.pieces[:made.at] + made.pieces[made.at + 1:])
+            self.tell(kind, *one)
         self.passed, self.failed = self.passed + size - failed, self.failed + failed
+
+    def findings(self, kind: str, start: int, size: int) -> Iterator[tuple[int, Input, Wrong]]:
+        """What is wrong with the inputs of a group, by their numbers; what comes after a finding is tried without
+        it."""
+        made, numbers = self.made(kind, start, size), list(range(start, start + size))
+        while len(numbers) > max(size - MOST, 0) and (wrong := fault_of(made, self.room)):
+            at = made.at if KINDS[kind].group > 1 else 0
+            yield numbers.pop(at), made, wrong
+            made = made.with_pieces(made.pieces[:at] + made.pieces[at + 1:])
 
     def tell(self, kind: str, number: int, made: Input, wrong: Wrong) -> None:
         short = self.cut(made, wrong)

@@ -177,10 +177,12 @@ def turned_value(chance: Random, body: bytes) -> bytes:
     """A body of JSON of which one value is another, or one text is turned or written by escapes; it mostly reads."""
     try:
         found = json.loads(body)
-        key = chance.choice(list(found))
-    except (ValueError, TypeError, IndexError):
+    except (ValueError, RecursionError):
+        found = None
+    if not isinstance(found, dict) or not found:
         return turning.turned(chance, body, BODIES)
-    value, way = found[key], chance.randrange(6)
+    key, way = chance.choice(list(found)), chance.randrange(6)
+    value = found[key]
     if way == 0 or not isinstance(value, str):
         found[key] = chance.choice(random_unread.STRANGE)
     elif way <= 2:

@@ -140,7 +140,7 @@ def make(chance: Random) -> Words:
         words = once(chance, words)
     is_safe = "--db=/" in words or ("--db", "/") in zip(words, words[1:])
     # (what would be served otherwise does not end)
-    return Words(words if is_safe or words[:1] != ["serve"] else [*words, "more"])
+    return Words(words if is_safe or words[:1] != ["serve"] else [*words, "more", "more"])
 
 
 def any_value(chance: Random, name: str) -> str:

@@ -4,6 +4,8 @@
    FAULT_CALL   alloc | read | write | sync | any-write (write, pwrite, send, sync, truncate, unlink, rename)
    FAULT_AT     the call that is refused, counted from 1 (0 or unset: none; the calls are counted all the same)
    FAULT_KIND   fail (default: ENOMEM, EIO) | stop (the process ends at once, status 77, before the call)
+   FAULT_FROM   stdin, or the number of a link: calls are counted from the first read of standard input on, or from when
+                that link is accepted (unset: from the start)
    FAULT_COUNT  a file to which the number of calls of that kind is written at the end
 
    lib/places.py compiles it (`preload`); tools/sweep, tools/stops and the part `stops` of tools/serve set these
@@ -22,8 +24,8 @@
 enum kind { NONE, ALLOC, READ, WRITE, SYNC, ANY_WRITE };
 
 static enum kind wanted;
-static long at, calls;
-static int is_stop, is_ready;
+static long at, calls, links, first_link;
+static int is_stop, is_ready, is_from_input;
 static const char *count_file;
 
 static enum kind kind_named(const char *name) {
@@ -34,12 +36,14 @@ static enum kind kind_named(const char *name) {
 }
 
 __attribute__((constructor)) static void begin(void) {
-    const char *number = getenv("FAULT_AT"), *kind = getenv("FAULT_KIND");
+    const char *number = getenv("FAULT_AT"), *kind = getenv("FAULT_KIND"), *from = getenv("FAULT_FROM");
     wanted = kind_named(getenv("FAULT_CALL"));
     at = number ? atol(number) : 0;
     is_stop = kind && !strcmp(kind, "stop");
     count_file = getenv("FAULT_COUNT");
-    is_ready = 1;
+    is_from_input = from && !strcmp(from, "stdin");
+    first_link = from && !is_from_input ? atol(from) : 0;
+    is_ready = !from;
 }
 
 /* Writes the count; no call is counted from here on, nor refused. */
@@ -103,20 +107,27 @@ int posix_memalign(void **made, size_t alignment, size_t size) {
     return *made ? 0 : ENOMEM;
 }
 
-/* Files and sockets. A call is defined by its kind, its type, its name, its parameters and their names. */
+/* Files and sockets. A call is defined by its kind, its type, its name, its parameters and their names; first it may
+   begin the count. */
 
-#define CALL(kind, type, name, parameters, arguments)                                                                  \
+#define CALL_FROM(begins, kind, type, name, parameters, arguments)                                                     \
     type name parameters {                                                                                             \
         static type(*real) parameters;                                                                                 \
         if (!real) real = (type(*) parameters)dlsym(RTLD_NEXT, #name);                                                 \
+        if (begins) is_ready = 1;                                                                                      \
         if (is_due(kind)) {                                                                                            \
             errno = EIO;                                                                                               \
             return -1;                                                                                                 \
         }                                                                                                              \
         return real arguments;                                                                                         \
     }
+#define CALL(kind, type, name, parameters, arguments) CALL_FROM(0, kind, type, name, parameters, arguments)
+#define LINK(name, parameters, arguments)                                                                              \
+    CALL_FROM(first_link && ++links == first_link, NONE, int, name, parameters, arguments)
 
-CALL(READ, ssize_t, read, (int file, void *bytes, size_t size), (file, bytes, size))
+CALL_FROM(file == 0 && is_from_input, READ, ssize_t, read, (int file, void *bytes, size_t size), (file, bytes, size))
+LINK(accept, (int file, struct sockaddr *peer, socklen_t *size), (file, peer, size))
+LINK(accept4, (int file, struct sockaddr *peer, socklen_t *size, int flags), (file, peer, size, flags))
 CALL(READ, ssize_t, pread, (int file, void *bytes, size_t size, off_t from), (file, bytes, size, from))
 CALL(READ, ssize_t, pread64, (int file, void *bytes, size_t size, off64_t from), (file, bytes, size, from))
 CALL(READ, ssize_t, recv, (int link, void *bytes, size_t size, int flags), (link, bytes, size, flags))

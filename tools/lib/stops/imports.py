@@ -1,10 +1,12 @@
 """A policy file put into a database: as a batch at a console, or as its first policy."""
-import re
-import shutil
-import tempfile
-
 from lib import files
-from lib.places import HEADER, POLICY
+from lib.places import POLICY
+from . import faults
+from .faults import Kind
+from .held import Held, Known, Tables, held_in, timeless
+from .prepared import Prepared, policy_file
+from .single import AFTER, BEFORE, INPUT, Aborting, Allowed, Single
+from .work import ANSWERED, UNREAD
 
 ROWS = [f"group,,DAY{at},,,,," for at in range(12)]
 ROWS += [f"user,,U{at},,,,,{at % 10:064}" for at in range(12)]
@@ -14,87 +16,74 @@ ROWS += [f"permit,OPERCMDS,MVS.START.STC.P{at}.*,DAY{at},UPDATE,,," for at in ra
 ROWS += ["class,CONSOLE,,,INACTIVE,,,", 'console,,C4,,"SYS,IO",,OPTIONAL,', "console,,C1,,MASTER,,OPTIONAL,"]
 # rows that are good up to the last one
 REFUSED = [*ROWS, "connect,,ANNA,LATE,,,,"]
+KEPT, AGAIN = (0, "BATCH 7 KEPT\n", ""), (0, "BATCH 7 AGAIN\n", "")
+MISSING, NOBODY, CHANGED = (1, "", "E53 Missing LATE\n"), (1, "", "E53 Missing ANNA\n"), (1, "", "E56 BatchChanged\n")
+NOT_SPECIAL, NOT_EMPTY = (1, "", "E50 NotSpecial\n"), (1, "", "E57 NotEmpty\n")
+TAKEN = (0, "", "")
 
 
-def policy_file(rows: list[str]) -> str:
-    return "".join(f"{line}\n" for line in [HEADER, *rows])
+class Import(Aborting):
+    """An import by the program. Sent once more over what is left, it comes to what it would have come to."""
+
+    def __init__(self, title: str, state: Prepared, words: list[str], data: str, wanted: files.Ran) -> None:
+        super().__init__(title, state, ["import", *words], data, wanted)
+        self.known, self.once_more = Known(looks=self.sent_again), None
+
+    def learn(self, room: str) -> None:
+        super().learn(room)
+        self.once_more = self.sent_again(f"{room}/db")
+
+    def sent_again(self, file: str) -> tuple[files.Ran, Tables]:
+        return self.run(file, {}), held_in(file)
+
+    def tables_in(self, file: str) -> Tables:
+        return held_in(file)
+
+    def compared(self, held: Held) -> Tables | str:
+        return timeless(held.tables)
+
+    def is_kept(self, held: Held) -> bool:
+        is_before = timeless(held.tables) == self.outcome.before
+        again = (self.wanted, self.outcome.after) if is_before else self.once_more
+        return super().is_kept(held) and held.again == again
 
 
-def held_in(file: str) -> dict[str, list[str]]:
-    """The tables, without the moments of the account, which are the clock's."""
-    tables = files.tables(file)
-    tables["account"] = [re.sub(r"^\((\d+), \d+", r"(\1", row) for row in tables["account"]]
-    return tables
+class FirstPolicy(Aborting):
+    """The first policy of `opcmds run`, with a script in which nothing stands."""
+
+    counted_from = None
+    skips_opening = True
+
+    def __init__(self, state: Prepared) -> None:
+        super().__init__("a first policy by run --policy", state, ["run", "--policy", POLICY], "", TAKEN)
+
+    def unanswered(self, kind: Kind, output: str, errors: str) -> Allowed:
+        """The policy is read before it is taken, and the script after that."""
+        if kind.call == "read" and faults.is_reported(kind, errors, f"policy file {POLICY}: "):
+            return {BEFORE: UNREAD}
+        if kind.call == "read" and faults.is_reported(kind, errors, INPUT):
+            return {AFTER: ANSWERED}
+        return super().unanswered(kind, output, errors)
 
 
-class Import:
-    """Where it was answered the file holds what it came to, else that or what was there. Where a batch or a first
-    policy is sent once more, it is then there."""
-
-    most = 60
-
-    def __init__(self, room: str, title: str, words: list[str], data: str, first: str | None = None) -> None:
-        self.title, self.words, self.data, self.first = f"opcmds import: {title}", words, data, first
-        file = f"{tempfile.mkdtemp(dir=room)}/db"
-        self.begin(file)
-        files.script([], file, policy=False)
-        self.before = held_in(file)
-        self.answer = self.run(file, None)
-        self.after = held_in(file)
-        self.answer_again = self.run(file, None)
-        self.after_again = held_in(file)
-
-    def begin(self, file: str) -> None:
-        if self.first:
-            shutil.copy(self.first, file)
-
-    def run(self, file: str, faults: dict[str, str] | None) -> files.Ran:
-        return files.run(["import", "--db", file, *self.words], self.data, faults)
-
-    def is_answered(self, ran: files.Ran) -> bool:
-        """Whether the answer was given: by the status, by all that is printed of it, or by all that is said of it."""
-        status, output, errors = self.answer
-        return ran[0] == status or output != "" and ran[1] == output or errors != "" and ran[2].startswith(errors)
-
-    def is_told(self, call: str, kind: str, ran: files.Ran) -> bool:
-        """Whether the run ended as the one without a fault, was stopped, or told what it wanted and nothing else."""
-        status, output, errors = self.answer
-        if not output.startswith(ran[1]):
-            return False
-        if kind == "stop":
-            return ran[0] == 77 and errors.startswith(ran[2])
-        if ran[0] == 3:
-            return ran[2].removeprefix(errors).startswith(files.WANT[call])
-        # where the write of the fault itself is refused, the status alone tells it
-        return ran == self.answer or ran == (status, output, "")
-
-    def is_right(self, call: str, kind: str, ran: files.Ran, file: str) -> bool:
-        held = held_in(file)
-        if (
-            not self.is_told(call, kind, ran)
-            or held not in ([self.after] if self.is_answered(ran) else [self.before, self.after])
-        ):
-            return False
-        again = self.run(file, None)
-        if self.before == self.after:
-            return again == self.answer and held_in(file) == self.after
-        if held == self.before:
-            return again == self.answer and held_in(file) == self.after
-        return again == self.answer_again and held_in(file) == self.after_again
-
-
-def works(room: str) -> list[Import]:
+def works(room: str) -> list[Single]:
     """Imports with a console and without, done and refused."""
-    stored = f"{room}/stored"
-    files.script(["1 C2 LOGON SECADM,ABC\n", "2 C1 LOGON ANNA,ABC\n"], stored)
-    batch, refused = policy_file(ROWS), policy_file(REFUSED)
-    with open(POLICY) as policy:
+    stored = Prepared(room, "stored", ["1 C2 LOGON SECADM,ABC", "2 C1 LOGON ANNA,ABC"])
+    again = Prepared(room, "again", ["1 C2 LOGON SECADM,ABC", "2 C1 LOGON ANNA,ABC"], ROWS)
+    empty = Prepared(room, "empty", None)
+    small, batch, refused = policy_file(["group,,DAY,,,,,"]), policy_file(ROWS), policy_file(REFUSED)
+    with open(POLICY, encoding="utf-8") as policy:
         first = policy.read()
+    at_c2, at_c1, at_none = ["--batch", "7", "--console", "C2"], ["--batch", "7", "--console", "C1"], ["--batch", "1"]
     return [
-        Import(room, "a batch", ["--batch", "7", "--console", "C2"], batch, stored),
-        Import(room, "a batch that names what is missing", ["--batch", "7", "--console", "C2"], refused, stored),
-        Import(room, "a batch without the right", ["--batch", "7", "--console", "C1"], batch, stored),
-        Import(room, "a first policy", ["--batch", "1"], first),
-        Import(room, "a first policy that names what is missing", ["--batch", "1"], refused),
-        Import(room, "a second first policy", ["--batch", "1"], batch, stored),
+        Import("an import: batch 7, new", stored, at_c2, small, KEPT),
+        Import("an import: batch 7 of many rows, new", stored, at_c2, batch, KEPT),
+        Import("an import: batch 7 again", again, at_c2, batch, AGAIN),
+        Import("an import: batch 7 with other rows", again, at_c2, small, CHANGED),
+        Import("an import: a batch that names what is missing", stored, at_c2, refused, MISSING),
+        Import("an import: a batch without the right", stored, at_c1, batch, NOT_SPECIAL),
+        Import("a first policy by import", empty, at_none, first, TAKEN),
+        Import("a first policy by import that names what is missing", empty, at_none, refused, NOBODY),
+        Import("a first policy by import, where users are stored", stored, at_none, batch, NOT_EMPTY),
+        FirstPolicy(empty),
     ]

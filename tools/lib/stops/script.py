@@ -1,7 +1,12 @@
-"""A script over a new file with a first policy."""
+"""A script of many requests, which goes on after one that was aborted."""
 import tempfile
 
 from lib import files
+from . import faults
+from .faults import Kind
+from .held import OPENED, Held, Tables
+from .prepared import Prepared
+from .work import ANSWERED, Work
 
 LINES = """1 * JOBIN BACKUP JOB
 2 * JOBIN PAYROLL JOB NONCANCEL
@@ -21,9 +26,10 @@ LINES = """1 * JOBIN BACKUP JOB
 16 C2 D A,L
 """.splitlines(keepends=True)
 MOMENTS = [int(line.split(" ")[0]) for line in LINES]
+Answers = list[tuple[int, str]]
 
 
-def answers(output: str) -> list[tuple[int, str]]:
+def answers(output: str) -> Answers:
     """The moments of the answers that were printed whole, with what was printed of each."""
     found = []
     for line in output.splitlines(keepends=True):
@@ -36,54 +42,59 @@ def answers(output: str) -> list[tuple[int, str]]:
     return found
 
 
-class Script:
+class Script(Work[files.Ran]):
     """The answers that were printed are those of the same requests without a fault. What was answered as done or
-    refused is in the file; a request that was given up, or on whose answer the process was stopped, is there as a whole
-    or not at all."""
-    title = "opcmds run --db"
-    most = 400  # runs of one kind, where not every call is tried
+    refused is in the file; a request that was aborted, or on whose answer the process was stopped, is there as a whole
+    or not at all, and not at all where memory ran out."""
+
+    counted_from = "stdin"
 
     def __init__(self, room: str) -> None:
-        self.room, self.known = room, {}
-        # tables in which nothing is stored
-        files.script([], f"{room}/bare", policy=False)
-        self.bare = files.tables(f"{room}/bare")
+        super().__init__(f"a list: a script of {len(LINES)} lines", Prepared(room, "script", []))
+        self.found = {}
 
-    def begin(self, file: str) -> None:
-        pass
+    def learn(self, room: str) -> None:
+        self.room = tempfile.mkdtemp(dir=room)
+        if len(self.after(tuple(MOMENTS))[0]) != len(LINES):
+            raise RuntimeError(f"{self.title}, without a fault: {self.after(tuple(MOMENTS))[0]}")
 
-    def run(self, file: str, faults: dict[str, str] | None) -> files.Ran:
-        return files.script(LINES, file, faults)
+    def run(self, file: str, environment: dict[str, str]) -> files.Ran:
+        return files.script(LINES, file, environment, policy=False)
 
-    def after(self, moments: tuple[int, ...]) -> tuple[list[tuple[int, str]], dict[str, list[str]]]:
+    def after(self, moments: tuple[int, ...]) -> tuple[Answers, Tables]:
         """What these requests come to, without a fault: their answers, and the tables."""
-        if moments not in self.known:
+        if moments not in self.found:
             file = f"{tempfile.mkdtemp(dir=self.room)}/db"
-            output = files.script([line for line, moment in zip(LINES, MOMENTS) if moment in moments], file)[1]
-            self.known[moments] = (answers(output), files.tables(file))
-        return self.known[moments]
+            self.begin(file)
+            chosen = [line for line, moment in zip(LINES, MOMENTS) if moment in moments]
+            output = files.script(chosen, file, policy=False)[1]
+            self.found[moments] = (answers(output), files.tables(file))
+        return self.found[moments]
 
-    def is_ended(self, call: str, kind: str, ran: files.Ran, given_up: set[int]) -> bool:
-        """Whether the run was stopped, or ended by its answers, or told what it wanted where no answer says that."""
+    def is_ended(self, kind: Kind, ran: files.Ran, aborted: set[int]) -> bool:
+        """Whether the run was stopped, or ended by its answers, or reported what it wanted."""
         status, _, errors = ran
-        if kind == "stop":
-            return status == 77
-        return status in (1, 3) and (status == 1 or given_up or errors.startswith(files.WANT[call]))
+        if kind.is_stop():
+            return status == faults.STOPPED and errors == ""
+        if errors:
+            return status == 3 and faults.is_reported(kind, errors)
+        return status == 1 or status == 3 and bool(aborted)
 
-    def is_right(self, call: str, kind: str, ran: files.Ran, file: str) -> bool:
-        status, output, _ = ran
-        held, printed = files.tables(file), answers(output)
-        given_up = {
-            moment for moment, text in printed if text.endswith(" E90 NoMemory -\n") or text.endswith(" E91 Store -\n")
-        }
-        kept = tuple(moment for moment, _ in printed if moment not in given_up)
-        if [(moment, text) for moment, text in printed if moment not in given_up] != self.after(kept)[0]:
+    def stage(self, kind: Kind, ran: files.Ran, held: Held) -> str | None:
+        return ANSWERED if self.is_right(kind, ran, held) else None
+
+    def is_right(self, kind: Kind, ran: files.Ran, held: Held) -> bool:
+        printed = answers(ran[1])
+        aborted = {moment for moment, text in printed if text == faults.answer(str(moment), kind.code())}
+        answered = [(moment, text) for moment, text in printed if moment not in aborted]
+        kept = tuple(moment for moment, _ in answered)
+        if (
+            held.opened != OPENED or held.tables != held.tables_then or answered != self.after(kept)[0]
+            or not self.is_ended(kind, ran, aborted)
+        ):
             return False
-        if not self.is_ended(call, kind, ran, given_up):
-            return False
-        # one more request may be there as a whole: one that was given up, or that was not answered any more
-        unanswered = MOMENTS[len(printed): len(printed) + 1] if status in (3, 77) else []
-        candidates = [kept] + [tuple(sorted({*kept, more})) for more in [*given_up, *unanswered]]
-        if any(held == self.after(moments)[1] for moments in candidates):
-            return True
-        return not printed and held in (self.bare, self.after(())[1])
+        # one more request may be there as a whole: one that was aborted, or that was not answered any more
+        unanswered = MOMENTS[len(printed): len(printed) + 1] if ran[0] in (3, faults.STOPPED) else []
+        more = [*(aborted if kind.call != "alloc" else []), *unanswered]
+        candidates = [kept] + [tuple(sorted({*kept, one})) for one in more]
+        return any(held.tables == self.after(moments)[1] for moments in candidates)

@@ -16,7 +16,7 @@ WITHOUT_PROGRAM = {
 WITH_PROGRAM = {
     "serve": ["tools/serve"],
     "model": ["tools/model"],
-    "stops": ["tools/stops", "--most", "12"],
+    "stops": ["tools/stops", "--most", "2"],
     "fuzz": ["tools/fuzz", "--count", "2000"],
     "databases": ["tools/databases"],
     "cases": ["tools/cases"],

@@ -1,18 +1,17 @@
-"""Requests of all kinds, asked of one service over HTTP."""
-import select
-import shutil
+"""Lists of requests of all kinds, each asked of one service over HTTP, which goes on after one that was aborted."""
 import tempfile
-from typing import NamedTuple
 
-from lib import clients, files
 from lib.answers import done, refused, unread
 from lib.requests import (
     MOMENT, Step, account, add_user, alt_user, class_active, command, define, define_console, delete, imported,
     operation, permit, permit_delete, profiles,
 )
-from lib.serve.rows import timeless
-from lib.service import FIRST, Service
-from .imports import held_in
+from . import faults
+from .faults import Kind
+from .held import OPENED, Held, Tables, held_in, timeless
+from .prepared import LOGONS, Prepared
+from .serving import Ran, asked
+from .work import ANSWERED, Work
 
 NEW = "MVS.START.**"
 DENIED = refused("E51", "NotOwner")
@@ -91,117 +90,79 @@ LISTS = {
         operation("C2", done(), "AddGroup", name="DAY"),
     ],
 }
-GIVEN_UP = {refused("E90", "NoMemory"): ("alloc",), refused("E91", "Store"): ("alloc", "read", "write", "sync")}
 
 
-class Ran(NamedTuple):
-    """One run: which calls a fault was for, the response to each request or None, the status, and what was said."""
-    call: str | None
-    responses: list
-    status: int | None
-    errors: str
+class Requests(Work[Ran]):
+    """What was answered is in the file, and so is a request whose response was not written. One that was aborted is
+    there as a whole or not at all, and not at all where a later one changed anything, or where memory ran out. One that
+    was not read is not there."""
 
+    counted_from = "1"
 
-class Faulty(Service):
-    """A service that may end before it listens."""
+    def __init__(self, title: str, state: Prepared, steps: list[Step]) -> None:
+        super().__init__(f"a list: {title}", state)
+        self.steps, self.found = steps, {}
 
-    def listening(self) -> int | None:
-        ready, _, _ = select.select([self.process.stdout], [], [], 20)
-        found = FIRST.fullmatch(self.process.stdout.readline().decode()) if ready else None
-        return int(found[1]) if found else None
-
-    def response(self, step: Step) -> bytes | None:
-        """None where the link ends without one."""
-        if self.port is None:
-            return None
-        try:
-            return timeless(step, clients.by_socket(self.port, step.method, step.path, step.body)) or None
-        except OSError:
-            return None
-
-
-class Operations:
-    """What was answered is in the file, and so is a request whose response was not written. One that was given up is
-    there as a whole or not at all, and not at all where a later one changed anything. One that was not read is not
-    there."""
-
-    most = 200
-
-    def __init__(self, room: str, stored: str, title: str, steps: list[Step]) -> None:
-        self.title, self.room, self.stored, self.steps, self.known = f"opcmds serve: {title}", room, stored, steps, {}
-        found = self.after(tuple(range(len(steps))))[0]
-        if found != [step.wanted for step in steps]:
+    def learn(self, room: str) -> None:
+        self.room = tempfile.mkdtemp(dir=room)
+        found = self.after(tuple(range(len(self.steps))))[0]
+        if found != [step.wanted for step in self.steps]:
             raise RuntimeError(f"{self.title}, without a fault: {found}")
 
-    def begin(self, file: str) -> None:
-        shutil.copy(self.stored, file)
+    def run(self, file: str, environment: dict[str, str]) -> Ran:
+        return asked(self.steps, file, environment)
 
-    def run(self, file: str, faults: dict[str, str] | None) -> Ran:
-        return self.asked(self.steps, file, faults)
-
-    def asked(self, steps: list[Step], file: str, faults: dict[str, str] | None) -> Ran:
-        with Faulty(file, "--count", str(len(steps)), **(faults or {})) as service:
-            responses = [service.response(step) for step in steps]
-            status, _, errors = service.ended()
-        return Ran((faults or {}).get("FAULT_CALL"), responses, status, errors)
-
-    def after(self, which: tuple[int, ...]) -> tuple[list[bytes | None], dict[str, list[str]]]:
+    def after(self, which: tuple[int, ...]) -> tuple[list[bytes | None], Tables]:
         """What these requests come to, without a fault: their responses, and the tables."""
-        if which not in self.known:
+        if which not in self.found:
             file = f"{tempfile.mkdtemp(dir=self.room)}/db"
             self.begin(file)
-            responses = self.asked([self.steps[at] for at in which], file, None).responses if which else []
-            self.known[which] = responses, held_in(file)
-        return self.known[which]
+            responses = asked([self.steps[at] for at in which], file, {}).responses if which else []
+            self.found[which] = responses, held_in(file)
+        return self.found[which]
 
-    def is_told(self, call: str, kind: str, ran: Ran) -> bool:
+    def is_ended(self, kind: Kind, ran: Ran) -> bool:
         """Whether the run ended as it should: stopped; with all requests asked; or with what it wanted, and nothing
         else."""
-        if kind == "stop":
-            return (ran.status, ran.errors) == (77, "")
+        if kind.is_stop():
+            return (ran.status, ran.errors) == (faults.STOPPED, "")
         if ran.status == 0:
             return ran.errors == "" and ran.responses.count(None) <= 1
-        return ran.status == 3 and (ran.errors == "" or ran.errors.startswith(files.WANT[call]))
+        return ran.status == 3 and faults.is_reported(kind, ran.errors)
 
-    def is_right(self, call: str, kind: str, ran: Ran, file: str) -> bool:
-        held, places = held_in(file), range(len(self.steps))
-        if (
-            not self.is_told(call, kind, ran)
-            or any(ran.call not in GIVEN_UP.get(response, (ran.call,)) for response in ran.responses)
-        ):
+    def stage(self, kind: Kind, ran: Ran, held: Held) -> str | None:
+        return ANSWERED if self.is_right(kind, ran, held) else None
+
+    def is_right(self, kind: Kind, ran: Ran, held: Held) -> bool:
+        tables, places = timeless(held.tables), range(len(self.steps))
+        is_kept = held.opened == OPENED and tables == timeless(held.tables_then)
+        if not is_kept or not self.is_ended(kind, ran) or ran.output:
             return False
-        handled = [at for at in places if self.is_handled(ran, at)]
-        candidates = [
-            handled,
-            *(sorted([*handled, at]) for at in places if at not in handled and self.may_be_there(ran, at, handled)),
-        ]
-        return any(self.is_outcome(ran, held, tuple(which)) for which in candidates)
+        aborted = None if kind.is_stop() else faults.response(kind.code())
+        handled = [at for at in places if self.is_handled(kind, ran, at, aborted)]
+        more = [at for at in places if at not in handled and self.may_be_there(kind, ran, at, handled)]
+        candidates = [handled, *(sorted([*handled, at]) for at in more)]
+        return any(self.is_outcome(ran, tables, tuple(which), aborted) for which in candidates)
 
-    def is_handled(self, ran: Ran, at: int) -> bool:
+    def is_handled(self, kind: Kind, ran: Ran, at: int, aborted: bytes | None) -> bool:
         """Whether a request was answered, or its response alone was refused."""
         response = ran.responses[at]
-        return response not in GIVEN_UP if response is not None else ran.call == "write" and ran.status == 0
+        return response != aborted if response is not None else kind.call == "write" and ran.status == 0
 
-    def may_be_there(self, ran: Ran, at: int, handled: list[int]) -> bool:
+    def may_be_there(self, kind: Kind, ran: Ran, at: int, handled: list[int]) -> bool:
         """Whether a request that was not answered may have been done."""
         if ran.responses[at] is None:
-            return ran.call != "read"
+            return kind.call != "read"
         before = tuple(other for other in handled if other < at)
-        return self.after(before)[1] == self.after(tuple(handled))[1]
+        return kind.call != "alloc" and self.after(before)[1] == self.after(tuple(handled))[1]
 
-    def is_outcome(self, ran: Ran, held: dict[str, list[str]], which: tuple[int, ...]) -> bool:
+    def is_outcome(self, ran: Ran, tables: Tables | str, which: tuple[int, ...], aborted: bytes | None) -> bool:
         """Whether these requests, done one after another, leave such tables and were answered so."""
-        responses, tables = self.after(which)
+        responses, left = self.after(which)
         given = [ran.responses[at] for at in which]
-        return (
-            held == tables
-            and all(one is None or one in GIVEN_UP or one == other for one, other in zip(given, responses))
-        )
+        return tables == left and all(one in (None, aborted, other) for one, other in zip(given, responses))
 
 
-def works(room: str) -> list[Operations]:
-    stored = f"{room}/administered"
-    files.script(
-        ["1 * JOBIN BACKUP JOB\n", "1 * ATTACH 0A80\n", "1 C2 LOGON SECADM,ABC\n", "2 C1 LOGON ANNA,ABC\n"], stored
-    )
-    return [Operations(room, stored, title, steps) for title, steps in LISTS.items()]
+def works(room: str) -> list[Requests]:
+    state = Prepared(room, "administered", ["1 * JOBIN BACKUP JOB", "1 * ATTACH 0A80", *LOGONS])
+    return [Requests(title, state, steps) for title, steps in LISTS.items()]

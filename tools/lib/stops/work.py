@@ -1,0 +1,45 @@
+"""What is run again and again, each time with another call refused."""
+import shutil
+from typing import Generic, TypeVar
+
+from .faults import Kind
+from .held import Held, Known
+from .prepared import Prepared
+
+Ran = TypeVar("Ran")  # how a run ended
+# How far a run came: it read no request, it aborted it, the request was done or refused and no answer was written, or
+# the answer was. Where no answer says it, a later call means no earlier stage.
+UNREAD, ABORTED, UNWRITTEN, ANSWERED = "unread", "aborted", "unwritten", "answered"
+
+
+class Work(Generic[Ran]):
+    """A run over a copy of a file in which all before it is done."""
+
+    counted_from: str | None = None  # FAULT_FROM of lib/inject/faults.c; none: the start of the process
+    skips_opening = False  # whether the calls of the opening are left out, where the count cannot begin after them
+
+    def __init__(self, title: str, state: Prepared | None) -> None:
+        self.title, self.state, self.known = title, state, Known()
+
+    def learn(self, room: str) -> None:
+        """Finds what comes of it without a fault, in an empty folder."""
+        raise NotImplementedError
+
+    def begin(self, file: str) -> None:
+        if self.state:
+            shutil.copy(self.state.file(), file)
+
+    def run(self, file: str, environment: dict[str, str]) -> Ran:
+        raise NotImplementedError
+
+    def held(self, file: str) -> Held:
+        """What is in the file then."""
+        return self.known.held(file)
+
+    def stage(self, kind: Kind, ran: Ran, held: Held) -> str | None:
+        """How far the run came; none where it is bad."""
+        raise NotImplementedError
+
+    def left(self, held: Held) -> str:
+        """What a bad run left, in a few words."""
+        return f"the next opening: {held.opened!r}"

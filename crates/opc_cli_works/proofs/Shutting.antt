@@ -41,7 +41,7 @@ use Rattle.opc_machine.specs.declared.request.Answer.{Answer}
 use Rattle.opc_machine.specs.declared.request.Answer.TheVariants.{Done, Refused}
 use Rattle.opc_machine.specs.Inputs.{Input}
 use Rattle.opc_machine.specs.Machine.{IsAborted, Step, after, answer_of, outcome}
-use Rattle.opc_machine.specs.Outcome.{Outcome}
+use Rattle.opc_machine.specs.Outcome.{StateOutcome}
 use Rattle.opc_machine_laws.proofs.Leaving.{leaves_rest}
 use Rattle.opc_store_schema.specs.Represented.{AreTablesOf}
 use Rattle.opc_store_schema.proofs.Decoded.{one_state}
@@ -75,10 +75,10 @@ longer n s less is = let same : length (rows n) ≡ length s.account = ap (λ (t
 longer_by : (old : List AccountRow) (row : AccountRow) (new : List AccountRow) → new ≡ old ++ row ∷ [] → length old ≤ length new
 longer_by old row new is = let more : length new ≡ length old + 1 = ap length is ∙ length-append old (row ∷ []) in omega (arith, more)
 
-refused_grows : (s : State) (moment : ℕ) (r : Input) (fault : Fault) (rule : Option Rule) (o : Outcome)
+refused_grows : (s : State) (moment : ℕ) (r : Input) (fault : Fault) (rule : Option Rule) (o : StateOutcome)
     → Refused fault rule ≡ answer_of o → length s.account ≤ length (after s moment r o).account
-refused_grows s moment r fault rule (Ok deed) is = absurd cc
-refused_grows s moment r fault rule (Err denial) is = longer_by s.account _ _ refl
+refused_grows s moment r fault rule (Ok effect) is = absurd cc
+refused_grows s moment r fault rule (Err refusal) is = longer_by s.account _ _ refl
 
 same_length : (s next : State) → next ≡ s → length s.account ≤ length next.account
 same_length s next is = let same : length next.account ≡ length s.account = ap (λ (t : State). length t.account) is in omega (arith, same)

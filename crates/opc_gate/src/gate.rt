@@ -17,7 +17,7 @@ ghost use Rattle.opc_machine.specs.Inputs.{Input, console_of, input_of};
 ghost use Rattle.opc_machine.specs.Rulings.{acting_user};
 ghost use Rattle.opc_machine.specs.Machine.{IsAborted, account_row, is_warned, outcome as outcome_of, user_acting};
 ghost use Rattle.opc_gate.specs.Handling.{IsDecision, IsHandled, IsNothingWhereSame};
-ghost use Rattle.opc_machine.specs.Deeds.{IsOutcome};
+ghost use Rattle.opc_machine.specs.Effects.{IsOutcome};
 
 use opc_board::rows::ConsoleRow;
 use opc_board::text::KeptText;
@@ -28,7 +28,7 @@ use opc_gate_imports::import::import_on;
 use opc_gate_listings::account::account_on;
 use opc_gate_listings::profiles::profiles_on;
 use opc_gate_rulings::ruling::acting_user_on;
-use opc_machine::outcome::{Decided, Deed, Denial};
+use opc_machine::outcome::Outcome;
 use opc_machine::request::{Answer, Request};
 use opc_names::name::{ConsoleName, Name, NameKind, UserId};
 use opc_policy_members::row::Row;
@@ -146,7 +146,7 @@ fn decide(
     moment: u64,
     request: &Request,
     user: Option<UserId>,
-    outcome: Result<Deed, Denial>,
+    outcome: Outcome,
 ) -> Result<Decision, AllocError>
     ensures decides { (s : State) → IsOutcome s (outcome_of s (input_of request.now)) outcome
         → user ≡ user_acting s (input_of request.now)
@@ -155,27 +155,27 @@ fn decide(
         → IfOk result (λ d. IsNothingWhereSame s d.change) }
 {
     match outcome {
-        Ok(deed) => {
-            let account = if is_warned(&deed.rule) {
-                Some(account_row(alloc, moment, request, user, "WARN", &deed.rule)?)
+        Outcome::Done(effect) => {
+            let account = if is_warned(&effect.rule) {
+                Some(account_row(alloc, moment, request, user, "WARN", &effect.rule)?)
             } else {
                 None
             };
             Ok(Decision {
                 answer: Answer::Done {
-                    lines: deed.lines,
-                    rule: deed.rule,
+                    lines: effect.lines,
+                    rule: effect.rule,
                 },
                 change: Change {
-                    edits: deed.edits,
+                    edits: effect.edits,
                     account,
                 },
             })
         }
-        Err(denial) => Ok(Decision {
+        Outcome::Refused(refusal) => Ok(Decision {
             answer: Answer::Refused {
-                fault: denial.fault,
-                rule: denial.rule,
+                fault: refusal.fault,
+                rule: refusal.rule,
             },
             change: Change {
                 edits: Vec::new(alloc),
@@ -184,8 +184,8 @@ fn decide(
                     moment,
                     request,
                     user,
-                    denial.fault.code(),
-                    &denial.rule,
+                    refusal.fault.code(),
+                    &refusal.rule,
                 )?),
             },
         }),
@@ -208,7 +208,7 @@ fn outcome_on<T: Tables>(
     alloc: Global,
     console: Option<ConsoleRow>,
     request: &Request,
-) -> Decided
+) -> Result<Outcome, StoreFault>
     ensures kept { IsKept T.is_sure T.represents T.may_leave tables.old tables.new }
     ensures outcome { Answers (T.is_sure tables.new) (T.represents tables.old) result
         (λ s o. console ≡ option_and_then (console_at s.board) (console_of (input_of request.now))

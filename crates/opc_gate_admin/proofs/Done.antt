@@ -8,10 +8,10 @@ use Rattle.opc_state.specs.declared.change.Edit.{Edit}
 use Rattle.opc_state.specs.Changes.{all_edited, edited}
 use Rattle.opc_state.specs.Invariants.{IsKeyed}
 use Rattle.opc_state.specs.State.{State}
-use Rattle.opc_machine.specs.declared.outcome.Deed as found
-use Rattle.opc_machine.specs.declared.outcome.Denial as found_denial
+use Rattle.opc_machine.specs.declared.outcome.Outcome.{Outcome}
+use Rattle.opc_machine.specs.declared.outcome.Outcome.TheVariants.{Done, Refused}
 use Rattle.opc_machine.specs.Bootstrap.{mastered, with_rows_of}
-use Rattle.opc_machine.specs.Deeds.{IsOutcome}
+use Rattle.opc_machine.specs.Effects.{IsOutcome}
 use Rattle.opc_machine.specs.Outcome.{does}
 use Rattle.opc_gate_admin.specs.Operations.{IsDoneBy, policy_outcome, state_outcome}
 
@@ -24,44 +24,44 @@ pub given : {A E K : Type 0} (P : A → Type 0) (r : Result A E) → (K → IfOk
 given P (Ok x) f = f
 given P (Err e) f = tt
 
--- a deed by one edit is what the state becomes by it
+-- an effect by one edit is what the state becomes by it
 pub one_change : (s : State) (made : Result State Fault) (e : Edit) → made ≡ Ok (edited e s) → (edited e s ≡ s → ⊥)
-    → (o : Result found.Deed found_denial.Denial) → IsDoneBy e o → IsOutcome s (state_outcome made) o
-one_change s made e makes changes (Ok deed) is =
-    let comes : all_edited deed.edits.items s ≡ edited e s = ap (λ es. all_edited es s) is.0 in
+    → (o : Outcome) → IsDoneBy e o → IsOutcome s (state_outcome made) o
+one_change s made e makes changes (Done effect) is =
+    let comes : all_edited effect.edits.items s ≡ edited e s = ap (λ es. all_edited es s) is.0 in
     record {
       makes =
           ap state_outcome makes
           ∙ ap (λ t. does t [] None) (sym comes)
-          ∙ ap (λ ls. does (all_edited deed.edits.items s) ls None) (sym is.1)
-          ∙ ap (λ r. does (all_edited deed.edits.items s) deed.lines r) (sym is.2);
+          ∙ ap (λ ls. does (all_edited effect.edits.items s) ls None) (sym is.1)
+          ∙ ap (λ r. does (all_edited effect.edits.items s) effect.lines r) (sym is.2);
       idle = λ same. absurd (changes (sym comes ∙ same));
     }
-one_change s made e makes changes (Err denial) is = absurd is
+one_change s made e makes changes (Refused refusal) is = absurd is
 
 -- and what the policy becomes
 pub one_edit : (s : State) (made : Result Policy Fault) (p : Policy) (e : Edit) → made ≡ Ok p → edited e s ≡ record s { policy = p } → (edited e s ≡ s → ⊥)
-    → (o : Result found.Deed found_denial.Denial) → IsDoneBy e o → IsOutcome s (policy_outcome s made) o
+    → (o : Outcome) → IsDoneBy e o → IsOutcome s (policy_outcome s made) o
 one_edit s made p e makes becomes changes o is =
     subst (λ x. IsOutcome s x o) (ap (λ t. does t [] None) becomes ∙ ap (policy_outcome s) (sym makes)) (one_change s (Ok (edited e s)) e refl changes o is)
 
--- where nothing is to be done, a deed without edits is the outcome
+-- where nothing is to be done, an effect without edits is the outcome
 pub left_alone : (s : State) (made : Result Policy Fault) → made ≡ Ok s.policy → (edits : Vec Edit Global)
-    → edits.items ≡ [] → (r : Result (Result found.Deed found_denial.Denial) StoreFault)
-    → r ≡ Ok (Ok (record { edits = edits; lines = []; rule = None })) → IfOk r (λ o. IsOutcome s (policy_outcome s made) o)
+    → edits.items ≡ [] → (r : Result Outcome StoreFault)
+    → r ≡ Ok (Done (record { edits = edits; lines = []; rule = None })) → IfOk r (λ o. IsOutcome s (policy_outcome s made) o)
 left_alone s made makes edits none r is =
     subst (λ x. IfOk x (λ o. IsOutcome s (policy_outcome s made) o)) (sym is)
     (record { makes = ap (policy_outcome s) makes ∙ ap (λ es. does (all_edited es s) [] None) (sym none); idle = λ same. none })
 
 pub state_alone : (s : State) (made : Result State Fault) → made ≡ Ok s → (edits : Vec Edit Global) → edits.items ≡ []
-    → (r : Result (Result found.Deed found_denial.Denial) StoreFault)
-    → r ≡ Ok (Ok (record { edits = edits; lines = []; rule = None })) → IfOk r (λ o. IsOutcome s (state_outcome made) o)
+    → (r : Result Outcome StoreFault)
+    → r ≡ Ok (Done (record { edits = edits; lines = []; rule = None })) → IfOk r (λ o. IsOutcome s (state_outcome made) o)
 state_alone s made makes edits none r is =
     subst (λ x. IfOk x (λ o. IsOutcome s (state_outcome made) o)) (sym is)
     (record { makes = ap state_outcome makes ∙ ap (λ es. does (all_edited es s) [] None) (sym none); idle = λ same. none })
 
-pub state_refused : (s : State) (made : Result State Fault) (f : Fault) → made ≡ Err f → (r : Result (Result found.Deed found_denial.Denial) StoreFault)
-    → r ≡ Ok (Err (record { fault = f; rule = None })) → IfOk r (λ o. IsOutcome s (state_outcome made) o)
+pub state_refused : (s : State) (made : Result State Fault) (f : Fault) → made ≡ Err f → (r : Result Outcome StoreFault)
+    → r ≡ Ok (Refused (record { fault = f; rule = None })) → IfOk r (λ o. IsOutcome s (state_outcome made) o)
 state_refused s made f makes r is = subst (λ x. IfOk x (λ o. IsOutcome s (state_outcome made) o)) (sym is) (ap state_outcome makes)
 
 -- no master is lost where the board stays
@@ -74,7 +74,7 @@ policy_alone s (Ok p) = ap (λ b. state_outcome (mastered b (record s { policy =
 policy_alone s (Err f) = refl
 
 -- so what is the outcome of the policy alone is that of the state
-pub to_state : (s : State) (made : Result Policy Fault) (r : Result (Result found.Deed found_denial.Denial) StoreFault)
+pub to_state : (s : State) (made : Result Policy Fault) (r : Result Outcome StoreFault)
     → IfOk r (λ o. IsKeyed s → IsOutcome s (policy_outcome s made) o)
     → IfOk r (λ o. IsKeyed s → IsOutcome s (state_outcome (with_rows_of s s.board made)) o)
 to_state s made r h = subst (λ x. IfOk r (λ o. IsKeyed s → IsOutcome s x o)) (sym (policy_alone s made)) h

@@ -18,28 +18,27 @@ use Rattle.opc_state.specs.Difference.{same_flag}
 use Rattle.opc_state.specs.Asked.{Answers}
 use Rattle.opc_state.specs.Invariants.{IsKeyed}
 use Rattle.opc_state.specs.State.{State}
-use Rattle.opc_machine.specs.declared.outcome.Deed as found
-use Rattle.opc_machine.specs.declared.outcome.Denial as found_denial
+use Rattle.opc_machine.specs.declared.outcome.Outcome.{Outcome}
+use Rattle.opc_machine.specs.declared.outcome.Outcome.TheVariants.{Done, Refused}
 use Rattle.opc_machine.specs.declared.operation.Operation.{Operation}
 use Rattle.opc_machine.specs.declared.operation.Operation.TheVariants as operation
 use Rattle.opc_machine.specs.Administration.{changed}
-use Rattle.opc_machine.specs.Deeds.{IsOutcome}
-use Rattle.opc_machine.specs.Outcome.{Outcome, ◌>>=◌, does, or_refused, refused}
+use Rattle.opc_machine.specs.Effects.{IsOutcome}
+use Rattle.opc_machine.specs.Outcome.{StateOutcome, ◌>>=◌, does, or_refused, refused}
 
 -- what is done where the policy becomes another one, or is left
-abbrev pub policy_outcome : State → Result Policy Fault → Outcome
+abbrev pub policy_outcome : State → Result Policy Fault → StateOutcome
 policy_outcome s (Ok p) = does (record s { policy = p }) [] None
 policy_outcome s (Err fault) = refused fault None
 
 -- and where the state does
-abbrev pub state_outcome : Result State Fault → Outcome
+abbrev pub state_outcome : Result State Fault → StateOutcome
 state_outcome made = do
   new ← or_refused made
   does new [] None
 
 -- Where the tables are sure, and represent a state with each key once, this is what the operation comes to.
-abbrev pub ComesTo : Type 0 → (State → Type 0) → Result (Result found.Deed found_denial.Denial) StoreFault → Operation
-    → Type 0
+abbrev pub ComesTo : Type 0 → (State → Type 0) → Result Outcome StoreFault → Operation → Type 0
 ComesTo sure represents result op = Answers sure represents result
     (λ s o. IsKeyed s → IsOutcome s (state_outcome (changed s op)) o)
 
@@ -52,10 +51,10 @@ is_of_profiles (operation.Permit class pattern id level when) = true
 is_of_profiles (operation.PermitDelete class pattern id when) = true
 is_of_profiles other = false
 
--- a deed by one edit, without lines and without a rule
-abbrev pub IsDoneBy : Edit → Result found.Deed found_denial.Denial → Type 0
-IsDoneBy edit (Ok deed) = (deed.edits.items ≡ edit ∷ []) × (deed.lines ≡ []) × (deed.rule ≡ None)
-IsDoneBy edit (Err denial) = ⊥
+-- an effect by one edit, without lines and without a rule
+abbrev pub IsDoneBy : Edit → Outcome → Type 0
+IsDoneBy edit (Done effect) = (effect.edits.items ≡ edit ∷ []) × (effect.lines ≡ []) × (effect.rule ≡ None)
+IsDoneBy edit (Refused refusal) = ⊥
 
 -- the level of the entry for an id in the access list of a profile, where there is such a profile
 abbrev pub level_in : Policy → Class → List ℕ → List ℕ → Option (List ℕ) → Option (Option Level)

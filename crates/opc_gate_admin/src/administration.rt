@@ -6,7 +6,7 @@ ghost use Rattle.opc_state.specs.Asked.{Answers};
 ghost use Rattle.opc_state.specs.Changes.{IsKept};
 ghost use Rattle.opc_state.specs.Invariants.{IsKeyed};
 ghost use Rattle.opc_machine.specs.Administration.{admin_outcome, definition};
-ghost use Rattle.opc_machine.specs.Deeds.{IsOutcome};
+ghost use Rattle.opc_machine.specs.Effects.{IsOutcome};
 ghost use Rattle.opc_machine.specs.Rights.{is_owner, may_change, right_fault};
 ghost use Rattle.opc_machine.specs.Rulings.{acting};
 ghost use Rattle.opc_gate_admin.specs.Operations.{ComesTo, is_of_profiles};
@@ -15,9 +15,9 @@ use crate::consoles::define_console;
 use crate::members::{add_group, add_user, alt_user, class_active, connect, del_user, remove};
 use crate::profiles::{permit, permit_delete, ralter, rdefine, rdelete};
 use opc_board::rows::ConsoleRow;
-use opc_gate_rulings::requester::{Requester, is_owner, is_special, requester_on};
+use opc_gate_rulings::requester::{Asking, Requester, is_owner, is_special, requester_on};
 use opc_machine::operation::Operation;
-use opc_machine::outcome::{Decided, denied};
+use opc_machine::outcome::{Outcome, refused};
 use opc_names::class::Class;
 use opc_names::level::Level;
 use opc_names::name::{Pattern, UserId};
@@ -136,7 +136,11 @@ fn definition(
 }
 
 // What an operation on a profile or its access list comes to that whoever asks has the right to.
-fn profile_changed_on<T: Tables>(tables: &mut T, alloc: Global, op: &Operation) -> Decided
+fn profile_changed_on<T: Tables>(
+    tables: &mut T,
+    alloc: Global,
+    op: &Operation,
+) -> Result<Outcome, StoreFault>
     requires { is_of_profiles op.now ≡ true }
     ensures kept { IsKept T.is_sure T.represents T.may_leave tables.old tables.new }
     ensures outcome { ComesTo (T.is_sure tables.new) (T.represents tables.old) result op.now }
@@ -184,7 +188,11 @@ fn profile_changed_on<T: Tables>(tables: &mut T, alloc: Global, op: &Operation) 
 // What an operation comes to that whoever asks has the right to. Each operation is one function: tests in the order of
 // its definition, and at the end one edit, or none if nothing changes. The lemma `one_edit` says for most of them what
 // the policy becomes.
-fn changed_on<T: Tables>(tables: &mut T, alloc: Global, op: &Operation) -> Decided
+fn changed_on<T: Tables>(
+    tables: &mut T,
+    alloc: Global,
+    op: &Operation,
+) -> Result<Outcome, StoreFault>
     ensures kept { IsKept T.is_sure T.represents T.may_leave tables.old tables.new }
     ensures outcome { ComesTo (T.is_sure tables.new) (T.represents tables.old) result op.now }
 {
@@ -235,18 +243,18 @@ pub fn admin_on<T: Tables>(
     alloc: Global,
     console: Option<ConsoleRow>,
     op: &Operation,
-) -> Decided
+) -> Result<Outcome, StoreFault>
     ensures kept { IsKept T.is_sure T.represents T.may_leave tables.old tables.new }
     ensures outcome { Answers (T.is_sure tables.new) (T.represents tables.old) result
         (λ s o. (name : Name) → console ≡ console_at s.board name → IsKeyed s
         → IsOutcome s (admin_outcome s name op.now) o) }
 {
-    let asking = match requester_on(tables, alloc, console)? {
-        Ok(asking) => asking,
-        Err(denial) => return Ok(Err(denial)),
+    let requester = match requester_on(tables, alloc, console)? {
+        Asking::By(requester) => requester,
+        Asking::Refused(refusal) => return Ok(Outcome::Refused(refusal)),
     };
-    if !may_change(tables, alloc, &asking, op)? {
-        return denied(right_fault(op), None);
+    if !may_change(tables, alloc, &requester, op)? {
+        return refused(right_fault(op), None);
     }
     changed_on(tables, alloc, op)
 }

@@ -10,9 +10,9 @@ ghost use Rattle.opc_state.specs.Invariants.{IsKeyed};
 ghost use Rattle.opc_machine.specs.declared.operation.Operation.TheVariants as operation;
 ghost use Rattle.opc_gate_admin.specs.Operations.{ComesTo, same_setting};
 
-use crate::deeds::done_by;
+use crate::outcomes::done_by;
 use opc_board::rows::ConsoleRow;
-use opc_machine::outcome::{Decided, denied, done};
+use opc_machine::outcome::{Outcome, done, refused};
 use opc_names::auth::Auth;
 use opc_names::name::ConsoleName;
 use opc_state::change::Edit;
@@ -87,7 +87,7 @@ pub(crate) fn define_console<T: Tables>(
     name: ConsoleName,
     auth: Auth,
     mode: Mode,
-) -> Decided
+) -> Result<Outcome, StoreFault>
     ensures kept { IsKept T.is_sure T.represents T.may_leave tables.old tables.new }
     ensures outcome { ComesTo (T.is_sure tables.new) (T.represents tables.old) result
         (operation.DefineConsole name auth mode) }
@@ -105,7 +105,7 @@ pub(crate) fn define_console<T: Tables>(
         return done(alloc, Vec::new(alloc), None);
     }
     if loses_master(tables, alloc, &stored, &console)? {
-        return denied(Fault::LastMaster, None);
+        return refused(Fault::LastMaster, None);
     }
     done_by(alloc, Edit::PutConsole(console))
 }

@@ -3,6 +3,6 @@
 
 pub mod administration;
 mod consoles;
-mod deeds;
 mod members;
+mod outcomes;
 mod profiles;

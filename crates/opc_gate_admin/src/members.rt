@@ -5,11 +5,11 @@ ghost use Rattle.opc_state.specs.Changes.{IsKept};
 ghost use Rattle.opc_state.specs.Invariants.{IsKeyed};
 ghost use Rattle.opc_machine.specs.declared.operation.Operation.TheVariants as operation;
 ghost use Rattle.opc_machine.specs.Administration.{has_name, is_in_use, policy_changed};
-ghost use Rattle.opc_machine.specs.Deeds.{IsOutcome};
+ghost use Rattle.opc_machine.specs.Effects.{IsOutcome};
 ghost use Rattle.opc_gate_admin.specs.Operations.{policy_outcome};
 
-use crate::deeds::{done_by, exists, missing};
-use opc_machine::outcome::{Decided, denied, done};
+use crate::outcomes::{done_by, exists, missing};
+use opc_machine::outcome::{Outcome, done, refused};
 use opc_machine::same::same_user;
 use opc_names::class::Class;
 use opc_names::name::{GroupName, UserId};
@@ -43,7 +43,11 @@ fn is_in_use<T: Tables>(tables: &mut T, alloc: Global, id: &UserId) -> Result<bo
 }
 
 /// A user who is not revoked, unless a user or a group has the name (E52).
-pub(crate) fn add_user<T: Tables>(tables: &mut T, alloc: Global, user: User) -> Decided
+pub(crate) fn add_user<T: Tables>(
+    tables: &mut T,
+    alloc: Global,
+    user: User,
+) -> Result<Outcome, StoreFault>
     requires { user.revoked ≡ false }
     ensures kept { IsKept T.is_sure T.represents T.may_leave tables.old tables.new }
     ensures outcome { Answers (T.is_sure tables.new) (T.represents tables.old) result (λ s o.
@@ -57,7 +61,11 @@ pub(crate) fn add_user<T: Tables>(tables: &mut T, alloc: Global, user: User) -> 
 }
 
 /// All but the id of a user who is stored (E53).
-pub(crate) fn alt_user<T: Tables>(tables: &mut T, alloc: Global, user: User) -> Decided
+pub(crate) fn alt_user<T: Tables>(
+    tables: &mut T,
+    alloc: Global,
+    user: User,
+) -> Result<Outcome, StoreFault>
     ensures kept { IsKept T.is_sure T.represents T.may_leave tables.old tables.new }
     ensures outcome { Answers (T.is_sure tables.new) (T.represents tables.old) result (λ s o. IsKeyed s →
         IsOutcome s (policy_outcome s (policy_changed s.board
@@ -71,7 +79,11 @@ pub(crate) fn alt_user<T: Tables>(tables: &mut T, alloc: Global, user: User) -> 
 }
 
 /// A user who is stored (E53) and not in use (E55) is no more.
-pub(crate) fn del_user<T: Tables>(tables: &mut T, alloc: Global, id: UserId) -> Decided
+pub(crate) fn del_user<T: Tables>(
+    tables: &mut T,
+    alloc: Global,
+    id: UserId,
+) -> Result<Outcome, StoreFault>
     ensures kept { IsKept T.is_sure T.represents T.may_leave tables.old tables.new }
     ensures outcome { Answers (T.is_sure tables.new) (T.represents tables.old) result (λ s o.
         IsOutcome s (policy_outcome s (policy_changed s.board (operation.DelUser id) s.policy)) o) }
@@ -80,13 +92,17 @@ pub(crate) fn del_user<T: Tables>(tables: &mut T, alloc: Global, id: UserId) -> 
         return missing(&id);
     }
     if is_in_use(tables, alloc, &id)? {
-        return denied(Fault::InUse(Subject::of(&id)), None);
+        return refused(Fault::InUse(Subject::of(&id)), None);
     }
     done_by(alloc, Edit::RemoveUser(id))
 }
 
 /// A group, unless a user or a group has the name (E52).
-pub(crate) fn add_group<T: Tables>(tables: &mut T, alloc: Global, name: GroupName) -> Decided
+pub(crate) fn add_group<T: Tables>(
+    tables: &mut T,
+    alloc: Global,
+    name: GroupName,
+) -> Result<Outcome, StoreFault>
     ensures kept { IsKept T.is_sure T.represents T.may_leave tables.old tables.new }
     ensures outcome { Answers (T.is_sure tables.new) (T.represents tables.old) result (λ s o.
         IsOutcome s (policy_outcome s (policy_changed s.board (operation.AddGroup name) s.policy)) o) }
@@ -98,7 +114,11 @@ pub(crate) fn add_group<T: Tables>(tables: &mut T, alloc: Global, name: GroupNam
 }
 
 /// A user who is stored is connected to a group that is (E53), unless the user is already (E52, of the group).
-pub(crate) fn connect<T: Tables>(tables: &mut T, alloc: Global, connect: Connect) -> Decided
+pub(crate) fn connect<T: Tables>(
+    tables: &mut T,
+    alloc: Global,
+    connect: Connect,
+) -> Result<Outcome, StoreFault>
     ensures kept { IsKept T.is_sure T.represents T.may_leave tables.old tables.new }
     ensures outcome { Answers (T.is_sure tables.new) (T.represents tables.old) result (λ s o.
         IsOutcome s (policy_outcome s (policy_changed s.board (operation.Connect connect.user connect.group) s.policy))
@@ -117,7 +137,11 @@ pub(crate) fn connect<T: Tables>(tables: &mut T, alloc: Global, connect: Connect
 }
 
 /// The user, the group and the connect are stored (E53), and the connect is no more.
-pub(crate) fn remove<T: Tables>(tables: &mut T, alloc: Global, connect: Connect) -> Decided
+pub(crate) fn remove<T: Tables>(
+    tables: &mut T,
+    alloc: Global,
+    connect: Connect,
+) -> Result<Outcome, StoreFault>
     ensures kept { IsKept T.is_sure T.represents T.may_leave tables.old tables.new }
     ensures outcome { Answers (T.is_sure tables.new) (T.represents tables.old) result (λ s o.
         IsOutcome s (policy_outcome s (policy_changed s.board (operation.Remove connect.user connect.group) s.policy))
@@ -141,7 +165,7 @@ pub(crate) fn class_active<T: Tables>(
     alloc: Global,
     class: Class,
     active: bool,
-) -> Decided
+) -> Result<Outcome, StoreFault>
     ensures kept { IsKept T.is_sure T.represents T.may_leave tables.old tables.new }
     ensures outcome { Answers (T.is_sure tables.new) (T.represents tables.old) result (λ s o.
         IsOutcome s (policy_outcome s (policy_changed s.board (operation.ClassActive class active) s.policy)) o) }

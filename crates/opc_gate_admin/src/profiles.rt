@@ -7,11 +7,11 @@ ghost use Rattle.opc_state.specs.Changes.{IsKept};
 ghost use Rattle.opc_state.specs.Invariants.{IsKeyed};
 ghost use Rattle.opc_machine.specs.declared.operation.Operation.TheVariants as operation;
 ghost use Rattle.opc_machine.specs.Administration.{policy_changed};
-ghost use Rattle.opc_machine.specs.Deeds.{IsOutcome};
+ghost use Rattle.opc_machine.specs.Effects.{IsOutcome};
 ghost use Rattle.opc_gate_admin.specs.Operations.{has_level, level_in, policy_outcome, same_definition};
 
-use crate::deeds::{done_by, exists, missing};
-use opc_machine::outcome::{Decided, denied, done};
+use crate::outcomes::{done_by, exists, missing};
+use opc_machine::outcome::{Outcome, done, refused};
 use opc_machine::same::same_flag;
 use opc_names::class::Class;
 use opc_names::level::Level;
@@ -95,7 +95,11 @@ fn same_definition(profile: &Profile, other: &Profile) -> bool
 }
 
 /// A profile with an empty access list, unless there is one of its class and pattern (E52). Its owner is stored (E53).
-pub(crate) fn rdefine<T: Tables>(tables: &mut T, alloc: Global, profile: Profile) -> Decided
+pub(crate) fn rdefine<T: Tables>(
+    tables: &mut T,
+    alloc: Global,
+    profile: Profile,
+) -> Result<Outcome, StoreFault>
     requires { profile.entries ≡ [] }
     ensures kept { IsKept T.is_sure T.represents T.may_leave tables.old tables.new }
     ensures outcome { Answers (T.is_sure tables.new) (T.represents tables.old) result (λ s o.
@@ -112,7 +116,11 @@ pub(crate) fn rdefine<T: Tables>(tables: &mut T, alloc: Global, profile: Profile
 }
 
 /// A profile that is there is defined anew, and keeps its access list. It and its owner are stored (E53).
-pub(crate) fn ralter<T: Tables>(tables: &mut T, alloc: Global, profile: Profile) -> Decided
+pub(crate) fn ralter<T: Tables>(
+    tables: &mut T,
+    alloc: Global,
+    profile: Profile,
+) -> Result<Outcome, StoreFault>
     requires { profile.entries ≡ [] }
     ensures kept { IsKept T.is_sure T.represents T.may_leave tables.old tables.new }
     ensures outcome { Answers (T.is_sure tables.new) (T.represents tables.old) result (λ s o. IsKeyed s →
@@ -137,7 +145,7 @@ pub(crate) fn rdelete<T: Tables>(
     alloc: Global,
     class: Class,
     pattern: &Pattern,
-) -> Decided
+) -> Result<Outcome, StoreFault>
     ensures kept { IsKept T.is_sure T.represents T.may_leave tables.old tables.new }
     ensures outcome { Answers (T.is_sure tables.new) (T.represents tables.old) result (λ s o.
         IsOutcome s (policy_outcome s (policy_changed s.board (operation.RDelete class pattern.now) s.policy)) o) }
@@ -156,7 +164,7 @@ pub(crate) fn permit<T: Tables>(
     class: Class,
     pattern: &Pattern,
     entry: Entry,
-) -> Decided
+) -> Result<Outcome, StoreFault>
     ensures kept { IsKept T.is_sure T.represents T.may_leave tables.old tables.new }
     ensures outcome { Answers (T.is_sure tables.new) (T.represents tables.old) result (λ s o. IsKeyed s →
         IsOutcome s (policy_outcome s (policy_changed s.board
@@ -166,7 +174,7 @@ pub(crate) fn permit<T: Tables>(
         return missing(pattern);
     };
     if !has_holder(tables, &entry.id)? {
-        return denied(Fault::Missing(Subject::of_entry(&entry.id)), None);
+        return refused(Fault::Missing(Subject::of_entry(&entry.id)), None);
     }
     if has_level(stored, entry.level) {
         return done(alloc, Vec::new(alloc), None);
@@ -183,7 +191,7 @@ pub(crate) fn permit_delete<T: Tables>(
     pattern: &Pattern,
     id: &EntryId,
     when: Option<ConsoleName>,
-) -> Decided
+) -> Result<Outcome, StoreFault>
     ensures kept { IsKept T.is_sure T.represents T.may_leave tables.old tables.new }
     ensures outcome { Answers (T.is_sure tables.new) (T.represents tables.old) result (λ s o.
         IsOutcome s (policy_outcome s (policy_changed s.board (operation.PermitDelete class pattern.now id.now when)
@@ -191,7 +199,7 @@ pub(crate) fn permit_delete<T: Tables>(
 {
     match level_in(tables, alloc, class, pattern, id, &when)? {
         None => missing(pattern),
-        Some(None) => denied(Fault::Missing(Subject::of_entry(id)), None),
+        Some(None) => refused(Fault::Missing(Subject::of_entry(id)), None),
         Some(Some(_)) => done_by(alloc, Edit::RemoveEntry(class, *pattern, *id, when)),
     }
 }

@@ -1,4 +1,4 @@
-pub mod Deeds
+pub mod Allowed
 pub mod Sessions
 pub mod Lines
 pub mod Loading

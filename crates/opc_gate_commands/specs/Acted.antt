@@ -12,7 +12,7 @@ use Rattle.opc_state.specs.State.{State}
 use Rattle.opc_state.specs.Changes.{all_edited}
 use Rattle.opc_gate_footprints.specs.Loading.{IsConsoleFootprint}
 use Rattle.opc_machine.specs.Commands.{acted}
-use Rattle.opc_machine.specs.Outcome.{Outcome, ◌>>=◌, does}
+use Rattle.opc_machine.specs.Outcome.{StateOutcome, ◌>>=◌, does}
 use Rattle.opc_machine.specs.Rulings.{shown}
 
 -- What the board makes of a command or an event is made of the state by these edits, and no more.
@@ -28,6 +28,6 @@ AreNoneWhereSame console board edits = (s : State) → IsConsoleFootprint s cons
     → edits ≡ []
 
 -- What a command comes to that a rule allows: it acts on the board, and of its lines those are given that may be shown.
-abbrev pub allowed_command : State → ConsoleRow → Command → Rule → Outcome
+abbrev pub allowed_command : State → ConsoleRow → Command → Rule → StateOutcome
 allowed_command s c command rule = acted (Some rule) (effect s.board command c.name) >>=
     λ act. does (record s { board = act.board }) (filter (shown s c) act.lines) (Some rule)

@@ -1,3 +1,3 @@
 pub mod Acted
 pub use Rattle.opc_machine.specs.Commands
-pub use Rattle.opc_machine.specs.Deeds
+pub use Rattle.opc_machine.specs.Effects

@@ -24,7 +24,7 @@ ghost use Rattle.opc_machine.specs.Commands.{
   typed as typed_outcome,
   need_of,
 };
-ghost use Rattle.opc_machine.specs.Deeds.{IsOutcome};
+ghost use Rattle.opc_machine.specs.Effects.{IsOutcome};
 ghost use Rattle.opc_machine.specs.Faults.{board_fault};
 ghost use Rattle.opc_machine.specs.Outcome.{does};
 ghost use Rattle.opc_gate_rulings.specs.RulingBasis.{IsRulingBasis};
@@ -40,7 +40,7 @@ use opc_gate_rulings::ruling::{
     RulingBasis, logon_ruling_on, ruling_basis_at, ruling_on, shown_lines,
 };
 use opc_machine::fault;
-use opc_machine::outcome::{Decided, Deed, Denial, denied, done};
+use opc_machine::outcome::{Effect, Outcome, done, refused};
 use opc_names::name::{UnitName, UserId};
 use opc_policy::ruling::Ruling;
 use opc_policy_members::user::User;
@@ -108,8 +108,8 @@ fn kind_named<T: Tables>(tables: &mut T, command: &Command<'_>) -> Result<UnitKi
     }
 }
 
-// Why the board refuses; out of memory the request is aborted.
-fn refusal(fault: BoardFault) -> Result<Fault, StoreFault>
+// The fault of what the board refuses; out of memory the request is aborted.
+fn board_fault(fault: BoardFault) -> Result<Fault, StoreFault>
     ensures { IfOk result (λ why. (fault ≢ NoMemory) × (why ≡ board_fault fault)) }
 {
     match fault {
@@ -119,14 +119,14 @@ fn refusal(fault: BoardFault) -> Result<Fault, StoreFault>
 }
 
 // What a command comes to that a rule allows, and that does more than show.
-fn deed_on<T: Tables>(
+fn effect_on<T: Tables>(
     tables: &mut T,
     alloc: Global,
     basis: &RulingBasis,
     console: &ConsoleRow,
     command: &Command<'_>,
     rule: Rule,
-) -> Decided
+) -> Result<Outcome, StoreFault>
     requires session { is_session_command command.now ≡ false }
     requires display { is_display command.now ≡ false }
     ensures kept { IsKept T.is_sure T.represents T.may_leave tables.old tables.new }
@@ -137,10 +137,10 @@ fn deed_on<T: Tables>(
     let board = footprint_on(tables, alloc, command, console)?;
     let acted = match act_on(alloc, board, command, &console.name) {
         Ok(acted) => acted,
-        Err(fault) => return denied(refusal(fault)?, Some(rule)),
+        Err(fault) => return refused(board_fault(fault)?, Some(rule)),
     };
     let lines = shown_lines(tables, alloc, basis, console, acted.lines)?;
-    Ok(Ok(Deed {
+    Ok(Outcome::Done(Effect {
         edits: acted.edits,
         lines,
         rule: Some(rule),
@@ -153,7 +153,7 @@ fn board_command<T: Tables>(
     console: &ConsoleRow,
     command: &Command<'_>,
     need: &Need,
-) -> Decided
+) -> Result<Outcome, StoreFault>
     requires { is_session_command command.now ≡ false }
     ensures kept { IsKept T.is_sure T.represents T.may_leave tables.old tables.new }
     ensures outcome { Answers (T.is_sure tables.new) (T.represents tables.old) result
@@ -163,12 +163,12 @@ fn board_command<T: Tables>(
     let basis = ruling_basis_at(tables, alloc, console)?;
     let rule = match ruling_on(tables, alloc, &basis, console, need)? {
         Ruling::Allowed(rule) => rule,
-        Ruling::Denied(rule) => return denied(denial_fault(&rule), Some(rule)),
+        Ruling::Denied(rule) => return refused(denial_fault(&rule), Some(rule)),
     };
     if is_display(command) {
         display_on(tables, alloc, &basis, console, command, rule)
     } else {
-        deed_on(tables, alloc, &basis, console, command, rule)
+        effect_on(tables, alloc, &basis, console, command, rule)
     }
 }
 
@@ -208,7 +208,7 @@ fn admit<T: Tables>(
     console: &ConsoleRow,
     user: UserId,
     rule: Rule,
-) -> Decided
+) -> Result<Outcome, StoreFault>
     requires { console.now.user ≡ None }
     ensures kept { IsKept T.is_sure T.represents T.may_leave tables.old tables.new }
     ensures outcome { Answers (T.is_sure tables.new) (T.represents tables.old) result
@@ -226,31 +226,35 @@ fn logon<T: Tables>(
     console: &ConsoleRow,
     id: &UserId,
     password: &Password,
-) -> Decided
+) -> Result<Outcome, StoreFault>
     ensures kept { IsKept T.is_sure T.represents T.may_leave tables.old tables.new }
     ensures outcome { Answers (T.is_sure tables.new) (T.represents tables.old) result
         (λ s o. console_at s.board console.now.name ≡ Some console.now
         → IsOutcome s (logon_outcome s console.now id.now password.now) o) }
 {
     if let Some(user) = console.user {
-        return denied(Fault::AlreadyOn(user), None);
+        return refused(Fault::AlreadyOn(user), None);
     }
     let Some(user) = known_by(tables, alloc, id, password)? else {
-        return denied(Fault::BadLogon, None);
+        return refused(Fault::BadLogon, None);
     };
     match logon_ruling_on(tables, alloc, console, &user)? {
         Ruling::Allowed(rule) => admit(tables, alloc, console, *id, rule),
-        Ruling::Denied(rule) => denied(logon_fault(&rule), Some(rule)),
+        Ruling::Denied(rule) => refused(logon_fault(&rule), Some(rule)),
     }
 }
 
-fn logoff<T: Tables>(tables: &mut T, alloc: Global, console: &ConsoleRow) -> Decided
+fn logoff<T: Tables>(
+    tables: &mut T,
+    alloc: Global,
+    console: &ConsoleRow,
+) -> Result<Outcome, StoreFault>
     ensures kept { IsKept T.is_sure T.represents T.may_leave tables.old tables.new }
     ensures outcome { Answers (T.is_sure tables.new) (T.represents tables.old) result
         (λ s o. console_at s.board console.now.name ≡ Some console.now → IsOutcome s (logoff_outcome s console.now) o) }
 {
     if console.user.is_none() {
-        return denied(Fault::NotOn, None);
+        return refused(Fault::NotOn, None);
     }
     let board = console_footprint_on(tables, alloc, console)?;
     let edits = log_off(alloc, board, console)?;
@@ -263,7 +267,7 @@ fn without_need<T: Tables>(
     alloc: Global,
     console: &ConsoleRow,
     command: &Command<'_>,
-) -> Decided
+) -> Result<Outcome, StoreFault>
     ensures kept { IsKept T.is_sure T.represents T.may_leave tables.old tables.new }
     ensures outcome { Answers (T.is_sure tables.new) (T.represents tables.old) result
         (λ s o. console_at s.board console.now.name ≡ Some console.now
@@ -281,7 +285,7 @@ fn typed<T: Tables>(
     alloc: Global,
     console: &ConsoleRow,
     command: &Command<'_>,
-) -> Decided
+) -> Result<Outcome, StoreFault>
     ensures kept { IsKept T.is_sure T.represents T.may_leave tables.old tables.new }
     ensures outcome { Answers (T.is_sure tables.new) (T.represents tables.old) result
         (λ s o. console_at s.board console.now.name ≡ Some console.now
@@ -301,23 +305,27 @@ pub fn command_on<T: Tables>(
     alloc: Global,
     console: Option<ConsoleRow>,
     text: &str,
-) -> Decided
+) -> Result<Outcome, StoreFault>
     ensures kept { IsKept T.is_sure T.represents T.may_leave tables.old tables.new }
     ensures outcome { Answers (T.is_sure tables.new) (T.represents tables.old) result
         (λ s o. (name : Name) → console ≡ console_at s.board name → IsOutcome s (command_outcome s name text.now) o) }
 {
     let console = match console_for(console) {
         Ok(console) => console,
-        Err(denial) => return Ok(Err(denial)),
+        Err(refusal) => return Ok(Outcome::Refused(refusal)),
     };
     match read(text) {
         Ok(command) => typed(tables, alloc, &console, &command),
-        Err(fault) => denied(fault::of_line(fault), None),
+        Err(fault) => refused(fault::of_line(fault), None),
     }
 }
 
 /// What an event comes to.
-pub fn event_on<T: Tables>(tables: &mut T, alloc: Global, event: &Event) -> Decided
+pub fn event_on<T: Tables>(
+    tables: &mut T,
+    alloc: Global,
+    event: &Event,
+) -> Result<Outcome, StoreFault>
     ensures kept { IsKept T.is_sure T.represents T.may_leave tables.old tables.new }
     ensures outcome { Answers (T.is_sure tables.new) (T.represents tables.old) result
         (λ s o. IsOutcome s (event_outcome s event.now) o) }
@@ -325,6 +333,6 @@ pub fn event_on<T: Tables>(tables: &mut T, alloc: Global, event: &Event) -> Deci
     let board = event_footprint_on(tables, alloc, event)?;
     match apply_event(alloc, board, event) {
         Ok(edits) => done(alloc, edits, None),
-        Err(fault) => denied(refusal(fault)?, None),
+        Err(fault) => refused(board_fault(fault)?, None),
     }
 }

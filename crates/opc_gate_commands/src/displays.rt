@@ -5,7 +5,7 @@ ghost use Rattle.opc_board.specs.Invariants.{Name};
 ghost use Rattle.opc_board.specs.Outcome.{done_with};
 ghost use Rattle.opc_gate_commands.specs.Acted.{allowed_command};
 ghost use Rattle.opc_machine.specs.Commands.{is_display};
-ghost use Rattle.opc_machine.specs.Deeds.{IsOutcome};
+ghost use Rattle.opc_machine.specs.Effects.{IsOutcome};
 ghost use Rattle.opc_gate_rulings.specs.RulingBasis.{IsRulingBasis};
 ghost use Rattle.opc_state.specs.Asked.{Answers};
 ghost use Rattle.opc_state.specs.Changes.{IsKept};
@@ -13,7 +13,7 @@ ghost use Rattle.opc_state.specs.Changes.{IsKept};
 use opc_board::line::{Line, console_lines, device_lines, lines_of, reply_lines, unit_lines};
 use opc_board::rows::ConsoleRow;
 use opc_gate_rulings::ruling::{RulingBasis, shown_lines};
-use opc_machine::outcome::{Decided, Deed};
+use opc_machine::outcome::{Effect, Outcome};
 use opc_reader_commands::command::Command;
 use opc_state::tables::Tables;
 use opc_terms::rule::Rule;
@@ -64,7 +64,7 @@ pub(crate) fn display_on<T: Tables>(
     console: &ConsoleRow,
     command: &Command<'_>,
     rule: Rule,
-) -> Decided
+) -> Result<Outcome, StoreFault>
     requires { is_display command.now ≡ true }
     ensures kept { IsKept T.is_sure T.represents T.may_leave tables.old tables.new }
     ensures outcome { Answers (T.is_sure tables.new) (T.represents tables.old) result
@@ -72,7 +72,7 @@ pub(crate) fn display_on<T: Tables>(
 {
     let lines = lines_on(tables, alloc, command)?;
     let lines = shown_lines(tables, alloc, basis, console, lines)?;
-    Ok(Ok(Deed {
+    Ok(Outcome::Done(Effect {
         edits: Vec::new(alloc),
         lines,
         rule: Some(rule),

@@ -49,10 +49,9 @@ use Rattle.opc_state.specs.Changes.{all_edited}
 use Rattle.opc_state.specs.Loads.{batch_rows}
 use Rattle.opc_state.specs.Members.{batch_cmp, with_batch}
 use Rattle.opc_state.specs.State.{State}
-use Rattle.opc_machine.specs.declared.outcome.Deed as found
-use Rattle.opc_machine.specs.declared.outcome.Denial as found_denial
+use Rattle.opc_machine.specs.declared.outcome.Outcome.{Outcome}
 use Rattle.opc_machine.specs.Bootstrap.{with_rows}
-use Rattle.opc_machine.specs.Deeds.{IsOutcome}
+use Rattle.opc_machine.specs.Effects.{IsOutcome}
 use Rattle.opc_machine.specs.Imports.{batch_line, batch_of, batch_outcome, new_batch, same_batch}
 use Rattle.opc_machine.specs.Outcome.{◌>>=◌, does, or_refused}
 use Rattle.opc_gate_imports.proofs.PolicyRows.{edits_after}
@@ -92,7 +91,7 @@ given X Y (Ok o) x h = h x
 given X Y (Err e) x h = tt
 
 -- a batch by what is loaded of it
-pub is_new : (s : State) (n : ℕ) (all : List Row) (r : Result (Result found.Deed found_denial.Denial) StoreFault)
+pub is_new : (s : State) (n : ℕ) (all : List Row) (r : Result Outcome StoreFault)
     → batch_rows s.batches n ≡ None → IfOk r (λ o. batch_rows s.batches n ≡ None → IsOutcome s (new_batch s n all) o)
     → IfOk r (λ o. IsOutcome s (batch_outcome s n all (batch_of s.batches n)) o)
 is_new s n all r none h = go (batch_of s.batches n) none
@@ -101,7 +100,7 @@ is_new s n all r none h = go (batch_of s.batches n) none
     go None e = given (batch_rows s.batches n ≡ None) (λ o. IsOutcome s (new_batch s n all) o) r none h
     go (Some b) e = absurd (search (rules, e))
 
-pub is_kept : (s : State) (n : ℕ) (all stored : List Row) (r : Result (Result found.Deed found_denial.Denial) StoreFault) → batch_rows s.batches n ≡ Some stored
+pub is_kept : (s : State) (n : ℕ) (all stored : List Row) (r : Result Outcome StoreFault) → batch_rows s.batches n ≡ Some stored
     → IfOk r (λ o. IsOutcome s (same_batch s n all (record {
       number = n;
       rows = stored;

@@ -8,7 +8,7 @@ ghost use Rattle.opc_state.specs.Asked.{Answers};
 ghost use Rattle.opc_state.specs.Changes.{IsKept};
 ghost use Rattle.opc_state.specs.Loads.{batch_rows};
 ghost use Rattle.opc_state.specs.State.{State};
-ghost use Rattle.opc_machine.specs.Deeds.{IsOutcome};
+ghost use Rattle.opc_machine.specs.Effects.{IsOutcome};
 ghost use Rattle.opc_machine.specs.Imports.{
   batch_line,
   batch_of,
@@ -23,8 +23,8 @@ use crate::bootstrap::row_edits_on;
 use opc_board::line::{Item, Line};
 use opc_board::rows::ConsoleRow;
 use opc_board::text::KeptText;
-use opc_gate_rulings::requester::{is_special, requester_on};
-use opc_machine::outcome::{Decided, Deed, denied};
+use opc_gate_rulings::requester::{Asking, is_special, requester_on};
+use opc_machine::outcome::{Effect, Outcome, refused};
 use opc_policy_members::row::Row;
 use opc_rows::Rows;
 use opc_state::change::{Batch, Edit};
@@ -64,7 +64,12 @@ fn keep(alloc: Global, edits: &mut Vec<Edit>, number: u32, rows: &[Row]) -> Resu
 }
 
 // A batch with a new number: its rows are taken one after another, all of them or none.
-fn new_batch<T: Tables>(tables: &mut T, alloc: Global, number: u32, rows: &[Row]) -> Decided
+fn new_batch<T: Tables>(
+    tables: &mut T,
+    alloc: Global,
+    number: u32,
+    rows: &[Row],
+) -> Result<Outcome, StoreFault>
     ensures kept { IsKept T.is_sure T.represents T.may_leave tables.old tables.new }
     ensures outcome { Answers (T.is_sure tables.new) (T.represents tables.old) result
         (λ s o. batch_rows s.batches number ≡ None → IsOutcome s (new_batch s number rows.now) o) }
@@ -73,11 +78,11 @@ fn new_batch<T: Tables>(tables: &mut T, alloc: Global, number: u32, rows: &[Row]
         Ok(edits) => edits,
         Err(Fault::NoMemory) => return Err(StoreFault::NoMemory),
         Err(Fault::Store) => return Err(StoreFault::Store),
-        Err(fault) => return denied(fault, None),
+        Err(fault) => return refused(fault, None),
     };
     keep(alloc, &mut edits, number, rows)?;
     let lines = batch_lines(alloc, number, "KEPT")?;
-    Ok(Ok(Deed {
+    Ok(Outcome::Done(Effect {
         edits,
         lines,
         rule: None,
@@ -92,15 +97,15 @@ fn same_rows(rows: &[Row], others: &[Row]) -> bool
 }
 
 // A batch whose number is kept: nothing is done, where its rows are the same.
-fn same_batch(alloc: Global, number: u32, kept: &[Row], rows: &[Row]) -> Decided
+fn same_batch(alloc: Global, number: u32, kept: &[Row], rows: &[Row]) -> Result<Outcome, StoreFault>
     ensures { (s : State)
         → IfOk result (λ o. IsOutcome s (same_batch s number rows.now (record { number = number; rows = kept.now })) o) }
 {
     if !same_rows(kept, rows) {
-        return denied(Fault::BatchChanged, None);
+        return refused(Fault::BatchChanged, None);
     }
     let lines = batch_lines(alloc, number, "AGAIN")?;
-    Ok(Ok(Deed {
+    Ok(Outcome::Done(Effect {
         edits: Vec::new(alloc),
         lines,
         rule: None,
@@ -108,7 +113,12 @@ fn same_batch(alloc: Global, number: u32, kept: &[Row], rows: &[Row]) -> Decided
 }
 
 // What a batch comes to, by what is kept of its number.
-fn batch_on<T: Tables>(tables: &mut T, alloc: Global, number: u32, rows: &[Row]) -> Decided
+fn batch_on<T: Tables>(
+    tables: &mut T,
+    alloc: Global,
+    number: u32,
+    rows: &[Row],
+) -> Result<Outcome, StoreFault>
     ensures kept { IsKept T.is_sure T.represents T.may_leave tables.old tables.new }
     ensures outcome { Answers (T.is_sure tables.new) (T.represents tables.old) result
         (λ s o. IsOutcome s (batch_outcome s number rows.now (batch_of s.batches number)) o) }
@@ -127,18 +137,18 @@ pub fn import_on<T: Tables>(
     console: Option<ConsoleRow>,
     batch: u32,
     rows: &Rows<Row>,
-) -> Decided
+) -> Result<Outcome, StoreFault>
     ensures kept { IsKept T.is_sure T.represents T.may_leave tables.old tables.new }
     ensures outcome { Answers (T.is_sure tables.new) (T.represents tables.old) result
         (λ s o. (name : Name) → console ≡ console_at s.board name
         → IsOutcome s (import_outcome s name batch rows.now) o) }
 {
-    let asking = match requester_on(tables, alloc, console)? {
-        Ok(asking) => asking,
-        Err(denial) => return Ok(Err(denial)),
+    let requester = match requester_on(tables, alloc, console)? {
+        Asking::By(requester) => requester,
+        Asking::Refused(refusal) => return Ok(Outcome::Refused(refusal)),
     };
-    if !is_special(&asking.user) {
-        return denied(Fault::NotSpecial, None);
+    if !is_special(&requester.user) {
+        return refused(Fault::NotSpecial, None);
     }
     batch_on(tables, alloc, batch, rows.as_slice())
 }

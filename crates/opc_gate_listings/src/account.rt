@@ -6,15 +6,15 @@ ghost use Rattle.opc_board.specs.Texts.{columns};
 ghost use Rattle.opc_state.specs.Asked.{Answers};
 ghost use Rattle.opc_state.specs.Changes.{IsKept};
 ghost use Rattle.opc_state.specs.Loads.{asked_for};
-ghost use Rattle.opc_machine.specs.Deeds.{IsOutcome};
+ghost use Rattle.opc_machine.specs.Effects.{IsOutcome};
 ghost use Rattle.opc_machine.specs.Listings.{account_line, account_outcome};
 
 use crate::listing::listing;
 use opc_board::line::{Item, Line};
 use opc_board::rows::ConsoleRow;
 use opc_board::text::KeptText;
-use opc_gate_rulings::requester::{requester_on, sees_all};
-use opc_machine::outcome::{Decided, denied};
+use opc_gate_rulings::requester::{Asking, requester_on, sees_all};
+use opc_machine::outcome::{Outcome, refused};
 use opc_rows::Rows;
 use opc_state::account::AccountRow;
 use opc_state::tables::Tables;
@@ -76,17 +76,17 @@ pub fn account_on<T: Tables>(
     console: Option<ConsoleRow>,
     from: u64,
     count: u32,
-) -> Decided
+) -> Result<Outcome, StoreFault>
     ensures kept { IsKept T.is_sure T.represents T.may_leave tables.old tables.new }
     ensures outcome { Answers (T.is_sure tables.new) (T.represents tables.old) result
         (λ s o. (name : Name) → console ≡ console_at s.board name → IsOutcome s (account_outcome s name from count) o) }
 {
-    let asking = match requester_on(tables, alloc, console)? {
-        Ok(asking) => asking,
-        Err(denial) => return Ok(Err(denial)),
+    let requester = match requester_on(tables, alloc, console)? {
+        Asking::By(requester) => requester,
+        Asking::Refused(refusal) => return Ok(Outcome::Refused(refusal)),
     };
-    if !sees_all(&asking.user) {
-        return denied(Fault::NotSpecial, None);
+    if !sees_all(&requester.user) {
+        return refused(Fault::NotSpecial, None);
     }
     let lines = lines_on(tables, alloc, from, count)?;
     listing(alloc, lines)

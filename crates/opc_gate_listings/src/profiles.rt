@@ -6,7 +6,7 @@ ghost use Rattle.opc_policy_members.specs.Profiles.{of_class};
 ghost use Rattle.opc_policy_members.specs.Members.{groups_of};
 ghost use Rattle.opc_state.specs.Asked.{Answers};
 ghost use Rattle.opc_state.specs.Changes.{IsKept};
-ghost use Rattle.opc_machine.specs.Deeds.{IsOutcome};
+ghost use Rattle.opc_machine.specs.Effects.{IsOutcome};
 ghost use Rattle.opc_machine.specs.Listings.{profile_line, profiles_outcome};
 ghost use Rattle.opc_machine.specs.Rights.{is_owner, profile_shown};
 ghost use Rattle.opc_machine.specs.Rulings.{acting};
@@ -16,8 +16,8 @@ use crate::listing::listing;
 use opc_board::line::{Item, Line};
 use opc_board::rows::ConsoleRow;
 use opc_board::text::KeptText;
-use opc_gate_rulings::requester::{Requester, requester_on, sees_all};
-use opc_machine::outcome::Decided;
+use opc_gate_rulings::requester::{Asking, Requester, requester_on, sees_all};
+use opc_machine::outcome::Outcome;
 use opc_names::class::Class;
 use opc_names::level::Level;
 use opc_names::name::{GroupName, UserId};
@@ -182,15 +182,15 @@ pub fn profiles_on<T: Tables>(
     alloc: Global,
     console: Option<ConsoleRow>,
     class: Class,
-) -> Decided
+) -> Result<Outcome, StoreFault>
     ensures kept { IsKept T.is_sure T.represents T.may_leave tables.old tables.new }
     ensures outcome { Answers (T.is_sure tables.new) (T.represents tables.old) result
         (λ s o. (name : Name) → console ≡ console_at s.board name → IsOutcome s (profiles_outcome s name class) o) }
 {
-    let asking = match requester_on(tables, alloc, console)? {
-        Ok(asking) => asking,
-        Err(denial) => return Ok(Err(denial)),
+    let requester = match requester_on(tables, alloc, console)? {
+        Asking::By(requester) => requester,
+        Asking::Refused(refusal) => return Ok(Outcome::Refused(refusal)),
     };
-    let lines = lines_on(tables, alloc, &asking, class)?;
+    let lines = lines_on(tables, alloc, &requester, class)?;
     listing(alloc, lines)
 }

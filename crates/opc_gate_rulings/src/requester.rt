@@ -11,7 +11,7 @@ ghost use Rattle.opc_gate_rulings.specs.Requester.{IsRequester, IsConsoleFor};
 
 use crate::ruling::acting_on;
 use opc_board::rows::ConsoleRow;
-use opc_machine::outcome::Denial;
+use opc_machine::outcome::Refusal;
 use opc_policy_members::profile::Profile;
 use opc_policy_members::user::User;
 use opc_state::tables::Tables;
@@ -28,19 +28,26 @@ pub struct Requester {
     pub user: Option<User>,
 }
 
+/// Who asks at a console, or why nobody may ask there.
+#[derive(Clone, Copy)]
+pub enum Asking {
+    By(Requester),
+    Refused(Refusal),
+}
+
 /// The console of a name, whose row is loaded: it has to be there (E10), and online (E11).
-pub fn console_for(console: Option<ConsoleRow>) -> Result<ConsoleRow, Denial>
+pub fn console_for(console: Option<ConsoleRow>) -> Result<ConsoleRow, Refusal>
     ensures console { (s : State) → (name : Name) → console ≡ console_at s.board name → IsConsoleFor s name result }
     ensures row { IfOk result (λ row. console ≡ Some row) }
 {
     let Some(row) = console else {
-        return Err(Denial {
+        return Err(Refusal {
             fault: Fault::NoConsole,
             rule: None,
         });
     };
     if !row.online {
-        return Err(Denial {
+        return Err(Refusal {
             fault: Fault::ConsoleOffline,
             rule: None,
         });
@@ -73,29 +80,29 @@ pub fn requester_on<T: Tables>(
     tables: &mut T,
     alloc: Global,
     console: Option<ConsoleRow>,
-) -> Result<Result<Requester, Denial>, StoreFault>
+) -> Result<Asking, StoreFault>
     ensures kept { IsKept T.is_sure T.represents T.may_leave tables.old tables.new }
     ensures asking { Answers (T.is_sure tables.new) (T.represents tables.old) result
         (λ s asking. (name : Name) → console ≡ console_at s.board name → IsRequester s name asking) }
 {
     let console = match console_for(console) {
         Ok(console) => console,
-        Err(denial) => return Ok(Err(denial)),
+        Err(refusal) => return Ok(Asking::Refused(refusal)),
     };
     if lacks_logon(&console) {
-        return Ok(Err(Denial {
+        return Ok(Asking::Refused(Refusal {
             fault: Fault::LogonRequired,
             rule: Some(Rule::LogonRequired),
         }));
     }
     let user = acting_on(tables, alloc, &console)?;
     if is_revoked(&user) {
-        return Ok(Err(Denial {
+        return Ok(Asking::Refused(Refusal {
             fault: Fault::Revoked,
             rule: Some(Rule::Revoked),
         }));
     }
-    Ok(Ok(Requester { console, user }))
+    Ok(Asking::By(Requester { console, user }))
 }
 
 /// Whether there is a user, with SPECIAL.

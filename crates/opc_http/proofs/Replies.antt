@@ -2,7 +2,7 @@
 use Rattle.std.proofs.Common.{◌≡◌, ℕ, true, false, List, Option, Result, Ok, Err, IfErr, IfOk, refl, rules}
 use Rattle.std.specs.Prelude.{Bool, if◌then◌else◌}
 use Rattle.opc_machine.specs.declared.request.Request.{Request}
-use Rattle.opc_http_head.specs.declared.refusal.Refusal.{Refusal}
+use Rattle.opc_http_head.specs.declared.refusal.HttpRefusal.{HttpRefusal}
 use Rattle.opc_http_requests.specs.Faults as faults
 use Rattle.opc_http_requests.specs.declared.fault.ReadingFault.{ReadingFault}
 use Rattle.opc_http_requests.specs.declared.fault.ReadingFault.TheVariants as reading
@@ -46,6 +46,6 @@ not_read held reply before after (Err (fault.Write handled)) cut = refl
 not_read held reply before after (Err (fault.NoMemory handled)) cut = refl
 
 -- no read failed where what was read is refused
-pub refused_read : (fault : ReadingFault) (why : Refusal) → fault ≡ reading.Refused why → (old new : Bool)
+pub refused_read : (fault : ReadingFault) (why : HttpRefusal) → fault ≡ reading.Refused why → (old new : Bool)
     → new ≡ (if faults.is_read {A = Request} (Err fault) then true else old) → new ≡ old
 refused_read fault why is old new h = rw is at h

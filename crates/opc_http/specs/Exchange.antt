@@ -2,7 +2,7 @@
 use Rattle.std.specs.Prelude.{◌≡◌, ℕ, Bool, true, false, List, Option, Result, Ok, Err, IfSome, is_ok}
 use Rattle.std.specs.Io.KnownBytes.{Appends}
 use Rattle.opc_io.specs.Writes.{AppendsPrefix}
-use Rattle.opc_http_head.specs.declared.refusal.Refusal.{Refusal}
+use Rattle.opc_http_head.specs.declared.refusal.HttpRefusal.{HttpRefusal}
 use Rattle.opc_http_requests.specs.Asked.{AsksOnly}
 use Rattle.opc_http_responses.specs.Responses.{refusal_response, response_of}
 use Rattle.opc_http_responses.specs.Statuses.{refusal_status, status_of}
@@ -17,7 +17,7 @@ use Rattle.opc_http.specs.declared.exchanging.Served.{Served}
 
 -- what is replied: the answer to a request, or the refusal of what is none
 abbrev pub Reply : Type 0
-Reply = Result Answer Refusal
+Reply = Result Answer HttpRefusal
 
 -- the bytes of its response
 abbrev pub reply_bytes : Reply → List ℕ
@@ -43,7 +43,7 @@ is_write (Err (fault.Write handled)) = true
 is_write (Err (fault.NoMemory handled)) = false
 
 -- the bytes that the reader has left, where they are known, ask for this, and for nothing else
-abbrev pub IsAsked : Option (List ℕ) → Result Request Refusal → Type 0
+abbrev pub IsAsked : Option (List ℕ) → Result Request HttpRefusal → Type 0
 IsAsked left asked = IfSome left (λ all. AsksOnly all asked)
 
 module _ {K : Type 0} (held : K → Option (List ℕ)) where

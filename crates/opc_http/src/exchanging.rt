@@ -7,7 +7,7 @@ ghost use Rattle.opc_http_requests.specs.Asked.{MayRead, StopsAtEnd};
 ghost use Rattle.opc_http.specs.Exchange.{IsCutOff, IsFaulty, IsServed, IsReported, is_read, is_write};
 
 use opc_gate::gate::Gate;
-use opc_http_head::refusal::Refusal;
+use opc_http_head::refusal::HttpRefusal;
 use opc_http_head::routes::Routes;
 use opc_http_requests::ask::read_request;
 use opc_http_requests::fault::ReadingFault;
@@ -72,7 +72,7 @@ fn send_answer<K: Sink>(alloc: Global, sink: &mut K, answer: &Answer) -> Result<
 fn send_refusal<K: Sink>(
     alloc: Global,
     sink: &mut K,
-    refusal: &Refusal,
+    refusal: &HttpRefusal,
 ) -> Result<Served, LinkFault>
     ensures reported { IfOk result (IsReported K.held (Err refusal.now) sink.old sink.new) }
     ensures cut_off { IfErr result (IsCutOff K.held (Err refusal.now) sink.old sink.new) }

@@ -15,7 +15,7 @@ use Rattle.opc_terms.specs.declared.fault.Why.{Why}
 use Rattle.opc_policy_members.specs.declared.row.Row.{Row}
 use Rattle.opc_http_bodies.specs.Bodies.{rows_in, value_in}
 use Rattle.opc_http_bodies.specs.Keys.{members_count}
-use Rattle.opc_http_head.specs.declared.refusal.Refusal.TheVariants.{BadRequest, BadRow}
+use Rattle.opc_http_head.specs.declared.refusal.HttpRefusal.TheVariants.{BadRequest, BadRow}
 
 some-members : (a b : Members) → Some a ≡ Some b → a ≡ b
 some-members a b e = cc

@@ -8,8 +8,8 @@ use Rattle.opc_import.specs.Files.{policy_of}
 use Rattle.opc_import.specs.declared.fault.ImportFault.{ImportFault}
 use Rattle.opc_import.specs.declared.fault.ImportFault.TheVariants as import
 use Rattle.opc_machine.specs.declared.operation.Operation.{Operation}
-use Rattle.opc_http_head.specs.declared.refusal.Refusal.{Refusal}
-use Rattle.opc_http_head.specs.declared.refusal.Refusal.TheVariants.{BadRequest, BadRow}
+use Rattle.opc_http_head.specs.declared.refusal.HttpRefusal.{HttpRefusal}
+use Rattle.opc_http_head.specs.declared.refusal.HttpRefusal.TheVariants.{BadRequest, BadRow}
 use Rattle.opc_http_head.specs.Refusals as step
 use Rattle.opc_http_head.specs.Refusals.{required}
 use Rattle.opc_http_bodies.specs.Keys.{◌>>=◌, has_keys, text_at}
@@ -25,23 +25,23 @@ text_of value = do
   _ ← has_keys 1 value
   text_at (codes "text") value
 
-abbrev pub value_in : List ℕ → Result Data Refusal
+abbrev pub value_in : List ℕ → Result Data HttpRefusal
 value_in body = required (value_of body)
 
 -- the text of a command
-abbrev pub command_in : List ℕ → Result (List ℕ) Refusal
+abbrev pub command_in : List ℕ → Result (List ℕ) HttpRefusal
 command_in body = step.◌>>=◌ (value_in body) (λ value. required (text_of value))
 
 -- an operation of administration
-abbrev pub operation_in : List ℕ → Result Operation Refusal
+abbrev pub operation_in : List ℕ → Result Operation HttpRefusal
 operation_in body = step.◌>>=◌ (value_in body) (λ value. required (operation_of value))
 
 -- out of memory is no refusal, and never comes of a text
-abbrev pub refused_row : Result (List Row) ImportFault → Result (List Row) Refusal
+abbrev pub refused_row : Result (List Row) ImportFault → Result (List Row) HttpRefusal
 refused_row (Ok rows) = Ok rows
 refused_row (Err (import.Row row why)) = Err (BadRow row why)
 refused_row (Err import.NoMemory) = Err BadRequest
 
 -- the rows of a policy file
-abbrev pub rows_in : List ℕ → Result (List Row) Refusal
+abbrev pub rows_in : List ℕ → Result (List Row) HttpRefusal
 rows_in body = if is_utf8 body then refused_row (policy_of body) else Err BadRequest

@@ -8,7 +8,7 @@ ghost use Rattle.opc_http_bodies.specs.Bodies.{command_in, operation_in, rows_in
 use crate::keys::{has_keys, text_at};
 use crate::operation::operation_of;
 use opc_board::text::KeptText;
-use opc_http_head::refusal::{AskFault, BAD_REQUEST, Refusal};
+use opc_http_head::refusal::{AskFault, BAD_REQUEST, HttpRefusal};
 use opc_import::fault::ImportFault;
 use opc_import::read::read_policy;
 use opc_machine::operation::Operation;
@@ -74,7 +74,7 @@ pub fn rows_in(alloc: Global, body: &[u8]) -> Result<Vec<Row>, AskFault>
     match read_policy(alloc, text) {
         Ok(rows) => Ok(rows),
         Err(ImportFault::Row { row, why }) => {
-            Err(AskFault::Refused(Refusal::BadRow { row, why }))
+            Err(AskFault::Refused(HttpRefusal::BadRow { row, why }))
         }
         Err(ImportFault::NoMemory) => Err(AskFault::NoMemory),
     }

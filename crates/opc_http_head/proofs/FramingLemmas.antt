@@ -31,16 +31,16 @@ use Rattle.std.specs.Option.{option_map, option_to_list}
 use Rattle.std.proofs.lemmas.Bool.{cases_Bool}
 use Rattle.std.proofs.lemmas.List.{map-append, take_more, take-append-drop}
 use Rattle.opc_http_head.specs.Framing.{FieldLine, has_name, length_with, only, values_of}
-use Rattle.opc_http_head.specs.declared.refusal.Refusal.{Refusal}
-use Rattle.opc_http_head.specs.declared.refusal.Refusal.TheVariants.{BadRequest}
+use Rattle.opc_http_head.specs.declared.refusal.HttpRefusal.{HttpRefusal}
+use Rattle.opc_http_head.specs.declared.refusal.HttpRefusal.TheVariants.{BadRequest}
 
 false-true : false ≡ true → ⊥
 false-true e = cc
 
-none-is-some : (v : List ℕ) → Path (Result (Option (List ℕ)) Refusal) (Ok None) (Ok (Some v)) → ⊥
+none-is-some : (v : List ℕ) → Path (Result (Option (List ℕ)) HttpRefusal) (Ok None) (Ok (Some v)) → ⊥
 none-is-some v e = cc
 
-ok-is-err : (o : Option (List ℕ)) (why : Refusal) → Path (Result (Option (List ℕ)) Refusal) (Ok o) (Err why) → ⊥
+ok-is-err : (o : Option (List ℕ)) (why : HttpRefusal) → Path (Result (Option (List ℕ)) HttpRefusal) (Ok o) (Err why) → ⊥
 ok-is-err o why e = cc
 
 values-split : (name : List ℕ) (xs ys : List FieldLine) → values_of name (xs ++ ys) ≡ values_of name xs ++ values_of name ys
@@ -98,13 +98,13 @@ nothing-coded [] e = refl
 nothing-coded (v ∷ []) e = absurd (none-is-some v (sym e))
 nothing-coded (v ∷ w ∷ vs) e = absurd (ok-is-err None BadRequest (sym e))
 
-pub no-coding : (vs : List (List ℕ)) (r : Result ℕ Refusal) → only vs ≡ Ok None → length_with vs r ≡ r
+pub no-coding : (vs : List (List ℕ)) (r : Result ℕ HttpRefusal) → only vs ≡ Ok None → length_with vs r ≡ r
 no-coding vs r e = rw (nothing-coded vs e) refl
 
-pub one-coding : (vs : List (List ℕ)) (r : Result ℕ Refusal) (v : List ℕ) → only vs ≡ Ok (Some v) → length_with vs r ≡ Err BadRequest
+pub one-coding : (vs : List (List ℕ)) (r : Result ℕ HttpRefusal) (v : List ℕ) → only vs ≡ Ok (Some v) → length_with vs r ≡ Err BadRequest
 one-coding [] r v e = absurd (none-is-some v e)
 one-coding (w ∷ vs) r v e = refl
 
-pub codings : (vs : List (List ℕ)) (r : Result ℕ Refusal) (why : Refusal) → only vs ≡ Err why → length_with vs r ≡ Err BadRequest
+pub codings : (vs : List (List ℕ)) (r : Result ℕ HttpRefusal) (why : HttpRefusal) → only vs ≡ Err why → length_with vs r ≡ Err BadRequest
 codings [] r why e = absurd (ok-is-err None why e)
 codings (w ∷ vs) r why e = refl

@@ -25,8 +25,8 @@ use Rattle.std.specs.Char.{is_ascii_digit, to_ascii_lowercase}
 use Rattle.std.specs.List.{list_all}
 use Rattle.std.specs.Str.{bytes_eq}
 use Rattle.std.specs.Str.Parse.{digits_value}
-use Rattle.opc_http_head.specs.declared.refusal.Refusal.{Refusal}
-use Rattle.opc_http_head.specs.declared.refusal.Refusal.TheVariants.{BadRequest, TooLarge}
+use Rattle.opc_http_head.specs.declared.refusal.HttpRefusal.{HttpRefusal}
+use Rattle.opc_http_head.specs.declared.refusal.HttpRefusal.TheVariants.{BadRequest, TooLarge}
 
 -- a field: its name, and its value without the spaces and tabs round it
 abbrev pub FieldLine : Type 0
@@ -41,7 +41,7 @@ abbrev pub values_of : List ℕ → List FieldLine → List (List ℕ)
 values_of name fields = map (λ (field : FieldLine). field.1) (filter (has_name name) fields)
 
 -- the only one, if there is any
-abbrev pub only : List (List ℕ) → Result (Option (List ℕ)) Refusal
+abbrev pub only : List (List ℕ) → Result (Option (List ℕ)) HttpRefusal
 only [] = Ok None
 only (value ∷ []) = Ok (Some value)
 only (value ∷ other ∷ rest) = Err BadRequest
@@ -57,22 +57,22 @@ abbrev pub body_limit : ℕ
 body_limit = 65536
 
 -- a length has at most nine digits
-abbrev pub length_by : Option ℕ → Result ℕ Refusal
+abbrev pub length_by : Option ℕ → Result ℕ HttpRefusal
 length_by None = Err BadRequest
 length_by (Some n) = if nat_le n body_limit then Ok n else Err TooLarge
 
 -- without a length there is no body
-abbrev pub length_in : Result (Option (List ℕ)) Refusal → Result ℕ Refusal
+abbrev pub length_in : Result (Option (List ℕ)) HttpRefusal → Result ℕ HttpRefusal
 length_in (Err e) = Err e
 length_in (Ok None) = Ok 0
 length_in (Ok (Some value)) = length_by (number_in 9 value)
 
 -- a body in parts is refused
-abbrev pub length_with : List (List ℕ) → Result ℕ Refusal → Result ℕ Refusal
+abbrev pub length_with : List (List ℕ) → Result ℕ HttpRefusal → Result ℕ HttpRefusal
 length_with [] found = found
 length_with (coding ∷ rest) found = Err BadRequest
 
 -- the length of the body
-abbrev pub body_length : List FieldLine → Result ℕ Refusal
+abbrev pub body_length : List FieldLine → Result ℕ HttpRefusal
 body_length fields = length_with (values_of (codes "transfer-encoding") fields)
     (length_in (only (values_of (codes "content-length") fields)))

@@ -7,7 +7,7 @@ ghost use Rattle.httparse.specs.Spans.{IsHeaderWithin, IsWithin, header_bytes, s
 ghost use Rattle.opc_http_head.specs.Framing.{body_length, length_by, number_in, only, values_of};
 
 use crate::number::number_in;
-use crate::refusal::Refusal;
+use crate::refusal::HttpRefusal;
 use httparse::spans::{HeaderSpan, Span};
 use std::str;
 
@@ -25,7 +25,7 @@ fn is_named(found: &[u8], name: &[u8]) -> bool
 }
 
 // Where the only field of a name has its value, if there is one.
-fn only_value(buf: &[u8], headers: &[HeaderSpan], name: &[u8]) -> Result<Option<Span>, Refusal>
+fn only_value(buf: &[u8], headers: &[HeaderSpan], name: &[u8]) -> Result<Option<Span>, HttpRefusal>
     requires { All (IsHeaderWithin (length buf.now)) headers.now }
     ensures ok { IfOk result (λ value. only (values_of name.now (map (header_bytes buf.now) headers.now)) ≡ Ok
         (option_map (span_bytes buf.now) value)) }
@@ -36,7 +36,7 @@ fn only_value(buf: &[u8], headers: &[HeaderSpan], name: &[u8]) -> Result<Option<
     for header in headers {
         if is_named(header.name.of(buf), name) {
             if found.is_some() {
-                return Err(Refusal::BadRequest);
+                return Err(HttpRefusal::BadRequest);
             }
             found = Some(header.value);
         }
@@ -54,24 +54,24 @@ fn number_of(value: &[u8]) -> Option<u64>
     }
 }
 
-fn length_by(value: &[u8]) -> Result<u64, Refusal>
+fn length_by(value: &[u8]) -> Result<u64, HttpRefusal>
     ensures { result ≡ length_by (number_in 9 value.now) }
 {
     match number_of(value) {
-        None => Err(Refusal::BadRequest),
+        None => Err(HttpRefusal::BadRequest),
         Some(n) if n <= BODY_LIMIT => Ok(n),
-        Some(_) => Err(Refusal::TooLarge),
+        Some(_) => Err(HttpRefusal::TooLarge),
     }
 }
 
 /// How many bytes the body has.
-pub fn body_length(buf: &[u8], headers: &[HeaderSpan]) -> Result<u64, Refusal>
+pub fn body_length(buf: &[u8], headers: &[HeaderSpan]) -> Result<u64, HttpRefusal>
     requires { All (IsHeaderWithin (length buf.now)) headers.now }
     ensures { result ≡ body_length (map (header_bytes buf.now) headers.now) }
 {
     match only_value(buf, headers, b"transfer-encoding") {
         Ok(None) => {}
-        _ => return Err(Refusal::BadRequest),
+        _ => return Err(HttpRefusal::BadRequest),
     }
     match only_value(buf, headers, b"content-length")? {
         None => Ok(0),

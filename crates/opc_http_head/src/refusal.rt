@@ -11,7 +11,7 @@ pub enum Method {
 
 /// Why what was read is no request.
 #[derive(Clone, Copy, Debug, PartialEq, Eq)]
-pub enum Refusal {
+pub enum HttpRefusal {
     /// Head, values of the path or body cannot be read, or the input ends within them.
     BadRequest,
     /// No route has this path.
@@ -27,20 +27,20 @@ pub enum Refusal {
 /// Why no request was read: it is refused, or out of memory.
 #[derive(Clone, Copy, PartialEq, Eq)]
 pub enum AskFault {
-    Refused(Refusal),
+    Refused(HttpRefusal),
     NoMemory,
 }
 
 /// What cannot be read.
-pub const BAD_REQUEST: AskFault = AskFault::Refused(Refusal::BadRequest);
+pub const BAD_REQUEST: AskFault = AskFault::Refused(HttpRefusal::BadRequest);
 
-impl From<Refusal> for AskFault {
+impl From<HttpRefusal> for AskFault {
     ghost use Rattle.std.specs.Prelude.{◌≡◌};
     ghost use Rattle.opc_http_head.specs.declared.refusal.AskFault.TheVariants.{Refused};
 
     ghost from_gives = { λ refusal fault. fault ≡ Refused refusal };
 
-    fn from(refusal: Refusal) -> AskFault {
+    fn from(refusal: HttpRefusal) -> AskFault {
         AskFault::Refused(refusal)
     }
 }

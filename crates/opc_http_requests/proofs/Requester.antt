@@ -39,8 +39,8 @@ use Rattle.opc_http_head.specs.Head.{FoundHead, HasHead, NoHead}
 use Rattle.opc_http_head.specs.Refusals.{Refuses}
 use Rattle.opc_http_head.specs.declared.refusal.AskFault.{AskFault}
 use Rattle.opc_http_head.specs.declared.refusal.AskFault.TheVariants as asking
-use Rattle.opc_http_head.specs.declared.refusal.Refusal.{Refusal}
-use Rattle.opc_http_head.specs.declared.refusal.Refusal.TheVariants.{BadRequest}
+use Rattle.opc_http_head.specs.declared.refusal.HttpRefusal.{HttpRefusal}
+use Rattle.opc_http_head.specs.declared.refusal.HttpRefusal.TheVariants.{BadRequest}
 use Rattle.opc_http_requests.specs.Asked.{Asks, AsksOnly}
 use Rattle.opc_http_requests.specs.Faults.{IfRefused, by_asking}
 use Rattle.opc_http_requests.specs.Paths.{path_in}
@@ -55,14 +55,14 @@ pub one-head : (all : List ℕ) (a b : RequestHead) → HasHead all a → HasHea
 one-head all a b h k = (request_unique (take 8192 all) a b h.rest k.rest h.reads k.reads).0
 
 -- and ask for one thing
-asks-one : (all : List ℕ) (r s : Result Request Refusal) → Asks all r → Asks all s → s ≡ r
+asks-one : (all : List ℕ) (r s : Result Request HttpRefusal) → Asks all r → Asks all s → s ≡ r
 asks-one all r s (inl a) (inl b) = b.1 ∙ sym a.1
 asks-one all r s (inl a) (inr b) = absurd (a.0 b.head b.has)
 asks-one all r s (inr a) (inl b) = absurd (b.0 a.head a.has)
 asks-one all r s (inr a) (inr b) =
     b.is ∙ ap (λ (head : RequestHead). request_of head (drop (length (print_request head)) all)) (one-head all b.head a.head b.has a.has) ∙ sym a.is
 
-asks-only : (all : List ℕ) (r : Result Request Refusal) → Asks all r → AsksOnly all r
+asks-only : (all : List ℕ) (r : Result Request HttpRefusal) → Asks all r → AsksOnly all r
 asks-only all r a = record { asks = a; only = λ s b. asks-one all r s a b }
 
 -- no head was found
@@ -76,7 +76,7 @@ pub head-plan : (all buf : List ℕ) (headers : List HeaderSpan) (spans : Reques
 head-plan all buf headers spans f = rw (f.parts.method, f.parts.path, f.parts.fields) refl
 
 -- the plan is a refusal
-pub asks-refused : (known : Option (List ℕ)) (buf : List ℕ) (headers : List HeaderSpan) (spans : RequestSpans) (why : Refusal)
+pub asks-refused : (known : Option (List ℕ)) (buf : List ℕ) (headers : List HeaderSpan) (spans : RequestSpans) (why : HttpRefusal)
     → IfSome known (λ all. FoundHead all buf headers spans) → plan_in buf headers spans ≡ Err why → IfSome known (λ all. AsksOnly all (Err why))
 asks-refused None buf headers spans why f e = tt
 asks-refused (Some all) buf headers spans why f e =
@@ -84,7 +84,7 @@ asks-refused (Some all) buf headers spans why f e =
     asks-only all (Err why) (inr (record { head = f.head; has = f.has; is = rw plan refl }))
 
 -- the plan comes to a request or a refusal
-pub asks-planned : (known mid : Option (List ℕ)) (buf : List ℕ) (headers : List HeaderSpan) (spans : RequestSpans) (plan : Plan) (r : Result Request Refusal)
+pub asks-planned : (known mid : Option (List ℕ)) (buf : List ℕ) (headers : List HeaderSpan) (spans : RequestSpans) (plan : Plan) (r : Result Request HttpRefusal)
     → Consumes known mid buf → IfSome known (λ all. FoundHead all buf headers spans) → plan_in buf headers spans ≡ Ok plan
     → IfSome mid (λ left. planned (span_bytes buf spans.path) (drop spans.len (buf ++ left)) plan ≡ r) → IfSome known (λ all. AsksOnly all r)
 asks-planned None mid buf headers spans plan r c f e p = tt
@@ -116,38 +116,38 @@ takes-whole len n filled before mid after bytes c is low head body t =
     takes-fewer (max 8192 (len + n)) 73728 before after (omega (arith, head, body)) (takes-both (len + n) filled before mid after bytes c is low t)
 
 -- a plan with its body and its path
-pub planned-request : (known : Option (List ℕ)) (old target path body used : List ℕ) (len : ℕ) (plan : Plan) (r : Result Request Refusal)
+pub planned-request : (known : Option (List ℕ)) (old target path body used : List ℕ) (len : ℕ) (plan : Plan) (r : Result Request HttpRefusal)
     → IfSome known (λ left. body_in plan.length (drop len (old ++ left)) ≡ Ok body) → used ≡ body
     → path_in target ≡ Ok path → request_at plan.route path used ≡ r
     → IfSome known (λ left. planned target (drop len (old ++ left)) plan ≡ r)
 planned-request None old target path body used len plan r b same p e = tt
 planned-request (Some left) old target path body used len plan r b same p e = rw (b, p) (ap (λ (t : List ℕ). request_at plan.route path t) (sym same) ∙ e)
 
-pub planned-without-path : (known : Option (List ℕ)) (old target body : List ℕ) (len : ℕ) (plan : Plan) (why : Refusal)
+pub planned-without-path : (known : Option (List ℕ)) (old target body : List ℕ) (len : ℕ) (plan : Plan) (why : HttpRefusal)
     → IfSome known (λ left. body_in plan.length (drop len (old ++ left)) ≡ Ok body) → path_in target ≡ Err why
     → IfSome known (λ left. planned target (drop len (old ++ left)) plan ≡ Err why)
 planned-without-path None old target body len plan why b p = tt
 planned-without-path (Some left) old target body len plan why b p = rw (b, p) refl
 
-pub planned-without-body : (known : Option (List ℕ)) (old target : List ℕ) (len : ℕ) (plan : Plan) (why : Refusal)
+pub planned-without-body : (known : Option (List ℕ)) (old target : List ℕ) (len : ℕ) (plan : Plan) (why : HttpRefusal)
     → IfSome known (λ left. body_in plan.length (drop len (old ++ left)) ≡ Err why)
     → IfSome known (λ left. planned target (drop len (old ++ left)) plan ≡ Err why)
 planned-without-body None old target len plan why b = tt
 planned-without-body (Some left) old target len plan why b = rw b refl
 
 -- a fault of the request is a fault of its plan
-pub refuses-planned : (fault : AskFault) (known : Option (List ℕ)) (asked : List ℕ → Result Request Refusal) (r : Result Request Refusal) → Refuses fault r
+pub refuses-planned : (fault : AskFault) (known : Option (List ℕ)) (asked : List ℕ → Result Request HttpRefusal) (r : Result Request HttpRefusal) → Refuses fault r
     → IfSome known (λ left. asked left ≡ r) → IfRefused (by_asking fault) (λ why. IfSome known (λ left. asked left ≡ Err why))
 refuses-planned (asking.Refused why) None asked r h e = tt
 refuses-planned (asking.Refused why) (Some left) asked r h e = e ∙ h
 refuses-planned asking.NoMemory known asked r h e = tt
 
-refused-weaker : (fault : ReadingFault) (P Q : Refusal → Type 0) → ((why : Refusal) → P why → Q why) → IfRefused fault P → IfRefused fault Q
+refused-weaker : (fault : ReadingFault) (P Q : HttpRefusal → Type 0) → ((why : HttpRefusal) → P why → Q why) → IfRefused fault P → IfRefused fault Q
 refused-weaker (reading.Refused why) P Q f h = f why h
 refused-weaker reading.Read P Q f h = tt
 refused-weaker reading.NoMemory P Q f h = tt
 
-pub fault-weaker : {A : Type 0} (r : Result A ReadingFault) (P Q : Refusal → Type 0) → ((why : Refusal) → P why → Q why)
+pub fault-weaker : {A : Type 0} (r : Result A ReadingFault) (P Q : HttpRefusal → Type 0) → ((why : HttpRefusal) → P why → Q why)
     → IfErr r (λ fault. IfRefused fault P) → IfErr r (λ fault. IfRefused fault Q)
 fault-weaker (Ok a) P Q f h = tt
 fault-weaker (Err fault) P Q f h = refused-weaker fault P Q f h

@@ -5,30 +5,30 @@ use Rattle.httparse.specs.Spans.{name_and_value}
 use Rattle.opc_machine.specs.declared.request.Request.{Request}
 use Rattle.opc_io.specs.Reads.{TakesAtMost}
 use Rattle.opc_http_head.specs.Head.{HasHead, MayLook, NoHead}
-use Rattle.opc_http_head.specs.declared.refusal.Refusal.{Refusal}
-use Rattle.opc_http_head.specs.declared.refusal.Refusal.TheVariants.{BadRequest}
+use Rattle.opc_http_head.specs.declared.refusal.HttpRefusal.{HttpRefusal}
+use Rattle.opc_http_head.specs.declared.refusal.HttpRefusal.TheVariants.{BadRequest}
 use Rattle.opc_http_requests.specs.Bodies.{MayFill}
 use Rattle.opc_http_requests.specs.Plans.{plan_of}
 use Rattle.opc_http_requests.specs.Requests.{request_of}
 use Rattle.opc_http_requests.specs.declared.plan.Plan.{Plan}
 
 -- the bytes have a head, and that is what it comes to
-pub record AsksByHead (all : List ℕ) (asked : Result Request Refusal) : Type 0 where
+pub record AsksByHead (all : List ℕ) (asked : Result Request HttpRefusal) : Type 0 where
   pub head : RequestHead
   pub has : HasHead all head
   pub is : asked ≡ request_of head (drop (length (print_request head)) all)
 
 -- what the bytes of a connection ask for: a request, or the first refusal
-abbrev pub Asks : List ℕ → Result Request Refusal → Type 0
+abbrev pub Asks : List ℕ → Result Request HttpRefusal → Type 0
 Asks all asked = (NoHead all × (asked ≡ Err BadRequest)) ⊎ AsksByHead all asked
 
 -- and nothing else
-pub record AsksOnly (all : List ℕ) (asked : Result Request Refusal) : Type 0 where
+pub record AsksOnly (all : List ℕ) (asked : Result Request HttpRefusal) : Type 0 where
   pub asks : Asks all asked
-  pub only : (other : Result Request Refusal) → Asks all other → other ≡ asked
+  pub only : (other : Result Request HttpRefusal) → Asks all other → other ≡ asked
 
 -- the length of the body that is read, if one is
-abbrev pub body_part : Result Plan Refusal → ℕ
+abbrev pub body_part : Result Plan HttpRefusal → ℕ
 body_part (Ok plan) = plan.length
 body_part (Err why) = 0
 

@@ -2,7 +2,7 @@
 use Rattle.std.specs.Prelude.{⊤, Bool, true, false, Result, Ok, Err}
 use Rattle.opc_http_head.specs.declared.refusal.AskFault.{AskFault}
 use Rattle.opc_http_head.specs.declared.refusal.AskFault.TheVariants as asking
-use Rattle.opc_http_head.specs.declared.refusal.Refusal.{Refusal}
+use Rattle.opc_http_head.specs.declared.refusal.HttpRefusal.{HttpRefusal}
 use Rattle.opc_io.specs.declared.source.SourceFault.{SourceFault}
 use Rattle.opc_io.specs.declared.source.SourceFault.TheVariants as reading
 use Rattle.opc_http_requests.specs.declared.fault.ReadingFault.{ReadingFault}
@@ -24,7 +24,7 @@ is_read (Err Read) = true
 is_read (Err NoMemory) = false
 
 -- what holds of the refusal, where the fault is one
-abbrev pub IfRefused : ReadingFault → (Refusal → Type 0) → Type 0
+abbrev pub IfRefused : ReadingFault → (HttpRefusal → Type 0) → Type 0
 IfRefused (Refused refusal) holds = holds refusal
 IfRefused Read holds = ⊤
 IfRefused NoMemory holds = ⊤

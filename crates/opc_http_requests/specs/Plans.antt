@@ -8,8 +8,8 @@ use Rattle.opc_http_head.specs.Framing.{FieldLine, body_length}
 use Rattle.opc_http_head.specs.Refusals.{◌>>=◌}
 use Rattle.opc_http_head.specs.declared.refusal.Method.{Method}
 use Rattle.opc_http_head.specs.declared.refusal.Method.TheVariants.{Get, Post}
-use Rattle.opc_http_head.specs.declared.refusal.Refusal.{Refusal}
-use Rattle.opc_http_head.specs.declared.refusal.Refusal.TheVariants.{MethodNotAllowed}
+use Rattle.opc_http_head.specs.declared.refusal.HttpRefusal.{HttpRefusal}
+use Rattle.opc_http_head.specs.declared.refusal.HttpRefusal.TheVariants.{MethodNotAllowed}
 use Rattle.opc_http_head.specs.declared.routes.Route.{Route}
 use Rattle.opc_http_head.specs.declared.routes.Route.TheVariants.{Command, Admin, Import, ListProfiles, ListAccount}
 use Rattle.opc_http_requests.specs.Paths.{path_in, route_in}
@@ -28,12 +28,12 @@ method_text Get = codes "GET"
 method_text Post = codes "POST"
 
 -- that a route is asked by its method
-abbrev pub has_method : List ℕ → Route → Result Unit Refusal
+abbrev pub has_method : List ℕ → Route → Result Unit HttpRefusal
 has_method method route = if bytes_eq method (method_text (method_of route)) then Ok tt else Err
     (MethodNotAllowed (method_of route))
 
 -- the route and the length of the body, or the first refusal
-abbrev pub plan_of : (method target : List ℕ) → (fields : List FieldLine) → Result Plan Refusal
+abbrev pub plan_of : (method target : List ℕ) → (fields : List FieldLine) → Result Plan HttpRefusal
 plan_of method target fields = do
   path ← path_in target
   route ← route_in path
@@ -42,6 +42,6 @@ plan_of method target fields = do
   Ok (record { route = route; length = length })
 
 -- the same of the head that these bytes begin with, where the spans find its parts
-abbrev pub plan_in : List ℕ → List HeaderSpan → RequestSpans → Result Plan Refusal
+abbrev pub plan_in : List ℕ → List HeaderSpan → RequestSpans → Result Plan HttpRefusal
 plan_in buf headers spans = plan_of (span_bytes buf spans.method) (span_bytes buf spans.path)
     (map (header_bytes buf) (take spans.headers headers))

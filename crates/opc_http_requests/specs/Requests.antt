@@ -5,8 +5,8 @@ use Rattle.httparse.specs.Spans.{name_and_value}
 use Rattle.opc_machine.specs.declared.request.Request.{Request}
 use Rattle.opc_machine.specs.declared.request.Request.TheVariants as request
 use Rattle.opc_http_head.specs.Refusals.{◌>>=◌}
-use Rattle.opc_http_head.specs.declared.refusal.Refusal.{Refusal}
-use Rattle.opc_http_head.specs.declared.refusal.Refusal.TheVariants.{BadRequest}
+use Rattle.opc_http_head.specs.declared.refusal.HttpRefusal.{HttpRefusal}
+use Rattle.opc_http_head.specs.declared.refusal.HttpRefusal.TheVariants.{BadRequest}
 use Rattle.opc_http_head.specs.declared.routes.Route.{Route}
 use Rattle.opc_http_head.specs.declared.routes.Route.TheVariants.{Command, Admin, Import, ListProfiles, ListAccount}
 use Rattle.opc_http_bodies.specs.Bodies.{command_in, operation_in, rows_in}
@@ -15,11 +15,11 @@ use Rattle.opc_http_requests.specs.Plans.{plan_of}
 use Rattle.opc_http_requests.specs.declared.plan.Plan.{Plan}
 
 -- so many bytes, where there are as many
-abbrev pub body_in : ℕ → List ℕ → Result (List ℕ) Refusal
+abbrev pub body_in : ℕ → List ℕ → Result (List ℕ) HttpRefusal
 body_in n left = if nat_le n (length left) then Ok (take n left) else Err BadRequest
 
 -- what a route asks for at a console: the other values of the path, and then the body
-abbrev pub request_by : Route → (console path body : List ℕ) → Result Request Refusal
+abbrev pub request_by : Route → (console path body : List ℕ) → Result Request HttpRefusal
 request_by Command console path body = do
   text ← command_in body
   Ok (request.Command console text)
@@ -39,18 +39,18 @@ request_by ListAccount console path body = do
   Ok (request.ListAccount console from count)
 
 -- the console comes first
-abbrev pub request_at : Route → (path body : List ℕ) → Result Request Refusal
+abbrev pub request_at : Route → (path body : List ℕ) → Result Request HttpRefusal
 request_at route path body = do
   console ← console_in path
   request_by route console path body
 
 -- what a plan comes to, with the bytes that follow the head
-abbrev pub planned : (target left : List ℕ) → Plan → Result Request Refusal
+abbrev pub planned : (target left : List ℕ) → Plan → Result Request HttpRefusal
 planned target left plan = do
   body ← body_in plan.length left
   path ← path_in target
   request_at plan.route path body
 
 -- what a head comes to, with the bytes that follow it
-abbrev pub request_of : RequestHead → List ℕ → Result Request Refusal
+abbrev pub request_of : RequestHead → List ℕ → Result Request HttpRefusal
 request_of head left = plan_of head.method head.target (map name_and_value head.fields) >>= planned head.target left

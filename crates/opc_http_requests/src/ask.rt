@@ -32,7 +32,7 @@ use crate::plan::{Plan, plan_in};
 use httparse::spans::{EMPTY_HEADER_SPAN, RequestSpans};
 use opc_http_bodies::body::{command_in, operation_in, rows_in};
 use opc_http_head::head::read_head;
-use opc_http_head::refusal::{AskFault, Refusal};
+use opc_http_head::refusal::{AskFault, HttpRefusal};
 use opc_http_head::routes::{Route, Routes};
 use opc_io::source::Source;
 use opc_machine::request::Request;
@@ -121,7 +121,7 @@ fn read_planned<S: Source>(
 {
     let end = spans.len + plan.length as usize;
     if !read_to(source, buf, end)? {
-        return Err(ReadingFault::Refused(Refusal::BadRequest));
+        return Err(ReadingFault::Refused(HttpRefusal::BadRequest));
     }
     let path = path_in(spans.path.of(buf.as_slice()))?;
     let request = request_at(alloc, plan.route, path, &buf[spans.len..end])?;
@@ -148,7 +148,7 @@ pub fn read_request<S: Source>(
     let mut buf = Vec::new(alloc);
     let mut headers = [EMPTY_HEADER_SPAN; MOST_FIELDS];
     let Some(spans) = read_head(source, &mut buf, &mut headers)? else {
-        return Err(ReadingFault::Refused(Refusal::BadRequest));
+        return Err(ReadingFault::Refused(HttpRefusal::BadRequest));
     };
     let plan = plan_in(routes, buf.as_slice(), &headers, &spans)?;
     read_planned(alloc, source, &mut buf, &spans, plan)

@@ -1,22 +1,22 @@
 //! Why no request was read.
-use opc_http_head::refusal::{AskFault, Refusal};
+use opc_http_head::refusal::{AskFault, HttpRefusal};
 use opc_io::source::SourceFault;
 
 /// Why no request was read: what was read is refused, a read failed, or out of memory.
 #[derive(Clone, Copy, Debug, PartialEq, Eq)]
 pub enum ReadingFault {
-    Refused(Refusal),
+    Refused(HttpRefusal),
     Read,
     NoMemory,
 }
 
-impl From<Refusal> for ReadingFault {
+impl From<HttpRefusal> for ReadingFault {
     ghost use Rattle.std.specs.Prelude.{◌≡◌};
     ghost use Rattle.opc_http_requests.specs.declared.fault.ReadingFault.TheVariants.{Refused};
 
     ghost from_gives = { λ refusal fault. fault ≡ Refused refusal };
 
-    fn from(refusal: Refusal) -> ReadingFault {
+    fn from(refusal: HttpRefusal) -> ReadingFault {
         ReadingFault::Refused(refusal)
     }
 }

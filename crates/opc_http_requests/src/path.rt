@@ -32,7 +32,7 @@ ghost use Rattle.opc_http_requests.specs.Paths.{
 };
 
 use opc_http_head::number::number_in;
-use opc_http_head::refusal::{AskFault, BAD_REQUEST, Refusal};
+use opc_http_head::refusal::{AskFault, BAD_REQUEST, HttpRefusal};
 use opc_http_head::routes::{Route, Routes};
 use opc_import::field::read_name;
 use opc_names::class::Class;
@@ -53,25 +53,25 @@ fn is_path(target: &[u8]) -> bool
 }
 
 /// The path that a target is.
-pub(crate) fn path_in(target: &[u8]) -> Result<&str, Refusal>
+pub(crate) fn path_in(target: &[u8]) -> Result<&str, HttpRefusal>
     ensures { MatchResult result (λ path. path_in target.now ≡ Ok path.now) (λ why. path_in target.now ≡ Err why) }
 {
     if !is_path(target) {
-        return Err(Refusal::NotFound);
+        return Err(HttpRefusal::NotFound);
     }
     match str::from_utf8(target) {
         Ok(path) => Ok(path),
-        Err(_) => Err(Refusal::NotFound),
+        Err(_) => Err(HttpRefusal::NotFound),
     }
 }
 
 /// The route of a path.
-pub(crate) fn route_in(routes: &Routes, path: &str) -> Result<Route, Refusal>
+pub(crate) fn route_in(routes: &Routes, path: &str) -> Result<Route, HttpRefusal>
     ensures { result ≡ route_in path.now }
 {
     match routes.route_of(path) {
         Some(route) => Ok(route),
-        None => Err(Refusal::NotFound),
+        None => Err(HttpRefusal::NotFound),
     }
 }
 
@@ -131,39 +131,39 @@ pub(crate) fn console_in(alloc: Global, path: &str) -> Result<ConsoleName, AskFa
 }
 
 // A number from 1 to a limit.
-fn limited(number: Option<u64>, most: u64) -> Result<u32, Refusal>
+fn limited(number: Option<u64>, most: u64) -> Result<u32, HttpRefusal>
     requires { most ≤ 999999999 }
     ensures { result ≡ required (option_and_then (within 1 most) number) }
 {
     match number {
         Some(n) if 1 <= n && n <= most => Ok(n as u32),
-        _ => Err(Refusal::BadRequest),
+        _ => Err(HttpRefusal::BadRequest),
     }
 }
 
 /// The number of a batch.
-pub(crate) fn batch_in(path: &str) -> Result<u32, Refusal>
+pub(crate) fn batch_in(path: &str) -> Result<u32, HttpRefusal>
     ensures { result ≡ batch_in path.now }
 {
     limited(number_in(part_at(path, 4), 9), LAST_BATCH)
 }
 
 /// The class whose profiles are asked for.
-pub(crate) fn class_in(path: &str) -> Result<Class, Refusal>
+pub(crate) fn class_in(path: &str) -> Result<Class, HttpRefusal>
     ensures { result ≡ class_in path.now }
 {
-    Class::read(part_at(path, 4)).ok_or(Refusal::BadRequest)
+    Class::read(part_at(path, 4)).ok_or(HttpRefusal::BadRequest)
 }
 
 /// The number from which on the account is asked for.
-pub(crate) fn from_in(path: &str) -> Result<u64, Refusal>
+pub(crate) fn from_in(path: &str) -> Result<u64, HttpRefusal>
     ensures { result ≡ from_in path.now }
 {
-    number_in(part_at(path, 4), 18).ok_or(Refusal::BadRequest)
+    number_in(part_at(path, 4), 18).ok_or(HttpRefusal::BadRequest)
 }
 
 /// How many rows of the account are asked for.
-pub(crate) fn count_in(path: &str) -> Result<u32, Refusal>
+pub(crate) fn count_in(path: &str) -> Result<u32, HttpRefusal>
     ensures { result ≡ count_in path.now }
 {
     limited(number_in(part_at(path, 5), 4), MOST_LISTED)

@@ -6,7 +6,7 @@ ghost use Rattle.opc_http_requests.specs.Plans.{has_method, method_of, method_te
 use crate::path::{path_in, route_in};
 use httparse::spans::{HeaderSpan, RequestSpans};
 use opc_http_head::framing::body_length;
-use opc_http_head::refusal::{Method, Refusal};
+use opc_http_head::refusal::{HttpRefusal, Method};
 use opc_http_head::routes::{Route, Routes};
 
 /// The route of a request, and how many bytes its body has.
@@ -35,14 +35,14 @@ fn method_text(method: Method) -> &'static str
 }
 
 // That a route is asked by its method.
-fn has_method(name: &[u8], route: Route) -> Result<(), Refusal>
+fn has_method(name: &[u8], route: Route) -> Result<(), HttpRefusal>
     ensures { result ≡ has_method name.now route }
 {
     let method = method_of(route);
     if name == method_text(method).as_bytes() {
         Ok(())
     } else {
-        Err(Refusal::MethodNotAllowed(method))
+        Err(HttpRefusal::MethodNotAllowed(method))
     }
 }
 
@@ -53,7 +53,7 @@ fn plan_of(
     target: &[u8],
     buf: &[u8],
     headers: &[HeaderSpan],
-) -> Result<Plan, Refusal>
+) -> Result<Plan, HttpRefusal>
     requires { All (IsHeaderWithin (length buf.now)) headers.now }
     ensures plan { result ≡ plan_of method.now target.now (map (header_bytes buf.now) headers.now) }
     ensures few { IfOk result (λ plan. plan.length ≤ 65536) }
@@ -71,7 +71,7 @@ pub(crate) fn plan_in(
     buf: &[u8],
     headers: &[HeaderSpan],
     spans: &RequestSpans,
-) -> Result<Plan, Refusal>
+) -> Result<Plan, HttpRefusal>
     requires { IsRequestWithin buf.now headers.now spans.now }
     ensures plan { result ≡ plan_in buf.now headers.now spans.now }
     ensures few { IfOk result (λ plan. plan.length ≤ 65536) }

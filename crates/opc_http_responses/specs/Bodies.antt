@@ -9,8 +9,8 @@ use Rattle.opc_terms.specs.Rules.{rule_text_or_none}
 use Rattle.opc_terms.specs.declared.fault.Fault.TheVariants.{RowFault}
 use Rattle.opc_machine.specs.declared.request.Answer.{Answer}
 use Rattle.opc_machine.specs.declared.request.Answer.TheVariants.{Done, Refused}
-use Rattle.opc_http_head.specs.declared.refusal.Refusal.{Refusal}
-use Rattle.opc_http_head.specs.declared.refusal.Refusal.TheVariants.{
+use Rattle.opc_http_head.specs.declared.refusal.HttpRefusal.{HttpRefusal}
+use Rattle.opc_http_head.specs.declared.refusal.HttpRefusal.TheVariants.{
   BadRequest,
   NotFound,
   MethodNotAllowed,
@@ -48,7 +48,7 @@ abbrev pub status_body : ℕ → List ℕ
 status_body status = compact_text (refused_value (codes "H" ++ decimal status) (codes "-") (phrase status))
 
 -- a bad row is reported as the fault that it is
-abbrev pub refusal_body : Refusal → List ℕ
+abbrev pub refusal_body : HttpRefusal → List ℕ
 refusal_body (BadRow row why) = answer_body (Refused (RowFault row why) None)
 refusal_body BadRequest = status_body (refusal_status BadRequest)
 refusal_body NotFound = status_body (refusal_status NotFound)

@@ -3,8 +3,8 @@ use Rattle.std.specs.Prelude.{ℕ, List, [], ◌++◌, codes, decimal, length, O
 use Rattle.opc_machine.specs.declared.request.Answer.{Answer}
 use Rattle.opc_http_head.specs.declared.refusal.Method.{Method}
 use Rattle.opc_http_head.specs.declared.refusal.Method.TheVariants.{Get, Post}
-use Rattle.opc_http_head.specs.declared.refusal.Refusal.{Refusal}
-use Rattle.opc_http_head.specs.declared.refusal.Refusal.TheVariants.{
+use Rattle.opc_http_head.specs.declared.refusal.HttpRefusal.{HttpRefusal}
+use Rattle.opc_http_head.specs.declared.refusal.HttpRefusal.TheVariants.{
   BadRequest,
   NotFound,
   MethodNotAllowed,
@@ -46,7 +46,7 @@ response_text status allow body = head_of status allow body ++ body
 abbrev pub response_of : Answer → List ℕ
 response_of answer = response_text (status_of answer) None (answer_body answer)
 
-abbrev pub allowed : Refusal → Option Method
+abbrev pub allowed : HttpRefusal → Option Method
 allowed (MethodNotAllowed method) = Some method
 allowed BadRequest = None
 allowed NotFound = None
@@ -54,5 +54,5 @@ allowed TooLarge = None
 allowed (BadRow row why) = None
 
 -- the response to what is no request
-abbrev pub refusal_response : Refusal → List ℕ
+abbrev pub refusal_response : HttpRefusal → List ℕ
 refusal_response refusal = response_text (refusal_status refusal) (allowed refusal) (refusal_body refusal)

@@ -7,8 +7,8 @@ use Rattle.opc_terms.specs.declared.fault.Fault.{Fault}
 use Rattle.opc_terms.specs.declared.fault.Fault.TheVariants.{RowFault}
 use Rattle.opc_machine.specs.declared.request.Answer.{Answer}
 use Rattle.opc_machine.specs.declared.request.Answer.TheVariants.{Done, Refused}
-use Rattle.opc_http_head.specs.declared.refusal.Refusal.{Refusal}
-use Rattle.opc_http_head.specs.declared.refusal.Refusal.TheVariants.{
+use Rattle.opc_http_head.specs.declared.refusal.HttpRefusal.{HttpRefusal}
+use Rattle.opc_http_head.specs.declared.refusal.HttpRefusal.TheVariants.{
   BadRequest,
   NotFound,
   MethodNotAllowed,
@@ -38,7 +38,7 @@ abbrev pub status_of : Answer → ℕ
 status_of (Done lines rule) = 200
 status_of (Refused fault rule) = fault_status fault
 
-abbrev pub refusal_status : Refusal → ℕ
+abbrev pub refusal_status : HttpRefusal → ℕ
 refusal_status BadRequest = 400
 refusal_status NotFound = 404
 refusal_status (MethodNotAllowed method) = 405

@@ -17,7 +17,7 @@ ghost use Rattle.opc_http_responses.specs.Bodies.{
 use crate::status::{phrase, refusal_status};
 use http::StatusCode;
 use opc_board::line::Line;
-use opc_http_head::refusal::Refusal;
+use opc_http_head::refusal::HttpRefusal;
 use opc_machine::request::Answer;
 use opc_terms::fault::Fault;
 use opc_terms::rule::Rule;
@@ -92,11 +92,11 @@ fn status_body(alloc: Global, status: StatusCode) -> Result<String, AllocError>
 }
 
 /// The body of the response to what is no request.
-pub(crate) fn refusal_body(alloc: Global, refusal: &Refusal) -> Result<String, AllocError>
+pub(crate) fn refusal_body(alloc: Global, refusal: &HttpRefusal) -> Result<String, AllocError>
     ensures { IfOk result (λ body. string_bytes body ≡ refusal_body refusal.now) }
 {
     match *refusal {
-        Refusal::BadRow { row, why } => fault_body(alloc, &Fault::RowFault { row, why }, None),
+        HttpRefusal::BadRow { row, why } => fault_body(alloc, &Fault::RowFault { row, why }, None),
         _ => status_body(alloc, refusal_status(refusal)),
     }
 }

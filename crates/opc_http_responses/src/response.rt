@@ -16,7 +16,7 @@ ghost use Rattle.opc_http_responses.specs.Statuses.{refusal_status, status_of};
 use crate::body::{answer_body, refusal_body};
 use crate::status::{phrase, refusal_status, status_of};
 use http::StatusCode;
-use opc_http_head::refusal::{Method, Refusal};
+use opc_http_head::refusal::{HttpRefusal, Method};
 use opc_http_head::routes::NoMemory;
 use opc_machine::request::Answer;
 use std::alloc::{AllocError, Global};
@@ -108,16 +108,16 @@ pub fn answered(alloc: Global, answer: &Answer) -> Result<Response, NoMemory>
     answer_response(alloc, answer).map_err(|_| NoMemory)
 }
 
-fn allowed(refusal: &Refusal) -> Option<Method>
+fn allowed(refusal: &HttpRefusal) -> Option<Method>
     ensures { result ≡ allowed refusal.now }
 {
     match *refusal {
-        Refusal::MethodNotAllowed(method) => Some(method),
+        HttpRefusal::MethodNotAllowed(method) => Some(method),
         _ => None,
     }
 }
 
-fn response_to_refusal(alloc: Global, refusal: &Refusal) -> Result<Response, AllocError>
+fn response_to_refusal(alloc: Global, refusal: &HttpRefusal) -> Result<Response, AllocError>
     ensures { IfOk result (λ made. (made.status ≡ refusal_status refusal.now)
         × (made.bytes.items ≡ refusal_response refusal.now)) }
 {
@@ -131,7 +131,7 @@ fn response_to_refusal(alloc: Global, refusal: &Refusal) -> Result<Response, All
 }
 
 /// The response to what is no request.
-pub fn refused(alloc: Global, refusal: &Refusal) -> Result<Response, NoMemory>
+pub fn refused(alloc: Global, refusal: &HttpRefusal) -> Result<Response, NoMemory>
     ensures { IfOk result (λ made. (made.status ≡ refusal_status refusal.now)
         × (made.bytes.items ≡ refusal_response refusal.now)) }
 {

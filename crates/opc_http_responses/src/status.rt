@@ -3,7 +3,7 @@ ghost use Rattle.std.specs.Prelude.{◌≡◌};
 ghost use Rattle.opc_http_responses.specs.Statuses.{fault_status, phrase, refusal_status, status_of};
 
 use http::StatusCode;
-use opc_http_head::refusal::Refusal;
+use opc_http_head::refusal::HttpRefusal;
 use opc_machine::request::Answer;
 use opc_terms::fault::Fault;
 
@@ -66,15 +66,15 @@ pub(crate) fn status_of(answer: &Answer) -> StatusCode
 }
 
 /// The status of a refusal.
-pub(crate) fn refusal_status(refusal: &Refusal) -> StatusCode
+pub(crate) fn refusal_status(refusal: &HttpRefusal) -> StatusCode
     ensures { result ≡ refusal_status refusal.now }
 {
     match *refusal {
-        Refusal::BadRequest => StatusCode::BAD_REQUEST,
-        Refusal::NotFound => StatusCode::NOT_FOUND,
-        Refusal::MethodNotAllowed(_) => StatusCode::METHOD_NOT_ALLOWED,
-        Refusal::TooLarge => StatusCode::PAYLOAD_TOO_LARGE,
-        Refusal::BadRow { row, why } => fault_status(&Fault::RowFault { row, why }),
+        HttpRefusal::BadRequest => StatusCode::BAD_REQUEST,
+        HttpRefusal::NotFound => StatusCode::NOT_FOUND,
+        HttpRefusal::MethodNotAllowed(_) => StatusCode::METHOD_NOT_ALLOWED,
+        HttpRefusal::TooLarge => StatusCode::PAYLOAD_TOO_LARGE,
+        HttpRefusal::BadRow { row, why } => fault_status(&Fault::RowFault { row, why }),
     }
 }
 

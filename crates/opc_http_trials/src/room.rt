@@ -35,19 +35,19 @@ pub struct Room<T: Tables + Drop> {
 
 /// What came of an exchange, in words, and the bytes that were written.
 #[derive(Drop)]
-pub(crate) struct Outcome {
+pub(crate) struct Exchanged {
     pub(crate) words: String,
     pub(crate) written: Vec<u8>,
 }
 
-impl Outcome {
+impl Exchanged {
     /// What came of this exchange, which wrote these bytes.
     pub(crate) fn of(
         alloc: Global,
         outcome: Result<Served, LinkFault>,
         written: Vec<u8>,
     ) -> Result<Self> {
-        Ok(Outcome {
+        Ok(Exchanged {
             words: words_of(alloc, outcome)?,
             written,
         })
@@ -154,9 +154,9 @@ impl<T: Tables + Drop> Room<T> {
         moment: u64,
         reader: FailingReader<'_>,
         writer: FailingWriter,
-    ) -> Result<Outcome> {
+    ) -> Result<Exchanged> {
         let (outcome, written) = self.tried(alloc, moment, reader, writer)?;
-        Outcome::of(alloc, outcome, written)
+        Exchanged::of(alloc, outcome, written)
     }
 }
 

@@ -1,6 +1,6 @@
 //! Exchanges that succeed, that are cut off, and whose reader or writer fails.
 use crate::message::bytes_of;
-use crate::room::{ABORTED, Outcome, Room};
+use crate::room::{ABORTED, Exchanged, Room};
 use crate::spans::Spans;
 use anyhow::{Result, bail};
 use opc_http::LinkFault;
@@ -50,13 +50,13 @@ fn asked<T: Tables + Drop>(
     room: &mut Room<T>,
     moment: u64,
     bytes: &[u8],
-) -> Result<Outcome> {
+) -> Result<Exchanged> {
     let writer = FailingWriter::new(alloc, usize::MAX, usize::MAX);
     room.exchange(alloc, moment, never_failing(bytes), writer)
 }
 
 /// What came of an exchange, and the whole response.
-fn served(alloc: Global, outcome: &Outcome) -> Result<String> {
+fn served(alloc: Global, outcome: &Exchanged) -> Result<String> {
     let response = str::from_utf8(outcome.written.as_slice())?.replace(alloc, "\r", "\\r")?;
     Ok(format!(in alloc; "{}\n{response}\n", outcome.words)?)
 }
@@ -130,7 +130,7 @@ fn written_to<T: Tables + Drop>(
     bytes: &[u8],
     writer: FailingWriter,
     rows: usize,
-) -> Result<Outcome> {
+) -> Result<Exchanged> {
     let (outcome, written) = room.tried(alloc, moment, never_failing(bytes), writer)?;
     if matches!(outcome, Err(LinkFault::NoMemory { handled: true })) {
         if !written.is_empty() {
@@ -140,7 +140,7 @@ fn written_to<T: Tables + Drop>(
             bail!("a request that did not stay done");
         }
     }
-    Outcome::of(alloc, outcome, written)
+    Exchanged::of(alloc, outcome, written)
 }
 
 fn failing_writes<T: Tables + Drop>(

@@ -13,11 +13,12 @@ use Rattle.opc_board.specs.Outcome.{Done as BoardDone, Outcome as BoardOutcome}
 use Rattle.opc_terms.specs.declared.fault.Fault.TheVariants as fault
 use Rattle.opc_state.specs.State.{State}
 use Rattle.opc_machine.specs.declared.request.Answer.TheVariants.{Done, Refused}
-use Rattle.opc_machine.specs.Outcome.{Deed, Denial, Outcome, ◌>>=◌, found, refuse_if}
+use Rattle.opc_machine.specs.declared.outcome.Refusal.{Refusal}
+use Rattle.opc_machine.specs.Outcome.{StateEffect, StateOutcome, ◌>>=◌, found, refuse_if}
 use Rattle.opc_machine.specs.Commands.{console_for, command_or, allowed, acted}
 use Rattle.opc_machine.specs.Machine.{answer_of, IsAborted}
 
-pub bind_ok : {A B : Type 0} (x : Result A Denial) (f : A → Result B Denial) (d : B) → (x >>= f) ≡ Ok d → (y : A) × (x ≡ Ok y) × (f y ≡ Ok d)
+pub bind_ok : {A B : Type 0} (x : Result A Refusal) (f : A → Result B Refusal) (d : B) → (x >>= f) ≡ Ok d → (y : A) × (x ≡ Ok y) × (f y ≡ Ok d)
 bind_ok (Ok y) f d h = (y, refl, h)
 bind_ok (Err e) f d h = absurd (search (rules, h))
 
@@ -33,13 +34,13 @@ pub acted_ok : (rule : Option Rule) (r : BoardOutcome) (a : BoardDone) → acted
 acted_ok rule (Ok b) a h = search (rules, h)
 acted_ok rule (Err f) a h = absurd (search (rules, h))
 
-pub done_is : (o : Outcome) (lines : List Line) (why : Option Rule) → Done lines why ≡ answer_of o → (deed : Deed)
-    × (o ≡ Ok deed) × (lines ≡ deed.lines) × (why ≡ deed.rule)
-done_is (Ok deed) lines why h = (deed, refl, search (rules, h), search (rules, h))
-done_is (Err denial) lines why h = absurd (search (rules, h))
+pub done_is : (o : StateOutcome) (lines : List Line) (why : Option Rule) → Done lines why ≡ answer_of o → (effect : StateEffect)
+    × (o ≡ Ok effect) × (lines ≡ effect.lines) × (why ≡ effect.rule)
+done_is (Ok effect) lines why h = (effect, refl, search (rules, h), search (rules, h))
+done_is (Err refusal) lines why h = absurd (search (rules, h))
 
-pub refused_is : (o : Outcome) (f : Fault) (why : Option Rule) → Refused f why ≡ answer_of o → o ≡ Err (record { fault = f; rule = why })
-refused_is (Ok deed) f why h = absurd (search (rules, h))
+pub refused_is : (o : StateOutcome) (f : Fault) (why : Option Rule) → Refused f why ≡ answer_of o → o ≡ Err (record { fault = f; rule = why })
+refused_is (Ok effect) f why h = absurd (search (rules, h))
 refused_is (Err d) f why h =
     let at : f ≡ d.fault = search (rules, h) in
     let by : why ≡ d.rule = search (rules, h) in
@@ -49,7 +50,7 @@ pub refuse_if_ok : (fault : Fault) (why : Option Rule) (b : Bool) (u : Unit {0})
 refuse_if_ok fault why true u h = absurd (search (rules, h))
 refuse_if_ok fault why false u h = refl
 
-pub ok_is : {A : Type 0} (x y : A) → (let o : Result A Denial = Ok x in o) ≡ Ok y → x ≡ y
+pub ok_is : {A : Type 0} (x y : A) → (let o : Result A Refusal = Ok x in o) ≡ Ok y → x ≡ y
 ok_is x y h = search (rules, h)
 
 pub is_on : (b : Bool) → not b ≡ false → b ≡ true

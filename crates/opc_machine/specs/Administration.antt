@@ -44,7 +44,7 @@ use Rattle.opc_state.specs.State.{State}
 use Rattle.opc_machine.specs.Bootstrap.{with_rows_of}
 use Rattle.opc_machine.specs.declared.operation.Operation.{Operation}
 use Rattle.opc_machine.specs.declared.operation.Operation.TheVariants as operation
-use Rattle.opc_machine.specs.Outcome.{Outcome, ◌>>=◌, does, or_refused, refuse_if}
+use Rattle.opc_machine.specs.Outcome.{StateOutcome, ◌>>=◌, does, or_refused, refuse_if}
 use Rattle.opc_machine.specs.Rights.{console_asking, may_change, right_fault}
 
 -- a user and a group never have one name
@@ -155,7 +155,7 @@ abbrev pub changed : State → Operation → Result State Fault
 changed s o = with_rows_of s (board_changed o s.board) (policy_changed s.board o s.policy)
 
 -- An operation of administration, asked at a console. It gives no line and has no rule.
-abbrev pub admin_outcome : State → List ℕ → Operation → Outcome
+abbrev pub admin_outcome : State → List ℕ → Operation → StateOutcome
 admin_outcome s name o = do
   c ← console_asking s name
   _ ← refuse_if (right_fault o) None (not (may_change s c o))

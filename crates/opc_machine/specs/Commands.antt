@@ -44,22 +44,23 @@ use Rattle.opc_board.specs.Invariants.{console_at, kind_at}
 use Rattle.opc_board.specs.Outcome.{Done, Outcome as BoardOutcome}
 use Rattle.opc_state.specs.State.{State}
 use Rattle.opc_machine.specs.Faults.{line_fault, board_fault}
-use Rattle.opc_machine.specs.Outcome.{Denial, Outcome, ◌>>=◌, does, refused, found, refuse_if}
+use Rattle.opc_machine.specs.declared.outcome.Refusal.{Refusal}
+use Rattle.opc_machine.specs.Outcome.{StateOutcome, ◌>>=◌, does, refused, found, refuse_if}
 use Rattle.opc_machine.specs.Rulings.{ruling, logon_ruling, shown}
 
 -- the console that is named: it is there, and online
-abbrev pub console_for : State → List ℕ → Result ConsoleRow Denial
+abbrev pub console_for : State → List ℕ → Result ConsoleRow Refusal
 console_for s name = do
   c ← found fault.NoConsole (console_at s.board name)
   _ ← refuse_if fault.ConsoleOffline None (not c.online)
   Ok c
 
-abbrev pub command_or : Result Command ReadFault → Result Command Denial
+abbrev pub command_or : Result Command ReadFault → Result Command Refusal
 command_or (Ok c) = Ok c
 command_or (Err f) = refused (line_fault f) None
 
 -- the command that a line is
-abbrev pub command_in : List ℕ → Result Command Denial
+abbrev pub command_in : List ℕ → Result Command Refusal
 command_in text = command_or (reading text)
 
 -- what the unit is that a command names, if it is one whose need goes by that
@@ -81,12 +82,12 @@ denial_fault (rule.Profile class pattern held needed warned) = fault.DeniedProfi
 denial_fault rule.NoProfile = fault.DeniedProfile
 denial_fault (rule.ConsoleGroup group auth) = fault.DeniedGroup
 
-abbrev pub allowed : Ruling → Result Rule Denial
+abbrev pub allowed : Ruling → Result Rule Refusal
 allowed (Allowed rule) = Ok rule
 allowed (Denied rule) = refused (denial_fault rule) (Some rule)
 
 -- what the board makes of it, whose fault names the rule that allowed the command
-abbrev pub acted : Option Rule → BoardOutcome → Result Done Denial
+abbrev pub acted : Option Rule → BoardOutcome → Result Done Refusal
 acted rule (Ok d) = Ok d
 acted rule (Err f) = refused (board_fault f) rule
 
@@ -101,14 +102,14 @@ is_display other = false
 
 -- A command that needs something: where it is allowed it acts on the board, and of its lines those are given that
 -- may be shown.
-abbrev pub board_command : State → ConsoleRow → Command → Need → Outcome
+abbrev pub board_command : State → ConsoleRow → Command → Need → StateOutcome
 board_command s c command need = do
   rule ← allowed (ruling s c need)
   act ← acted (Some rule) (effect s.board command c.name)
   does (record s { board = act.board }) (filter (shown s c) act.lines) (Some rule)
 
 -- nobody may be on already
-abbrev pub nobody_on : Option (List ℕ) → Result (Unit {0}) Denial
+abbrev pub nobody_on : Option (List ℕ) → Result (Unit {0}) Refusal
 nobody_on None = Ok tt
 nobody_on (Some user) = refused (fault.AlreadyOn user) None
 
@@ -128,41 +129,41 @@ logon_fault rule.NoProfile = fault.DeniedConsole
 logon_fault (rule.ConsoleGroup group auth) = fault.DeniedConsole
 logon_fault rule.LogonRequired = fault.DeniedConsole
 
-abbrev pub admit : Ruling → Result Rule Denial
+abbrev pub admit : Ruling → Result Rule Refusal
 admit (Allowed rule) = Ok rule
 admit (Denied rule) = refused (logon_fault rule) (Some rule)
 
-abbrev pub logon : State → ConsoleRow → List ℕ → List ℕ → Outcome
+abbrev pub logon : State → ConsoleRow → List ℕ → List ℕ → StateOutcome
 logon s c id password = do
   _ ← nobody_on c.user
   user ← found fault.BadLogon (known_by s id password)
   rule ← admit (logon_ruling s c user)
   does (record s { board = logged_on c.name id s.board }) [] (Some rule)
 
-abbrev pub logoff : State → ConsoleRow → Outcome
+abbrev pub logoff : State → ConsoleRow → StateOutcome
 logoff s c = do
   _ ← refuse_if fault.NotOn None (is_none c.user)
   does (record s { board = logged_off c.name s.board }) [] None
 
 -- The commands that need nothing are LOGON and LOGOFF.
-abbrev pub without_need : State → ConsoleRow → Command → Outcome
+abbrev pub without_need : State → ConsoleRow → Command → StateOutcome
 without_need s c (command.Logon id password) = logon s c id.value password.value
 without_need s c command.Logoff = logoff s c
 without_need s c other = does s [] None
 
-abbrev pub typed : State → ConsoleRow → Command → Option Need → Outcome
+abbrev pub typed : State → ConsoleRow → Command → Option Need → StateOutcome
 typed s c command (Some need) = board_command s c command need
 typed s c command None = without_need s c command
 
 -- A command typed at a console.
-abbrev pub command_outcome : State → List ℕ → List ℕ → Outcome
+abbrev pub command_outcome : State → List ℕ → List ℕ → StateOutcome
 command_outcome s name text = do
   c ← console_for s name
   command ← command_in text
   typed s c command (need_of s.board command)
 
 -- An event, which has no rule.
-abbrev pub event_outcome : State → Event → Outcome
+abbrev pub event_outcome : State → Event → StateOutcome
 event_outcome s e = do
   act ← acted None (event_effect s.board e)
   does (record s { board = act.board }) [] None

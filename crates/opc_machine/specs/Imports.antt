@@ -34,7 +34,7 @@ use Rattle.opc_state.specs.Difference.{same_flag, same_text}
 use Rattle.opc_state.specs.Members.{with_batch}
 use Rattle.opc_state.specs.State.{State}
 use Rattle.opc_machine.specs.Bootstrap.{with_rows}
-use Rattle.opc_machine.specs.Outcome.{Outcome, ◌>>=◌, does, or_refused, refuse_if, refused}
+use Rattle.opc_machine.specs.Outcome.{StateOutcome, ◌>>=◌, does, or_refused, refuse_if, refused}
 use Rattle.opc_machine.specs.Rights.{console_asking, is_special}
 use Rattle.opc_machine.specs.Rulings.{acting}
 
@@ -73,7 +73,7 @@ abbrev pub batch_line : ℕ → List ℕ → Line
 batch_line number what = plain (codes "BATCH " ++ decimal number ++ codes " " ++ what)
 
 -- a new number: the rows are taken one after another, all of them or none, and the batch is kept
-abbrev pub new_batch : State → ℕ → List Row → Outcome
+abbrev pub new_batch : State → ℕ → List Row → StateOutcome
 new_batch s number all = do
   new ← or_refused (with_rows all s)
   does (record new {
@@ -84,16 +84,16 @@ new_batch s number all = do
   }) (batch_line number (codes "KEPT") ∷ []) None
 
 -- a number that is kept: nothing is done, where its rows are these
-abbrev pub same_batch : State → ℕ → List Row → Batch → Outcome
+abbrev pub same_batch : State → ℕ → List Row → Batch → StateOutcome
 same_batch s number all kept = if same_rows kept.rows all then does s (batch_line number (codes "AGAIN") ∷ []) None else
     refused BatchChanged None
 
-abbrev pub batch_outcome : State → ℕ → List Row → Option Batch → Outcome
+abbrev pub batch_outcome : State → ℕ → List Row → Option Batch → StateOutcome
 batch_outcome s number all None = new_batch s number all
 batch_outcome s number all (Some kept) = same_batch s number all kept
 
 -- The right is asked before the number: nobody else learns what is kept.
-abbrev pub import_outcome : State → List ℕ → ℕ → List Row → Outcome
+abbrev pub import_outcome : State → List ℕ → ℕ → List Row → StateOutcome
 import_outcome s name number all = do
   c ← console_asking s name
   _ ← refuse_if NotSpecial None (not (is_special (acting s c)))

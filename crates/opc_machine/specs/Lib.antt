@@ -9,4 +9,4 @@ pub mod Administration
 pub mod Listings
 pub mod Imports
 pub mod Machine
-pub mod Deeds
+pub mod Effects

@@ -11,7 +11,7 @@ use Rattle.opc_board.specs.Texts.{columns, plain}
 use Rattle.opc_state.specs.declared.account.AccountRow.{AccountRow}
 use Rattle.opc_state.specs.Loads.{asked_for}
 use Rattle.opc_state.specs.State.{State}
-use Rattle.opc_machine.specs.Outcome.{Outcome, ◌>>=◌, does, refuse_if}
+use Rattle.opc_machine.specs.Outcome.{StateOutcome, ◌>>=◌, does, refuse_if}
 use Rattle.opc_machine.specs.Rights.{account_shown, console_asking, profile_shown}
 
 abbrev pub warning_columns : Bool → List (List ℕ)
@@ -24,7 +24,7 @@ profile_line p =
     plain (columns (p.pattern ∷ codes "UACC" ∷ level_text p.uacc ∷ codes "OWNER" ∷ p.owner ∷ warning_columns p.warning))
 
 -- The profiles of a class, in their order, those that may be shown at the console.
-abbrev pub profiles_outcome : State → List ℕ → Class → Outcome
+abbrev pub profiles_outcome : State → List ℕ → Class → StateOutcome
 profiles_outcome s name class = do
   c ← console_asking s name
   does s (map profile_line (filter (profile_shown s c) (of_class class s.policy.profiles))) None
@@ -34,7 +34,7 @@ account_line (number, row) =
     plain (columns (decimal number ∷ decimal row.moment ∷ row.console ∷ row.user ∷ row.code ∷ row.rule ∷ []))
 
 -- Rows of the account, where it may be shown at the console.
-abbrev pub account_outcome : State → List ℕ → ℕ → ℕ → Outcome
+abbrev pub account_outcome : State → List ℕ → ℕ → ℕ → StateOutcome
 account_outcome s name from count = do
   c ← console_asking s name
   _ ← refuse_if NotSpecial None (not (account_shown s c))

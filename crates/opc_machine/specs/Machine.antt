@@ -35,11 +35,12 @@ use Rattle.opc_machine.specs.Imports.{import_outcome}
 use Rattle.opc_machine.specs.Inputs.{Input, console_of}
 use Rattle.opc_machine.specs.Inputs as input
 use Rattle.opc_machine.specs.Listings.{account_outcome, profiles_outcome}
-use Rattle.opc_machine.specs.Outcome.{Denial, Outcome}
+use Rattle.opc_machine.specs.declared.outcome.Refusal.{Refusal}
+use Rattle.opc_machine.specs.Outcome.{StateOutcome}
 use Rattle.opc_machine.specs.Rulings.{acting_user}
 
 -- what a request comes to: what it does, or the first refusal that holds
-abbrev pub outcome : State → Input → Outcome
+abbrev pub outcome : State → Input → StateOutcome
 outcome s (input.Command name text) = command_outcome s name text
 outcome s (input.Admin name operation) = admin_outcome s name operation
 outcome s (input.ListProfiles name class) = profiles_outcome s name class
@@ -47,12 +48,12 @@ outcome s (input.ListAccount name from count) = account_outcome s name from coun
 outcome s (input.Import name batch rows) = import_outcome s name batch rows
 outcome s (input.Event e) = event_outcome s e
 
-abbrev pub denial_in : Outcome → Option Denial
-denial_in (Ok deed) = None
-denial_in (Err denial) = Some denial
+abbrev pub refusal_in : StateOutcome → Option Refusal
+refusal_in (Ok effect) = None
+refusal_in (Err refusal) = Some refusal
 
-abbrev pub first_refusal : State → Input → Option Denial
-first_refusal s r = denial_in (outcome s r)
+abbrev pub first_refusal : State → Input → Option Refusal
+first_refusal s r = refusal_in (outcome s r)
 
 -- who acts at the console that a request names
 abbrev pub user_acting : State → Input → Option (List ℕ)
@@ -81,14 +82,14 @@ is_warned None = false
 
 -- The state after a request: a refusal changes nothing but the account, and what a warning alone let pass is
 -- accounted too.
-abbrev pub after : State → ℕ → Input → Outcome → State
-after s moment r (Ok deed) = if is_warned deed.rule then accounted (account_row s moment r (codes "WARN") deed.rule)
-    deed.state else deed.state
-after s moment r (Err denial) = accounted (account_row s moment r (fault_code denial.fault) denial.rule) s
+abbrev pub after : State → ℕ → Input → StateOutcome → State
+after s moment r (Ok effect) = if is_warned effect.rule then accounted (account_row s moment r (codes "WARN") effect.rule)
+    effect.state else effect.state
+after s moment r (Err refusal) = accounted (account_row s moment r (fault_code refusal.fault) refusal.rule) s
 
-abbrev pub answer_of : Outcome → Answer
-answer_of (Ok deed) = Done deed.lines deed.rule
-answer_of (Err denial) = Refused denial.fault denial.rule
+abbrev pub answer_of : StateOutcome → Answer
+answer_of (Ok effect) = Done effect.lines effect.rule
+answer_of (Err refusal) = Refused refusal.fault refusal.rule
 
 -- an answer that may take the place of any other: there was no memory, or the store failed
 abbrev pub IsAborted : Answer → Type 0

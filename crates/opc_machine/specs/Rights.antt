@@ -16,16 +16,17 @@ use Rattle.opc_board.specs.declared.rows.ConsoleRow.{ConsoleRow}
 use Rattle.opc_state.specs.State.{State}
 use Rattle.opc_machine.specs.declared.operation.Operation.{Operation}
 use Rattle.opc_machine.specs.declared.operation.Operation.TheVariants as operation
-use Rattle.opc_machine.specs.Outcome.{Denial, ◌>>=◌, refused}
+use Rattle.opc_machine.specs.declared.outcome.Refusal.{Refusal}
+use Rattle.opc_machine.specs.Outcome.{◌>>=◌, refused}
 use Rattle.opc_machine.specs.Rulings.{acting, logon_denial}
 use Rattle.opc_machine.specs.Commands.{console_for, denial_fault}
 
 -- the console that asks: it is there and online, and the logon rule has nothing against it
-abbrev pub unless_denied : Option Rule → Result (Unit {0}) Denial
+abbrev pub unless_denied : Option Rule → Result (Unit {0}) Refusal
 unless_denied None = Ok tt
 unless_denied (Some rule) = refused (denial_fault rule) (Some rule)
 
-abbrev pub console_asking : State → List ℕ → Result ConsoleRow Denial
+abbrev pub console_asking : State → List ℕ → Result ConsoleRow Refusal
 console_asking s name = do
   c ← console_for s name
   _ ← unless_denied (logon_denial s c)

@@ -11,7 +11,7 @@ use std::alloc::Global;
 
 /// What is done, and why it may be: the edits that it makes, and the lines of the answer.
 #[derive(Drop)]
-pub struct Deed {
+pub struct Effect {
     pub edits: Vec<Edit>,
     pub lines: Rows<Line>,
     pub rule: Option<Rule>,
@@ -19,26 +19,30 @@ pub struct Deed {
 
 /// Why nothing is done.
 #[derive(Clone, Copy, PartialEq, Eq)]
-pub struct Denial {
+pub struct Refusal {
     pub fault: Fault,
     pub rule: Option<Rule>,
 }
 
-/// A deed or a denial; or a fault of memory or of the tables, by which the request is aborted.
-pub type Decided = Result<Result<Deed, Denial>, StoreFault>;
-
-/// Nothing is done, for this reason, and by this rule where one decided.
-pub fn denied(fault: Fault, rule: Option<Rule>) -> Decided
-    ensures { result ≡ Ok (Err (record { fault = fault; rule = rule })) }
-{
-    Ok(Err(Denial { fault, rule }))
+/// What a request comes to. Where memory or the tables fail there is none: the request is aborted.
+#[derive(Drop)]
+pub enum Outcome {
+    Done(Effect),
+    Refused(Refusal),
 }
 
-/// A deed without lines.
-pub fn done(alloc: Global, edits: Vec<Edit>, rule: Option<Rule>) -> Decided
-    ensures { result ≡ Ok (Ok (record { edits = edits; lines = []; rule = rule })) }
+/// Nothing is done, for this reason, and by this rule where one decided.
+pub fn refused(fault: Fault, rule: Option<Rule>) -> Result<Outcome, StoreFault>
+    ensures { result ≡ Ok (Outcome.Refused (record { fault = fault; rule = rule })) }
 {
-    Ok(Ok(Deed {
+    Ok(Outcome::Refused(Refusal { fault, rule }))
+}
+
+/// An effect without lines.
+pub fn done(alloc: Global, edits: Vec<Edit>, rule: Option<Rule>) -> Result<Outcome, StoreFault>
+    ensures { result ≡ Ok (Outcome.Done (record { edits = edits; lines = []; rule = rule })) }
+{
+    Ok(Outcome::Done(Effect {
         edits,
         lines: Rows::new(alloc),
         rule,

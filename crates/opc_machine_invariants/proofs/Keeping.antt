@@ -88,7 +88,8 @@ use Rattle.opc_machine_invariants.specs.KeptInvariants.{
 use Rattle.opc_machine.specs.Listings.{account_line, account_outcome, profile_line, profiles_outcome}
 use Rattle.opc_machine.specs.Machine.{account_row, accounted, after, is_warned, outcome}
 use Rattle.opc_machine.specs.declared.operation.Operation.{Operation}
-use Rattle.opc_machine.specs.Outcome.{Denial, Outcome, ◌>>=◌, does, found, or_refused, refuse_if, refused}
+use Rattle.opc_machine.specs.declared.outcome.Refusal.{Refusal}
+use Rattle.opc_machine.specs.Outcome.{StateOutcome, ◌>>=◌, does, found, or_refused, refuse_if, refused}
 use Rattle.opc_machine.specs.Rights.{account_shown, console_asking, is_special, may_change, profile_shown, right_fault}
 use Rattle.opc_machine.specs.Rulings.{acting, logon_ruling, ruling, shown}
 use Rattle.opc_machine_invariants.proofs.Boards.{IfDone, IsKeptBoard, changed_kept, defined_kept, effect_kept, event_kept}
@@ -98,11 +99,11 @@ use Rattle.opc_machine_invariants.proofs.Policies.{IfMade, policy_kept, rows_kep
 use Rattle.opc_machine_invariants.proofs.Extending.{Extends, board_on}
 
 -- where something is done the state meets the invariants
-abbrev pub IfDoes : Outcome → Type 0
-IfDoes (Ok deed) = HasInvariants deed.state
-IfDoes (Err denial) = Unit {0}
+abbrev pub IfDoes : StateOutcome → Type 0
+IfDoes (Ok effect) = HasInvariants effect.state
+IfDoes (Err refusal) = Unit {0}
 
-then_kept : {A : Type 0} (x : Result A Denial) (f : A → Outcome) → ((y : A) → x ≡ Ok y → IfDoes (f y)) → IfDoes (x >>= f)
+then_kept : {A : Type 0} (x : Result A Refusal) (f : A → StateOutcome) → ((y : A) → x ≡ Ok y → IfDoes (f y)) → IfDoes (x >>= f)
 then_kept (Ok y) f h = h y refl
 then_kept (Err d) f h = tt
 
@@ -185,7 +186,7 @@ with_rows_kept s b (Ok p) kept order = go (loses_master s.board b)
     go false = record { state = record { board = kept.1.0; policy = kept.0; logons = kept.1.1 }; order = order }
 with_rows_kept s b (Err f) kept order = tt
 
-or_kept : (r : Result State Fault) (f : State → Outcome) → IfTaken r → ((t : State) → HasInvariants t → IfDoes (f t)) → IfDoes (or_refused r >>= f)
+or_kept : (r : Result State Fault) (f : State → StateOutcome) → IfTaken r → ((t : State) → HasInvariants t → IfDoes (f t)) → IfDoes (or_refused r >>= f)
 or_kept (Ok t) f kept h = h t kept
 or_kept (Err fault) f kept h = tt
 
@@ -264,13 +265,13 @@ outcome_kept s (input.ListAccount name from count) invariants = account_kept s n
 outcome_kept s (input.Import name batch all) invariants = import_kept s name batch all invariants
 outcome_kept s (input.Event e) invariants = event_kept_in s e invariants
 
-after_kept : (s : State) (moment : ℕ) (r : Input) (o : Outcome) → HasInvariants s → IfDoes o → HasInvariants (after s moment r o)
-after_kept s moment r (Ok deed) invariants kept = go (is_warned deed.rule)
+after_kept : (s : State) (moment : ℕ) (r : Input) (o : StateOutcome) → HasInvariants s → IfDoes o → HasInvariants (after s moment r o)
+after_kept s moment r (Ok effect) invariants kept = go (is_warned effect.rule)
   where
-    go : (b : Bool) → HasInvariants (if b then accounted (account_row s moment r (codes "WARN") deed.rule) deed.state else deed.state)
+    go : (b : Bool) → HasInvariants (if b then accounted (account_row s moment r (codes "WARN") effect.rule) effect.state else effect.state)
     go true = record { state = record { board = kept.state.board; policy = kept.state.policy; logons = kept.state.logons }; order = kept.order }
     go false = kept
-after_kept s moment r (Err denial) invariants kept = record {
+after_kept s moment r (Err refusal) invariants kept = record {
   state = record { board = invariants.state.board; policy = invariants.state.policy; logons = invariants.state.logons };
   order = invariants.order;
 }

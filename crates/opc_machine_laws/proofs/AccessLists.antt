@@ -12,7 +12,7 @@ use Rattle.opc_machine.specs.Inputs as input
 use Rattle.opc_machine.specs.Machine.{first_refusal}
 use Rattle.opc_machine.specs.declared.operation.Operation.{Operation}
 use Rattle.opc_machine.specs.declared.operation.Operation.TheVariants as operation
-use Rattle.opc_machine.specs.Outcome.{Denial}
+use Rattle.opc_machine.specs.declared.outcome.Refusal.{Refusal}
 use Rattle.opc_machine_laws.proofs.Worked.{base, entry, of_all, of_fred, plainly, profile, profiles_after, refusal}
 
 abbrev at : List ℕ → List ℕ → Level → Entry
@@ -67,7 +67,7 @@ with_entries entries =
           { profiles = profile (codes "A.B") (codes "CARL") level.None false entries ∷ of_fred ∷ of_all ∷ [] };
     }
 
-abbrev refusal_with : List Entry → Operation → Option Denial
+abbrev refusal_with : List Entry → Operation → Option Refusal
 refusal_with entries o = first_refusal (with_entries entries) (input.Admin (codes "C2") o)
 
 no_permission_elsewhere : refusal_with (at (codes "C1") (codes "EMIL") level.Read ∷ [])

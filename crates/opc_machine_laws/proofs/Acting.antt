@@ -9,7 +9,7 @@ use Rattle.opc_board.specs.Effect.{effect}
 use Rattle.opc_board.specs.Invariants.{console_at}
 use Rattle.opc_state.specs.State.{State}
 use Rattle.opc_machine.specs.Inputs as input
-use Rattle.opc_machine.specs.Outcome.{Deed, ◌>>=◌, does, found, refuse_if}
+use Rattle.opc_machine.specs.Outcome.{StateEffect, ◌>>=◌, does, found, refuse_if}
 use Rattle.opc_machine.specs.Rulings.{ruling, shown}
 use Rattle.opc_machine.specs.Commands.{console_for, command_in, command_or, allowed, acted, need_of, typed, board_command, command_outcome}
 use Rattle.opc_machine.specs.Machine.{answer_of, after, accounted, account_row, is_warned}
@@ -38,10 +38,10 @@ only_where s moment name text command need lines why new it_reads needs (inr (in
     (record s { board = act.board }) (filter (shown s console) act.lines) (Some rule)) d.0 b in
     let m = bind_ok (acted (Some r.0) (effect s.board command console.name))
     (λ act. does (record s { board = act.board }) (filter (shown s console) act.lines) (Some r.0)) d.0 r.2 in
-    let deed : Deed = record { state = record s { board = m.0.board }; lines = filter (shown s console) m.0.lines; rule = Some r.0 } in
-    let comes : command_outcome s name text ≡ Ok deed = d.1 ∙ sym m.2 in
-    let ends : new ≡ after s moment (input.Command name text) (Ok deed) = done.becomes ∙ ap (after s moment (input.Command name text)) comes in
-    let row : State = accounted (account_row s moment (input.Command name text) (codes "WARN") (Some r.0)) deed.state in (
+    let reached : StateEffect = record { state = record s { board = m.0.board }; lines = filter (shown s console) m.0.lines; rule = Some r.0 } in
+    let comes : command_outcome s name text ≡ Ok reached = d.1 ∙ sym m.2 in
+    let ends : new ≡ after s moment (input.Command name text) (Ok reached) = done.becomes ∙ ap (after s moment (input.Command name text)) comes in
+    let row : State = accounted (account_row s moment (input.Command name text) (codes "WARN") (Some r.0)) reached.state in (
       console,
       r.0,
       record {
@@ -54,8 +54,8 @@ only_where s moment name text command need lines why new it_reads needs (inr (in
         act = m.0;
         makes = acted_ok _ _ _ m.1;
         answered = done.answers ∙ ap answer_of comes;
-        board = ap (λ x. x.board) ends ∙ either (is_warned (Some r.0)) (λ x. x.board) row deed.state refl;
-        policy = ap (λ x. x.policy) ends ∙ either (is_warned (Some r.0)) (λ x. x.policy) row deed.state refl;
+        board = ap (λ x. x.board) ends ∙ either (is_warned (Some r.0)) (λ x. x.board) row reached.state refl;
+        policy = ap (λ x. x.policy) ends ∙ either (is_warned (Some r.0)) (λ x. x.policy) row reached.state refl;
       },
     )
 
@@ -78,7 +78,7 @@ wherever s moment name text console command why act answer new allows makes (inl
 wherever s moment name text console command why act answer new allows makes (inr (inl full)) = inl (inr full.answers)
 wherever s moment name text console command why act answer new allows makes (inr (inr done)) =
     let heard = allows.heard in
-    let deed : Deed = record { state = record s { board = act.board }; lines = filter (shown s console) act.lines; rule = Some why } in
+    let reached : StateEffect = record { state = record s { board = act.board }; lines = filter (shown s console) act.lines; rule = Some why } in
     let of_console : command_outcome s name text ≡ (command_in text >>= λ k. typed s console k (need_of s.board k)) =
     ap (λ x. x >>= λ c. command_in text >>= λ k. typed s c k (need_of s.board k)) (console_back (console_at s.board name) console heard.there heard.online) in
     let of_line : (command_in text >>= λ k. typed s console k (need_of s.board k)) ≡ typed s console command (need_of s.board command) =
@@ -90,15 +90,15 @@ wherever s moment name text console command why act answer new allows makes (inr
     ap (λ x. allowed x >>= λ rule. acted (Some rule) (effect s.board command console.name) >>= λ a. does
     (record s { board = a.board }) (filter (shown s console) a.lines) (Some rule)) allows.allowed in
     let of_board : (acted (Some why) (effect s.board command console.name) >>= λ a. does (record s { board = a.board })
-    (filter (shown s console) a.lines) (Some why)) ≡ Ok deed =
+    (filter (shown s console) a.lines) (Some why)) ≡ Ok reached =
     ap (λ x. acted (Some why) x >>= λ a. does (record s { board = a.board }) (filter (shown s console) a.lines) (Some why)) makes in
-    let comes : command_outcome s name text ≡ Ok deed = of_console ∙ of_line ∙ of_need ∙ of_ruling ∙ of_board in
-    let ends : new ≡ after s moment (input.Command name text) (Ok deed) = done.becomes ∙ ap (after s moment (input.Command name text)) comes in
-    let row : State = accounted (account_row s moment (input.Command name text) (codes "WARN") (Some why)) deed.state in
+    let comes : command_outcome s name text ≡ Ok reached = of_console ∙ of_line ∙ of_need ∙ of_ruling ∙ of_board in
+    let ends : new ≡ after s moment (input.Command name text) (Ok reached) = done.becomes ∙ ap (after s moment (input.Command name text)) comes in
+    let row : State = accounted (account_row s moment (input.Command name text) (codes "WARN") (Some why)) reached.state in
     inr (record {
       act = act;
       makes = makes;
       answered = done.answers ∙ ap answer_of comes;
-      board = ap (λ x. x.board) ends ∙ either (is_warned (Some why)) (λ x. x.board) row deed.state refl;
-      policy = ap (λ x. x.policy) ends ∙ either (is_warned (Some why)) (λ x. x.policy) row deed.state refl;
+      board = ap (λ x. x.board) ends ∙ either (is_warned (Some why)) (λ x. x.board) row reached.state refl;
+      policy = ap (λ x. x.policy) ends ∙ either (is_warned (Some why)) (λ x. x.policy) row reached.state refl;
     })

@@ -35,7 +35,7 @@ use Rattle.opc_machine.specs.Inputs.{Input}
 use Rattle.opc_machine.specs.Inputs as input
 use Rattle.opc_machine.specs.Listings.{account_line, profile_line}
 use Rattle.opc_machine.specs.Machine.{answer_of, outcome}
-use Rattle.opc_machine.specs.Outcome.{Outcome, ◌>>=◌, does, found, or_refused, refuse_if, refused}
+use Rattle.opc_machine.specs.Outcome.{StateOutcome, ◌>>=◌, does, found, or_refused, refuse_if, refused}
 use Rattle.opc_machine.specs.Rights.{account_shown, console_asking, is_special, may_change, profile_shown, right_fault, unless_denied}
 use Rattle.opc_machine.specs.Rulings.{acting, logon_denial, logon_ruling, shown}
 use Rattle.opc_machine_laws.specs.Laws.{BoardFaultsAreAnswered, DenialsAreAnswered, IsDeniedBy, IsHeard, IsKeptOff, IsNamedBy, IsRuledOut, IsShutOut}
@@ -52,7 +52,7 @@ heard_so s name text c k heard =
     ∙ ap (λ x. command_or x >>= λ l. typed s c l (need_of s.board l)) (reads_so text k heard.reads)
 
 -- what comes to a denial by a rule
-pub record ComesTo (o : Outcome) (why : Rule) : Type 0 where
+pub record ComesTo (o : StateOutcome) (why : Rule) : Type 0 where
   pub fault : Fault
   pub named : IsNamedBy fault why
   pub comes : o ≡ refused fault (Some why)

@@ -13,7 +13,7 @@ use Rattle.opc_machine.specs.declared.operation.Operation.{Operation}
 use Rattle.opc_machine.specs.declared.operation.Operation.TheVariants as operation
 use Rattle.opc_machine.specs.Inputs as input
 use Rattle.opc_machine.specs.Machine.{first_refusal, outcome}
-use Rattle.opc_machine.specs.Outcome.{Denial}
+use Rattle.opc_machine.specs.declared.outcome.Refusal.{Refusal}
 use Rattle.opc_machine_laws.proofs.Worked.{base, console, day, plain, plainly, policy, texts_in, user}
 
 -- AUDIT, an auditor, is on at C1, SECADM at C2, CARL at C5
@@ -69,7 +69,7 @@ owner_sees_no_account = refl
 
 -- what may be changed
 
-abbrev refused_to : List ℕ → Operation → Option Denial
+abbrev refused_to : List ℕ → Operation → Option Refusal
 refused_to name o = first_refusal (with_opercmds true) (input.Admin name o)
 
 -- an auditor changes nothing

@@ -25,9 +25,9 @@ use Rattle.opc_state.specs.State.{State, empty}
 use Rattle.opc_machine.specs.Commands.{need_of, typed}
 use Rattle.opc_machine.specs.Inputs.{Input}
 use Rattle.opc_machine.specs.Inputs as input
-use Rattle.opc_machine.specs.Machine.{denial_in, first_refusal, user_acting}
+use Rattle.opc_machine.specs.Machine.{refusal_in, first_refusal, user_acting}
 use Rattle.opc_machine.specs.declared.operation.Operation.TheVariants as operation
-use Rattle.opc_machine.specs.Outcome.{Outcome}
+use Rattle.opc_machine.specs.Outcome.{StateOutcome}
 use Rattle.opc_machine_laws.proofs.Worked.{base, console as worked_console}
 
 -- C4 is connected to OPS, and CARL to nothing
@@ -67,7 +67,7 @@ abbrev carl_on : State
 carl_on = with_on false (Some (codes "CARL"))
 
 -- what a command comes to there, once it is read
-abbrev comes_to : State → Option (List ℕ) → Command → Outcome
+abbrev comes_to : State → Option (List ℕ) → Command → StateOutcome
 comes_to s on command = typed s (console on) command (need_of s.board command)
 
 abbrev cancel : List ℕ → Piece → Command
@@ -79,20 +79,20 @@ asked = input.Command (codes "C4") []
 abbrev held_of : List ℕ → Level → Level → Rule
 held_of pattern held needed = rule.Profile Opercmds pattern held needed false
 
-abbrev rule_in : Outcome → Option Rule
-rule_in (Ok deed) = deed.rule
-rule_in (Err denial) = None
+abbrev rule_in : StateOutcome → Option Rule
+rule_in (Ok effect) = effect.rule
+rule_in (Err refusal) = None
 
-abbrev texts_in : Outcome → List (List ℕ)
-texts_in (Ok deed) = map (λ (l : Line). l.text) deed.lines
-texts_in (Err denial) = []
+abbrev texts_in : StateOutcome → List (List ℕ)
+texts_in (Ok effect) = map (λ (l : Line). l.text) effect.lines
+texts_in (Err refusal) = []
 
-abbrev consoles_in : Outcome → List ConsoleRow
-consoles_in (Ok deed) = deed.state.board.consoles
-consoles_in (Err denial) = []
+abbrev consoles_in : StateOutcome → List ConsoleRow
+consoles_in (Ok effect) = effect.state.board.consoles
+consoles_in (Err refusal) = []
 
 -- its own user is denied, and that is accounted to the user
-own_user_is_denied : (piece : Piece) → denial_in (comes_to nobody_on None (cancel (codes "PAYROLL") piece)) ≡ Some (record {
+own_user_is_denied : (piece : Piece) → refusal_in (comes_to nobody_on None (cancel (codes "PAYROLL") piece)) ≡ Some (record {
   fault = fault.DeniedProfile;
   rule = Some (held_of (codes "MVS.CANCEL.JOB.PAY*") level.None level.Update);
 })
@@ -103,11 +103,11 @@ own_user_is_accounted : user_acting nobody_on asked ≡ Some (codes "C4")
 own_user_is_accounted = refl
 
 -- nobody is on who could log off
-nobody_logs_off : denial_in (comes_to nobody_on None command.Logoff) ≡ Some (record { fault = fault.NotOn; rule = None })
+nobody_logs_off : refusal_in (comes_to nobody_on None command.Logoff) ≡ Some (record { fault = fault.NotOn; rule = None })
 nobody_logs_off = refl
 
 -- once CARL is on, CARL acts
-carl_is_denied : (piece : Piece) → denial_in (comes_to carl_on (Some (codes "CARL")) (cancel (codes "BACKUP") piece)) ≡ Some (record {
+carl_is_denied : (piece : Piece) → refusal_in (comes_to carl_on (Some (codes "CARL")) (cancel (codes "BACKUP") piece)) ≡ Some (record {
   fault = fault.DeniedProfile;
   rule = Some (held_of (codes "MVS.CANCEL.JOB.*") level.None level.Update);
 })
@@ -131,7 +131,7 @@ nobody_is_shown : texts_in (comes_to nobody_on None command.DisplayConsoles) ≡
 unfolding held
 nobody_is_shown = refl
 
-own_user_is_revoked : denial_in (comes_to (with_on true None) None command.DisplayDevices) ≡ Some (record { fault = fault.Revoked; rule = Some rule.Revoked })
+own_user_is_revoked : refusal_in (comes_to (with_on true None) None command.DisplayDevices) ≡ Some (record { fault = fault.Revoked; rule = Some rule.Revoked })
 own_user_is_revoked = refl
 
 -- a console's own user has the rights of any other

@@ -70,7 +70,7 @@ use Rattle.opc_machine.specs.Inputs.{Input}
 use Rattle.opc_machine.specs.Inputs as input
 use Rattle.opc_machine.specs.Listings.{account_line, account_outcome, profile_line, profiles_outcome}
 use Rattle.opc_machine.specs.Machine.{account_row, accounted, after, answer_of, is_warned}
-use Rattle.opc_machine.specs.Outcome.{Deed, ◌>>=◌, does, or_refused, refuse_if, refused}
+use Rattle.opc_machine.specs.Outcome.{StateEffect, ◌>>=◌, does, or_refused, refuse_if, refused}
 use Rattle.opc_machine.specs.Rights.{account_shown, console_asking, is_special, may_change, profile_shown, right_fault, unless_denied}
 use Rattle.opc_machine.specs.Rulings.{acting, logon_denial}
 use Rattle.opc_machine_laws.proofs.Acting.{console_back}
@@ -123,8 +123,8 @@ administers_only s moment name o lines why new (inr (inr done)) =
     next [] None) d.0 d.1 in
     let u = bind_ok (refuse_if (right_fault o) None (not (may_change s a.0 o))) (λ _. or_refused (changed s o) >>= λ next. does next [] None) d.0 a.2 in
     let m = bind_ok (or_refused (changed s o)) (λ next. does next [] None) d.0 u.2 in
-    let deed : Deed = record { state = m.0; lines = []; rule = None } in
-    let comes : admin_outcome s name o ≡ Ok deed = d.1 ∙ sym m.2 in
+    let reached : StateEffect = record { state = m.0; lines = []; rule = None } in
+    let comes : admin_outcome s name o ≡ Ok reached = d.1 ∙ sym m.2 in
     let ends : new ≡ m.0 = done.becomes ∙ ap (after s moment (input.Admin name o)) comes in
     let returned = lines_of_done lines [] why None (done.answers ∙ ap answer_of comes) in (
       a.0,
@@ -139,7 +139,7 @@ pub administers_wherever : AdministersWhereverAllowed
 administers_wherever s moment name o c next answer new asks may makes_it (inl left) = inl left.aborts
 administers_wherever s moment name o c next answer new asks may makes_it (inr (inl full)) = inl (inr full.answers)
 administers_wherever s moment name o c next answer new asks may makes_it (inr (inr done)) =
-    let deed : Deed = record { state = next; lines = []; rule = None } in
+    let reached : StateEffect = record { state = next; lines = []; rule = None } in
     let of_console : admin_outcome s name
     o ≡ (refuse_if (right_fault o) None (not (may_change s c o)) >>= λ _. or_refused (changed s o) >>= λ t. does t
     [] None) =
@@ -148,8 +148,8 @@ administers_wherever s moment name o c next answer new asks may makes_it (inr (i
     let of_right : (refuse_if (right_fault o) None (not (may_change s c o)) >>= λ _. or_refused (changed s o) >>= λ t.
     does t [] None) ≡ (or_refused (changed s o) >>= λ t. does t [] None) =
     ap (λ b. refuse_if (right_fault o) None (not b) >>= λ _. or_refused (changed s o) >>= λ t. does t [] None) may in
-    let of_change : (or_refused (changed s o) >>= λ t. does t [] None) ≡ Ok deed = ap (λ x. or_refused x >>= λ t. does t [] None) makes_it in
-    let comes : admin_outcome s name o ≡ Ok deed = of_console ∙ of_right ∙ of_change in
+    let of_change : (or_refused (changed s o) >>= λ t. does t [] None) ≡ Ok reached = ap (λ x. or_refused x >>= λ t. does t [] None) makes_it in
+    let comes : admin_outcome s name o ≡ Ok reached = of_console ∙ of_right ∙ of_change in
     inr (done.answers ∙ ap answer_of comes, done.becomes ∙ ap (after s moment (input.Admin name o)) comes)
 
 -- what is listed of the profiles of a class
@@ -176,8 +176,8 @@ profiles_exactly s moment name class lines why new (inr (inr done)) =
     let d = done_is (profiles_outcome s name class) lines why done.answers in
     let a = bind_ok (console_asking s name) (λ c. does s (map profile_line (filter (profile_shown s c) (of_class class s.policy.profiles))) None) d.0 d.1 in
     let shown : List Line = map profile_line (filter (profile_shown s a.0) (of_class class s.policy.profiles)) in
-    let deed : Deed = record { state = s; lines = shown; rule = None } in
-    let comes : profiles_outcome s name class ≡ Ok deed = d.1 ∙ sym a.2 in
+    let reached : StateEffect = record { state = s; lines = shown; rule = None } in
+    let comes : profiles_outcome s name class ≡ Ok reached = d.1 ∙ sym a.2 in
     let ends : new ≡ s = done.becomes ∙ ap (after s moment (input.ListProfiles name class)) comes in
     let returned = lines_of_done lines shown why None (done.answers ∙ ap answer_of comes) in
     (a.0, asking_is s name a.0 a.1, subst (λ l. ListsProfiles s a.0 class l new) (sym returned.0) (listed s a.0 class new ends))
@@ -187,8 +187,8 @@ profiles_wherever s moment name class c answer new asks (inl left) = inl left.ab
 profiles_wherever s moment name class c answer new asks (inr (inl full)) = inl (inr full.answers)
 profiles_wherever s moment name class c answer new asks (inr (inr done)) =
     let shown : List Line = map profile_line (filter (profile_shown s c) (of_class class s.policy.profiles)) in
-    let deed : Deed = record { state = s; lines = shown; rule = None } in
-    let comes : profiles_outcome s name class ≡ Ok deed =
+    let reached : StateEffect = record { state = s; lines = shown; rule = None } in
+    let comes : profiles_outcome s name class ≡ Ok reached =
     ap (λ x. x >>= λ d. does s (map profile_line (filter (profile_shown s d) (of_class class s.policy.profiles))) None) (asking_back s name c asks) in
     inr (shown, done.answers ∙ ap answer_of comes, listed s c class new (done.becomes ∙ ap (after s moment (input.ListProfiles name class)) comes))
 
@@ -202,8 +202,8 @@ account_only s moment name from count lines why new (inr (inr done)) =
     (map account_line (asked_for from count s.account)) None) d.0 d.1 in
     let u = bind_ok (refuse_if NotSpecial None (not (account_shown s a.0))) (λ _. does s (map account_line (asked_for from count s.account)) None) d.0 a.2 in
     let shown : List Line = map account_line (asked_for from count s.account) in
-    let deed : Deed = record { state = s; lines = shown; rule = None } in
-    let comes : account_outcome s name from count ≡ Ok deed = d.1 ∙ sym u.2 in
+    let reached : StateEffect = record { state = s; lines = shown; rule = None } in
+    let comes : account_outcome s name from count ≡ Ok reached = d.1 ∙ sym u.2 in
     let ends : new ≡ s = done.becomes ∙ ap (after s moment (input.ListAccount name from count)) comes in
     let returned = lines_of_done lines shown why None (done.answers ∙ ap answer_of comes) in
     (a.0, asking_is s name a.0 a.1, is_on (account_shown s a.0) (refuse_if_ok _ _ _ _ u.1), returned.0, ends)
@@ -213,59 +213,59 @@ account_wherever s moment name from count c answer new asks may (inl left) = inl
 account_wherever s moment name from count c answer new asks may (inr (inl full)) = inl (inr full.answers)
 account_wherever s moment name from count c answer new asks may (inr (inr done)) =
     let shown : List Line = map account_line (asked_for from count s.account) in
-    let deed : Deed = record { state = s; lines = shown; rule = None } in
-    let comes : account_outcome s name from count ≡ Ok deed =
+    let reached : StateEffect = record { state = s; lines = shown; rule = None } in
+    let comes : account_outcome s name from count ≡ Ok reached =
     ap (λ x. x >>= λ d. refuse_if NotSpecial None (not (account_shown s d)) >>= λ _. does s shown None) (asking_back s name c asks)
     ∙ ap (λ b. refuse_if NotSpecial None (not b) >>= λ _. does s shown None) may in
     inr (done.answers ∙ ap answer_of comes, done.becomes ∙ ap (after s moment (input.ListAccount name from count)) comes)
 
 -- what comes of a batch
-again_is : (s : State) (number : ℕ) (all : List Row) (kept : Batch) (deed : Deed)
+again_is : (s : State) (number : ℕ) (all : List Row) (kept : Batch) (reached : StateEffect)
     → (if same_rows kept.rows all then does s (batch_line number (codes "AGAIN") ∷ []) None else refused BatchChanged
-    None) ≡ Ok deed
-    → (same_rows kept.rows all ≡ true) × (deed ≡ record { state = s; lines = batch_line number (codes "AGAIN") ∷ []; rule = None })
-again_is s number all kept deed h = go (same_rows kept.rows all) h
+    None) ≡ Ok reached
+    → (same_rows kept.rows all ≡ true) × (reached ≡ record { state = s; lines = batch_line number (codes "AGAIN") ∷ []; rule = None })
+again_is s number all kept reached h = go (same_rows kept.rows all) h
   where
-    go : (b : Bool) → (if b then does s (batch_line number (codes "AGAIN") ∷ []) None else refused BatchChanged None) ≡ Ok deed
-        → (b ≡ true) × (deed ≡ record { state = s; lines = batch_line number (codes "AGAIN") ∷ []; rule = None })
-    go true k = (refl, sym (ok_is _ deed k))
+    go : (b : Bool) → (if b then does s (batch_line number (codes "AGAIN") ∷ []) None else refused BatchChanged None) ≡ Ok reached
+        → (b ≡ true) × (reached ≡ record { state = s; lines = batch_line number (codes "AGAIN") ∷ []; rule = None })
+    go true k = (refl, sym (ok_is _ reached k))
     go false k = absurd (search (rules, k))
 
 module _ (s : State) (number : ℕ) (all : List Row) (lines : List Line) (new : State) where
-  -- the deed, with the lines that were told and the state that was reached
-  batch_is : (kept : Option Batch) → batch_of s.batches number ≡ kept → (deed : Deed)
-      → batch_outcome s number all kept ≡ Ok deed → lines ≡ deed.lines → (deed.rule ≡ None → new ≡ deed.state)
+  -- the effect, with the lines that were told and the state that was reached
+  batch_is : (kept : Option Batch) → batch_of s.batches number ≡ kept → (reached : StateEffect)
+      → batch_outcome s number all kept ≡ Ok reached → lines ≡ reached.lines → (reached.rule ≡ None → new ≡ reached.state)
       → IsKeptAgain s number all lines new ⊎ IsTakenWhole s number all lines new
-  batch_is (Some kept) at deed h returned ends =
-      let is = again_is s number all kept deed h in
+  batch_is (Some kept) at reached h returned ends =
+      let is = again_is s number all kept reached h in
       inl (record {
         kept = kept;
         found = at;
         matches = is.0;
-        returned = returned ∙ ap (λ (d : Deed). d.lines) is.1;
-        same = ends (ap (λ (d : Deed). d.rule) is.1) ∙ ap (λ (d : Deed). d.state) is.1;
+        returned = returned ∙ ap (λ (d : StateEffect). d.lines) is.1;
+        same = ends (ap (λ (d : StateEffect). d.rule) is.1) ∙ ap (λ (d : StateEffect). d.state) is.1;
       })
-  batch_is None at deed h returned ends =
+  batch_is None at reached h returned ends =
       let m = bind_ok (or_refused (with_rows all s)) (λ next. does (record next {
         batches = with_batch (record {
           number = number;
           rows = all;
         }) next.batches;
-      }) (batch_line number (codes "KEPT") ∷ []) None) deed h in
-      let is = ok_is _ deed m.2 in
+      }) (batch_line number (codes "KEPT") ∷ []) None) reached h in
+      let is = ok_is _ reached m.2 in
       inr (record {
         unknown = at;
         next = m.0;
         taken = or_refused_ok (with_rows all s) m.0 m.1;
-        returned = returned ∙ ap (λ (d : Deed). d.lines) (sym is);
-        becomes = ends (ap (λ (d : Deed). d.rule) (sym is)) ∙ ap (λ (d : Deed). d.state) (sym is);
+        returned = returned ∙ ap (λ (d : StateEffect). d.lines) (sym is);
+        becomes = ends (ap (λ (d : StateEffect). d.rule) (sym is)) ∙ ap (λ (d : StateEffect). d.state) (sym is);
       })
 
 -- without a rule nothing is accounted
-unwarned : (s : State) (moment : ℕ) (r : Input) (deed : Deed) → deed.rule ≡ None → after s moment r (Ok deed) ≡ deed.state
-unwarned s moment r deed none =
-    ap (λ (w : Option Rule). if is_warned w then accounted (account_row s moment r (codes "WARN") w) deed.state else
-    deed.state) none
+unwarned : (s : State) (moment : ℕ) (r : Input) (reached : StateEffect) → reached.rule ≡ None → after s moment r (Ok reached) ≡ reached.state
+unwarned s moment r reached none =
+    ap (λ (w : Option Rule). if is_warned w then accounted (account_row s moment r (codes "WARN") w) reached.state else
+    reached.state) none
 
 pub imports_only : ImportsOnlyWhereAllowed
 imports_only s moment name number all lines why new (inl left) = absurd (not_aborted lines why left.aborts)
@@ -298,29 +298,29 @@ pub imports_wherever : ImportsWhereverAllowed
 imports_wherever s moment name number all c next answer new asks may unknown takes (inl left) = inl left.aborts
 imports_wherever s moment name number all c next answer new asks may unknown takes (inr (inl full)) = inl (inr full.answers)
 imports_wherever s moment name number all c next answer new asks may unknown takes (inr (inr done)) =
-    let deed : Deed = record {
+    let reached : StateEffect = record {
       state = record next { batches = with_batch (record { number = number; rows = all }) next.batches };
       lines = batch_line number (codes "KEPT") ∷ [];
       rule = None;
     } in
     let of_number : batch_outcome s number all (batch_of s.batches number) ≡ batch_outcome s number all None = ap (batch_outcome s number all) unknown in
-    let of_rows : batch_outcome s number all None ≡ Ok deed =
+    let of_rows : batch_outcome s number all None ≡ Ok reached =
     ap (λ x. or_refused x >>= λ t. does (record t {
       batches = with_batch (record {
         number = number;
         rows = all;
       }) t.batches;
     }) (batch_line number (codes "KEPT") ∷ []) None) takes in
-    let comes : import_outcome s name number all ≡ Ok deed = import_right s name number all c asks may ∙ of_number ∙ of_rows in
+    let comes : import_outcome s name number all ≡ Ok reached = import_right s name number all c asks may ∙ of_number ∙ of_rows in
     inr (done.answers ∙ ap answer_of comes, done.becomes ∙ ap (after s moment (input.Import name number all)) comes)
 
 pub repeats_wherever : RepeatsWhereverAllowed
 repeats_wherever s moment name number all c kept answer new asks may is_kept equal (inl left) = inl left.aborts
 repeats_wherever s moment name number all c kept answer new asks may is_kept equal (inr (inl full)) = inl (inr full.answers)
 repeats_wherever s moment name number all c kept answer new asks may is_kept equal (inr (inr done)) =
-    let deed : Deed = record { state = s; lines = batch_line number (codes "AGAIN") ∷ []; rule = None } in
+    let reached : StateEffect = record { state = s; lines = batch_line number (codes "AGAIN") ∷ []; rule = None } in
     let of_number : batch_outcome s number all (batch_of s.batches number) ≡ batch_outcome s number all (Some kept) = ap (batch_outcome s number all) is_kept in
-    let of_rows : batch_outcome s number all (Some kept) ≡ Ok deed =
+    let of_rows : batch_outcome s number all (Some kept) ≡ Ok reached =
     ap (λ b. if b then does s (batch_line number (codes "AGAIN") ∷ []) None else refused BatchChanged None) ((same_are_equal kept.rows all).1 equal) in
-    let comes : import_outcome s name number all ≡ Ok deed = import_right s name number all c asks may ∙ of_number ∙ of_rows in
+    let comes : import_outcome s name number all ≡ Ok reached = import_right s name number all c asks may ∙ of_number ∙ of_rows in
     inr (done.answers ∙ ap answer_of comes, done.becomes ∙ ap (after s moment (input.Import name number all)) comes)

@@ -80,7 +80,8 @@ use Rattle.opc_machine.specs.declared.request.Answer.TheVariants.{Refused}
 use Rattle.opc_machine.specs.Machine.{IsAborted, answer_of, outcome}
 use Rattle.opc_machine.specs.declared.operation.Operation.{Operation}
 use Rattle.opc_machine.specs.declared.operation.Operation.TheVariants as operation
-use Rattle.opc_machine.specs.Outcome.{Denial, Outcome, ◌>>=◌, does, or_refused, refuse_if, refused}
+use Rattle.opc_machine.specs.declared.outcome.Refusal.{Refusal}
+use Rattle.opc_machine.specs.Outcome.{StateOutcome, ◌>>=◌, does, or_refused, refuse_if, refused}
 use Rattle.opc_machine.specs.Rights.{account_shown, console_asking, is_special, may_change, profile_shown, right_fault, unless_denied}
 use Rattle.opc_machine.specs.Rulings.{acting, is_required, is_revoked, logon_denial}
 use Rattle.opc_machine.proofs.Inversion.{console_is, refused_is}
@@ -305,7 +306,7 @@ admin_told s name o =
     r : Input
     r = input.Admin name o
 
-    P : Denial → Type 0
+    P : Refusal → Type 0
     P = IsTold s r
 
 profiles_told : (s : State) (name : List ℕ) (class : Class) → IfRefused (IsTold s (input.ListProfiles name class)) (profiles_outcome s name class)
@@ -369,7 +370,7 @@ outcome_told s (input.Event e) = event_told s e
 
 -- of what is refused in the end, too
 pub told_of : (s : State) (r : Input) (f : Fault) (why : Option Rule) → Refused f why ≡ answer_of (outcome s r) → IsToldBy s r f why
-told_of s r f why answers = let P : Outcome → Type 0 = IfRefused (IsTold s r) in subst P (refused_is (outcome s r) f why answers) (outcome_told s r)
+told_of s r f why answers = let P : StateOutcome → Type 0 = IfRefused (IsTold s r) in subst P (refused_is (outcome s r) f why answers) (outcome_told s r)
 
 -- what the board refuses is no refusal of authority
 by_board : (s : State) (r : Input) (f : Fault) (why : Rule) → IsRefusedByBoard s r f why → IsOfAuthority f → ⊥

@@ -80,7 +80,8 @@ use Rattle.opc_machine.specs.Inputs.{Input}
 use Rattle.opc_machine.specs.Inputs as input
 use Rattle.opc_machine.specs.Listings.{account_line, account_outcome, profile_line, profiles_outcome}
 use Rattle.opc_machine.specs.Machine.{account_row, accounted, after, answer_of, is_warned, outcome}
-use Rattle.opc_machine.specs.Outcome.{Denial, Outcome, ◌>>=◌, does, found, or_refused, refuse_if, refused}
+use Rattle.opc_machine.specs.declared.outcome.Refusal.{Refusal}
+use Rattle.opc_machine.specs.Outcome.{StateOutcome, ◌>>=◌, does, found, or_refused, refuse_if, refused}
 use Rattle.opc_machine.specs.Rights.{account_shown, console_asking, is_special, may_change, profile_shown, right_fault}
 use Rattle.opc_machine.specs.Rulings.{acting, logon_ruling, ruling, shown}
 use Rattle.opc_machine.proofs.Inversion.{bind_ok, acted_ok, done_is, not_aborted}
@@ -99,11 +100,11 @@ use Rattle.opc_machine_laws.specs.LeavingLaws.{
 }
 
 -- where something is done, its state is of this kind
-abbrev pub IfDoes : (State → Type 0) → Outcome → Type 0
-IfDoes P (Ok deed) = P deed.state
-IfDoes P (Err denial) = Unit {0}
+abbrev pub IfDoes : (State → Type 0) → StateOutcome → Type 0
+IfDoes P (Ok effect) = P effect.state
+IfDoes P (Err refusal) = Unit {0}
 
-then_left : {A : Type 0} (P : State → Type 0) (x : Result A Denial) (f : A → Outcome) → ((y : A) → x ≡ Ok y → IfDoes P (f y)) → IfDoes P (x >>= f)
+then_left : {A : Type 0} (P : State → Type 0) (x : Result A Refusal) (f : A → StateOutcome) → ((y : A) → x ≡ Ok y → IfDoes P (f y)) → IfDoes P (x >>= f)
 then_left P (Ok y) f h = h y refl
 then_left P (Err d) f h = tt
 
@@ -171,7 +172,7 @@ rows_left s b (Ok p) = go (loses_master s.board b)
     go false = (refl, refl)
 rows_left s b (Err f) = tt
 
-or_left : (P : State → Type 0) (Q : State → Type 0) (r : Result State Fault) (f : State → Outcome) → IfTaken P r
+or_left : (P : State → Type 0) (Q : State → Type 0) (r : Result State Fault) (f : State → StateOutcome) → IfTaken P r
     → ((t : State) → P t → IfDoes Q (f t)) → IfDoes Q (or_refused r >>= f)
 or_left P Q (Ok t) f left h = h t left
 or_left P Q (Err fault) f left h = tt

@@ -13,7 +13,7 @@ use Rattle.opc_board.specs.Consoles.{logged_on, logged_off}
 use Rattle.opc_board.specs.Invariants.{console_at}
 use Rattle.opc_state.specs.State.{State}
 use Rattle.opc_machine.specs.Inputs as input
-use Rattle.opc_machine.specs.Outcome.{Deed, ◌>>=◌, does, found, refuse_if}
+use Rattle.opc_machine.specs.Outcome.{StateEffect, ◌>>=◌, does, found, refuse_if}
 use Rattle.opc_machine.specs.Rulings.{logon_ruling}
 use Rattle.opc_machine.specs.Commands.{console_for, command_in, command_or, need_of, typed, nobody_on, known_by, admit, logon, logoff, command_outcome}
 use Rattle.opc_machine.specs.Machine.{answer_of, after, accounted, account_row, is_warned}
@@ -56,10 +56,10 @@ on_only_where s moment name text id password lines why new it_reads (inr (inr do
     (λ user. admit (logon_ruling s console user) >>= λ rule. does
     (record s { board = logged_on console.name id.value s.board }) [] (Some rule)) d.0 n.2 in
     let r = bind_ok (admit (logon_ruling s console u.0)) (λ rule. does (record s { board = logged_on console.name id.value s.board }) [] (Some rule)) d.0 u.2 in
-    let deed : Deed = record { state = record s { board = logged_on console.name id.value s.board }; lines = []; rule = Some r.0 } in
-    let comes : command_outcome s name text ≡ Ok deed = d.1 ∙ sym r.2 in
-    let ends : new ≡ after s moment (input.Command name text) (Ok deed) = done.becomes ∙ ap (after s moment (input.Command name text)) comes in
-    let row : State = accounted (account_row s moment (input.Command name text) (codes "WARN") (Some r.0)) deed.state in (
+    let reached : StateEffect = record { state = record s { board = logged_on console.name id.value s.board }; lines = []; rule = Some r.0 } in
+    let comes : command_outcome s name text ≡ Ok reached = d.1 ∙ sym r.2 in
+    let ends : new ≡ after s moment (input.Command name text) (Ok reached) = done.becomes ∙ ap (after s moment (input.Command name text)) comes in
+    let row : State = accounted (account_row s moment (input.Command name text) (codes "WARN") (Some r.0)) reached.state in (
       console,
       u.0,
       r.0,
@@ -71,8 +71,8 @@ on_only_where s moment name text id password lines why new it_reads (inr (inr do
       },
       record {
         answered = done.answers ∙ ap answer_of comes;
-        board = ap (λ x. x.board) ends ∙ either (is_warned (Some r.0)) (λ x. x.board) row deed.state refl;
-        policy = ap (λ x. x.policy) ends ∙ either (is_warned (Some r.0)) (λ x. x.policy) row deed.state refl;
+        board = ap (λ x. x.board) ends ∙ either (is_warned (Some r.0)) (λ x. x.board) row reached.state refl;
+        policy = ap (λ x. x.policy) ends ∙ either (is_warned (Some r.0)) (λ x. x.policy) row reached.state refl;
       },
     )
 
@@ -82,7 +82,7 @@ on_wherever s moment name text console id password user why answer new lets (inr
 on_wherever s moment name text console id password user why answer new lets (inr (inr done)) =
     let heard = lets.heard in
     let k : Command = command.Logon id password in
-    let deed : Deed = record { state = record s { board = logged_on console.name id.value s.board }; lines = []; rule = Some why } in
+    let reached : StateEffect = record { state = record s { board = logged_on console.name id.value s.board }; lines = []; rule = Some why } in
     let of_console : command_outcome s name text ≡ (command_in text >>= λ k. typed s console k (need_of s.board k)) =
     ap (λ x. x >>= λ c. command_in text >>= λ k. typed s c k (need_of s.board k)) (console_back (console_at s.board name) console heard.there heard.online) in
     let of_line : (command_in text >>= λ k. typed s console k (need_of s.board k)) ≡ logon s console id.value password.value =
@@ -103,15 +103,15 @@ on_wherever s moment name text console id password user why answer new lets (inr
     (record s { board = logged_on console.name id.value s.board }) [] (Some rule))
     (known_back s id.value password.value user lets.known) in
     let of_ruling : (admit (logon_ruling s console user) >>= λ rule. does
-    (record s { board = logged_on console.name id.value s.board }) [] (Some rule)) ≡ Ok deed =
+    (record s { board = logged_on console.name id.value s.board }) [] (Some rule)) ≡ Ok reached =
     ap (λ x. admit x >>= λ rule. does (record s { board = logged_on console.name id.value s.board }) [] (Some rule)) lets.allowed in
-    let comes : command_outcome s name text ≡ Ok deed = of_console ∙ of_line ∙ of_nobody ∙ of_user ∙ of_ruling in
-    let ends : new ≡ after s moment (input.Command name text) (Ok deed) = done.becomes ∙ ap (after s moment (input.Command name text)) comes in
-    let row : State = accounted (account_row s moment (input.Command name text) (codes "WARN") (Some why)) deed.state in
+    let comes : command_outcome s name text ≡ Ok reached = of_console ∙ of_line ∙ of_nobody ∙ of_user ∙ of_ruling in
+    let ends : new ≡ after s moment (input.Command name text) (Ok reached) = done.becomes ∙ ap (after s moment (input.Command name text)) comes in
+    let row : State = accounted (account_row s moment (input.Command name text) (codes "WARN") (Some why)) reached.state in
     inr (record {
       answered = done.answers ∙ ap answer_of comes;
-      board = ap (λ x. x.board) ends ∙ either (is_warned (Some why)) (λ x. x.board) row deed.state refl;
-      policy = ap (λ x. x.policy) ends ∙ either (is_warned (Some why)) (λ x. x.policy) row deed.state refl;
+      board = ap (λ x. x.board) ends ∙ either (is_warned (Some why)) (λ x. x.board) row reached.state refl;
+      policy = ap (λ x. x.policy) ends ∙ either (is_warned (Some why)) (λ x. x.policy) row reached.state refl;
     })
 
 pub off_only_where : LogsOffOnlyWhereSomebodyIsOn
@@ -125,9 +125,9 @@ off_only_where s moment name text lines why new it_reads (inr (inr done)) =
     let was_read : command_in text ≡ Ok command.Logoff = ap command_or (reads_so text command.Logoff it_reads) in
     let t : logoff s console ≡ Ok d.0 = subst (λ x. (x >>= λ k. typed s console k (need_of s.board k)) ≡ Ok d.0) was_read a.2 in
     let n = bind_ok (refuse_if fault.NotOn None (is_none console.user)) (λ _. does (record s { board = logged_off console.name s.board }) [] None) d.0 t in
-    let deed : Deed = record { state = record s { board = logged_off console.name s.board }; lines = []; rule = None } in
-    let comes : command_outcome s name text ≡ Ok deed = d.1 ∙ sym n.2 in
-    let ends : new ≡ deed.state = done.becomes ∙ ap (after s moment (input.Command name text)) comes in (
+    let reached : StateEffect = record { state = record s { board = logged_off console.name s.board }; lines = []; rule = None } in
+    let comes : command_outcome s name text ≡ Ok reached = d.1 ∙ sym n.2 in
+    let ends : new ≡ reached.state = done.becomes ∙ ap (after s moment (input.Command name text)) comes in (
       console,
       record { there = at.0; online = at.1; reads = it_reads },
       somebody console.user (refuse_if_ok _ _ _ _ n.1),
@@ -138,14 +138,14 @@ pub off_wherever : LogsOffWhereverSomebodyIsOn
 off_wherever s moment name text console answer new heard on (inl left) = inl left.aborts
 off_wherever s moment name text console answer new heard on (inr (inl full)) = inl (inr full.answers)
 off_wherever s moment name text console answer new heard on (inr (inr done)) =
-    let deed : Deed = record { state = record s { board = logged_off console.name s.board }; lines = []; rule = None } in
+    let reached : StateEffect = record { state = record s { board = logged_off console.name s.board }; lines = []; rule = None } in
     let of_console : command_outcome s name text ≡ (command_in text >>= λ k. typed s console k (need_of s.board k)) =
     ap (λ x. x >>= λ c. command_in text >>= λ k. typed s c k (need_of s.board k)) (console_back (console_at s.board name) console heard.there heard.online) in
     let of_line : (command_in text >>= λ k. typed s console k (need_of s.board k)) ≡ logoff s console =
     ap (λ x. command_or x >>= λ k. typed s console k (need_of s.board k)) (reads_so text command.Logoff heard.reads) in
-    let of_user : logoff s console ≡ Ok deed =
+    let of_user : logoff s console ≡ Ok reached =
     ap (λ b. refuse_if fault.NotOn None b >>= λ _. does (record s { board = logged_off console.name s.board }) []
     None) (not_none console.user on) in
-    let comes : command_outcome s name text ≡ Ok deed = of_console ∙ of_line ∙ of_user in
-    let ends : new ≡ deed.state = done.becomes ∙ ap (after s moment (input.Command name text)) comes in
+    let comes : command_outcome s name text ≡ Ok reached = of_console ∙ of_line ∙ of_user in
+    let ends : new ≡ reached.state = done.becomes ∙ ap (after s moment (input.Command name text)) comes in
     inr (record { answered = done.answers ∙ ap answer_of comes; board = ap (λ x. x.board) ends; policy = ap (λ x. x.policy) ends })

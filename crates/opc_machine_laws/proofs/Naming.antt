@@ -63,7 +63,8 @@ use Rattle.opc_board.specs.Outcome.{Outcome as BoardOutcome}
 use Rattle.opc_state.specs.State.{State, deciding_in}
 use Rattle.opc_machine.specs.declared.request.Answer.TheVariants.{Refused}
 use Rattle.opc_machine.specs.Faults.{line_fault, board_fault}
-use Rattle.opc_machine.specs.Outcome.{Denial, ◌>>=◌, does, found, refuse_if}
+use Rattle.opc_machine.specs.declared.outcome.Refusal.{Refusal}
+use Rattle.opc_machine.specs.Outcome.{◌>>=◌, does, found, refuse_if}
 use Rattle.opc_machine.specs.Rulings.{acting, groups_acting, is_required, is_revoked, access_ruling, denied_or, ruling, console_access, logon_ruling, shown}
 use Rattle.opc_machine.specs.Commands.{
   console_for,
@@ -100,14 +101,14 @@ abbrev pub IsToldBy : State → Input → Fault → Option Rule → Type 0
 IsToldBy s r f None = IsPlain f
 IsToldBy s r f (Some why) = (IsNamedBy f why × IsDeniedBy s r why) ⊎ IsRefusedByBoard s r f why
 
-abbrev pub IsTold : State → Input → Denial → Type 0
+abbrev pub IsTold : State → Input → Refusal → Type 0
 IsTold s r d = IsToldBy s r d.fault d.rule
 
-abbrev pub IfRefused : {A : Type 0} → (Denial → Type 0) → Result A Denial → Type 0
+abbrev pub IfRefused : {A : Type 0} → (Refusal → Type 0) → Result A Refusal → Type 0
 IfRefused P (Ok x) = Unit {0}
 IfRefused P (Err d) = P d
 
-pub then_told : {A B : Type 0} (P : Denial → Type 0) (x : Result A Denial) (f : A → Result B Denial) → IfRefused P x
+pub then_told : {A B : Type 0} (P : Refusal → Type 0) (x : Result A Refusal) (f : A → Result B Refusal) → IfRefused P x
     → ((y : A) → x ≡ Ok y → IfRefused P (f y)) → IfRefused P (x >>= f)
 then_told P (Ok y) f h g = g y refl
 then_told P (Err d) f h g = h

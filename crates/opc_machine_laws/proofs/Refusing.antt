@@ -46,7 +46,8 @@ use Rattle.opc_machine.specs.Inputs.{Input, console_of}
 use Rattle.opc_machine.specs.Inputs as input
 use Rattle.opc_machine.specs.Listings.{account_line, account_outcome, profile_line}
 use Rattle.opc_machine.specs.Machine.{answer_of, outcome}
-use Rattle.opc_machine.specs.Outcome.{Denial, Outcome, ◌>>=◌, does, found, or_refused, refuse_if, refused}
+use Rattle.opc_machine.specs.declared.outcome.Refusal.{Refusal}
+use Rattle.opc_machine.specs.Outcome.{StateOutcome, ◌>>=◌, does, found, or_refused, refuse_if, refused}
 use Rattle.opc_machine.specs.Rights.{account_shown, console_asking, is_special, may_change, profile_shown, right_fault, unless_denied}
 use Rattle.opc_machine.specs.Rulings.{acting, logon_denial, logon_ruling}
 use Rattle.opc_machine_laws.specs.FaultLaws.{
@@ -69,7 +70,7 @@ use Rattle.opc_machine_laws.proofs.Knowing.{unknown}
 use Rattle.opc_machine.proofs.SameBatches.{same_are_equal}
 
 -- what comes to a refusal is answered by it
-abbrev refusal : Fault → Outcome
+abbrev refusal : Fault → StateOutcome
 refusal f = refused f None
 
 answered : (s : State) (r : Input) (f : Fault) → outcome s r ≡ refusal f → IsRefusedBy s r f
@@ -79,40 +80,40 @@ answered s r f comes moment answer new (inr (inr done)) = inr (done.answers ∙ 
 
 -- consoles
 
-asking_denied : (s : State) (name : List ℕ) (d : Denial) → console_for s name ≡ Err d → console_asking s name ≡ Err d
-asking_denied s name d h = ap (λ x. x >>= λ c. unless_denied (logon_denial s c) >>= λ _. Ok c) h
+asking_refused : (s : State) (name : List ℕ) (d : Refusal) → console_for s name ≡ Err d → console_asking s name ≡ Err d
+asking_refused s name d h = ap (λ x. x >>= λ c. unless_denied (logon_denial s c) >>= λ _. Ok c) h
 
 -- whatever is asked at a console that is not there for it
-first_denied : (s : State) (r : Input) (name : List ℕ) (d : Denial) → console_of r ≡ Some name → console_for s name ≡ Err d → outcome s r ≡ Err d
-first_denied s (input.Command n text) name d names h =
+first_refused : (s : State) (r : Input) (name : List ℕ) (d : Refusal) → console_of r ≡ Some name → console_for s name ≡ Err d → outcome s r ≡ Err d
+first_refused s (input.Command n text) name d names h =
     let at : n ≡ name = search (rules, names) in
     ap (λ x. x >>= λ c. command_in text >>= λ k. typed s c k (need_of s.board k)) (ap (console_for s) at ∙ h)
-first_denied s (input.Admin n o) name d names h =
+first_refused s (input.Admin n o) name d names h =
     let at : n ≡ name = search (rules, names) in
     ap (λ x. x >>= λ c. refuse_if (right_fault o) None (not (may_change s c o)) >>= λ _. or_refused (changed s o) >>=
-    λ t. does t [] None) (asking_denied s n d (ap (console_for s) at ∙ h))
-first_denied s (input.ListProfiles n class) name d names h =
+    λ t. does t [] None) (asking_refused s n d (ap (console_for s) at ∙ h))
+first_refused s (input.ListProfiles n class) name d names h =
     let at : n ≡ name = search (rules, names) in
     ap (λ x. x >>= λ c. does s (map profile_line (filter (profile_shown s c) (of_class class s.policy.profiles))) None)
-    (asking_denied s n d (ap (console_for s) at ∙ h))
-first_denied s (input.ListAccount n from count) name d names h =
+    (asking_refused s n d (ap (console_for s) at ∙ h))
+first_refused s (input.ListAccount n from count) name d names h =
     let at : n ≡ name = search (rules, names) in
     ap (λ x. x >>= λ c. refuse_if fault.NotSpecial None (not (account_shown s c)) >>= λ _. does s
-    (map account_line (asked_for from count s.account)) None) (asking_denied s n d (ap (console_for s) at ∙ h))
-first_denied s (input.Import n number all) name d names h =
+    (map account_line (asked_for from count s.account)) None) (asking_refused s n d (ap (console_for s) at ∙ h))
+first_refused s (input.Import n number all) name d names h =
     let at : n ≡ name = search (rules, names) in
     ap (λ x. x >>= λ c. refuse_if fault.NotSpecial None (not (is_special (acting s c))) >>= λ _. batch_outcome s number
-    all (batch_of s.batches number)) (asking_denied s n d (ap (console_for s) at ∙ h))
-first_denied s (input.Event e) name d names h = absurd (search (rules, names))
+    all (batch_of s.batches number)) (asking_refused s n d (ap (console_for s) at ∙ h))
+first_refused s (input.Event e) name d names h = absurd (search (rules, names))
 
 pub missing_console : MissingConsolesAreAnswered
 missing_console s r name names none =
-    answered s r fault.NoConsole (first_denied s r name (record { fault = fault.NoConsole; rule = None }) names
+    answered s r fault.NoConsole (first_refused s r name (record { fault = fault.NoConsole; rule = None }) names
     (ap (λ o. found fault.NoConsole o >>= λ c. refuse_if fault.ConsoleOffline None (not c.online) >>= λ _. Ok c) none))
 
 pub offline_console : OfflineConsolesAreAnswered
 offline_console s r name c names there off =
-    answered s r fault.ConsoleOffline (first_denied s r name (record { fault = fault.ConsoleOffline; rule = None }) names
+    answered s r fault.ConsoleOffline (first_refused s r name (record { fault = fault.ConsoleOffline; rule = None }) names
     (ap (λ o. found fault.NoConsole o >>= λ d. refuse_if fault.ConsoleOffline None (not d.online) >>= λ _. Ok d) there
     ∙ ap (λ b. refuse_if fault.ConsoleOffline None (not b) >>= λ _. Ok c) off))
 

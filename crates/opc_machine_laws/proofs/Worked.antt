@@ -29,7 +29,8 @@ use Rattle.opc_machine.specs.Inputs as input
 use Rattle.opc_machine.specs.Machine.{first_refusal, outcome}
 use Rattle.opc_machine.specs.declared.operation.Operation.{Operation}
 use Rattle.opc_machine.specs.declared.operation.Operation.TheVariants as operation
-use Rattle.opc_machine.specs.Outcome.{Denial, Outcome}
+use Rattle.opc_machine.specs.declared.outcome.Refusal.{Refusal}
+use Rattle.opc_machine.specs.Outcome.{StateOutcome}
 
 -- the state, also for other worked cases
 
@@ -105,22 +106,22 @@ base = record {
 
 -- what comes of it
 
-abbrev pub plainly : Fault → Option Denial
+abbrev pub plainly : Fault → Option Refusal
 plainly f = Some (record { fault = f; rule = None })
 
-abbrev pub refused_at : List ℕ → Operation → Option Denial
+abbrev pub refused_at : List ℕ → Operation → Option Refusal
 refused_at name o = first_refusal base (input.Admin name o)
 
-abbrev pub state_in : Outcome → Option State
-state_in (Ok deed) = Some deed.state
-state_in (Err denial) = None
+abbrev pub state_in : StateOutcome → Option State
+state_in (Ok effect) = Some effect.state
+state_in (Err refusal) = None
 
-abbrev pub texts_in : Outcome → Option (List (List ℕ))
-texts_in (Ok deed) = Some (map (λ (l : Line). l.text) deed.lines)
-texts_in (Err denial) = None
+abbrev pub texts_in : StateOutcome → Option (List (List ℕ))
+texts_in (Ok effect) = Some (map (λ (l : Line). l.text) effect.lines)
+texts_in (Err refusal) = None
 
 -- by SECADM at C2
-abbrev pub refusal : Operation → Option Denial
+abbrev pub refusal : Operation → Option Refusal
 refusal o = refused_at (codes "C2") o
 
 abbrev pub after : Operation → Option State
@@ -351,10 +352,10 @@ account_not_shown = refl
 
 -- imports
 
-abbrev imported : ℕ → List Row → Outcome
+abbrev imported : ℕ → List Row → StateOutcome
 imported number rows = outcome base (input.Import (codes "C2") number rows)
 
-abbrev refused_import : ℕ → List Row → Option Denial
+abbrev refused_import : ℕ → List Row → Option Refusal
 refused_import number rows = first_refusal base (input.Import (codes "C2") number rows)
 
 keeps_batch : imported 8 day

@@ -2,6 +2,7 @@
 use super::small_room::SmallRoom;
 use opc_gate_listings::account::account_on;
 use opc_gate_listings::profiles::profiles_on;
+use opc_machine::outcome::Outcome;
 use opc_names::class::Class;
 use opc_names::name::{ConsoleName, UserId};
 use opc_policy_members::user::User;
@@ -25,6 +26,13 @@ fn room(id: &str, special: bool, auditor: bool, revoked: bool) -> Result<SmallRo
     })
 }
 
+fn fault_in(outcome: &Outcome) -> Option<Fault> {
+    match outcome {
+        Outcome::Done(_) => None,
+        Outcome::Refused(refusal) => Some(refusal.fault),
+    }
+}
+
 #[test]
 fn profiles_are_listed(rt: HostRuntime) -> Result<(), Fail> {
     for (id, special, auditor, console, wanted) in [
@@ -36,14 +44,14 @@ fn profiles_are_listed(rt: HostRuntime) -> Result<(), Fail> {
     ] {
         let mut tables = room(id, special, auditor, false)?;
         let console = tables.console(&ConsoleName::read(console)?)?;
-        let decided = profiles_on(&mut tables, rt.alloc(), console, Class::Opercmds)?;
+        let outcome = profiles_on(&mut tables, rt.alloc(), console, Class::Opercmds)?;
         let mut told = String::new(rt.alloc());
-        if let Ok(deed) = decided {
-            for line in deed.lines.as_slice() {
+        if let Outcome::Done(effect) = outcome {
+            for line in effect.lines.as_slice() {
                 told.push_str(line.text.as_str())?;
                 told.push_str("/")?;
             }
-            assert!(rt; deed.rule.is_none() && deed.edits.is_empty());
+            assert!(rt; effect.rule.is_none() && effect.edits.is_empty());
         }
         assert_eq!(rt; told.as_str(), wanted, "{id}");
     }
@@ -54,10 +62,10 @@ fn profiles_are_listed(rt: HostRuntime) -> Result<(), Fail> {
 fn the_account_is_listed(rt: HostRuntime) -> Result<(), Fail> {
     let mut tables = room("AUDIT", false, true, false)?;
     let console = tables.console(&ConsoleName::read("C1")?)?;
-    let decided = account_on(&mut tables, rt.alloc(), console, 2, 1)?;
+    let outcome = account_on(&mut tables, rt.alloc(), console, 2, 1)?;
     let mut told = String::new(rt.alloc());
-    if let Ok(deed) = decided {
-        for line in deed.lines.as_slice() {
+    if let Outcome::Done(effect) = outcome {
+        for line in effect.lines.as_slice() {
             told.push_str(line.text.as_str())?;
             told.push_str("/")?;
         }
@@ -70,17 +78,11 @@ fn the_account_is_listed(rt: HostRuntime) -> Result<(), Fail> {
 fn listings_are_refused(rt: HostRuntime) -> Result<(), Fail> {
     let mut tables = room("CARL", false, false, false)?;
     let console = tables.console(&ConsoleName::read("C1")?)?;
-    let refused = account_on(&mut tables, rt.alloc(), console, 1, 10)?;
-    assert_eq!(rt;
-        refused.err().map(|denial| denial.fault),
-        Some(Fault::NotSpecial)
-    );
+    let outcome = account_on(&mut tables, rt.alloc(), console, 1, 10)?;
+    assert_eq!(rt; fault_in(&outcome), Some(Fault::NotSpecial));
     let mut tables = room("OLD", true, true, true)?;
     let console = tables.console(&ConsoleName::read("C1")?)?;
-    let refused = profiles_on(&mut tables, rt.alloc(), console, Class::Opercmds)?;
-    assert_eq!(rt;
-        refused.err().map(|denial| denial.fault),
-        Some(Fault::Revoked)
-    );
+    let outcome = profiles_on(&mut tables, rt.alloc(), console, Class::Opercmds)?;
+    assert_eq!(rt; fault_in(&outcome), Some(Fault::Revoked));
     Ok(())
 }

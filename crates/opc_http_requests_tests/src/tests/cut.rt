@@ -1,6 +1,6 @@
 //! Requests that are cut off, readers that fail, and lengths at their limits.
 use super::reading::asked;
-use opc_http_head::refusal::Refusal;
+use opc_http_head::refusal::HttpRefusal;
 use opc_http_head::routes::Routes;
 use opc_http_requests::ask::read_request;
 use opc_http_requests::fault::ReadingFault;
@@ -19,7 +19,7 @@ fn a_cut_request_is_refused_wherever_it_is_cut(rt: HostRuntime) -> Result<(), Fa
         match asked(rt.alloc(), &COMMAND[..count])? {
             Ok(_) => assert!(rt; false),
             Err(fault) => {
-                assert_eq!(rt; fault, ReadingFault::Refused(Refusal::BadRequest));
+                assert_eq!(rt; fault, ReadingFault::Refused(HttpRefusal::BadRequest));
             }
         }
     }
@@ -69,9 +69,9 @@ fn taken(alloc: Global, length: usize) -> Result<(usize, Option<ReadingFault>), 
 fn a_body_is_read_to_its_length_if_at_all(rt: HostRuntime) -> Result<(), Fail> {
     let (count, fault) = taken(rt.alloc(), 65536)?;
     assert_eq!(rt; count, 61 + 65536);
-    assert_eq!(rt; fault, Some(ReadingFault::Refused(Refusal::BadRequest)));
+    assert_eq!(rt; fault, Some(ReadingFault::Refused(HttpRefusal::BadRequest)));
     let (count, fault) = taken(rt.alloc(), 65537)?;
     assert_eq!(rt; count, 61);
-    assert_eq!(rt; fault, Some(ReadingFault::Refused(Refusal::TooLarge)));
+    assert_eq!(rt; fault, Some(ReadingFault::Refused(HttpRefusal::TooLarge)));
     Ok(())
 }

@@ -1,6 +1,6 @@
 //! Heads at their limits.
 use super::reading::asked;
-use opc_http_head::refusal::Refusal;
+use opc_http_head::refusal::HttpRefusal;
 use opc_http_requests::fault::ReadingFault;
 use std::alloc::{AllocError, Global};
 use std::process::Abort;
@@ -39,7 +39,7 @@ fn a_head_has_few_bytes_and_fields(rt: HostRuntime) -> Result<(), Fail> {
             }
             Err(fault) => {
                 assert!(rt; !is_read);
-                assert_eq!(rt; fault, ReadingFault::Refused(Refusal::BadRequest));
+                assert_eq!(rt; fault, ReadingFault::Refused(HttpRefusal::BadRequest));
             }
         }
     }

@@ -1,6 +1,6 @@
 //! What is refused, and by which refusal first.
 use super::reading::{asked, get, post};
-use opc_http_head::refusal::{Method, Refusal};
+use opc_http_head::refusal::{HttpRefusal, Method};
 use opc_http_requests::fault::ReadingFault;
 use opc_io_failing::reader::FailingReader;
 use opc_terms::fault::Why;
@@ -10,7 +10,7 @@ use std::test::Fail;
 const COMMAND: &str = "{\"text\":\"D U\"}";
 
 // That a text is refused so, at once and byte by byte.
-fn expect(rt: &(impl AllocGlobal + Abort), text: &[u8], wanted: Refusal) -> Result<(), Fail> {
+fn expect(rt: &(impl AllocGlobal + Abort), text: &[u8], wanted: HttpRefusal) -> Result<(), Fail> {
     match asked(rt.alloc(), text)? {
         Ok(_) => assert!(rt; false),
         Err(fault) => assert_eq!(rt; fault, ReadingFault::Refused(wanted)),
@@ -30,7 +30,7 @@ fn the_head_comes_first(rt: HostRuntime) -> Result<(), Fail> {
         b"GET /consoles/C1/profiles/\x7f HTTP/1.1\r\n\r\n".as_slice(),
         b"GET /consoles/C1/profiles/\xff HTTP/1.1\r\n\r\n".as_slice(),
     ] {
-        expect(&rt, text, Refusal::BadRequest)?;
+        expect(&rt, text, HttpRefusal::BadRequest)?;
     }
     Ok(())
 }
@@ -47,7 +47,7 @@ fn the_route_comes_before_method_and_length(rt: HostRuntime) -> Result<(), Fail>
         "POST http://here/consoles/C1/command HTTP/1.1\r\n\r\n",
         "POST /consoles/\u{e9}/command HTTP/1.1\r\n\r\n",
     ] {
-        expect(&rt, text.as_bytes(), Refusal::NotFound)?;
+        expect(&rt, text.as_bytes(), HttpRefusal::NotFound)?;
     }
     Ok(())
 }
@@ -70,7 +70,7 @@ fn the_method_comes_before_the_length(rt: HostRuntime) -> Result<(), Fail> {
             Method::Get,
         ),
     ] {
-        expect(&rt, text.as_bytes(), Refusal::MethodNotAllowed(method))?;
+        expect(&rt, text.as_bytes(), HttpRefusal::MethodNotAllowed(method))?;
     }
     Ok(())
 }
@@ -84,10 +84,10 @@ fn the_length_comes_before_the_body(rt: HostRuntime) -> Result<(), Fail> {
         "POST /consoles/C1/command HTTP/1.1\r\nContent-Length: 0000000014\r\n\r\n{\"text\":\"D U\"}",
         "GET /consoles/C1/profiles/CONSOLE HTTP/1.1\r\nContent-Length: 5,5\r\n\r\nhello",
     ] {
-        expect(&rt, text.as_bytes(), Refusal::BadRequest)?;
+        expect(&rt, text.as_bytes(), HttpRefusal::BadRequest)?;
     }
     let text = "POST /consoles/C1/command HTTP/1.1\r\nContent-Length: 65537\r\n\r\n";
-    expect(&rt, text.as_bytes(), Refusal::TooLarge)
+    expect(&rt, text.as_bytes(), HttpRefusal::TooLarge)
 }
 
 #[test]
@@ -104,7 +104,7 @@ fn values_of_the_path_are_read(rt: HostRuntime) -> Result<(), Fail> {
         "/consoles/C1/import/%237",
     ] {
         let text = post(rt.alloc(), path, COMMAND)?;
-        expect(&rt, text.as_bytes(), Refusal::BadRequest)?;
+        expect(&rt, text.as_bytes(), HttpRefusal::BadRequest)?;
     }
     for path in [
         "/consoles/C1/profiles/opercmds",
@@ -115,7 +115,7 @@ fn values_of_the_path_are_read(rt: HostRuntime) -> Result<(), Fail> {
         "/consoles/C1/account/-1/1",
     ] {
         let text = get(rt.alloc(), path)?;
-        expect(&rt, text.as_bytes(), Refusal::BadRequest)?;
+        expect(&rt, text.as_bytes(), HttpRefusal::BadRequest)?;
     }
     Ok(())
 }
@@ -123,13 +123,13 @@ fn values_of_the_path_are_read(rt: HostRuntime) -> Result<(), Fail> {
 #[test]
 fn the_body_comes_last(rt: HostRuntime) -> Result<(), Fail> {
     let no_text = post(rt.alloc(), "/consoles/C1/command", "{\"line\":\"D U\"}")?;
-    expect(&rt, no_text.as_bytes(), Refusal::BadRequest)?;
+    expect(&rt, no_text.as_bytes(), HttpRefusal::BadRequest)?;
     let no_header = post(rt.alloc(), "/consoles/C1/import/7", "group,,DAY,,,,,,,\n")?;
-    let header = Refusal::BadRow {
+    let header = HttpRefusal::BadRow {
         row: 0,
         why: Why::Header,
     };
     expect(&rt, no_header.as_bytes(), header)?;
     let no_batch = post(rt.alloc(), "/consoles/C1/import/0", "group,,DAY,,,,,,,\n")?;
-    expect(&rt, no_batch.as_bytes(), Refusal::BadRequest)
+    expect(&rt, no_batch.as_bytes(), HttpRefusal::BadRequest)
 }

@@ -4,10 +4,10 @@ use Rattle.opc_gate.proofs.gate.decide.Goals as goal
 
 pub returns-after-is_warned-clause-idle : goal.returns-after-is_warned-clause-idle
 returns-after-is_warned-clause-idle c = λ s is same.
-    let deed = rw c.in-Ok.is at is in
-    nothing_changed c.in-Ok.deed.edits.items c.if-is_warned.account s deed.idle same
+    let effect = rw c.in-Done.is at is in
+    nothing_changed c.in-Done.effect.edits.items c.if-is_warned.account s effect.idle same
 
-pub returns-in_ok-account_row-in-Err-clause-idle : goal.returns-in_ok-account_row-in-Err-clause-idle
-returns-in_ok-account_row-in-Err-clause-idle c = λ s is same.
+pub returns-in_ok-account_row-in-Refused-clause-idle : goal.returns-in_ok-account_row-in-Refused-clause-idle
+returns-in_ok-account_row-in-Refused-clause-idle c = λ s is same.
     let none : c.new.result.items ≡ [] = cc in
-    nothing_changed c.new.result.items (Some c.in_ok-account_row-in-Err.field-0) s (λ stays. none) same
+    nothing_changed c.new.result.items (Some c.in_ok-account_row-in-Refused.field-0) s (λ stays. none) same

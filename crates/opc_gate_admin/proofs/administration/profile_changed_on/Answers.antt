@@ -2,7 +2,7 @@ use Rattle.std.proofs.Common.{IfOk, subst, sym}
 use Rattle.opc_policy_members.specs.declared.profile.Profile.{Profile}
 use Rattle.opc_state.specs.Invariants.{IsKeyed}
 use Rattle.opc_machine.specs.Administration.{changed, policy_changed}
-use Rattle.opc_machine.specs.Deeds.{IsOutcome}
+use Rattle.opc_machine.specs.Effects.{IsOutcome}
 use Rattle.opc_machine.specs.declared.operation.Operation.{Operation}
 use Rattle.opc_machine.specs.declared.operation.Operation.TheVariants as operation
 use Rattle.opc_gate_admin.specs.Operations.{policy_outcome, state_outcome}

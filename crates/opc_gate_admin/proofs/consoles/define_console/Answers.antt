@@ -27,7 +27,7 @@ returns-then-branch-clause-outcome g c = λ sure s represents.
     let at : console_at s.board c.args.name ≡ Some c.in-Some.stored = sym (c.in_ok-stored.ensures.console one s represents) ∙ c.in-Some.is in
     given _ _ (λ order. state_refused s _ _
     (last_lost s c.args.name c.args.auth c.args.mode c.in-Some.stored order at
-    (sym (c.in_ok-loses_master.ensures.lost sure s still order) ∙ c.if-branch.true)) _ c.denied.ensures)
+    (sym (c.in_ok-loses_master.ensures.lost sure s still order) ∙ c.if-branch.true)) _ c.refused.ensures)
 
 pub returns-clause-outcome : goal.returns-clause-outcome
 returns-clause-outcome g c = λ sure s represents.

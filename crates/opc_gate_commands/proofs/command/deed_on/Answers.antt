@@ -1,8 +1,0 @@
-use Rattle.opc_gate_commands.proofs.Deeds.{refused_outcome}
-use Rattle.opc_gate_commands.proofs.command.deed_on.Goals as goal
-
-pub returns-in-Err-clause-outcome : goal.returns-in-Err-clause-outcome
-returns-in-Err-clause-outcome g c = λ sure s represents.
-    let footprint = c.in_ok-board.ensures.footprint sure s represents in
-    rw c.denied.ensures (λ at stands. refused_outcome s c.args.console.now c.args.command.now c.args.rule c.in-Err.fault _
-    (c.in-Err.ensures.refused c.in_ok-refusal-in-Err.ensures.0 s (footprint at)) c.in_ok-refusal-in-Err.ensures.1)

@@ -1,7 +1,7 @@
 -- Scripts and services over a gate, each with the number that a program ends with.
 use Rattle.std.specs.Prelude.{◌≡◌, ℕ, Bool, true, List, Option, None, Result, Ok, Err, if◌then◌else◌}
 use Rattle.std.specs.declared.time.Duration.{Duration}
-use Rattle.opc_state.specs.State.{State}
+use Rattle.opc_state.specs.Meaning.{Meaning}
 use Rattle.opc_cli_failures.specs.declared.status.Status.{Status}
 use Rattle.opc_cli_failures.specs.declared.status.Status.TheVariants.{BadInput, Done, Failed}
 use Rattle.opc_cli_failures.specs.Statuses.{number_of}
@@ -25,13 +25,13 @@ abbrev pub status_of_service : {A : Type 0} → Result A ServeFault → Status
 status_of_service (Ok all) = Done
 status_of_service (Err fault) = Failed
 
-module _ {T : Type 0} (is_sure : T → Type 0) (represents may_leave : T → State → Type 0) (old new : T) where
+module _ {T : Type 0} (m : Meaning T) (old new : T) where
   -- A script was run, or its bad line was printed and nothing was; and this is the number of its status. It was cut by
   -- the output exactly where a write failed.
   pub record IsScript {K : Type 0} (held : K → Option (List ℕ)) (has_failed : K → Bool) (script : List ℕ)
       (before written : K) (number : ℕ) : Type 0 where
     pub ran : Result Status ScriptFault
-    pub answered : IsAnswered is_sure represents may_leave old new script (held before) (held written) ran
+    pub answered : IsAnswered m old new script (held before) (held written) ran
     pub failed : has_failed written ≡ (if is_cut_by_output ran then true else has_failed before)
     pub ends : number ≡ number_of (status_of_script ran)
 
@@ -39,5 +39,5 @@ module _ {T : Type 0} (is_sure : T → Type 0) (represents may_leave : T → Sta
   pub record IsService {C : Type 0} (limits : C → Duration → Bool → Type 0) (remaining contents : C → Option (List ℕ))
       (count number : ℕ) : Type 0 where
     pub served : Result (Unit {0}) ServeFault
-    pub handled : AreHandled is_sure represents may_leave limits remaining contents None old new count served
+    pub handled : AreHandled m limits remaining contents None old new count served
     pub ends : number ≡ number_of (status_of_service served)

@@ -20,8 +20,8 @@ pub fn run_script<T: Tables, K: Sink>(
     script: &str,
     output: &mut K,
 ) -> u8
-    ensures sure { T.is_sure gate.new → T.is_sure gate.old }
-    ensures ran { IsScript T.is_sure T.represents T.may_leave gate.old gate.new K.held K.has_failed script.now
+    ensures sure { T.meaning.is_sure gate.new → T.meaning.is_sure gate.old }
+    ensures ran { IsScript T.meaning gate.old gate.new K.held K.has_failed script.now
         output.old output.new result }
 {
     number_of(run::run_script(gate, alloc, script, output))

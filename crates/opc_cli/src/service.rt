@@ -24,8 +24,8 @@ pub fn serve_on<H: AllocGlobal + Clock, L: OpenListener, T: Tables>(
 ) -> u8
 where
     L::Stream: Connection,
-    ensures sure { T.is_sure gate.new → T.is_sure gate.old }
-    ensures served { IsService T.is_sure T.represents T.may_leave gate.old gate.new L.Stream.limits L.Stream.remaining
+    ensures sure { T.meaning.is_sure gate.new → T.meaning.is_sure gate.old }
+    ensures served { IsService T.meaning gate.old gate.new L.Stream.limits L.Stream.remaining
         L.Stream.contents count result }
 {
     number_of(serving::serve_on(rt, listener, count, None, routes, gate))

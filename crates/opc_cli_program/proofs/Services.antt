@@ -3,7 +3,11 @@ use Rattle.std.proofs.Common.{◌≡◌, inl, inr, ℕ, List, Option, Result, ap
 use Rattle.std.specs.Prelude.{Bool}
 use Rattle.std.specs.declared.net.socket_addr.SocketAddr.{SocketAddr}
 use Rattle.std.specs.declared.time.Duration.{Duration}
+use Rattle.opc_state.specs.Meaning.{Meaning}
 use Rattle.opc_state.specs.State.{State}
+use Rattle.opc_state_cache.specs.Cache.{IsCached}
+use Rattle.opc_state_cache.specs.Meaning.{cached_meaning}
+use Rattle.opc_state_cache.specs.declared.cached.Cached.{Cached}
 use Rattle.opc_http_serve.specs.declared.arrival.ServeFault.{ServeFault}
 use Rattle.opc_http_serve.specs.Handled.{AreHandled, Handled, IsRunOf}
 use Rattle.opc_cli_failures.specs.declared.failure.Failure.{Failure}
@@ -18,37 +22,36 @@ pub says_where : {P L : Type 0} (binds : P → SocketAddr → L → Type 0) (is_
     → Listens binds is_at ports asked before after → SaysWhere before after
 says_where binds is_at ports asked before after reported = (reported.1.port, reported.1.reported)
 
--- `tables` are those below the cache. What both represent in the end the tables represent, and what the tables
--- represent at first both do.
-module _ {T C : Type 0} (tables : C → T) (is_sure : T → Type 0) (represents may_leave : T → State → Type 0) (kept : C → State → Type 0)
-    (below : (c : C) (s : State) → kept c s → represents (tables c) s) (old new : C) (above : (s : State) → represents (tables old) s → kept old s) where
-  requests : (handled : Handled) → IsRunOf (λ c. is_sure (tables c)) kept (λ c s. may_leave (tables c) s) old new
-      handled → IsRunOf is_sure represents may_leave (tables old) (tables new) handled
+-- What the tables represent at first, they do with their cache.
+module _ {T : Type 0} (m : Meaning T) (old new : Cached T)
+    (above : (s : State) → m.represents old.tables s → IsCached m old.tables old.recent s) where
+  requests : (handled : Handled) → IsRunOf (cached_meaning m) old new
+      handled → IsRunOf m old.tables new.tables handled
   requests handled were = record {
     moments = were.moments;
-    run = λ is s h. run tables is_sure represents may_leave kept below old new above s handled.requests handled.answers (were.run is s (above s h));
-    idle = λ none. ap tables (were.idle none);
+    run = λ is s h. run m old new above s handled.requests handled.answers (were.run is s (above s h));
+    idle = λ none. ap (λ (c : Cached T). c.tables) (were.idle none);
   }
 
   module _ {S : Type 0} (limits : S → Duration → Bool → Type 0) (remaining contents : S → Option (List ℕ)) where
     clients : {A : Type 0} (timeout : Option Duration) (count : ℕ) (served : Result A ServeFault)
-        → AreHandled (λ c. is_sure (tables c)) kept (λ c s. may_leave (tables c) s) limits remaining contents timeout old new count served
-        → AreHandled is_sure represents may_leave limits remaining contents timeout (tables old) (tables new) count served
+        → AreHandled (cached_meaning m) limits remaining contents timeout old new count served
+        → AreHandled m limits remaining contents timeout old.tables new.tables count served
     clients timeout count served are = record { handled = are.handled; served = are.served; run = requests are.handled are.run }
 
     uncached : (serve : Serve) (end : Result Status Failure) (said wanted : Type 0) → (said → wanted)
-        → IsServiceAfter (λ c. is_sure (tables c)) kept (λ c s. may_leave (tables c) s) limits remaining contents old new serve end said
-        → IsServiceAfter is_sure represents may_leave limits remaining contents (tables old) (tables new) serve end wanted
-    uncached serve end said wanted says (inl none) = inl (record { failed = none.failed; same = ap tables none.same })
+        → IsServiceAfter (cached_meaning m) limits remaining contents old new serve end said
+        → IsServiceAfter m limits remaining contents old.tables new.tables serve end wanted
+    uncached serve end said wanted says (inl none) = inl (record { failed = none.failed; same = ap (λ (c : Cached T). c.tables) none.same })
     uncached serve end said wanted says (inr (reported, are)) =
         inr (says reported, record { served = are.served; handled = clients serve.timeout serve.count are.served are.handled; ends = are.ends })
 
     -- the same over tables that are these
-    pub handed_back : (first last : T) → tables old ≡ first → last ≡ tables new
+    pub handed_back : (first last : T) → old.tables ≡ first → last ≡ new.tables
         → (serve : Serve) (end : Result Status Failure) (said wanted : Type 0) → (said → wanted)
-        → IsServiceAfter (λ c. is_sure (tables c)) kept (λ c s. may_leave (tables c) s) limits remaining contents old new serve end said
-        → IsServiceAfter is_sure represents may_leave limits remaining contents first last serve end wanted
+        → IsServiceAfter (cached_meaning m) limits remaining contents old new serve end said
+        → IsServiceAfter m limits remaining contents first last serve end wanted
     handed_back first last is was serve end said wanted says service =
-        subst (λ (t : T). IsServiceAfter is_sure represents may_leave limits remaining contents t last serve end wanted) is
-        (subst (λ (t : T). IsServiceAfter is_sure represents may_leave limits remaining contents (tables old) t serve
+        subst (λ (t : T). IsServiceAfter m limits remaining contents t last serve end wanted) is
+        (subst (λ (t : T). IsServiceAfter m limits remaining contents old.tables t serve
         end wanted) (sym was) (uncached serve end said wanted says service))

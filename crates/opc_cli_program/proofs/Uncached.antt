@@ -1,6 +1,10 @@
 -- What is run over tables with a cache, said of the tables alone.
 use Rattle.std.proofs.Common.{◌⊎◌, inl, inr, ℕ, Bool, List, Option, Some, None, Result, Ok, Err, MatchOption, ap}
+use Rattle.opc_state.specs.Meaning.{Meaning}
 use Rattle.opc_state.specs.State.{State}
+use Rattle.opc_state_cache.specs.Cache.{IsCached}
+use Rattle.opc_state_cache.specs.Meaning.{cached_meaning}
+use Rattle.opc_state_cache.specs.declared.cached.Cached.{Cached}
 use Rattle.opc_machine.specs.declared.request.Request.{Request}
 use Rattle.opc_machine.specs.declared.request.Answer.{Answer}
 use Rattle.opc_gate.specs.Handling.{IsRun}
@@ -11,22 +15,15 @@ use Rattle.opc_cli_script.specs.Running.{IsAnswered, IsCut, IsNotBegun, IsScript
 use Rattle.opc_cli_script.specs.Scripts.{bad_line, requests_in}
 use Rattle.opc_cli_program.specs.Runs.{IsAnsweredInput, IsInputRun, IsNothingRun, IsRunOfBytes}
 
--- `tables` are those below the cache. What both represent in the end the tables represent, and what the tables
--- represent at first both do.
-module _ {T C : Type 0} (tables : C → T) (is_sure : T → Type 0) (represents may_leave : T → State → Type 0) (kept : C → State → Type 0)
-    (below : (c : C) (s : State) → kept c s → represents (tables c) s) (old new : C) (above : (s : State) → represents (tables old) s → kept old s) where
-  abbrev pub sure : C → Type 0
-  sure c = is_sure (tables c)
+-- What the tables represent at first, they do with their cache.
+module _ {T : Type 0} (m : Meaning T) (old new : Cached T)
+    (above : (s : State) → m.represents old.tables s → IsCached m old.tables old.recent s) where
+  pub run : (s : State) (rs : List (ℕ × Request)) (answers : List Answer) → IsRun (cached_meaning m) old new s rs answers
+      → IsRun m old.tables new.tables s rs answers
+  run s rs answers r = record { last = r.last; runs = r.runs; represented = r.represented.represented; crash = r.crash; acknowledged = r.acknowledged }
 
-  abbrev pub leaves : C → State → Type 0
-  leaves c s = may_leave (tables c) s
-
-  pub run : (s : State) (rs : List (ℕ × Request)) (answers : List Answer) → IsRun kept leaves old new s rs answers
-      → IsRun represents may_leave (tables old) (tables new) s rs answers
-  run s rs answers r = record { last = r.last; runs = r.runs; represented = below new r.last r.represented; crash = r.crash; acknowledged = r.acknowledged }
-
-  whole : (rs : List (ℕ × Request)) (before written : Option (List ℕ)) (status : Status) → IsWhole sure kept leaves old new rs before written status
-      → IsWhole is_sure represents may_leave (tables old) (tables new) rs before written status
+  whole : (rs : List (ℕ × Request)) (before written : Option (List ℕ)) (status : Status) → IsWhole (cached_meaning m) old new rs before written status
+      → IsWhole m old.tables new.tables rs before written status
   whole rs before written status w = record {
     answers = w.answers;
     each = w.each;
@@ -35,8 +32,8 @@ module _ {T C : Type 0} (tables : C → T) (is_sure : T → Type 0) (represents 
     ends = w.ends;
   }
 
-  cut : (rs : List (ℕ × Request)) (before written : Option (List ℕ)) (fault : ScriptFault) → IsCut sure kept leaves old new rs before written fault
-      → IsCut is_sure represents may_leave (tables old) (tables new) rs before written fault
+  cut : (rs : List (ℕ × Request)) (before written : Option (List ℕ)) (fault : ScriptFault) → IsCut (cached_meaning m) old new rs before written fault
+      → IsCut m old.tables new.tables rs before written fault
   cut rs before written fault w = record {
     reported = w.reported;
     request = w.request;
@@ -51,13 +48,13 @@ module _ {T C : Type 0} (tables : C → T) (is_sure : T → Type 0) (represents 
     cut_off = w.cut_off;
   }
 
-  not_begun : (before written : Option (List ℕ)) (fault : ScriptFault) → IsNotBegun sure kept leaves old new before written fault
-      → IsNotBegun is_sure represents may_leave (tables old) (tables new) before written fault
-  not_begun before written fault w = record { no_memory = w.no_memory; same = ap tables w.same; nothing = w.nothing }
+  not_begun : (before written : Option (List ℕ)) (fault : ScriptFault) → IsNotBegun (cached_meaning m) old new before written fault
+      → IsNotBegun m old.tables new.tables before written fault
+  not_begun before written fault w = record { no_memory = w.no_memory; same = ap (λ (c : Cached T). c.tables) w.same; nothing = w.nothing }
 
   script : (rs : List (ℕ × Request)) (before written : Option (List ℕ)) (ran : Result Status ScriptFault)
-      → IsScriptRun sure kept leaves old new rs before written ran
-      → IsScriptRun is_sure represents may_leave (tables old) (tables new) rs before written ran
+      → IsScriptRun (cached_meaning m) old new rs before written ran
+      → IsScriptRun m old.tables new.tables rs before written ran
   script rs before written (Ok status) w = whole rs before written status w
   script rs before written (Err fault) (inl w) = inl (not_begun before written fault w)
   script rs before written (Err fault) (inr w) = inr (cut rs before written fault w)
@@ -66,25 +63,25 @@ module _ {T C : Type 0} (tables : C → T) (is_sure : T → Type 0) (represents 
   match_option None f g p = f p
   match_option (Some a) f g p = g a p
 
-  answered : (text : List ℕ) (before written : Option (List ℕ)) (ran : Result Status ScriptFault) → IsAnswered sure kept leaves old new text before written ran
-      → IsAnswered is_sure represents may_leave (tables old) (tables new) text before written ran
-  answered text before written ran = match_option (bad_line text) (script (requests_in text) before written ran) (λ number bad. (ap tables bad.0, bad.1))
+  answered : (text : List ℕ) (before written : Option (List ℕ)) (ran : Result Status ScriptFault) → IsAnswered (cached_meaning m) old new text before written ran
+      → IsAnswered m old.tables new.tables text before written ran
+  answered text before written ran = match_option (bad_line text) (script (requests_in text) before written ran) (λ number bad. (ap (λ (c : Cached T). c.tables) bad.0, bad.1))
 
   map_either : {A B C D : Type 0} → (A → C) → (B → D) → A ⊎ B → C ⊎ D
   map_either f g (inl a) = inl (f a)
   map_either f g (inr b) = inr (g b)
 
-  bytes : (text : List ℕ) (before written : Option (List ℕ)) (ran : Result Status ScriptFault) → IsRunOfBytes sure kept leaves old new text before written ran
-      → IsRunOfBytes is_sure represents may_leave (tables old) (tables new) text before written ran
-  bytes text before written ran = map_either (λ w. (w.0, answered text before written ran w.1)) (λ w. (w.0, ap tables w.1, w.2))
+  bytes : (text : List ℕ) (before written : Option (List ℕ)) (ran : Result Status ScriptFault) → IsRunOfBytes (cached_meaning m) old new text before written ran
+      → IsRunOfBytes m old.tables new.tables text before written ran
+  bytes text before written ran = map_either (λ w. (w.0, answered text before written ran w.1)) (λ w. (w.0, ap (λ (c : Cached T). c.tables) w.1, w.2))
 
   module _ {K : Type 0} (held : K → Option (List ℕ)) (has_failed : K → Bool) (left : Option (List ℕ)) (before written : K) (end : Result Status Failure) where
-    nothing : IsNothingRun sure kept leaves held has_failed old new before written end
-        → IsNothingRun is_sure represents may_leave held has_failed (tables old) (tables new) before written end
-    nothing w = record { unread = w.unread; same = ap tables w.same; silent = w.silent }
+    nothing : IsNothingRun (cached_meaning m) held has_failed old new before written end
+        → IsNothingRun m held has_failed old.tables new.tables before written end
+    nothing w = record { unread = w.unread; same = ap (λ (c : Cached T). c.tables) w.same; silent = w.silent }
 
-    input : IsInputRun sure kept leaves held has_failed old new left before written end
-        → IsInputRun is_sure represents may_leave held has_failed (tables old) (tables new) left before written end
+    input : IsInputRun (cached_meaning m) held has_failed old new left before written end
+        → IsInputRun m held has_failed old.tables new.tables left before written end
     input w = record {
       script = w.script;
       are = w.are;
@@ -94,6 +91,6 @@ module _ {T C : Type 0} (tables : C → T) (is_sure : T → Type 0) (represents 
       ends = w.ends;
     }
 
-    pub answered_input : IsAnsweredInput sure kept leaves held has_failed old new left before written end
-        → IsAnsweredInput is_sure represents may_leave held has_failed (tables old) (tables new) left before written end
+    pub answered_input : IsAnsweredInput (cached_meaning m) held has_failed old new left before written end
+        → IsAnsweredInput m held has_failed old.tables new.tables left before written end
     answered_input = map_either nothing input

@@ -29,6 +29,7 @@ use Rattle.opc_terms.specs.declared.fault.Fault.TheVariants.{NoMemory, Store}
 use Rattle.opc_policy_members.specs.declared.row.Row.{Row}
 use Rattle.opc_board.specs.declared.line.Line.{Line}
 use Rattle.opc_import.specs.Lines.{policy_text}
+use Rattle.opc_state.specs.Meaning.{Meaning}
 use Rattle.opc_state.specs.PolicyFile.{rows_of}
 use Rattle.opc_state.specs.State.{State}
 use Rattle.opc_machine.specs.declared.request.Answer.{Answer}
@@ -76,21 +77,21 @@ IsReported held has_failed (answer.Refused fault rule) before written end =
 abbrev pub exported : State → List ℕ
 exported s = policy_text (rows_of s.policy s.board.consoles)
 
-module _ {T : Type 0} (is_sure : T → Type 0) (represents may_leave : T → State → Type 0) (old new : T)
+module _ {T : Type 0} (m : Meaning T) (old new : T)
     (end : Result Status Failure) where
   -- What becomes of a first policy over a state, and what a crash may leave: the state with it, in whole, or what it
   -- might have left before.
   pub record IsTakenOver (s : State) (rows : List Row) : Type 0 where
-    pub done : OnOk end (IsBootstrap represents may_leave new s rows)
+    pub done : OnOk end (IsBootstrap m new s rows)
     pub refused : IfErr end (λ failure. failure.fault ≢ NoMemory → failure.fault ≢ Store
         → bootstrapped rows s ≡ Err failure.fault)
-    pub unchanged : OnErr end (represents new s)
-    pub crash : (left : State) → may_leave new left → may_leave old left ⊎ (bootstrapped rows s ≡ Ok left)
-    pub idle : HaveNothingNew rows s → LeavesAsBefore may_leave old new
+    pub unchanged : OnErr end (m.represents new s)
+    pub crash : (left : State) → m.may_leave new left → m.may_leave old left ⊎ (bootstrapped rows s ≡ Ok left)
+    pub idle : HaveNothingNew rows s → LeavesAsBefore m old new
 
   -- The rows were taken as a first policy, or not.
   pub record IsFirstPolicy (rows : List Row) : Type 0 where
-    pub taken : is_sure new → (s : State) → represents old s → IsTakenOver s rows
+    pub taken : m.is_sure new → (s : State) → m.represents old s → IsTakenOver s rows
     pub ends : IfOk end (λ status. status ≡ Done)
 
   -- What a reader had left was taken as a first policy, or not. It may be that no rows were read, and nothing was done.
@@ -108,8 +109,8 @@ module _ {T : Type 0} (is_sure : T → Type 0) (represents may_leave : T → Sta
     -- One request was handled, in one step of the access machine, and its answer printed.
     pub record IsOneStep (moment : ℕ) (r : Input) : Type 0 where
       pub answer : Answer
-      pub handled : is_sure new → (s : State) → represents old s
-          → IsHandled represents may_leave old new s moment r answer
+      pub handled : m.is_sure new → (s : State) → m.represents old s
+          → IsHandled m old new s moment r answer
       pub reported : IsReported held has_failed answer before written end
 
     -- The rows are a batch with this number at the console that is named; where none is, they are a first policy, and
@@ -127,5 +128,6 @@ module _ {T : Type 0} (is_sure : T → Type 0) (represents may_leave : T → Sta
     -- printed.
     pub record IsExport : Type 0 where
       pub ends : IsEnded end
-      pub text : is_sure new → (s : State) → represents old s → IsWritten (exported s) (held before) (held written) end
+      pub text : m.is_sure new → (s : State) → m.represents old s
+          → IsWritten (exported s) (held before) (held written) end
       pub output : (IsErr end × (written ≡ before)) ⊎ FailsAsWritten has_failed before written end

@@ -22,7 +22,7 @@ use Rattle.std.specs.Prelude.{
 }
 use Rattle.std.specs.Borrow.{Bor}
 use Rattle.opc_terms.specs.declared.fault.Fault.TheVariants as fault
-use Rattle.opc_state.specs.State.{State}
+use Rattle.opc_state.specs.Meaning.{Meaning}
 use Rattle.opc_cli_failures.specs.declared.failure.Failure.{Failure}
 use Rattle.opc_cli_failures.specs.declared.failure.Place.TheVariants as place
 use Rattle.opc_cli_failures.specs.declared.status.Status.{Status}
@@ -46,12 +46,12 @@ IsEndOf (Err (Output error)) end = IsErrAnd end (IsErrorAt place.Output error)
 abbrev pub AreScriptBytes : Option (List ℕ) → List ℕ → Type 0
 AreScriptBytes left bytes = IfSome left (λ all. bytes ≡ take (script_limit + 1) all)
 
-module _ {T : Type 0} (is_sure : T → Type 0) (represents may_leave : T → State → Type 0) where
+module _ {T : Type 0} (m : Meaning T) where
   -- The bytes are run as a script where they are UTF-8. If they are not, that is reported as bad line 0.
   abbrev pub IsRunOfBytes : (old new : T) → (script : List ℕ) → (before written : Option (List ℕ))
       → Result Status ScriptFault → Type 0
   IsRunOfBytes old new script before written ran =
-      (IsUtf8 script × IsAnswered is_sure represents may_leave old new script before written ran)
+      (IsUtf8 script × IsAnswered m old new script before written ran)
       ⊎ ((IsUtf8 script → ⊥) × (new ≡ old) × IsBadRun 0 before written ran)
 
   -- Where a file of a first policy is named, what that file holds was taken as one, or not. `holds` says what the file
@@ -60,7 +60,7 @@ module _ {T : Type 0} (is_sure : T → Type 0) (represents may_leave : T → Sta
       → Result Status Failure → Type 0
   IsNamedPolicyTaken holds old new None end = (end ≡ Ok Done) × (new ≡ old)
   IsNamedPolicyTaken holds old new (Some path) end =
-      IsPolicyTaken is_sure represents may_leave old new end (holds path.now)
+      IsPolicyTaken m old new end (holds path.now)
 
   module _ {K : Type 0} (held : K → Option (List ℕ)) (has_failed : K → Bool) where
     -- Nothing was run and nothing printed.
@@ -92,6 +92,6 @@ module _ {T : Type 0} (is_sure : T → Type 0) (represents may_leave : T → Sta
       pub mid : T
       pub taken : Result Status Failure
       pub takes : IsNamedPolicyTaken holds old mid policy taken
-      pub sure : is_sure new → is_sure mid
+      pub sure : m.is_sure new → m.is_sure mid
       pub runs : MatchResult taken (λ _. IsAnsweredInput mid new left before written end)
           (λ failure. (end ≡ Err failure) × (new ≡ mid) × (written ≡ before))

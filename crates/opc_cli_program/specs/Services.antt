@@ -1,7 +1,7 @@
 -- What the program makes of a service of many clients.
 use Rattle.std.specs.Prelude.{◌≡◌, ◌⊎◌, ℕ, Bool, List, Option, Result, Ok, Err, IsErrAnd}
 use Rattle.std.specs.declared.time.Duration.{Duration}
-use Rattle.opc_state.specs.State.{State}
+use Rattle.opc_state.specs.Meaning.{Meaning}
 use Rattle.opc_http_serve.specs.declared.arrival.ServeFault.{ServeFault}
 use Rattle.opc_http_serve.specs.declared.arrival.ServeFault.TheVariants.{Accept, Clock}
 use Rattle.opc_http_serve.specs.Handled.{AreHandled}
@@ -19,7 +19,7 @@ IsEndOfService (Ok all) end = end ≡ Ok Done
 IsEndOfService (Err (Accept error)) end = IsErrAnd end (IsErrorAt place.Connection error)
 IsEndOfService (Err (Clock error)) end = IsErrAnd end (IsErrorAt place.Clock error)
 
-module _ {T : Type 0} (is_sure : T → Type 0) (represents may_leave : T → State → Type 0)
+module _ {T : Type 0} (m : Meaning T)
     {C : Type 0} (limits : C → Duration → Bool → Type 0) (remaining contents : C → Option (List ℕ)) (old new : T)
     (serve : Serve) (end : Result Status Failure) where
   -- It failed before its first client, and nothing was handled.
@@ -31,7 +31,7 @@ module _ {T : Type 0} (is_sure : T → Type 0) (represents may_leave : T → Sta
   -- could be taken. The program ended so.
   pub record AreClients : Type 0 where
     pub served : Result (Unit {0}) ServeFault
-    pub handled : AreHandled is_sure represents may_leave limits remaining contents serve.timeout old new serve.count
+    pub handled : AreHandled m limits remaining contents serve.timeout old new serve.count
         served
     pub ends : IsEndOfService served end
 

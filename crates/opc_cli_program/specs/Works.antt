@@ -2,7 +2,7 @@
 use Rattle.std.specs.Prelude.{◌≡◌, ◌≤◌, ◌⊎◌, ℕ, Bool, List, Option, Result, IsErrAnd}
 use Rattle.std.specs.declared.time.Duration.{Duration}
 use Rattle.opc_state.specs.Changes.{IsKept}
-use Rattle.opc_state.specs.State.{State}
+use Rattle.opc_state.specs.Meaning.{Meaning}
 use Rattle.opc_cli_failures.specs.declared.failure.Failure.{Failure}
 use Rattle.opc_cli_failures.specs.declared.status.Status.{Status}
 use Rattle.opc_cli_failures.specs.Statuses.{IsFailure}
@@ -15,7 +15,7 @@ use Rattle.opc_cli_program.specs.Services.{IsService}
 use Rattle.opc_cli_program.specs.declared.work.Work.{Work}
 use Rattle.opc_cli_program.specs.declared.work.Work.TheVariants as work
 
-module _ {T : Type 0} (is_sure : T → Type 0) (represents may_leave : T → State → Type 0) {W : Type 0}
+module _ {T : Type 0} (m : Meaning T) {W : Type 0}
     (contents : W → Option (List ℕ)) (old new : T) (left : Option (List ℕ)) (before written : Watched W)
     (end : Result Status Failure) where
   -- The clock failed and nothing was done, or the policy file was imported at a moment.
@@ -23,7 +23,7 @@ module _ {T : Type 0} (is_sure : T → Type 0) (represents may_leave : T → Sta
   IsImportNow import =
       (IsErrAnd end (λ failure. IsFailure failure.fault) × (new ≡ old) × (written ≡ before))
       ⊎ ((moment : ℕ) × (moment ≤ LAST_MOMENT)
-      × IsImport is_sure represents may_leave old new end (λ (w : Watched W). contents w.inner)
+      × IsImport m old new end (λ (w : Watched W). contents w.inner)
       (λ (w : Watched W). w.failed) before written left moment import)
 
   -- Each work does what is said of it alone. `limits`, `remaining` and `taken` say of a client's connection whether its
@@ -31,13 +31,13 @@ module _ {T : Type 0} (is_sure : T → Type 0) (represents may_leave : T → Sta
   abbrev pub IsDone : {C : Type 0} → (limits : C → Duration → Bool → Type 0) → (remaining taken : C → Option (List ℕ))
       → (holds : List ℕ → Option (List ℕ)) → Work → Type 0
   IsDone limits remaining taken holds (work.Run policy) =
-      IsProgramRun is_sure represents may_leave (λ (w : Watched W). contents w.inner) (λ (w : Watched W). w.failed)
+      IsProgramRun m (λ (w : Watched W). contents w.inner) (λ (w : Watched W). w.failed)
       holds old new policy left before written end
   IsDone limits remaining taken holds (work.Import import) = IsImportNow import
   IsDone limits remaining taken holds work.Export =
-      IsKept is_sure represents may_leave old new
-      × IsExport is_sure represents may_leave old new end (λ (w : Watched W). contents w.inner)
+      IsKept m old new
+      × IsExport m old new end (λ (w : Watched W). contents w.inner)
       (λ (w : Watched W). w.failed) before written
   IsDone limits remaining taken holds (work.Serve serve) =
-      IsService is_sure represents may_leave limits remaining taken old new serve end (contents before.inner)
+      IsService m limits remaining taken old new serve end (contents before.inner)
       (contents written.inner)

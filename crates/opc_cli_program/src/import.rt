@@ -29,8 +29,8 @@ pub fn import_on<T: Tables, R: Read, K: Sink>(
     input: &mut R,
     output: &mut K,
 ) -> (Result<Status, Failure>, T)
-    ensures sure { T.is_sure result.1 → T.is_sure tables }
-    ensures imports { IsImport T.is_sure T.represents T.may_leave tables result.1 result.0 K.held K.has_failed
+    ensures sure { T.meaning.is_sure result.1 → T.meaning.is_sure tables }
+    ensures imports { IsImport T.meaning tables result.1 result.0 K.held K.has_failed
         output.old output.new (R.remaining input.old) moment import.now }
 {
     let mut gate = Gate::over(tables);
@@ -46,8 +46,8 @@ fn import_over<T: Tables, R: Read, K: Sink>(
     input: &mut R,
     output: &mut K,
 ) -> Result<Status, Failure>
-    ensures sure { T.is_sure gate.new → T.is_sure gate.old }
-    ensures imports { IsImport T.is_sure T.represents T.may_leave gate.old gate.new result K.held K.has_failed
+    ensures sure { T.meaning.is_sure gate.new → T.meaning.is_sure gate.old }
+    ensures imports { IsImport T.meaning gate.old gate.new result K.held K.has_failed
         output.old output.new (R.remaining input.old) moment import.now }
 {
     let rows = read_rows(alloc, Place::Input, input)?;
@@ -68,8 +68,8 @@ pub(crate) fn take_first<T: Tables>(
     gate: &mut Gate<T>,
     rows: &[Row],
 ) -> Result<Status, Failure>
-    ensures sure { T.is_sure gate.new → T.is_sure gate.old }
-    ensures takes { IsFirstPolicy T.is_sure T.represents T.may_leave gate.old gate.new result rows.now }
+    ensures sure { T.meaning.is_sure gate.new → T.meaning.is_sure gate.old }
+    ensures takes { IsFirstPolicy T.meaning gate.old gate.new result rows.now }
 {
     match gate.bootstrap(alloc, rows) {
         Ok(()) => Ok(Status::Done),
@@ -85,8 +85,8 @@ fn handle_alone<T: Tables, K: Sink>(
     request: &Request,
     output: &mut K,
 ) -> Result<Status, Failure>
-    ensures sure { T.is_sure gate.new → T.is_sure gate.old }
-    ensures handles { IsOneStep T.is_sure T.represents T.may_leave gate.old gate.new result K.held K.has_failed
+    ensures sure { T.meaning.is_sure gate.new → T.meaning.is_sure gate.old }
+    ensures handles { IsOneStep T.meaning gate.old gate.new result K.held K.has_failed
         output.old output.new moment (input_of request.now) }
 {
     let answer = gate.handle(alloc, moment, request);
@@ -106,9 +106,9 @@ pub fn export_on<T: Tables, K: Sink>(
     tables: T,
     output: &mut K,
 ) -> (Result<Status, Failure>, T)
-    ensures sure { T.is_sure result.1 → T.is_sure tables }
-    ensures kept { IsKept T.is_sure T.represents T.may_leave tables result.1 }
-    ensures exports { IsExport T.is_sure T.represents T.may_leave tables result.1 result.0 K.held K.has_failed
+    ensures sure { T.meaning.is_sure result.1 → T.meaning.is_sure tables }
+    ensures kept { IsKept T.meaning tables result.1 }
+    ensures exports { IsExport T.meaning tables result.1 result.0 K.held K.has_failed
         output.old output.new }
 {
     let mut gate = Gate::over(tables);
@@ -121,9 +121,9 @@ fn export_over<T: Tables, K: Sink>(
     gate: &mut Gate<T>,
     output: &mut K,
 ) -> Result<Status, Failure>
-    ensures sure { T.is_sure gate.new → T.is_sure gate.old }
-    ensures kept { IsKept T.is_sure T.represents T.may_leave gate.old gate.new }
-    ensures exports { IsExport T.is_sure T.represents T.may_leave gate.old gate.new result K.held K.has_failed
+    ensures sure { T.meaning.is_sure gate.new → T.meaning.is_sure gate.old }
+    ensures kept { IsKept T.meaning gate.old gate.new }
+    ensures exports { IsExport T.meaning gate.old gate.new result K.held K.has_failed
         output.old output.new }
 {
     let rows = gate.export(alloc).map_err(Failure::of_gate)?;

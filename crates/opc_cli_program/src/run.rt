@@ -29,8 +29,8 @@ pub fn run_on<H: AllocGlobal + Openings, T: Tables, R: Read, K: Sink>(
     input: &mut R,
     output: &mut K,
 ) -> (Result<Status, Failure>, T)
-    ensures sure { T.is_sure result.1 → T.is_sure tables }
-    ensures runs { IsProgramRun T.is_sure T.represents T.may_leave K.held K.has_failed (H.holds rt.now) tables result.1
+    ensures sure { T.meaning.is_sure result.1 → T.meaning.is_sure tables }
+    ensures runs { IsProgramRun T.meaning K.held K.has_failed (H.holds rt.now) tables result.1
         policy.entry (R.remaining input.old) output.old output.new result.0 }
 {
     let (taken, tables) = take_policy(rt, tables, policy);
@@ -46,8 +46,8 @@ fn take_policy<H: AllocGlobal + Openings, T: Tables>(
     tables: T,
     policy: Option<&str>,
 ) -> (Result<Status, Failure>, T)
-    ensures sure { T.is_sure result.1 → T.is_sure tables }
-    ensures takes { IsNamedPolicyTaken T.is_sure T.represents T.may_leave (H.holds rt.now) tables result.1 policy.entry
+    ensures sure { T.meaning.is_sure result.1 → T.meaning.is_sure tables }
+    ensures takes { IsNamedPolicyTaken T.meaning (H.holds rt.now) tables result.1 policy.entry
         result.0 }
 {
     let Some(path) = policy else {
@@ -63,8 +63,8 @@ fn take_file<H: AllocGlobal + Openings, T: Tables>(
     gate: &mut Gate<T>,
     path: &str,
 ) -> Result<Status, Failure>
-    ensures sure { T.is_sure gate.new → T.is_sure gate.old }
-    ensures takes { IsPolicyTaken T.is_sure T.represents T.may_leave gate.old gate.new result (H.holds rt.now path.now) }
+    ensures sure { T.meaning.is_sure gate.new → T.meaning.is_sure gate.old }
+    ensures takes { IsPolicyTaken T.meaning gate.old gate.new result (H.holds rt.now path.now) }
 {
     let rows = read_rows_at(rt.alloc(), rt, path)?;
     take_first(rt.alloc(), gate, &rows)
@@ -77,8 +77,8 @@ fn run_cached<T: Tables, R: Read, K: Sink>(
     input: &mut R,
     output: &mut K,
 ) -> (Result<Status, Failure>, T)
-    ensures sure { T.is_sure result.1 → T.is_sure tables }
-    ensures runs { IsAnsweredInput T.is_sure T.represents T.may_leave K.held K.has_failed tables result.1
+    ensures sure { T.meaning.is_sure result.1 → T.meaning.is_sure tables }
+    ensures runs { IsAnsweredInput T.meaning K.held K.has_failed tables result.1
         (R.remaining input.old) output.old output.new result.0 }
 {
     let mut gate = match Gate::new(alloc, tables) {
@@ -96,8 +96,8 @@ fn answer_script<T: Tables, R: Read, K: Sink>(
     input: &mut R,
     output: &mut K,
 ) -> Result<Status, Failure>
-    ensures sure { T.is_sure gate.new → T.is_sure gate.old }
-    ensures runs { IsAnsweredInput T.is_sure T.represents T.may_leave K.held K.has_failed gate.old gate.new
+    ensures sure { T.meaning.is_sure gate.new → T.meaning.is_sure gate.old }
+    ensures runs { IsAnsweredInput T.meaning K.held K.has_failed gate.old gate.new
         (R.remaining input.old) output.old output.new result }
 {
     let bytes = match read_up_to(alloc, input, SCRIPT_LIMIT) {
@@ -113,8 +113,8 @@ fn run_bytes<T: Tables, K: Sink>(
     bytes: &[u8],
     output: &mut K,
 ) -> Result<Status, ScriptFault>
-    ensures sure { T.is_sure gate.new → T.is_sure gate.old }
-    ensures runs { IsRunOfBytes T.is_sure T.represents T.may_leave gate.old gate.new bytes.now (K.held output.old)
+    ensures sure { T.meaning.is_sure gate.new → T.meaning.is_sure gate.old }
+    ensures runs { IsRunOfBytes T.meaning gate.old gate.new bytes.now (K.held output.old)
         (K.held output.new) result }
     ensures failed { K.has_failed output.new ≡ (if is_cut_by_output result then true else K.has_failed output.old) }
 {

@@ -37,8 +37,8 @@ pub fn serve_tables<H: AllocGlobal + Clock + Net, T: Tables, W: Write>(
 ) -> (Result<Status, Failure>, T)
 where
     H::Stream: Connection,
-    ensures sure { T.is_sure result.1 → T.is_sure tables }
-    ensures serves { IsService T.is_sure T.represents T.may_leave H.Stream.limits H.Stream.remaining H.Stream.contents
+    ensures sure { T.meaning.is_sure result.1 → T.meaning.is_sure tables }
+    ensures serves { IsService T.meaning H.Stream.limits H.Stream.remaining H.Stream.contents
         tables result.1 serve.now result.0 (W.contents output.old) (W.contents output.new) }
 {
     let mut gate = match Gate::new(rt.alloc(), tables) {
@@ -60,8 +60,8 @@ fn serve_at<H: AllocGlobal + Clock, P: Ports<Listener = L>, L: OpenListener, T: 
 where
     L: Drop,
     L::Stream: Connection,
-    ensures sure { T.is_sure gate.new → T.is_sure gate.old }
-    ensures serves { IsServiceAfter T.is_sure T.represents T.may_leave L.Stream.limits L.Stream.remaining
+    ensures sure { T.meaning.is_sure gate.new → T.meaning.is_sure gate.old }
+    ensures serves { IsServiceAfter T.meaning L.Stream.limits L.Stream.remaining
         L.Stream.contents gate.old gate.new serve.now result
         (Listens P.binds P.is_at ports.now serve.now.port (W.contents output.old) (W.contents output.new)) }
 {

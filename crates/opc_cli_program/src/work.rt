@@ -40,8 +40,8 @@ pub fn work_on<H: AllocGlobal + Clock + Net + Openings, T: Tables, R: Read, W: W
 ) -> (Result<Status, Failure>, T)
 where
     H::Stream: Connection,
-    ensures sure { T.is_sure result.1 → T.is_sure tables }
-    ensures done { IsDone T.is_sure T.represents T.may_leave W.contents tables result.1 (R.remaining input.old)
+    ensures sure { T.meaning.is_sure result.1 → T.meaning.is_sure tables }
+    ensures done { IsDone T.meaning W.contents tables result.1 (R.remaining input.old)
         output.old output.new result.0 H.Stream.limits H.Stream.remaining H.Stream.contents (H.holds rt.now) work.now }
 {
     match work {
@@ -60,8 +60,8 @@ fn import_now<H: AllocGlobal + Clock, T: Tables, R: Read, W: Write>(
     input: &mut R,
     output: &mut Watched<W>,
 ) -> (Result<Status, Failure>, T)
-    ensures sure { T.is_sure result.1 → T.is_sure tables }
-    ensures imports { IsImportNow T.is_sure T.represents T.may_leave W.contents tables result.1 (R.remaining input.old)
+    ensures sure { T.meaning.is_sure result.1 → T.meaning.is_sure tables }
+    ensures imports { IsImportNow T.meaning W.contents tables result.1 (R.remaining input.old)
         output.old output.new result.0 import.now }
 {
     match moment(rt) {

@@ -25,7 +25,7 @@ use Rattle.std.proofs.Common.{
 }
 use Rattle.std.specs.Io.KnownBytes.{Appends}
 use Rattle.std.proofs.lemmas.List.{append_assoc, append-nil}
-use Rattle.opc_state.specs.State.{State}
+use Rattle.opc_state.specs.Meaning.{Meaning}
 use Rattle.opc_machine.specs.declared.request.Request.{Request}
 use Rattle.opc_machine.specs.declared.request.Answer.{Answer}
 use Rattle.opc_gate.specs.Listening.{AreHeard, IsEndedRun, IsHeardRun}
@@ -78,22 +78,22 @@ module _ {L N : Type 0} (heard : L → ℕ → Answer → L → Type 0) (same : 
   CutsOff missed = (l : L) (moment : ℕ) (answer : Answer) (n : L) (fault : ScriptFault) → missed l moment answer n fault
       → (same n ≡ same l) × IsCutOff fault (contents l) (contents n) (answer_text moment answer) × (failed n ≡ (if is_output fault then true else failed l))
 
-  module _ {T : Type 0} (is_sure : T → Type 0) (represents may_leave : T → State → Type 0) (old new : T) (rs : List (ℕ × Request)) (from to : L) where
-    pub whole : Prints → IsHeardRun is_sure represents may_leave heard old new rs from to → status from ≡ Done
-        → IsWhole is_sure represents may_leave old new rs (contents from) (contents to) (status to)
+  module _ {T : Type 0} (m : Meaning T) (old new : T) (rs : List (ℕ × Request)) (from to : L) where
+    pub whole : Prints → IsHeardRun m heard old new rs from to → status from ≡ Done
+        → IsWhole m old new rs (contents from) (contents to) (status to)
     whole prints run start =
         let done = printed prints rs run.answers from to run.heard_all in
         record { answers = run.answers; each = done.each; run = run.run; text = done.text; ends = done.ends [] start }
 
-    pub whole_fine : Prints → IsHeardRun is_sure represents may_leave heard old new rs from to → failed to ≡ failed from
+    pub whole_fine : Prints → IsHeardRun m heard old new rs from to → failed to ≡ failed from
     whole_fine prints run = (printed prints rs run.answers from to run.heard_all).fine
 
-    pub whole_same : Prints → IsHeardRun is_sure represents may_leave heard old new rs from to → same to ≡ same from
+    pub whole_same : Prints → IsHeardRun m heard old new rs from to → same to ≡ same from
     whole_same prints run = (printed prints rs run.answers from to run.heard_all).same_output
 
     pub cut : (missed : L → ℕ → Answer → L → ScriptFault → Type 0) (fault : ScriptFault) → Prints → CutsOff missed
-        → IsEndedRun is_sure represents may_leave heard missed old new rs from to fault
-        → IsCut is_sure represents may_leave old new rs (contents from) (contents to) fault
+        → IsEndedRun m heard missed old new rs from to fault
+        → IsCut m old new rs (contents from) (contents to) fault
     cut missed fault prints cuts run =
         let done = printed prints run.before run.answers from run.met run.heard_before in
         record {
@@ -111,14 +111,14 @@ module _ {L N : Type 0} (heard : L → ℕ → Answer → L → Type 0) (same : 
         }
 
     pub cut_failed : (missed : L → ℕ → Answer → L → ScriptFault → Type 0) (fault : ScriptFault) → Prints
-        → CutsOff missed → IsEndedRun is_sure represents may_leave heard missed old new rs from to fault
+        → CutsOff missed → IsEndedRun m heard missed old new rs from to fault
         → failed to ≡ (if is_output fault then true else failed from)
     cut_failed missed fault prints cuts run =
         (cuts run.met run.request.0 run.answer to fault run.missed_last).2
         ∙ ap (λ before. if is_output fault then true else before) (printed prints run.before run.answers from run.met run.heard_before).fine
 
     pub cut_same : (missed : L → ℕ → Answer → L → ScriptFault → Type 0) (fault : ScriptFault) → Prints → CutsOff missed
-        → IsEndedRun is_sure represents may_leave heard missed old new rs from to fault → same to ≡ same from
+        → IsEndedRun m heard missed old new rs from to fault → same to ≡ same from
     cut_same missed fault prints cuts run =
         (cuts run.met run.request.0 run.answer to fault run.missed_last).0 ∙ (printed prints run.before run.answers from run.met run.heard_before).same_output
 

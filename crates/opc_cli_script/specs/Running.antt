@@ -1,6 +1,7 @@
 -- A script's run over tables.
 use Rattle.std.specs.Prelude.{◌≡◌, ◌⊎◌, ℕ, List, [], ◌∷◌, ◌++◌, Option, Result, Ok, Err, MatchOption, length, take}
 use Rattle.std.specs.Io.KnownBytes.{Appends}
+use Rattle.opc_state.specs.Meaning.{Meaning}
 use Rattle.opc_state.specs.State.{State}
 use Rattle.opc_machine.specs.declared.request.Request.{Request}
 use Rattle.opc_machine.specs.declared.request.Answer.{Answer}
@@ -24,13 +25,13 @@ IsCutOff NoMemory before written text = written ≡ before
 IsCutOff (Output error) before written text = AppendsPrefix before written text
 IsCutOff (BadLine number) before written text = ⊥
 
-module _ {T : Type 0} (is_sure : T → Type 0) (represents may_leave : T → State → Type 0) where
+module _ {T : Type 0} (m : Meaning T) where
   -- All requests were handled, and what was written is the transcript of their answers.
   pub record IsWhole (old new : T) (requests : List (ℕ × Request)) (before written : Option (List ℕ))
       (status : Status) : Type 0 where
     pub answers : List Answer
     pub each : length answers ≡ length requests
-    pub run : is_sure new → (s : State) → represents old s → IsRun represents may_leave old new s requests answers
+    pub run : m.is_sure new → (s : State) → m.represents old s → IsRun m old new s requests answers
     pub text : Appends before written (transcript requests answers)
     pub ends : status ≡ status_of answers
 
@@ -45,8 +46,8 @@ module _ {T : Type 0} (is_sure : T → Type 0) (represents may_leave : T → Sta
     pub answers : List Answer
     pub each : length answers ≡ length reported
     pub answer : Answer
-    pub run : is_sure new → (s : State) → represents old s
-        → IsRun represents may_leave old new s (reported ++ request ∷ []) (answers ++ answer ∷ [])
+    pub run : m.is_sure new → (s : State) → m.represents old s
+        → IsRun m old new s (reported ++ request ∷ []) (answers ++ answer ∷ [])
     pub met : Option (List ℕ)
     pub text : Appends before met (transcript reported answers)
     pub cut_off : IsCutOff fault met written (answer_text request.0 answer)
@@ -75,8 +76,8 @@ IsBadRun number before written (Ok status) = ⊥
 IsBadRun number before written (Err fault) = IsBadLinePrinted number before written fault
 
 -- A script was run, or its bad line was reported and nothing was run.
-abbrev pub IsAnswered : {T : Type 0} → (T → Type 0) → (represents may_leave : T → State → Type 0) → (old new : T)
+abbrev pub IsAnswered : {T : Type 0} → Meaning T → (old new : T)
     → (script : List ℕ) → (before written : Option (List ℕ)) → Result Status ScriptFault → Type 0
-IsAnswered is_sure represents may_leave old new script before written result =
-    MatchOption (bad_line script) (IsScriptRun is_sure represents may_leave old new (requests_in script) before written
+IsAnswered m old new script before written result =
+    MatchOption (bad_line script) (IsScriptRun m old new (requests_in script) before written
     result) (λ number. (new ≡ old) × IsBadRun number before written result)

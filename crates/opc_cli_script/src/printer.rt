@@ -52,12 +52,12 @@ impl<K: Sink> Printer<'_, K> {
         gate: &mut Gate<T>,
         requests: &[(u64, Request)],
     ) -> Result<(), ScriptFault>
-        ensures sure { T.is_sure gate.new → T.is_sure gate.old }
+        ensures sure { T.meaning.is_sure gate.new → T.meaning.is_sure gate.old }
         ensures same_reference { self.new.output.ghost_name ≡ self.old.output.ghost_name }
         ensures whole { self.old.status ≡ Status.Done
-            → OnOk result (IsWhole T.is_sure T.represents T.may_leave gate.old gate.new requests.now
+            → OnOk result (IsWhole T.meaning gate.old gate.new requests.now
             (K.held self.old.output.now) (K.held self.new.output.now) self.new.status) }
-        ensures cut { IfErr result (IsCut T.is_sure T.represents T.may_leave gate.old gate.new requests.now
+        ensures cut { IfErr result (IsCut T.meaning gate.old gate.new requests.now
             (K.held self.old.output.now) (K.held self.new.output.now)) }
         ensures failed { K.has_failed self.new.output.now
             ≡ (if is_cut_by_output result then true else K.has_failed self.old.output.now) }

@@ -48,11 +48,11 @@ pub fn run_script<T: Tables, K: Sink>(
     script: &str,
     output: &mut K,
 ) -> Result<Status, ScriptFault>
-    ensures sure { T.is_sure gate.new → T.is_sure gate.old }
+    ensures sure { T.meaning.is_sure gate.new → T.meaning.is_sure gate.old }
     ensures bad { IfSome (bad_line script.now)
         (λ number. (gate.new ≡ gate.old) × IsBadRun number (K.held output.old) (K.held output.new) result) }
     ensures runs { bad_line script.now ≡ None
-        → IsScriptRun T.is_sure T.represents T.may_leave gate.old gate.new (requests_in script.now) (K.held output.old)
+        → IsScriptRun T.meaning gate.old gate.new (requests_in script.now) (K.held output.old)
         (K.held output.new) result }
     ensures failed { K.has_failed output.new ≡ (if is_cut_by_output result then true else K.has_failed output.old) }
 {

@@ -12,10 +12,11 @@ use Rattle.sqlite.specs.WalReads.{AreClean}
 use Rattle.opc_terms.specs.declared.rule.Rule.{Rule}
 use Rattle.opc_policy_members.specs.declared.row.Row.{Row}
 use Rattle.opc_board.specs.declared.line.Line.{Line}
+use Rattle.opc_state.specs.Meaning.{Meaning}
 use Rattle.opc_state.specs.State.{State}
 use Rattle.opc_store_schema.specs.Represented.{AreTablesOf}
 use Rattle.opc_store_schema.proofs.Opened.{alone_from}
-use Rattle.opc_store.specs.StoreTables.{IsSure, MayLeave, RepresentsIfOpen}
+use Rattle.opc_store.specs.StoreTables.{IsSure, RepresentsIfOpen, store_meaning}
 use Rattle.opc_machine.specs.declared.request.Answer.{Answer}
 use Rattle.opc_machine.specs.declared.request.Answer.TheVariants as answer
 use Rattle.opc_machine.specs.declared.request.Request.{Request}
@@ -105,8 +106,8 @@ module _ {D : Type 0} (g : disk.Ghosts D) where
   abbrev Are : Tables → State → Type 0
   Are = RepresentsIfOpen over_files
 
-  abbrev Leave : Tables → State → Type 0
-  Leave = MayLeave over_files
+  abbrev means : Meaning Tables
+  means = store_meaning over_files
 
   holds_last : (last : Tables) (files : Files D) → IsEnd last (Ok files) → AreClean g files.log files.db
       → (s : State) → Are last s → HoldTablesOf g files s
@@ -129,14 +130,14 @@ module _ {D : Type 0} (g : disk.Ghosts D) where
     pub are : Are mid first
 
   first_taken : (opened mid : Tables) (ended : Status) (s : State) → Sure mid → Are opened s
-      → IsPolicyTaken Sure Are Leave opened mid (Ok ended) None → Begun opened mid s
+      → IsPolicyTaken means opened mid (Ok ended) None → Begun opened mid s
   first_taken opened mid ended s sure was (inl unread) = absurd unread.0
   first_taken opened mid ended s sure was (inr it) =
       let over = (it.2.taken sure s was).done in
       record { rows = it.0; read = it.1; first = over.next; taken = over.becomes; are = over.represented }
 
   first_refused : (opened mid : Tables) (failure : Failure) (s : State) → Sure mid → Are opened s
-      → (IsFailure failure.fault → ⊥) → IsPolicyTaken Sure Are Leave opened mid (Err failure) None
+      → (IsFailure failure.fault → ⊥) → IsPolicyTaken means opened mid (Err failure) None
       → IsFirstRefused s failure.fault × Are mid s
   first_refused opened mid failure s sure was reported (inl (inl failed, same)) = absurd (reported failed)
   first_refused opened mid failure s sure was reported (inl (inr refused, same)) = (inl refused, subst (λ (t : Tables). Are t s) (sym same) was)
@@ -154,29 +155,29 @@ module _ {D : Type 0} (g : disk.Ghosts D) where
     -- ---- a script
 
     begun : (mid last : Tables) (left : Option (List ℕ)) (before written : Watched W) (status : Status)
-        → IsAnsweredInput Sure Are Leave held has_failed mid last left before written (Ok status)
-        → IsInputRun Sure Are Leave held has_failed mid last left before written (Ok status)
+        → IsAnsweredInput means held has_failed mid last left before written (Ok status)
+        → IsInputRun means held has_failed mid last left before written (Ok status)
     begun mid last left before written status (inl nothing) = absurd nothing.unread
     begun mid last left before written status (inr run) = run
 
     whole : (mid last : Tables) (requests : List (ℕ × Request)) (before written : Option (List ℕ)) (status : Status)
         (ran : Result Status ScriptFault) → IsEndOf ran (Ok status)
-        → IsScriptRun Sure Are Leave mid last requests before written ran → IsWhole Sure Are Leave mid last requests before written status
+        → IsScriptRun means mid last requests before written ran → IsWhole means mid last requests before written status
     whole mid last requests before written status (Ok reported) ends w =
-        subst (λ (x : Status). IsWhole Sure Are Leave mid last requests before written x) (cc) w
+        subst (λ (x : Status). IsWhole means mid last requests before written x) (cc) w
     whole mid last requests before written status (Err (BadLine number)) ends (inl w) = absurd (let same = w.no_memory in cc)
     whole mid last requests before written status (Err (BadLine number)) ends (inr w) = absurd w.cut_off
     whole mid last requests before written status (Err NoMemory) ends w = absurd ends
     whole mid last requests before written status (Err (Output error)) ends w = absurd ends
 
     text_run : (mid last : Tables) (script : List ℕ) (before written : Option (List ℕ)) (ran : Result Status ScriptFault) → IsUtf8 script
-        → IsRunOfBytes Sure Are Leave mid last script before written ran → IsAnswered Sure Are Leave mid last script before written ran
+        → IsRunOfBytes means mid last script before written ran → IsAnswered means mid last script before written ran
     text_run mid last script before written ran text (inl run) = run.1
     text_run mid last script before written ran text (inr not) = absurd (not.0 text)
 
     script_kept : (mid last : Tables) (s : State) (left : Option (List ℕ)) (before written : Watched W) (status : Status) (files : Files D)
         → IsEnd last (Ok files) → AreClean g files.log files.db → Are mid s
-        → IsAnsweredInput Sure Are Leave held has_failed mid last left before written (Ok status)
+        → IsAnsweredInput means held has_failed mid last left before written (Ok status)
         → IsKeptScript g s left (held before) (held written) status files
     script_kept mid last s left before written status files ends clean was answered =
         let input = begun mid last left before written status answered in (
@@ -200,14 +201,14 @@ module _ {D : Type 0} (g : disk.Ghosts D) where
     -- what came of the first policy, and then of the script
     abbrev Then : (mid last : Tables) → Option (List ℕ) → (before written : Watched W) → Result Status Failure → Result Status Failure → Type 0
     Then mid last left before written end taken =
-        MatchResult taken (λ _. IsAnsweredInput Sure Are Leave held has_failed mid last left before written end)
+        MatchResult taken (λ _. IsAnsweredInput means held has_failed mid last left before written end)
         (λ failure. (end ≡ Err failure) × (last ≡ mid) × (written ≡ before))
 
     module _ (opened mid last : Tables) (s : State) (left : Option (List ℕ)) (before written : Watched W)
         (files : Files D) (ends : IsEnd last (Ok files)) (clean : AreClean g files.log files.db) (sure : Sure mid)
         (was : Are opened s) where
       first_kept : (status : Status) (taken : Result Status Failure)
-          → IsPolicyTaken Sure Are Leave opened mid taken None → Then mid last left before written (Ok status) taken
+          → IsPolicyTaken means opened mid taken None → Then mid last left before written (Ok status) taken
           → IsKeptFirstRun g s left (held before) (held written) status files
       first_kept status (Ok ended) takes answered =
           let first = first_taken opened mid ended s sure was takes in
@@ -221,7 +222,7 @@ module _ {D : Type 0} (g : disk.Ghosts D) where
       first_kept status (Err failure) takes ended = absurd (let same = ended.0 in cc)
 
       refused_kept : (failure : Failure) → (IsFailure failure.fault → ⊥) → (taken : Result Status Failure)
-          → IsPolicyTaken Sure Are Leave opened mid taken None → Then mid last left before written (Err failure) taken
+          → IsPolicyTaken means opened mid taken None → Then mid last left before written (Err failure) taken
           → IsFirstRefused s failure.fault × (written ≡ before) × HoldTablesOf g files s
       refused_kept failure reported (Ok ended) takes (inl nothing) = absurd (reported (input_failed failure nothing.unread))
       refused_kept failure reported (Ok ended) takes (inr run) = absurd (reported (script_failed run.ran failure run.ends))
@@ -235,7 +236,7 @@ module _ {D : Type 0} (g : disk.Ghosts D) where
 
     request_kept : (opened last : Tables) (s : State) (moment : ℕ) (r : Input) (before written : Watched W) (status : Status) (files : Files D)
         → IsEnd last (Ok files) → AreClean g files.log files.db → Are opened s
-        → IsOneStep Sure Are Leave opened last (Ok status) held has_failed before written moment r
+        → IsOneStep means opened last (Ok status) held has_failed before written moment r
         → IsKeptRequest g s moment r (held before) (held written) files
     request_kept opened last s moment r before written status files ends clean was step =
         let it = step.handled (ends.1 clean).was_clean s was in
@@ -264,7 +265,7 @@ module _ {D : Type 0} (g : disk.Ghosts D) where
     runs_are_kept s left before written status files over =
         let r = over.works in
         let answered = taken_well _ r.done.taken r.done.takes.0 r.done.runs in
-        let same = subst (λ (mid : Tables). IsAnsweredInput Sure Are Leave held has_failed mid r.last left before
+        let same = subst (λ (mid : Tables). IsAnsweredInput means held has_failed mid r.last left before
         written (Ok status)) r.done.takes.1 answered in
         script_kept r.opened r.last s left before written status files r.ends over.clean (start over) same
 
@@ -283,23 +284,23 @@ module _ {D : Type 0} (g : disk.Ghosts D) where
     module _ (opened last : Tables) (s : State) (import : Asked) (left : Option (List ℕ)) (before written : Watched W)
         (status : Status) (files : Files D) (ends : IsEnd last (Ok files)) (clean : AreClean g files.log files.db)
         (was : Are opened s) where
-      at_console : (console : List ℕ) → import.console ≡ Some console → IsImportNow Sure Are Leave contents opened last left before written (Ok status) import
+      at_console : (console : List ℕ) → import.console ≡ Some console → IsImportNow means contents opened last left before written (Ok status) import
           → (rows : List Row) × AreRead left rows
           × ((moment : ℕ) × IsKeptRequest g s moment (input.Import console import.batch rows) (held before)
           (held written) files)
       at_console console is (inl failed) = absurd failed.0
       at_console console is (inr (moment, early, inl nothing)) = absurd nothing.unread
       at_console console is (inr (moment, early, inr (rows, read, taken))) =
-          let step = subst (λ (c : Option (List ℕ)). AreTaken Sure Are Leave opened last (Ok status) held has_failed
+          let step = subst (λ (c : Option (List ℕ)). AreTaken means opened last (Ok status) held has_failed
           before written moment import.batch c rows) is taken in
           (rows, read, (moment, request_kept opened last s moment (input.Import console import.batch rows) before written status files ends clean was step))
 
-      without_console : import.console ≡ None → IsImportNow Sure Are Leave contents opened last left before written (Ok status) import
+      without_console : import.console ≡ None → IsImportNow means contents opened last left before written (Ok status) import
           → (rows : List Row) × AreRead left rows × ((first : State) × (bootstrapped rows s ≡ Ok first) × (written ≡ before) × HoldTablesOf g files first)
       without_console is (inl failed) = absurd failed.0
       without_console is (inr (moment, early, inl nothing)) = absurd nothing.unread
       without_console is (inr (moment, early, inr (rows, read, taken))) =
-          let both = subst (λ (c : Option (List ℕ)). AreTaken Sure Are Leave opened last (Ok status) held has_failed
+          let both = subst (λ (c : Option (List ℕ)). AreTaken means opened last (Ok status) held has_failed
           before written moment import.batch c rows) is taken in
           let over = (both.0.taken (ends.1 clean).was_clean s was).done in
           (rows, read, (over.next, over.becomes, both.1, holds_last last files ends clean over.next over.represented))

@@ -17,7 +17,7 @@ use Rattle.opc_machine.specs.Inputs as input
 use Rattle.opc_machine.specs.Machine.{IsAborted, after, outcome}
 use Rattle.opc_gate.specs.Handling.{IsHandled, LeavesAlone}
 use Rattle.opc_store_schema.specs.Represented.{Represents, AreTablesOf}
-use Rattle.opc_store.specs.StoreTables.{IsShut, IsSure, MayLeave, RepresentsIfOpen}
+use Rattle.opc_store.specs.StoreTables.{IsShut, IsSure, MayLeave, RepresentsIfOpen, store_meaning}
 use Rattle.opc_cli_works.specs.Works.{IsOpening}
 
 -- A request that some state refuses: each but the event RESUME, which is answered alike in every state.
@@ -30,7 +30,7 @@ module _ {S : Type 0} (g : Ghosts S) where
   abbrev pub IsHandledOver : (old new : Held S) → (moment : ℕ) → Input → Answer → Type 0
   IsHandledOver old new moment r answer =
       IsSure g new → (s : State) → RepresentsIfOpen g old s
-      → IsHandled (RepresentsIfOpen g) (MayLeave g) old new s moment r answer
+      → IsHandled (store_meaning g) old new s moment r answer
 
   -- Closed tables stay closed, whatever is asked, and a crash leaves nothing but what it would have left before.
   abbrev pub ShutTablesStay : Type 0
@@ -60,5 +60,5 @@ module _ {D : Type 0} (g : disk.Ghosts D) where
   RequestsAreLeftWhole =
       (old new : Held (FileStore D g)) (s : State) (moment : ℕ) (r : Input) (answer : Answer)
       → IsHandledOver over_files old new moment r answer
-      → RepresentsIfOpen over_files old s → LeavesAlone (MayLeave over_files) old s → IsSure over_files new
+      → RepresentsIfOpen over_files old s → LeavesAlone (store_meaning over_files) old s → IsSure over_files new
       → (trees : Trees) → (file_state new).may_leave trees → AreOfOneOf trees s (after s moment r (outcome s r))

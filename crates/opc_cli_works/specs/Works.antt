@@ -22,7 +22,7 @@ use Rattle.opc_store_schema.specs.Represented.{Represents, AreTablesOf}
 use Rattle.opc_store_old_tables.specs.Old.{AreOldTablesOf}
 use Rattle.opc_store_old_tables.specs.Tables.{Older}
 use Rattle.opc_store.specs.Opening.{IsAdopted, LeavesItself}
-use Rattle.opc_store.specs.StoreTables.{IsSure, MayLeave, RepresentsIfOpen}
+use Rattle.opc_store.specs.StoreTables.{IsSure, store_meaning}
 use Rattle.opc_cli_failures.specs.declared.status.Status.{Status}
 use Rattle.opc_cli_failures.specs.declared.failure.Failure.{Failure}
 use Rattle.opc_cli_failures.specs.Statuses.{IsFailure}
@@ -58,7 +58,7 @@ module _ {D : Type 0} {g : disk.Ghosts D} where
     pub last : Held (FileStore D g)
     pub opening : IsOpening image opened
     pub sure : IsSure over_files last → IsSure over_files opened
-    pub done : IsDone (IsSure over_files) (RepresentsIfOpen over_files) (MayLeave over_files) contents opened last left
+    pub done : IsDone (store_meaning over_files) contents opened last left
         before written end {C = TcpStream} (λ _ _ _. ⊤) (λ _. None) (λ _. None) (λ path. None) work
     pub ends : IsEnd last closed
 
@@ -69,5 +69,5 @@ abbrev pub IsRunInMemory : {K : Type 0} → (K → Option (List ℕ)) → (K →
 IsRunInMemory held has_failed holds policy left before written end =
     (IsErrAnd end (λ failure. IsFailure failure.fault) × (written ≡ before))
     ⊎ ((opened : _) × (last : _) × Represents (state over_memory opened).now empty
-    × IsProgramRun (IsSure over_memory) (RepresentsIfOpen over_memory) (MayLeave over_memory) held has_failed holds
+    × IsProgramRun (store_meaning over_memory) held has_failed holds
     opened last policy left before written end)

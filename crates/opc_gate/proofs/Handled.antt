@@ -1,6 +1,7 @@
 -- A request handled, from the decision and what the commit promises.
 use Rattle.std.proofs.Common.{◌≡◌, ◌⊎◌, inl, inr, ℕ, true, false, ◌&&◌, List, [], ◌∷◌, ◌++◌, Option, Some, None, refl, sym, ap, ◌∙◌, rules}
 use Rattle.std.specs.Option.{is_none}
+use Rattle.opc_state.specs.Meaning.{Meaning}
 use Rattle.opc_state.specs.State.{State, Fits}
 use Rattle.opc_state.specs.Changes.{edited, all_edited, with_account, changed_by, no_edits, is_nothing}
 use Rattle.opc_state.specs.declared.account.AccountRow.{AccountRow}
@@ -47,11 +48,11 @@ some_change s moment r answer c d idle something same =
     let none : is_nothing c ≡ true = idle (d.becomes ∙ same) in
     cc
 
-module _ {T : Type 0} (represents may_leave : T → State → Type 0) where
-  pub aborted : (old new : T) (s : State) (moment : ℕ) (r : Input) (answer : Answer) → IsAborted answer → represents new s
-      → ((left : State) → may_leave new left → may_leave old left ⊎ (left ≡ after s moment r (outcome s r)))
-      → (after s moment r (outcome s r) ≡ s → (left : State) → may_leave new left → may_leave old left)
-      → IsHandled represents may_leave old new s moment r answer
+module _ {T : Type 0} (m : Meaning T) where
+  pub aborted : (old new : T) (s : State) (moment : ℕ) (r : Input) (answer : Answer) → IsAborted answer → m.represents new s
+      → ((left : State) → m.may_leave new left → m.may_leave old left ⊎ (left ≡ after s moment r (outcome s r)))
+      → (after s moment r (outcome s r) ≡ s → (left : State) → m.may_leave new left → m.may_leave old left)
+      → IsHandled m old new s moment r answer
   aborted old new s moment r answer gives represented crash idle = record {
     next = s;
     step = inl (record { aborts = gives; same = refl });
@@ -62,8 +63,8 @@ module _ {T : Type 0} (represents may_leave : T → State → Type 0) where
   }
 
   pub unwritten : (tables : T) (s : State) (moment : ℕ) (r : Input) (answer : Answer) (c : Change)
-      → IsDecision s moment r answer c → is_nothing c ≡ true → represents tables s
-      → IsHandled represents may_leave tables tables s moment r answer
+      → IsDecision s moment r answer c → is_nothing c ≡ true → m.represents tables s
+      → IsHandled m tables tables s moment r answer
   unwritten tables s moment r answer c d none represented = record {
     next = s;
     step = inr (inr (record { answers = d.answers; becomes = sym (nothing_changes c s none) ∙ d.becomes; fits = λ h. h }));
@@ -74,10 +75,10 @@ module _ {T : Type 0} (represents may_leave : T → State → Type 0) where
   }
 
   pub written : (old new : T) (s : State) (moment : ℕ) (r : Input) (answer : Answer) (c : Change)
-      → IsDecision s moment r answer c → IsNothingWhereSame s c → is_nothing c ≡ false → represents new (changed_by c s)
+      → IsDecision s moment r answer c → IsNothingWhereSame s c → is_nothing c ≡ false → m.represents new (changed_by c s)
       → (Fits s → Fits (changed_by c s))
-      → ((left : State) → may_leave new left → may_leave old left ⊎ (left ≡ changed_by c s)) → ((left : State) → may_leave new left → left ≡ changed_by c s)
-      → IsHandled represents may_leave old new s moment r answer
+      → ((left : State) → m.may_leave new left → m.may_leave old left ⊎ (left ≡ changed_by c s)) → ((left : State) → m.may_leave new left → left ≡ changed_by c s)
+      → IsHandled m old new s moment r answer
   written old new s moment r answer c d nothing something represented fits crash acknowledged = record {
     next = changed_by c s;
     step = inr (inr (record { answers = d.answers; becomes = d.becomes; fits = fits }));
@@ -88,8 +89,8 @@ module _ {T : Type 0} (represents may_leave : T → State → Type 0) where
   }
 
   -- a request is handled since what a crash may leave was not more
-  pub handled_since : (old mid new : T) (s : State) (moment : ℕ) (r : Input) (answer : Answer) → ((left : State) → may_leave mid left → may_leave old left)
-      → IsHandled represents may_leave mid new s moment r answer → IsHandled represents may_leave old new s moment r answer
+  pub handled_since : (old mid new : T) (s : State) (moment : ℕ) (r : Input) (answer : Answer) → ((left : State) → m.may_leave mid left → m.may_leave old left)
+      → IsHandled m mid new s moment r answer → IsHandled m old new s moment r answer
   handled_since old mid new s moment r answer before h = record {
     next = h.next;
     step = h.step;

@@ -1,7 +1,7 @@
 -- A run whose answers are heard goes on by one request.
 use Rattle.std.proofs.Common.{◌≡◌, ℕ, ◌+◌, ◌<◌, List, [], ◌∷◌, ◌++◌, length, take, drop, get_or, refl, subst, sym, ap, ◌∙◌}
 use Rattle.std.proofs.lemmas.List.{append_assoc, take-append-drop, take_more}
-use Rattle.opc_state.specs.State.{State}
+use Rattle.opc_state.specs.Meaning.{Meaning}
 use Rattle.opc_machine.specs.declared.request.Request.{Request}
 use Rattle.opc_machine.specs.declared.request.Answer.{Answer}
 use Rattle.opc_gate.specs.Handling.{IsRun}
@@ -16,26 +16,26 @@ heard_more heard [] (a ∷ answers) from mid to r answer are one = absurd are
 heard_more heard (q ∷ rs) [] from mid to r answer are one = absurd are
 heard_more heard (q ∷ rs) (a ∷ answers) from mid to r answer are one = (are.0, are.1, heard_more heard rs answers are.0 mid to r answer are.2 one)
 
-module _ {T L : Type 0} (is_sure : T → Type 0) (represents may_leave : T → State → Type 0) (heard : L → ℕ → Answer → L → Type 0) where
+module _ {T L : Type 0} (m : Meaning T) (heard : L → ℕ → Answer → L → Type 0) where
   -- nothing is handled yet
-  pub begins : (now : T) (listener : L) → IsHeardRun is_sure represents may_leave heard now now [] listener listener
+  pub begins : (now : T) (listener : L) → IsHeardRun m heard now now [] listener listener
   begins now listener =
       record {
         answers = [];
-        run = λ sure s represented. run_none represents may_leave now s represented;
+        run = λ sure s represented. run_none m now s represented;
         heard_all = refl;
       }
 
   -- one more answer, heard
   pub goes_on : (rs : List (ℕ × Request)) (i : ℕ) (r : ℕ × Request) (old mid new : T) (from met to : L) (answer : Answer) → i < length rs → r ≡ get_or rs i r
-      → IsHeardRun is_sure represents may_leave heard old mid (take i rs) from met
-      → IsNext is_sure represents may_leave mid new r answer → heard met r.0 answer to
-      → IsHeardRun is_sure represents may_leave heard old new (take (i + 1) rs) from to
+      → IsHeardRun m heard old mid (take i rs) from met
+      → IsNext m mid new r answer → heard met r.0 answer to
+      → IsHeardRun m heard old new (take (i + 1) rs) from to
   goes_on rs i r old mid new from met to answer low is far next one =
       let all : take (i + 1) rs ≡ take i rs ++ r ∷ [] = take_more rs i r low ∙ ap (λ x. take i rs ++ x ∷ []) (sym is) in
       record {
         answers = far.answers ++ answer ∷ [];
-        run = sure_more is_sure represents may_leave rs i r old mid new far.answers answer low is far.run next;
+        run = sure_more m rs i r old mid new far.answers answer low is far.run next;
         heard_all = subst (λ qs. AreHeard heard qs (far.answers ++ answer ∷ []) from to) (sym all)
             (heard_more heard (take i rs) far.answers from met to r answer far.heard_all one);
       }
@@ -43,9 +43,9 @@ module _ {T L : Type 0} (is_sure : T → Type 0) (represents may_leave : T → S
   -- one more answer, not heard
   pub ends : {F : Type 0} (missed : L → ℕ → Answer → L → F → Type 0) (rs : List (ℕ × Request)) (i : ℕ) (r : ℕ × Request)
       (old mid new : T) (from met to : L) (answer : Answer) (fault : F) → i < length rs → r ≡ get_or rs i r
-      → IsHeardRun is_sure represents may_leave heard old mid (take i rs) from met
-      → IsNext is_sure represents may_leave mid new r answer → missed met r.0 answer to fault
-      → IsEndedRun is_sure represents may_leave heard missed old new rs from to fault
+      → IsHeardRun m heard old mid (take i rs) from met
+      → IsNext m mid new r answer → missed met r.0 answer to fault
+      → IsEndedRun m heard missed old new rs from to fault
   ends missed rs i r old mid new from met to answer fault low is far next one =
       let all : take (i + 1) rs ≡ take i rs ++ r ∷ [] = take_more rs i r low ∙ ap (λ x. take i rs ++ x ∷ []) (sym is) in
       record {
@@ -55,8 +55,8 @@ module _ {T L : Type 0} (is_sure : T → Type 0) (represents may_leave : T → S
         are = sym (take-append-drop (i + 1) rs) ∙ ap (λ qs. qs ++ drop (i + 1) rs) all ∙ append_assoc (take i rs) (r ∷ []) (drop (i + 1) rs);
         answers = far.answers;
         answer = answer;
-        run = λ sure s represented. subst (λ qs. IsRun represents may_leave old new s qs (far.answers ++ answer ∷ []))
-            all (sure_more is_sure represents may_leave rs i r old mid new far.answers answer low is far.run next sure s
+        run = λ sure s represented. subst (λ qs. IsRun m old new s qs (far.answers ++ answer ∷ []))
+            all (sure_more m rs i r old mid new far.answers answer low is far.run next sure s
             represented);
         met = met;
         heard_before = far.heard_all;

@@ -3,6 +3,7 @@ use Rattle.std.proofs.Common.{◌≡◌, inl, inr, ℕ, suc, ◌+◌, ◌<◌, �
 use Rattle.std.proofs.Math.Seq.{take-append_seam}
 use Rattle.std.proofs.lemmas.List.{append_assoc, length-append, take-append-le, take_more}
 use Rattle.std.proofs.lemmas.List.Elements.{All-pop}
+use Rattle.opc_state.specs.Meaning.{Meaning}
 use Rattle.opc_state.specs.State.{State}
 use Rattle.opc_machine.specs.declared.request.Request.{Request}
 use Rattle.opc_machine.specs.declared.request.Answer.{Answer}
@@ -60,21 +61,21 @@ made_last s rs answers mid made r answer runs makes =
       makes = makes;
     }
 
-module _ {T : Type 0} (represents may_leave : T → State → Type 0) where
-  acknowledged_more : (old mid new : T) (s met next : State) → IsAcknowledged may_leave old mid s met
-      → IsAcknowledged may_leave mid new met next → IsAcknowledged may_leave old new s next
+module _ {T : Type 0} (m : Meaning T) where
+  acknowledged_more : (old mid new : T) (s met next : State) → IsAcknowledged m old mid s met
+      → IsAcknowledged m mid new met next → IsAcknowledged m old new s next
   acknowledged_more old mid new s met next before (inl alone) = inl alone
   acknowledged_more old mid new s met next (inl alone) (inr same) = inl (λ left h. alone left (same.1 left h) ∙ sym same.0)
   acknowledged_more old mid new s met next (inr first) (inr same) = inr (same.0 ∙ first.0, λ left h. first.1 left (same.1 left h))
 
   pub run_more : (rs : List (ℕ × Request)) (i : ℕ) (r : ℕ × Request) (old mid new : T) (s : State)
       (answers : List Answer) (answer : Answer) → i < length rs → r ≡ get_or rs i r
-      → (run : IsRun represents may_leave old mid s (take i rs) answers) → IsHandled represents may_leave mid new run.last r.0 (input_of r.1) answer
-      → IsRun represents may_leave old new s (take (i + 1) rs) (answers ++ answer ∷ [])
+      → (run : IsRun m old mid s (take i rs) answers) → IsHandled m mid new run.last r.0 (input_of r.1) answer
+      → IsRun m old new s (take (i + 1) rs) (answers ++ answer ∷ [])
   run_more rs i r old mid new s answers answer low is run handled =
       let first = take i rs in
       let all : take (i + 1) rs ≡ first ++ r ∷ [] = take_more rs i r low ∙ ap (λ x. first ++ x ∷ []) (sym is) in
-      subst (λ qs. IsRun represents may_leave old new s qs (answers ++ answer ∷ [])) (sym all) (record {
+      subst (λ qs. IsRun m old new s qs (answers ++ answer ∷ [])) (sym all) (record {
         last = handled.next;
         runs = runs_more s first answers run.last handled.next r answer run.runs handled.step;
         represented = handled.represented;
@@ -88,23 +89,23 @@ module _ {T : Type 0} (represents may_leave : T → State → Type 0) where
       })
 
   -- nothing is handled yet
-  pub run_none : (now : T) (s : State) → represents now s → IsRun represents may_leave now now s [] []
+  pub run_none : (now : T) (s : State) → m.represents now s → IsRun m now now s [] []
   run_none now s represented = record { last = s; runs = refl; represented = represented; crash = λ left h. inl h; acknowledged = λ _. inr (refl, λ left h. h) }
 
-module _ {T : Type 0} (is_sure : T → Type 0) (represents may_leave : T → State → Type 0) where
+module _ {T : Type 0} (m : Meaning T) where
   -- where the tables are sure, these are the answers of a run
   abbrev pub IsSureRun : T → T → List (ℕ × Request) → List Answer → Type 0
-  IsSureRun old new requests answers = is_sure new → (s : State) → represents old s → IsRun represents may_leave old new s requests answers
+  IsSureRun old new requests answers = m.is_sure new → (s : State) → m.represents old s → IsRun m old new s requests answers
 
   -- what one more request comes to, and what the tables are sure of
   abbrev pub IsNext : T → T → ℕ × Request → Answer → Type 0
-  IsNext mid new r answer = (is_sure new → is_sure mid)
-      × (is_sure new → (s : State) → represents mid s
-      → IsHandled represents may_leave mid new s r.0 (input_of r.1) answer)
+  IsNext mid new r answer = (m.is_sure new → m.is_sure mid)
+      × (m.is_sure new → (s : State) → m.represents mid s
+      → IsHandled m mid new s r.0 (input_of r.1) answer)
 
   pub sure_more : (rs : List (ℕ × Request)) (i : ℕ) (r : ℕ × Request) (old mid new : T) (answers : List Answer)
       (answer : Answer) → i < length rs → r ≡ get_or rs i r
       → IsSureRun old mid (take i rs) answers → IsNext mid new r answer → IsSureRun old new (take (i + 1) rs) (answers ++ answer ∷ [])
   sure_more rs i r old mid new answers answer low is far next sure s represented =
       let was = far (next.0 sure) s represented in
-      run_more represents may_leave rs i r old mid new s answers answer low is was (next.1 sure was.last was.represented)
+      run_more m rs i r old mid new s answers answer low is was (next.1 sure was.last was.represented)

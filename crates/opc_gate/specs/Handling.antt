@@ -2,6 +2,7 @@
 use Rattle.std.specs.Prelude.{◌≡◌, ◌⊎◌, true, List, ◌∷◌, ◌++◌, length, take, ℕ}
 use Rattle.std.specs.List.{All}
 use Rattle.opc_state.specs.declared.change.Change.{Change}
+use Rattle.opc_state.specs.Meaning.{Meaning}
 use Rattle.opc_state.specs.State.{State}
 use Rattle.opc_state.specs.Changes.{changed_by, is_nothing}
 use Rattle.opc_machine.specs.declared.request.Request.{Request}
@@ -19,34 +20,34 @@ abbrev pub IsNothingWhereSame : State → Change → Type 0
 IsNothingWhereSame s change = changed_by change s ≡ s → is_nothing change ≡ true
 
 -- a crash leaves nothing but what it might have left before
-abbrev pub LeavesAsBefore : {T : Type 0} → (T → State → Type 0) → T → T → Type 0
-LeavesAsBefore may_leave old new = (left : State) → may_leave new left → may_leave old left
+abbrev pub LeavesAsBefore : {T : Type 0} → Meaning T → T → T → Type 0
+LeavesAsBefore m old new = (left : State) → m.may_leave new left → m.may_leave old left
 
 -- a crash leaves this state alone
-abbrev pub LeavesAlone : {T : Type 0} → (T → State → Type 0) → T → State → Type 0
-LeavesAlone may_leave new s = (left : State) → may_leave new left → left ≡ s
+abbrev pub LeavesAlone : {T : Type 0} → Meaning T → T → State → Type 0
+LeavesAlone m new s = (left : State) → m.may_leave new left → left ≡ s
 
 -- A change is acknowledged: a crash leaves the new state alone, or nothing was changed.
-abbrev pub IsAcknowledged : {T : Type 0} → (T → State → Type 0) → T → T → State → State → Type 0
-IsAcknowledged may_leave old new s next =
-    LeavesAlone may_leave new next ⊎ ((next ≡ s) × LeavesAsBefore may_leave old new)
+abbrev pub IsAcknowledged : {T : Type 0} → Meaning T → T → T → State → State → Type 0
+IsAcknowledged m old new s next =
+    LeavesAlone m new next ⊎ ((next ≡ s) × LeavesAsBefore m old new)
 
 -- the answer is that of the machine, and no word that the request was aborted
 abbrev pub IsAnswered : Answer → Type 0
 IsAnswered answer = IsAborted answer → ⊥
 
 -- One request, handled: a step of the machine, and what a crash may leave then.
-pub record IsHandled {T : Type 0} (represents may_leave : T → State → Type 0) (old new : T) (s : State) (moment : ℕ)
+pub record IsHandled {T : Type 0} (m : Meaning T) (old new : T) (s : State) (moment : ℕ)
     (r : Input) (answer : Answer) : Type 0 where
   pub next : State
   pub step : Step s moment r answer next
-  pub represented : represents new next
+  pub represented : m.represents new next
   -- what it might have left before, or the state after the request, in whole
-  pub crash : (left : State) → may_leave new left → may_leave old left ⊎ (left ≡ after s moment r (outcome s r))
+  pub crash : (left : State) → m.may_leave new left → m.may_leave old left ⊎ (left ≡ after s moment r (outcome s r))
   -- where the request leaves the state as it is, nothing but what it might have left before
-  pub idle : after s moment r (outcome s r) ≡ s → LeavesAsBefore may_leave old new
+  pub idle : after s moment r (outcome s r) ≡ s → LeavesAsBefore m old new
   -- and once it is answered, the state after the request alone, or nothing was changed
-  pub acknowledged : IsAnswered answer → IsAcknowledged may_leave old new s next
+  pub acknowledged : IsAnswered answer → IsAcknowledged m old new s next
 
 -- The state is one that a request makes, in whole, of the one that the requests before it led to.
 pub record IsMadeByOne (s : State) (requests : List (ℕ × Request)) (answers : List Answer) (made : State) : Type 0 where
@@ -59,12 +60,12 @@ pub record IsMadeByOne (s : State) (requests : List (ℕ × Request)) (answers :
   pub makes : made ≡ after met request.0 (input_of request.1) (outcome met (input_of request.1))
 
 -- The answers are those of a run of the machine, whose last state is represented, and what a crash may leave then.
-pub record IsRun {T : Type 0} (represents may_leave : T → State → Type 0) (old new : T) (s : State)
+pub record IsRun {T : Type 0} (m : Meaning T) (old new : T) (s : State)
     (requests : List (ℕ × Request)) (answers : List Answer) : Type 0 where
   pub last : State
   pub runs : Runs s (inputs_of requests) answers last
-  pub represented : represents new last
+  pub represented : m.represents new last
   -- what it might have left before, or a state that one of the requests makes, in whole
-  pub crash : (left : State) → may_leave new left → may_leave old left ⊎ IsMadeByOne s requests answers left
+  pub crash : (left : State) → m.may_leave new left → m.may_leave old left ⊎ IsMadeByOne s requests answers left
   -- and once all are answered, the last state alone, or nothing was changed
-  pub acknowledged : All IsAnswered answers → IsAcknowledged may_leave old new s last
+  pub acknowledged : All IsAnswered answers → IsAcknowledged m old new s last

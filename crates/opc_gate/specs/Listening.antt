@@ -1,5 +1,6 @@
 -- A run of requests whose answers are heard one after another.
 use Rattle.std.specs.Prelude.{◌≡◌, ℕ, List, [], ◌∷◌, ◌++◌}
+use Rattle.opc_state.specs.Meaning.{Meaning}
 use Rattle.opc_state.specs.State.{State}
 use Rattle.opc_machine.specs.declared.request.Request.{Request}
 use Rattle.opc_machine.specs.declared.request.Answer.{Answer}
@@ -13,13 +14,13 @@ AreHeard heard (r ∷ requests) (answer ∷ answers) from to =
 AreHeard heard [] (answer ∷ answers) from to = ⊥
 AreHeard heard (r ∷ requests) [] from to = ⊥
 
-module _ {T L : Type 0} (is_sure : T → Type 0) (represents may_leave : T → State → Type 0)
+module _ {T L : Type 0} (m : Meaning T)
     (heard : L → ℕ → Answer → L → Type 0) where
   -- All requests are handled, and their answers are heard. Where the tables are sure, these are the answers of a run of
   -- the machine.
   pub record IsHeardRun (old new : T) (requests : List (ℕ × Request)) (from to : L) : Type 0 where
     pub answers : List Answer
-    pub run : is_sure new → (s : State) → represents old s → IsRun represents may_leave old new s requests answers
+    pub run : m.is_sure new → (s : State) → m.represents old s → IsRun m old new s requests answers
     pub heard_all : AreHeard heard requests answers from to
 
   -- The run ended at the first request whose answer was not heard. That request is the last one that is handled.
@@ -31,8 +32,8 @@ module _ {T L : Type 0} (is_sure : T → Type 0) (represents may_leave : T → S
     pub are : requests ≡ before ++ request ∷ later
     pub answers : List Answer
     pub answer : Answer
-    pub run : is_sure new → (s : State) → represents old s
-        → IsRun represents may_leave old new s (before ++ request ∷ []) (answers ++ answer ∷ [])
+    pub run : m.is_sure new → (s : State) → m.represents old s
+        → IsRun m old new s (before ++ request ∷ []) (answers ++ answer ∷ [])
     pub met : L
     pub heard_before : AreHeard heard before answers from met
     pub missed_last : missed met request.0 answer to fault

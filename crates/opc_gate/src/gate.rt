@@ -5,11 +5,10 @@ ghost use Rattle.std.specs.Option.{option_and_then};
 ghost use Rattle.opc_terms.specs.Faults.{store_fault};
 ghost use Rattle.opc_board.specs.Invariants.{console_at};
 ghost use Rattle.opc_board.specs.Texts.{text_or};
-ghost use Rattle.opc_state.specs.Asked.{Answers};
+ghost use Rattle.opc_state.specs.Asked.{Answers, Loads};
 ghost use Rattle.opc_state.specs.Invariants.{IsKeyed};
 ghost use Rattle.opc_state.specs.PolicyFile.{rows_of};
 ghost use Rattle.opc_state.specs.State.{State};
-ghost use Rattle.opc_state.specs.Changes.{IsKept};
 ghost use Rattle.opc_state_cache.specs.Cache.{IsRight};
 ghost use Rattle.opc_gate_imports.specs.RowEdits.{HaveNothingNew, IsBootstrap};
 ghost use Rattle.opc_machine.specs.Bootstrap.{bootstrapped};
@@ -76,10 +75,9 @@ fn console_on<T: Tables>(
     tables: &mut T,
     request: &Request,
 ) -> Result<Option<ConsoleRow>, StoreFault>
-    ensures kept { IsKept T.is_sure T.represents T.may_leave tables.old tables.new }
-    ensures console { Answers (T.is_sure tables.new) (T.represents tables.old) result
+    ensures console { Loads T.meaning tables.old tables.new result
         (λ s console. console ≡ option_and_then (console_at s.board) (console_of (input_of request.now))) }
-    ensures keyed { Answers (T.is_sure tables.new) (T.represents tables.old) result
+    ensures keyed { Answers T.meaning tables.old tables.new result
         (λ s _. IfSome (console_of (input_of request.now)) (λ _. IsKeyed s)) }
 {
     match console_of(request) {
@@ -95,9 +93,7 @@ fn user_acting_on<T: Tables>(
     alloc: Global,
     console: &Option<ConsoleRow>,
 ) -> Result<Option<UserId>, StoreFault>
-    ensures kept { IsKept T.is_sure T.represents T.may_leave tables.old tables.new }
-    ensures user { Answers (T.is_sure tables.new) (T.represents tables.old) result
-        (λ s u. u ≡ option_and_then (acting_user s) console.now) }
+    ensures { Loads T.meaning tables.old tables.new result (λ s u. u ≡ option_and_then (acting_user s) console.now) }
 {
     match console {
         Some(console) => acting_user_on(tables, alloc, console),
@@ -209,8 +205,7 @@ fn outcome_on<T: Tables>(
     console: Option<ConsoleRow>,
     request: &Request,
 ) -> Result<Outcome, StoreFault>
-    ensures kept { IsKept T.is_sure T.represents T.may_leave tables.old tables.new }
-    ensures outcome { Answers (T.is_sure tables.new) (T.represents tables.old) result
+    ensures { Loads T.meaning tables.old tables.new result
         (λ s o. console ≡ option_and_then (console_at s.board) (console_of (input_of request.now))
         → IfSome (console_of (input_of request.now)) (λ _. IsKeyed s)
         → IsOutcome s (outcome_of s (input_of request.now)) o) }
@@ -234,10 +229,9 @@ fn decision_on<T: Tables>(
     moment: u64,
     request: &Request,
 ) -> Result<Decision, StoreFault>
-    ensures kept { IsKept T.is_sure T.represents T.may_leave tables.old tables.new }
-    ensures decides { Answers (T.is_sure tables.new) (T.represents tables.old) result
+    ensures decides { Loads T.meaning tables.old tables.new result
         (λ s d. IsDecision s moment (input_of request.now) d.answer d.change) }
-    ensures idle { Answers (T.is_sure tables.new) (T.represents tables.old) result
+    ensures idle { Answers T.meaning tables.old tables.new result
         (λ s d. IsNothingWhereSame s d.change) }
 {
     let console = console_on(tables, request)?;
@@ -248,10 +242,11 @@ fn decision_on<T: Tables>(
 
 // Writes the change of a decision, and then answers.
 fn committed<T: Tables>(tables: &mut T, alloc: Global, decision: Decision) -> Answer
-    ensures sure { T.is_sure tables.new → T.is_sure tables.old }
-    ensures handled { T.is_sure tables.new → (s : State) → T.represents tables.old s → (moment : ℕ) → (r : Input)
+    ensures sure { T.meaning.is_sure tables.new → T.meaning.is_sure tables.old }
+    ensures handled { T.meaning.is_sure tables.new → (s : State) → T.meaning.represents tables.old s → (moment : ℕ)
+        → (r : Input)
         → IsDecision s moment r decision.answer decision.change → IsNothingWhereSame s decision.change
-        → IsHandled T.represents T.may_leave tables.old tables.new s moment r result }
+        → IsHandled T.meaning tables.old tables.new s moment r result }
 {
     let Decision { answer, change } = decision;
     if change.is_nothing() {
@@ -264,9 +259,9 @@ fn committed<T: Tables>(tables: &mut T, alloc: Global, decision: Decision) -> An
 }
 
 fn handle<T: Tables>(tables: &mut T, alloc: Global, moment: u64, request: &Request) -> Answer
-    ensures sure { T.is_sure tables.new → T.is_sure tables.old }
-    ensures handled { T.is_sure tables.new → (s : State) → T.represents tables.old s
-        → IsHandled T.represents T.may_leave tables.old tables.new s moment (input_of request.now) result }
+    ensures sure { T.meaning.is_sure tables.new → T.meaning.is_sure tables.old }
+    ensures handled { T.meaning.is_sure tables.new → (s : State) → T.meaning.represents tables.old s
+        → IsHandled T.meaning tables.old tables.new s moment (input_of request.now) result }
 {
     match decision_on(tables, alloc, moment, request) {
         Ok(decision) => committed(tables, alloc, decision),
@@ -292,7 +287,7 @@ impl<T: Tables> Gate<Cached<T>> {
     pub fn new(alloc: Global, store: T) -> Result<Self, (Fault, T)>
         ensures made { IfOk result (λ gate. (gate.tables ≡ store) × (gate.recent ≡ [])) }
         ensures represents { IfOk result
-            (λ gate. (s : State) → T.represents store s → ⟦<Cached<T> as Tables>⟧.represents gate s) }
+            (λ gate. (s : State) → T.meaning.represents store s → ⟦<Cached<T> as Tables>⟧.meaning.represents gate s) }
         ensures refused { IfErr result (λ back. (back.0 ≡ why.NoMemory) × (back.1 ≡ store)) }
     {
         match Cached::new(alloc, store) {
@@ -306,7 +301,8 @@ impl<T: Tables> Gate<Cached<T>> {
     pub fn cached(&self) -> u32
         ensures count { result ≡ length self.now.recent }
         ensures most { result ≤ 256 }
-        ensures right { (s : State) → ⟦<Cached<T> as Tables>⟧.represents self.now s → IsRight s.policy self.now.recent }
+        ensures right { (s : State) → ⟦<Cached<T> as Tables>⟧.meaning.represents self.now s
+            → IsRight s.policy self.now.recent }
     {
         self.tables.cached()
     }
@@ -338,17 +334,19 @@ impl<T: Tables> Gate<T> {
     /// or after it, in whole; once it is acknowledged, the state after it alone. Rows that bring nothing new write
     /// nothing.
     pub fn bootstrap(&mut self, alloc: Global, rows: &[Row]) -> Result<(), Fault>
-        ensures sure { T.is_sure self.new → T.is_sure self.old }
-        ensures done { T.is_sure self.new → (s : State) → T.represents self.old s
-            → OnOk result (IsBootstrap T.represents T.may_leave self.new s rows.now) }
-        ensures refused { T.is_sure self.new → (s : State) → T.represents self.old s
+        ensures sure { T.meaning.is_sure self.new → T.meaning.is_sure self.old }
+        ensures done { T.meaning.is_sure self.new → (s : State) → T.meaning.represents self.old s
+            → OnOk result (IsBootstrap T.meaning self.new s rows.now) }
+        ensures refused { T.meaning.is_sure self.new → (s : State) → T.meaning.represents self.old s
             → IfErr result (λ f. f ≢ why.NoMemory → f ≢ why.Store → bootstrapped rows.now s ≡ Err f) }
-        ensures unchanged { T.is_sure self.new → (s : State) → T.represents self.old s
-            → OnErr result (T.represents self.new s) }
-        ensures crash { T.is_sure self.new → (s : State) → T.represents self.old s → (left : State)
-            → T.may_leave self.new left → T.may_leave self.old left ⊎ (bootstrapped rows.now s ≡ Ok left) }
-        ensures idle { T.is_sure self.new → (s : State) → T.represents self.old s → HaveNothingNew rows.now s
-            → (left : State) → T.may_leave self.new left → T.may_leave self.old left }
+        ensures unchanged { T.meaning.is_sure self.new → (s : State) → T.meaning.represents self.old s
+            → OnErr result (T.meaning.represents self.new s) }
+        ensures crash { T.meaning.is_sure self.new → (s : State) → T.meaning.represents self.old s → (left : State)
+            → T.meaning.may_leave self.new left
+            → T.meaning.may_leave self.old left ⊎ (bootstrapped rows.now s ≡ Ok left) }
+        ensures idle { T.meaning.is_sure self.new → (s : State) → T.meaning.represents self.old s
+            → HaveNothingNew rows.now s
+            → (left : State) → T.meaning.may_leave self.new left → T.meaning.may_leave self.old left }
     {
         bootstrap(&mut self.tables, alloc, rows)
     }
@@ -356,8 +354,7 @@ impl<T: Tables> Gate<T> {
     /// The policy and the consoles, as the rows of a policy file. They are those that a bootstrap of new tables makes
     /// the same policy of, and the same authorities and modes.
     pub fn export(&mut self, alloc: Global) -> Result<Vec<Row>, Fault>
-        ensures kept { IsKept T.is_sure T.represents T.may_leave self.old self.new }
-        ensures rows { Answers (T.is_sure self.new) (T.represents self.old) result
+        ensures rows { Loads T.meaning self.old self.new result
             (λ s rows. rows.items ≡ rows_of s.policy s.board.consoles) }
         ensures fault { IfErr result (λ f. (f ≡ why.NoMemory) ⊎ (f ≡ why.Store)) }
     {
@@ -368,9 +365,9 @@ impl<T: Tables> Gate<T> {
     /// machine. A crash leaves the state before it or the state after it, in whole; once a change is acknowledged,
     /// the state after it alone.
     pub fn handle(&mut self, alloc: Global, moment: u64, request: &Request) -> Answer
-        ensures sure { T.is_sure self.new → T.is_sure self.old }
-        ensures handled { T.is_sure self.new → (s : State) → T.represents self.old s
-            → IsHandled T.represents T.may_leave self.old self.new s moment (input_of request.now) result }
+        ensures sure { T.meaning.is_sure self.new → T.meaning.is_sure self.old }
+        ensures handled { T.meaning.is_sure self.new → (s : State) → T.meaning.represents self.old s
+            → IsHandled T.meaning self.old self.new s moment (input_of request.now) result }
     {
         handle(&mut self.tables, alloc, moment, request)
     }

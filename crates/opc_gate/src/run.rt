@@ -20,9 +20,9 @@ impl<T: Tables> Gate<T> {
         alloc: Global,
         requests: &[(u64, Request)],
     ) -> Result<Vec<Answer>, AllocError>
-        ensures sure { T.is_sure self.new → T.is_sure self.old }
-        ensures run { IfOk result (λ answers. T.is_sure self.new → (s : State) → T.represents self.old s
-            → IsRun T.represents T.may_leave self.old self.new s requests.now answers.items) }
+        ensures sure { T.meaning.is_sure self.new → T.meaning.is_sure self.old }
+        ensures run { IfOk result (λ answers. T.meaning.is_sure self.new → (s : State) → T.meaning.represents self.old s
+            → IsRun T.meaning self.old self.new s requests.now answers.items) }
         ensures each { IfOk result (λ answers. length answers.items ≡ length requests.now) }
         ensures refused { OnErr result (self.new ≡ self.old) }
     {
@@ -42,10 +42,10 @@ impl<T: Tables> Gate<T> {
         requests: &[(u64, Request)],
         listener: &mut L,
     ) -> Result<(), L::Fault>
-        ensures sure { T.is_sure self.new → T.is_sure self.old }
-        ensures heard { OnOk result (IsHeardRun T.is_sure T.represents T.may_leave L.heard self.old self.new requests.now
+        ensures sure { T.meaning.is_sure self.new → T.meaning.is_sure self.old }
+        ensures heard { OnOk result (IsHeardRun T.meaning L.heard self.old self.new requests.now
             listener.old listener.new) }
-        ensures ended { IfErr result (IsEndedRun T.is_sure T.represents T.may_leave L.heard L.missed self.old self.new requests.now listener.old listener.new) }
+        ensures ended { IfErr result (IsEndedRun T.meaning L.heard L.missed self.old self.new requests.now listener.old listener.new) }
     {
         for request in requests {
             let answer = self.handle(alloc, request.0, &request.1);

@@ -15,8 +15,9 @@ use Rattle.opc_policy_members.specs.Profiles.{profile_of}
 use Rattle.opc_board.specs.declared.rows.ConsoleRow.{ConsoleRow}
 use Rattle.opc_state.specs.declared.change.Edit.{Edit}
 use Rattle.opc_state.specs.Difference.{same_flag}
-use Rattle.opc_state.specs.Asked.{Answers}
+use Rattle.opc_state.specs.Asked.{Loads}
 use Rattle.opc_state.specs.Invariants.{IsKeyed}
+use Rattle.opc_state.specs.Meaning.{Meaning}
 use Rattle.opc_state.specs.State.{State}
 use Rattle.opc_machine.specs.declared.outcome.Outcome.{Outcome}
 use Rattle.opc_machine.specs.declared.outcome.Outcome.TheVariants.{Done, Refused}
@@ -38,8 +39,8 @@ state_outcome made = do
   does new [] None
 
 -- Where the tables are sure, and represent a state with each key once, this is what the operation comes to.
-abbrev pub ComesTo : Type 0 → (State → Type 0) → Result Outcome StoreFault → Operation → Type 0
-ComesTo sure represents result op = Answers sure represents result
+abbrev pub ComesTo : {T : Type 0} → Meaning T → T → T → Result Outcome StoreFault → Operation → Type 0
+ComesTo m old new result op = Loads m old new result
     (λ s o. IsKeyed s → IsOutcome s (state_outcome (changed s op)) o)
 
 -- the operations on a profile and on its access list

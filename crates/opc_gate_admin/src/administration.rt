@@ -2,8 +2,7 @@
 ghost use Rattle.std.specs.Prelude.{◌≡◌, true};
 ghost use Rattle.opc_board.specs.Invariants.{Name, console_at};
 ghost use Rattle.opc_policy_members.specs.Profiles.{profile_of};
-ghost use Rattle.opc_state.specs.Asked.{Answers};
-ghost use Rattle.opc_state.specs.Changes.{IsKept};
+ghost use Rattle.opc_state.specs.Asked.{Loads};
 ghost use Rattle.opc_state.specs.Invariants.{IsKeyed};
 ghost use Rattle.opc_machine.specs.Administration.{admin_outcome, definition};
 ghost use Rattle.opc_machine.specs.Effects.{IsOutcome};
@@ -51,8 +50,7 @@ fn owns<T: Tables>(
     class: Class,
     pattern: &Pattern,
 ) -> Result<bool, StoreFault>
-    ensures kept { IsKept T.is_sure T.represents T.may_leave tables.old tables.new }
-    ensures owns { Answers (T.is_sure tables.new) (T.represents tables.old) result
+    ensures { Loads T.meaning tables.old tables.new result
         (λ s owns. owns ≡ is_owner user.now (profile_of s.policy.profiles class pattern.now)) }
 {
     match tables.definition(alloc, class, pattern)? {
@@ -68,8 +66,7 @@ fn may_change<T: Tables>(
     asking: &Requester,
     op: &Operation,
 ) -> Result<bool, StoreFault>
-    ensures kept { IsKept T.is_sure T.represents T.may_leave tables.old tables.new }
-    ensures may { Answers (T.is_sure tables.new) (T.represents tables.old) result
+    ensures { Loads T.meaning tables.old tables.new result
         (λ s may. asking.now.user ≡ acting s asking.now.console → may ≡ may_change s asking.now.console op.now) }
 {
     if is_special(&asking.user) {
@@ -142,8 +139,7 @@ fn profile_changed_on<T: Tables>(
     op: &Operation,
 ) -> Result<Outcome, StoreFault>
     requires { is_of_profiles op.now ≡ true }
-    ensures kept { IsKept T.is_sure T.represents T.may_leave tables.old tables.new }
-    ensures outcome { ComesTo (T.is_sure tables.new) (T.represents tables.old) result op.now }
+    ensures { ComesTo T.meaning tables.old tables.new result op.now }
 {
     match *op {
         Operation::RDefine {
@@ -193,8 +189,7 @@ fn changed_on<T: Tables>(
     alloc: Global,
     op: &Operation,
 ) -> Result<Outcome, StoreFault>
-    ensures kept { IsKept T.is_sure T.represents T.may_leave tables.old tables.new }
-    ensures outcome { ComesTo (T.is_sure tables.new) (T.represents tables.old) result op.now }
+    ensures { ComesTo T.meaning tables.old tables.new result op.now }
 {
     match *op {
         Operation::AddUser {
@@ -244,8 +239,7 @@ pub fn admin_on<T: Tables>(
     console: Option<ConsoleRow>,
     op: &Operation,
 ) -> Result<Outcome, StoreFault>
-    ensures kept { IsKept T.is_sure T.represents T.may_leave tables.old tables.new }
-    ensures outcome { Answers (T.is_sure tables.new) (T.represents tables.old) result
+    ensures { Loads T.meaning tables.old tables.new result
         (λ s o. (name : Name) → console ≡ console_at s.board name → IsKeyed s
         → IsOutcome s (admin_outcome s name op.now) o) }
 {

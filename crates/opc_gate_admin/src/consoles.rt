@@ -4,8 +4,7 @@ ghost use Rattle.std.specs.List.{list_any};
 ghost use Rattle.opc_board.specs.Consoles.{new_console};
 ghost use Rattle.opc_board.specs.Invariants.{is, is_master};
 ghost use Rattle.opc_board.specs.Footprint.{has_other_master};
-ghost use Rattle.opc_state.specs.Asked.{Answers};
-ghost use Rattle.opc_state.specs.Changes.{IsKept};
+ghost use Rattle.opc_state.specs.Asked.{Loads};
 ghost use Rattle.opc_state.specs.Invariants.{IsKeyed};
 ghost use Rattle.opc_machine.specs.declared.operation.Operation.TheVariants as operation;
 ghost use Rattle.opc_gate_admin.specs.Operations.{ComesTo, same_setting};
@@ -54,8 +53,7 @@ fn has_other_master<T: Tables>(
     alloc: Global,
     name: &ConsoleName,
 ) -> Result<bool, StoreFault>
-    ensures kept { IsKept T.is_sure T.represents T.may_leave tables.old tables.new }
-    ensures other { Answers (T.is_sure tables.new) (T.represents tables.old) result
+    ensures { Loads T.meaning tables.old tables.new result
         (λ s other. IsKeyed s → other ≡ has_other_master name.now s.board.consoles) }
 {
     let masters = tables.masters(alloc)?;
@@ -69,8 +67,7 @@ fn loses_master<T: Tables>(
     old: &ConsoleRow,
     new: &ConsoleRow,
 ) -> Result<bool, StoreFault>
-    ensures kept { IsKept T.is_sure T.represents T.may_leave tables.old tables.new }
-    ensures lost { Answers (T.is_sure tables.new) (T.represents tables.old) result (λ s lost. IsKeyed s →
+    ensures { Loads T.meaning tables.old tables.new result (λ s lost. IsKeyed s →
         lost ≡ is_master old.now && (not (is_master new.now) && not (has_other_master old.now.name s.board.consoles))) }
 {
     if !old.is_master() || new.is_master() {
@@ -88,9 +85,7 @@ pub(crate) fn define_console<T: Tables>(
     auth: Auth,
     mode: Mode,
 ) -> Result<Outcome, StoreFault>
-    ensures kept { IsKept T.is_sure T.represents T.may_leave tables.old tables.new }
-    ensures outcome { ComesTo (T.is_sure tables.new) (T.represents tables.old) result
-        (operation.DefineConsole name auth mode) }
+    ensures { ComesTo T.meaning tables.old tables.new result (operation.DefineConsole name auth mode) }
 {
     let stored = match tables.console(&name)? {
         Some(stored) => stored,

@@ -1,7 +1,6 @@
 //! What is done to users, groups, connects and classes.
 ghost use Rattle.std.specs.Prelude.{◌≡◌, false};
-ghost use Rattle.opc_state.specs.Asked.{Answers};
-ghost use Rattle.opc_state.specs.Changes.{IsKept};
+ghost use Rattle.opc_state.specs.Asked.{Loads};
 ghost use Rattle.opc_state.specs.Invariants.{IsKeyed};
 ghost use Rattle.opc_machine.specs.declared.operation.Operation.TheVariants as operation;
 ghost use Rattle.opc_machine.specs.Administration.{has_name, is_in_use, policy_changed};
@@ -22,18 +21,14 @@ use opc_terms::store_fault::StoreFault;
 use std::alloc::Global;
 
 fn has_name<T: Tables>(tables: &mut T, name: &str) -> Result<bool, StoreFault>
-    ensures kept { IsKept T.is_sure T.represents T.may_leave tables.old tables.new }
-    ensures there { Answers (T.is_sure tables.new) (T.represents tables.old) result
-        (λ s there. there ≡ has_name s.policy name.now) }
+    ensures { Loads T.meaning tables.old tables.new result (λ s there. there ≡ has_name s.policy name.now) }
 {
     Ok(tables.has_user(name)? || tables.has_group(name)?)
 }
 
 // Whether a user is in use: named by a connect, an owner or an access list, or on at a console.
 fn is_in_use<T: Tables>(tables: &mut T, alloc: Global, id: &UserId) -> Result<bool, StoreFault>
-    ensures kept { IsKept T.is_sure T.represents T.may_leave tables.old tables.new }
-    ensures used { Answers (T.is_sure tables.new) (T.represents tables.old) result
-        (λ s used. used ≡ is_in_use s.policy s.board id.now) }
+    ensures { Loads T.meaning tables.old tables.new result (λ s used. used ≡ is_in_use s.policy s.board id.now) }
 {
     if tables.is_named(id)? {
         return Ok(true);
@@ -49,8 +44,7 @@ pub(crate) fn add_user<T: Tables>(
     user: User,
 ) -> Result<Outcome, StoreFault>
     requires { user.revoked ≡ false }
-    ensures kept { IsKept T.is_sure T.represents T.may_leave tables.old tables.new }
-    ensures outcome { Answers (T.is_sure tables.new) (T.represents tables.old) result (λ s o.
+    ensures { Loads T.meaning tables.old tables.new result (λ s o.
         IsOutcome s (policy_outcome s (policy_changed s.board
         (operation.AddUser user.id user.special user.auditor user.digest user.restricted) s.policy)) o) }
 {
@@ -66,8 +60,7 @@ pub(crate) fn alt_user<T: Tables>(
     alloc: Global,
     user: User,
 ) -> Result<Outcome, StoreFault>
-    ensures kept { IsKept T.is_sure T.represents T.may_leave tables.old tables.new }
-    ensures outcome { Answers (T.is_sure tables.new) (T.represents tables.old) result (λ s o. IsKeyed s →
+    ensures { Loads T.meaning tables.old tables.new result (λ s o. IsKeyed s →
         IsOutcome s (policy_outcome s (policy_changed s.board
         (operation.AltUser user.id user.special user.auditor user.revoked user.digest user.restricted) s.policy)) o) }
 {
@@ -84,8 +77,7 @@ pub(crate) fn del_user<T: Tables>(
     alloc: Global,
     id: UserId,
 ) -> Result<Outcome, StoreFault>
-    ensures kept { IsKept T.is_sure T.represents T.may_leave tables.old tables.new }
-    ensures outcome { Answers (T.is_sure tables.new) (T.represents tables.old) result (λ s o.
+    ensures { Loads T.meaning tables.old tables.new result (λ s o.
         IsOutcome s (policy_outcome s (policy_changed s.board (operation.DelUser id) s.policy)) o) }
 {
     if !tables.has_user(id.text())? {
@@ -103,8 +95,7 @@ pub(crate) fn add_group<T: Tables>(
     alloc: Global,
     name: GroupName,
 ) -> Result<Outcome, StoreFault>
-    ensures kept { IsKept T.is_sure T.represents T.may_leave tables.old tables.new }
-    ensures outcome { Answers (T.is_sure tables.new) (T.represents tables.old) result (λ s o.
+    ensures { Loads T.meaning tables.old tables.new result (λ s o.
         IsOutcome s (policy_outcome s (policy_changed s.board (operation.AddGroup name) s.policy)) o) }
 {
     if has_name(tables, name.text())? {
@@ -119,8 +110,7 @@ pub(crate) fn connect<T: Tables>(
     alloc: Global,
     connect: Connect,
 ) -> Result<Outcome, StoreFault>
-    ensures kept { IsKept T.is_sure T.represents T.may_leave tables.old tables.new }
-    ensures outcome { Answers (T.is_sure tables.new) (T.represents tables.old) result (λ s o.
+    ensures { Loads T.meaning tables.old tables.new result (λ s o.
         IsOutcome s (policy_outcome s (policy_changed s.board (operation.Connect connect.user connect.group) s.policy))
         o) }
 {
@@ -142,8 +132,7 @@ pub(crate) fn remove<T: Tables>(
     alloc: Global,
     connect: Connect,
 ) -> Result<Outcome, StoreFault>
-    ensures kept { IsKept T.is_sure T.represents T.may_leave tables.old tables.new }
-    ensures outcome { Answers (T.is_sure tables.new) (T.represents tables.old) result (λ s o.
+    ensures { Loads T.meaning tables.old tables.new result (λ s o.
         IsOutcome s (policy_outcome s (policy_changed s.board (operation.Remove connect.user connect.group) s.policy))
         o) }
 {
@@ -166,8 +155,7 @@ pub(crate) fn class_active<T: Tables>(
     class: Class,
     active: bool,
 ) -> Result<Outcome, StoreFault>
-    ensures kept { IsKept T.is_sure T.represents T.may_leave tables.old tables.new }
-    ensures outcome { Answers (T.is_sure tables.new) (T.represents tables.old) result (λ s o.
+    ensures { Loads T.meaning tables.old tables.new result (λ s o.
         IsOutcome s (policy_outcome s (policy_changed s.board (operation.ClassActive class active) s.policy)) o) }
 {
     if tables.is_active(class)? == active {

@@ -2,8 +2,7 @@
 ghost use Rattle.std.specs.Prelude.{◌≡◌, [], is_some};
 ghost use Rattle.opc_policy_members.specs.Profiles.{profile_of};
 ghost use Rattle.opc_policy_members.specs.Taken.{has_holder};
-ghost use Rattle.opc_state.specs.Asked.{Answers};
-ghost use Rattle.opc_state.specs.Changes.{IsKept};
+ghost use Rattle.opc_state.specs.Asked.{Loads};
 ghost use Rattle.opc_state.specs.Invariants.{IsKeyed};
 ghost use Rattle.opc_machine.specs.declared.operation.Operation.TheVariants as operation;
 ghost use Rattle.opc_machine.specs.Administration.{policy_changed};
@@ -31,8 +30,7 @@ fn is_defined<T: Tables>(
     class: Class,
     pattern: &Pattern,
 ) -> Result<bool, StoreFault>
-    ensures kept { IsKept T.is_sure T.represents T.may_leave tables.old tables.new }
-    ensures defined { Answers (T.is_sure tables.new) (T.represents tables.old) result
+    ensures { Loads T.meaning tables.old tables.new result
         (λ s defined. defined ≡ is_some (profile_of s.policy.profiles class pattern.now)) }
 {
     match tables.definition(alloc, class, pattern)? {
@@ -43,9 +41,7 @@ fn is_defined<T: Tables>(
 
 // Whether an entry may be for this id: a user or a group that is stored, or everyone.
 fn has_holder<T: Tables>(tables: &mut T, id: &EntryId) -> Result<bool, StoreFault>
-    ensures kept { IsKept T.is_sure T.represents T.may_leave tables.old tables.new }
-    ensures there { Answers (T.is_sure tables.new) (T.represents tables.old) result
-        (λ s there. there ≡ has_holder s.policy id.now) }
+    ensures { Loads T.meaning tables.old tables.new result (λ s there. there ≡ has_holder s.policy id.now) }
 {
     Ok(id.text() == "*" || tables.has_user(id.text())? || tables.has_group(id.text())?)
 }
@@ -61,8 +57,7 @@ fn level_in<T: Tables>(
     id: &EntryId,
     when: &Option<ConsoleName>,
 ) -> Result<Option<Option<Level>>, StoreFault>
-    ensures kept { IsKept T.is_sure T.represents T.may_leave tables.old tables.new }
-    ensures level { Answers (T.is_sure tables.new) (T.represents tables.old) result
+    ensures { Loads T.meaning tables.old tables.new result
         (λ s level. level ≡ level_in s.policy class pattern.now id.now when.now) }
 {
     match tables.level_for(class, pattern, id, when.as_ref())? {
@@ -101,8 +96,7 @@ pub(crate) fn rdefine<T: Tables>(
     profile: Profile,
 ) -> Result<Outcome, StoreFault>
     requires { profile.entries ≡ [] }
-    ensures kept { IsKept T.is_sure T.represents T.may_leave tables.old tables.new }
-    ensures outcome { Answers (T.is_sure tables.new) (T.represents tables.old) result (λ s o.
+    ensures { Loads T.meaning tables.old tables.new result (λ s o.
         IsOutcome s (policy_outcome s (policy_changed s.board
         (operation.RDefine profile.class profile.pattern profile.owner profile.uacc profile.warning) s.policy)) o) }
 {
@@ -122,8 +116,7 @@ pub(crate) fn ralter<T: Tables>(
     profile: Profile,
 ) -> Result<Outcome, StoreFault>
     requires { profile.entries ≡ [] }
-    ensures kept { IsKept T.is_sure T.represents T.may_leave tables.old tables.new }
-    ensures outcome { Answers (T.is_sure tables.new) (T.represents tables.old) result (λ s o. IsKeyed s →
+    ensures { Loads T.meaning tables.old tables.new result (λ s o. IsKeyed s →
         IsOutcome s (policy_outcome s (policy_changed s.board
         (operation.RAlter profile.class profile.pattern profile.owner profile.uacc profile.warning) s.policy)) o) }
 {
@@ -146,8 +139,7 @@ pub(crate) fn rdelete<T: Tables>(
     class: Class,
     pattern: &Pattern,
 ) -> Result<Outcome, StoreFault>
-    ensures kept { IsKept T.is_sure T.represents T.may_leave tables.old tables.new }
-    ensures outcome { Answers (T.is_sure tables.new) (T.represents tables.old) result (λ s o.
+    ensures { Loads T.meaning tables.old tables.new result (λ s o.
         IsOutcome s (policy_outcome s (policy_changed s.board (operation.RDelete class pattern.now) s.policy)) o) }
 {
     if !is_defined(tables, alloc, class, pattern)? {
@@ -165,8 +157,7 @@ pub(crate) fn permit<T: Tables>(
     pattern: &Pattern,
     entry: Entry,
 ) -> Result<Outcome, StoreFault>
-    ensures kept { IsKept T.is_sure T.represents T.may_leave tables.old tables.new }
-    ensures outcome { Answers (T.is_sure tables.new) (T.represents tables.old) result (λ s o. IsKeyed s →
+    ensures { Loads T.meaning tables.old tables.new result (λ s o. IsKeyed s →
         IsOutcome s (policy_outcome s (policy_changed s.board
         (operation.Permit class pattern.now entry.id entry.level entry.when) s.policy)) o) }
 {
@@ -192,8 +183,7 @@ pub(crate) fn permit_delete<T: Tables>(
     id: &EntryId,
     when: Option<ConsoleName>,
 ) -> Result<Outcome, StoreFault>
-    ensures kept { IsKept T.is_sure T.represents T.may_leave tables.old tables.new }
-    ensures outcome { Answers (T.is_sure tables.new) (T.represents tables.old) result (λ s o.
+    ensures { Loads T.meaning tables.old tables.new result (λ s o.
         IsOutcome s (policy_outcome s (policy_changed s.board (operation.PermitDelete class pattern.now id.now when)
         s.policy)) o) }
 {

@@ -5,8 +5,7 @@ ghost use Rattle.opc_board.specs.Consoles.{logged_on};
 ghost use Rattle.opc_board.specs.Effect.{is_session_command};
 ghost use Rattle.opc_board.specs.Invariants.{Name, console_at, kind_at};
 ghost use Rattle.opc_reader.specs.Reading.{reading};
-ghost use Rattle.opc_state.specs.Asked.{Answers};
-ghost use Rattle.opc_state.specs.Changes.{IsKept};
+ghost use Rattle.opc_state.specs.Asked.{Loads};
 ghost use Rattle.opc_gate_commands.specs.Acted.{allowed_command};
 ghost use Rattle.opc_machine.specs.Commands.{
   board_command as board_outcome,
@@ -83,9 +82,7 @@ fn logon_fault(rule: &Rule) -> Fault
 }
 
 fn kind_at<T: Tables>(tables: &mut T, name: &UnitName) -> Result<UnitKindAt, StoreFault>
-    ensures kept { IsKept T.is_sure T.represents T.may_leave tables.old tables.new }
-    ensures kind { Answers (T.is_sure tables.new) (T.represents tables.old) result
-        (λ s kind. kind ≡ kind_at s.board name.now) }
+    ensures { Loads T.meaning tables.old tables.new result (λ s kind. kind ≡ kind_at s.board name.now) }
 {
     match tables.unit(name)? {
         Some(unit) => Ok(unit.kind.found()),
@@ -95,9 +92,7 @@ fn kind_at<T: Tables>(tables: &mut T, name: &UnitName) -> Result<UnitKindAt, Sto
 
 // What the unit is that a command names, if it is one whose need goes by that.
 fn kind_named<T: Tables>(tables: &mut T, command: &Command<'_>) -> Result<UnitKindAt, StoreFault>
-    ensures kept { IsKept T.is_sure T.represents T.may_leave tables.old tables.new }
-    ensures kind { Answers (T.is_sure tables.new) (T.represents tables.old) result
-        (λ s kind. kind ≡ kind_named s.board command.now) }
+    ensures { Loads T.meaning tables.old tables.new result (λ s kind. kind ≡ kind_named s.board command.now) }
 {
     match command {
         Command::Cancel(name) => kind_at(tables, &name.value),
@@ -129,8 +124,7 @@ fn effect_on<T: Tables>(
 ) -> Result<Outcome, StoreFault>
     requires session { is_session_command command.now ≡ false }
     requires display { is_display command.now ≡ false }
-    ensures kept { IsKept T.is_sure T.represents T.may_leave tables.old tables.new }
-    ensures outcome { Answers (T.is_sure tables.new) (T.represents tables.old) result
+    ensures { Loads T.meaning tables.old tables.new result
         (λ s o. console_at s.board console.now.name ≡ Some console.now → IsRulingBasis s console.now basis.now
         → IsOutcome s (allowed_command s console.now command.now rule) o) }
 {
@@ -155,8 +149,7 @@ fn board_command<T: Tables>(
     need: &Need,
 ) -> Result<Outcome, StoreFault>
     requires { is_session_command command.now ≡ false }
-    ensures kept { IsKept T.is_sure T.represents T.may_leave tables.old tables.new }
-    ensures outcome { Answers (T.is_sure tables.new) (T.represents tables.old) result
+    ensures { Loads T.meaning tables.old tables.new result
         (λ s o. console_at s.board console.now.name ≡ Some console.now
         → IsOutcome s (board_outcome s console.now command.now need.now) o) }
 {
@@ -191,9 +184,7 @@ fn known_by<T: Tables>(
     id: &UserId,
     password: &Password,
 ) -> Result<Option<User>, StoreFault>
-    ensures kept { IsKept T.is_sure T.represents T.may_leave tables.old tables.new }
-    ensures user { Answers (T.is_sure tables.new) (T.represents tables.old) result
-        (λ s user. user ≡ known_by s id.now password.now) }
+    ensures { Loads T.meaning tables.old tables.new result (λ s user. user ≡ known_by s id.now password.now) }
 {
     match tables.user(alloc, id)? {
         Some(user) if is_password(password, &user.digest) => Ok(Some(user)),
@@ -210,8 +201,7 @@ fn admit<T: Tables>(
     rule: Rule,
 ) -> Result<Outcome, StoreFault>
     requires { console.now.user ≡ None }
-    ensures kept { IsKept T.is_sure T.represents T.may_leave tables.old tables.new }
-    ensures outcome { Answers (T.is_sure tables.new) (T.represents tables.old) result
+    ensures { Loads T.meaning tables.old tables.new result
         (λ s o. console_at s.board console.now.name ≡ Some console.now
         → IsOutcome s (does (record s { board = logged_on console.now.name user s.board }) [] (Some rule)) o) }
 {
@@ -227,8 +217,7 @@ fn logon<T: Tables>(
     id: &UserId,
     password: &Password,
 ) -> Result<Outcome, StoreFault>
-    ensures kept { IsKept T.is_sure T.represents T.may_leave tables.old tables.new }
-    ensures outcome { Answers (T.is_sure tables.new) (T.represents tables.old) result
+    ensures { Loads T.meaning tables.old tables.new result
         (λ s o. console_at s.board console.now.name ≡ Some console.now
         → IsOutcome s (logon_outcome s console.now id.now password.now) o) }
 {
@@ -249,8 +238,7 @@ fn logoff<T: Tables>(
     alloc: Global,
     console: &ConsoleRow,
 ) -> Result<Outcome, StoreFault>
-    ensures kept { IsKept T.is_sure T.represents T.may_leave tables.old tables.new }
-    ensures outcome { Answers (T.is_sure tables.new) (T.represents tables.old) result
+    ensures { Loads T.meaning tables.old tables.new result
         (λ s o. console_at s.board console.now.name ≡ Some console.now → IsOutcome s (logoff_outcome s console.now) o) }
 {
     if console.user.is_none() {
@@ -268,8 +256,7 @@ fn without_need<T: Tables>(
     console: &ConsoleRow,
     command: &Command<'_>,
 ) -> Result<Outcome, StoreFault>
-    ensures kept { IsKept T.is_sure T.represents T.may_leave tables.old tables.new }
-    ensures outcome { Answers (T.is_sure tables.new) (T.represents tables.old) result
+    ensures { Loads T.meaning tables.old tables.new result
         (λ s o. console_at s.board console.now.name ≡ Some console.now
         → IsOutcome s (no_need_outcome s console.now command.now) o) }
 {
@@ -286,8 +273,7 @@ fn typed<T: Tables>(
     console: &ConsoleRow,
     command: &Command<'_>,
 ) -> Result<Outcome, StoreFault>
-    ensures kept { IsKept T.is_sure T.represents T.may_leave tables.old tables.new }
-    ensures outcome { Answers (T.is_sure tables.new) (T.represents tables.old) result
+    ensures { Loads T.meaning tables.old tables.new result
         (λ s o. console_at s.board console.now.name ≡ Some console.now
         → IsOutcome s (typed_outcome s console.now command.now (need_of s.board command.now)) o) }
 {
@@ -306,8 +292,7 @@ pub fn command_on<T: Tables>(
     console: Option<ConsoleRow>,
     text: &str,
 ) -> Result<Outcome, StoreFault>
-    ensures kept { IsKept T.is_sure T.represents T.may_leave tables.old tables.new }
-    ensures outcome { Answers (T.is_sure tables.new) (T.represents tables.old) result
+    ensures { Loads T.meaning tables.old tables.new result
         (λ s o. (name : Name) → console ≡ console_at s.board name → IsOutcome s (command_outcome s name text.now) o) }
 {
     let console = match console_for(console) {
@@ -326,9 +311,7 @@ pub fn event_on<T: Tables>(
     alloc: Global,
     event: &Event,
 ) -> Result<Outcome, StoreFault>
-    ensures kept { IsKept T.is_sure T.represents T.may_leave tables.old tables.new }
-    ensures outcome { Answers (T.is_sure tables.new) (T.represents tables.old) result
-        (λ s o. IsOutcome s (event_outcome s event.now) o) }
+    ensures { Loads T.meaning tables.old tables.new result (λ s o. IsOutcome s (event_outcome s event.now) o) }
 {
     let board = event_footprint_on(tables, alloc, event)?;
     match apply_event(alloc, board, event) {

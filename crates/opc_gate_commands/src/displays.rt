@@ -7,7 +7,7 @@ ghost use Rattle.opc_gate_commands.specs.Acted.{allowed_command};
 ghost use Rattle.opc_machine.specs.Commands.{is_display};
 ghost use Rattle.opc_machine.specs.Effects.{IsOutcome};
 ghost use Rattle.opc_gate_rulings.specs.RulingBasis.{IsRulingBasis};
-ghost use Rattle.opc_state.specs.Asked.{Answers};
+ghost use Rattle.opc_state.specs.Asked.{Answers, Loads};
 ghost use Rattle.opc_state.specs.Changes.{IsKept};
 
 use opc_board::line::{Line, console_lines, device_lines, lines_of, reply_lines, unit_lines};
@@ -40,8 +40,8 @@ fn lines_on<T: Tables>(
     command: &Command<'_>,
 ) -> Result<Vec<Line>, StoreFault>
     requires { is_display command.now ≡ true }
-    ensures kept { IsKept T.is_sure T.represents T.may_leave tables.old tables.new }
-    ensures lines { Answers (T.is_sure tables.new) (T.represents tables.old) result
+    ensures kept { IsKept T.meaning tables.old tables.new }
+    ensures lines { Answers T.meaning tables.old tables.new result
         (λ s lines. (console : Name) → effect s.board command.now console ≡ done_with s.board lines.items) }
 {
     let lines = match command {
@@ -66,8 +66,7 @@ pub(crate) fn display_on<T: Tables>(
     rule: Rule,
 ) -> Result<Outcome, StoreFault>
     requires { is_display command.now ≡ true }
-    ensures kept { IsKept T.is_sure T.represents T.may_leave tables.old tables.new }
-    ensures outcome { Answers (T.is_sure tables.new) (T.represents tables.old) result
+    ensures { Loads T.meaning tables.old tables.new result
         (λ s o. IsRulingBasis s console.now basis.now → IsOutcome s (allowed_command s console.now command.now rule) o) }
 {
     let lines = lines_on(tables, alloc, command)?;

@@ -3,8 +3,7 @@ ghost use Rattle.std.specs.Prelude.{◌≡◌, IfOk, IsSome, Some, [], false};
 ghost use Rattle.opc_board.specs.Enough.{no_rows};
 ghost use Rattle.opc_board.specs.Invariants.{console_at};
 ghost use Rattle.opc_board.specs.History.{without_history};
-ghost use Rattle.opc_state.specs.Asked.{Answers};
-ghost use Rattle.opc_state.specs.Changes.{IsKept};
+ghost use Rattle.opc_state.specs.Asked.{Loads};
 ghost use Rattle.opc_state.specs.Invariants.{IsKeyed};
 ghost use Rattle.opc_state.specs.State.{State};
 ghost use Rattle.opc_machine.specs.Commands.{is_display};
@@ -54,8 +53,7 @@ fn load_keys<T: Tables>(
     part: &mut BoardRows,
     keys: BoardKeys,
 ) -> Result<(), StoreFault>
-    ensures kept { IsKept T.is_sure T.represents T.may_leave tables.old tables.new }
-    ensures footprint { Answers (T.is_sure tables.new) (T.represents tables.old) result
+    ensures { Loads T.meaning tables.old tables.new result
         (λ s _. LoadsFirst s part.old part.new (λ footprint. HasKeys footprint (without_history s.board) keys)) }
 {
     match keys {
@@ -78,8 +76,7 @@ fn loaded_rows<T: Tables>(
     alloc: Global,
     keys: BoardKeys,
 ) -> Result<BoardRows, StoreFault>
-    ensures kept { IsKept T.is_sure T.represents T.may_leave tables.old tables.new }
-    ensures footprint { Answers (T.is_sure tables.new) (T.represents tables.old) result
+    ensures { Loads T.meaning tables.old tables.new result
         (λ s part. IsKeyed s × HasLoaded s no_rows part (λ footprint. HasKeys footprint (without_history s.board) keys)) }
 {
     let halted = tables.is_halted()?;
@@ -104,9 +101,8 @@ pub fn footprint_on<T: Tables>(
     console: &ConsoleRow,
 ) -> Result<Board, StoreFault>
     requires { is_display command.now ≡ false }
-    ensures kept { IsKept T.is_sure T.represents T.may_leave tables.old tables.new }
     ensures there { IfOk result (λ board. IsSome (console_at board console.now.name)) }
-    ensures footprint { Answers (T.is_sure tables.new) (T.represents tables.old) result
+    ensures footprint { Loads T.meaning tables.old tables.new result
         (λ s board. console_at s.board console.now.name ≡ Some console.now
         → IsFootprint s command.now console.now.name board) }
 {
@@ -121,9 +117,7 @@ pub fn event_footprint_on<T: Tables>(
     alloc: Global,
     event: &Event,
 ) -> Result<Board, StoreFault>
-    ensures kept { IsKept T.is_sure T.represents T.may_leave tables.old tables.new }
-    ensures footprint { Answers (T.is_sure tables.new) (T.represents tables.old) result
-        (λ s board. IsEventFootprint s event.now board) }
+    ensures { Loads T.meaning tables.old tables.new result (λ s board. IsEventFootprint s event.now board) }
 {
     let part = loaded_rows(tables, alloc, keys_of_event(event))?;
     board_of(part)
@@ -135,9 +129,8 @@ pub fn console_footprint_on<T: Tables>(
     alloc: Global,
     console: &ConsoleRow,
 ) -> Result<Board, StoreFault>
-    ensures kept { IsKept T.is_sure T.represents T.may_leave tables.old tables.new }
     ensures there { IfOk result (λ board. console_at board console.now.name ≡ Some console.now) }
-    ensures footprint { Answers (T.is_sure tables.new) (T.represents tables.old) result
+    ensures footprint { Loads T.meaning tables.old tables.new result
         (λ s board. console_at s.board console.now.name ≡ Some console.now
         → IsConsoleFootprint s console.now.name board) }
 {

@@ -2,8 +2,7 @@
 ghost use Rattle.std.specs.Prelude.{◌≡◌, IsSome, OnOk, Some, true, []};
 ghost use Rattle.opc_rows.specs.Ordered.{comes_before};
 ghost use Rattle.opc_board.specs.Invariants.{console_at};
-ghost use Rattle.opc_state.specs.Asked.{Answers};
-ghost use Rattle.opc_state.specs.Changes.{IsKept};
+ghost use Rattle.opc_state.specs.Asked.{Loads};
 ghost use Rattle.opc_state.specs.State.{State};
 ghost use Rattle.opc_gate_footprints.specs.Joined.{joined};
 ghost use Rattle.opc_gate_footprints.specs.Loading.{LoadsMore};
@@ -49,8 +48,7 @@ pub(crate) fn load_unit<T: Tables>(
     part: &mut BoardRows,
     name: &UnitName,
 ) -> Result<(), StoreFault>
-    ensures kept { IsKept T.is_sure T.represents T.may_leave tables.old tables.new }
-    ensures footprint { Answers (T.is_sure tables.new) (T.represents tables.old) result
+    ensures { Loads T.meaning tables.old tables.new result
         (λ s _. LoadsMore s part.old part.new (λ footprint. footprint.units name.now ≡ true)) }
 {
     let unit = tables.unit(name)?;
@@ -62,8 +60,7 @@ pub(crate) fn load_console<T: Tables>(
     part: &mut BoardRows,
     name: &ConsoleName,
 ) -> Result<(), StoreFault>
-    ensures kept { IsKept T.is_sure T.represents T.may_leave tables.old tables.new }
-    ensures footprint { Answers (T.is_sure tables.new) (T.represents tables.old) result
+    ensures { Loads T.meaning tables.old tables.new result
         (λ s _. LoadsMore s part.old part.new (λ footprint. footprint.consoles name.now ≡ true)) }
 {
     let console = tables.console(name)?;
@@ -75,8 +72,7 @@ pub(crate) fn load_reply<T: Tables>(
     part: &mut BoardRows,
     id: ReplyId,
 ) -> Result<(), StoreFault>
-    ensures kept { IsKept T.is_sure T.represents T.may_leave tables.old tables.new }
-    ensures footprint { Answers (T.is_sure tables.new) (T.represents tables.old) result
+    ensures { Loads T.meaning tables.old tables.new result
         (λ s _. LoadsMore s part.old part.new (λ footprint. footprint.replies id ≡ true)) }
 {
     let reply = tables.reply(id)?;
@@ -89,9 +85,7 @@ fn load_holder<T: Tables>(
     part: &mut BoardRows,
     device: &Option<DeviceRow>,
 ) -> Result<(), StoreFault>
-    ensures kept { IsKept T.is_sure T.represents T.may_leave tables.old tables.new }
-    ensures footprint { Answers (T.is_sure tables.new) (T.represents tables.old) result
-        (λ s _. LoadsMore s part.old part.new (λ _. Unit {0})) }
+    ensures { Loads T.meaning tables.old tables.new result (λ s _. LoadsMore s part.old part.new (λ _. Unit {0})) }
 {
     match device {
         Some(
@@ -109,8 +103,7 @@ pub(crate) fn load_device<T: Tables>(
     part: &mut BoardRows,
     number: &Device,
 ) -> Result<(), StoreFault>
-    ensures kept { IsKept T.is_sure T.represents T.may_leave tables.old tables.new }
-    ensures footprint { Answers (T.is_sure tables.new) (T.represents tables.old) result
+    ensures { Loads T.meaning tables.old tables.new result
         (λ s _. LoadsMore s part.old part.new (λ footprint. footprint.devices number.now ≡ true)) }
 {
     let device = tables.device(number)?;

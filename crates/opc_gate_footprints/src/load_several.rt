@@ -2,8 +2,7 @@
 ghost use Rattle.std.specs.Prelude.{◌≡◌, true};
 ghost use Rattle.opc_board.specs.History.{without_history};
 ghost use Rattle.opc_board.specs.Footprint.{HasLeaving};
-ghost use Rattle.opc_state.specs.Asked.{Answers};
-ghost use Rattle.opc_state.specs.Changes.{IsKept};
+ghost use Rattle.opc_state.specs.Asked.{Loads};
 ghost use Rattle.opc_gate_footprints.specs.BoardKeys.{HasMasters, HasConsolesOf};
 ghost use Rattle.opc_gate_footprints.specs.Loading.{LoadsFirst, LoadsMore};
 
@@ -22,8 +21,7 @@ pub(crate) fn load_leaving<T: Tables>(
     part: &mut BoardRows,
     name: &UnitName,
 ) -> Result<(), StoreFault>
-    ensures kept { IsKept T.is_sure T.represents T.may_leave tables.old tables.new }
-    ensures footprint { Answers (T.is_sure tables.new) (T.represents tables.old) result
+    ensures { Loads T.meaning tables.old tables.new result
         (λ s _. LoadsFirst s part.old part.new (λ footprint. HasLeaving footprint (without_history s.board) name.now)) }
 {
     part.devices = tables.devices_of(alloc, name)?;
@@ -37,8 +35,7 @@ pub(crate) fn load_varied<T: Tables>(
     part: &mut BoardRows,
     name: &ConsoleName,
 ) -> Result<(), StoreFault>
-    ensures kept { IsKept T.is_sure T.represents T.may_leave tables.old tables.new }
-    ensures footprint { Answers (T.is_sure tables.new) (T.represents tables.old) result
+    ensures { Loads T.meaning tables.old tables.new result
         (λ s _. LoadsFirst s part.old part.new
         (λ footprint. (footprint.consoles name.now ≡ true) × HasMasters footprint (without_history s.board))) }
 {
@@ -53,8 +50,7 @@ pub(crate) fn load_addressed<T: Tables>(
     part: &mut BoardRows,
     user: &UserId,
 ) -> Result<(), StoreFault>
-    ensures kept { IsKept T.is_sure T.represents T.may_leave tables.old tables.new }
-    ensures footprint { Answers (T.is_sure tables.new) (T.represents tables.old) result
+    ensures { Loads T.meaning tables.old tables.new result
         (λ s _. LoadsFirst s part.old part.new
         (λ footprint. (footprint.units user.now ≡ true) × HasConsolesOf footprint (without_history s.board) user.now)) }
 {
@@ -68,8 +64,7 @@ pub(crate) fn load_swapped<T: Tables>(
     from: &Device,
     to: &Device,
 ) -> Result<(), StoreFault>
-    ensures kept { IsKept T.is_sure T.represents T.may_leave tables.old tables.new }
-    ensures footprint { Answers (T.is_sure tables.new) (T.represents tables.old) result
+    ensures { Loads T.meaning tables.old tables.new result
         (λ s _. LoadsMore s part.old part.new
         (λ footprint. (footprint.devices from.now ≡ true) × (footprint.devices to.now ≡ true))) }
 {
@@ -83,8 +78,7 @@ pub(crate) fn load_taken<T: Tables>(
     number: &Device,
     name: &UnitName,
 ) -> Result<(), StoreFault>
-    ensures kept { IsKept T.is_sure T.represents T.may_leave tables.old tables.new }
-    ensures footprint { Answers (T.is_sure tables.new) (T.represents tables.old) result
+    ensures { Loads T.meaning tables.old tables.new result
         (λ s _. LoadsMore s part.old part.new
         (λ footprint. (footprint.devices number.now ≡ true) × (footprint.units name.now ≡ true))) }
 {

@@ -9,6 +9,7 @@ use Rattle.opc_board.specs.Invariants.{IsBoard}
 use Rattle.opc_state.specs.declared.change.Edit.{Edit}
 use Rattle.opc_state.specs.declared.change.Edit.TheVariants as edit
 use Rattle.opc_state.specs.Footprints.{AreFootprints}
+use Rattle.opc_state.specs.Meaning.{Meaning}
 use Rattle.opc_state.specs.State.{State, Fits}
 use Rattle.opc_state.specs.Changes.{all_edited, with_board}
 use Rattle.opc_machine.specs.Bootstrap.{bootstrapped, consoles_after}
@@ -66,16 +67,16 @@ pub record AreEditsOf (old new : BoardRows) (more : List Row) (edits : List Edit
   pub idle : (s : State) (whole : BoardRows) → AreFootprints old new s whole → all_edited first s ≡ s → first ≡ []
 
 -- A refusal that is not for memory or the store is the one that the rows meet.
-abbrev pub IsRefusedFor : {V : Type 0} → Type 0 → (State → Type 0) → Result V Fault → (State → Result State Fault)
-    → Type 0
-IsRefusedFor sure represents result made =
-    sure → (s : State) → represents s → IfErr result (λ f. f ≢ why.NoMemory → f ≢ why.Store → made s ≡ Err f)
+abbrev pub IsRefusedFor : {T V : Type 0} → Meaning T → T → T → Result V Fault → (State → Result State Fault) → Type 0
+IsRefusedFor m old new result made =
+    m.is_sure new → (s : State) → m.represents old s → IfErr result (λ f. f ≢ why.NoMemory → f ≢ why.Store
+    → made s ≡ Err f)
 
 -- The bootstrap is done: its state is represented, and once a change is acknowledged a crash leaves it alone.
-pub record IsBootstrap {T : Type 0} (represents may_leave : T → State → Type 0) (new : T) (s : State)
+pub record IsBootstrap {T : Type 0} (m : Meaning T) (new : T) (s : State)
     (more : List Row) : Type 0 where
   pub next : State
   pub becomes : bootstrapped more s ≡ Ok next
-  pub represented : represents new next
+  pub represented : m.represents new next
   pub fits : Fits s → Fits next
-  pub acknowledged : (next ≡ s → ⊥) → (left : State) → may_leave new left → left ≡ next
+  pub acknowledged : (next ≡ s → ⊥) → (left : State) → m.may_leave new left → left ≡ next

@@ -4,9 +4,9 @@ ghost use Rattle.std.specs.List.{cons_option};
 ghost use Rattle.opc_terms.specs.declared.fault.Fault.TheVariants as why;
 ghost use Rattle.opc_policy_members.specs.declared.row.Row.{Row as TheRow};
 ghost use Rattle.opc_board.specs.Footprint.{IsInOrder};
-ghost use Rattle.opc_state.specs.Asked.{Answers};
+ghost use Rattle.opc_state.specs.Asked.{Answers, Loads};
 ghost use Rattle.opc_state.specs.State.{State, has_users};
-ghost use Rattle.opc_state.specs.Changes.{IsKept, all_edited};
+ghost use Rattle.opc_state.specs.Changes.{all_edited};
 ghost use Rattle.opc_gate_imports.specs.RowEdits.{
   AreEditsOf,
   consoles_alone,
@@ -196,8 +196,7 @@ fn edits_of_rows(
 
 // Loads what is stored. Of the board rows ask about consoles alone.
 fn stored_on<T: Tables>(tables: &mut T, alloc: Global) -> Result<Stored, StoreFault>
-    ensures kept { IsKept T.is_sure T.represents T.may_leave tables.old tables.new }
-    ensures stored { Answers (T.is_sure tables.new) (T.represents tables.old) result
+    ensures { Loads T.meaning tables.old tables.new result
         (λ s stored. (stored.policy ≡ s.policy) × (stored.board ≡ consoles_alone s.board) × IsInOrder s.board) }
 {
     let policy = tables.policy(alloc)?;
@@ -239,12 +238,11 @@ pub fn row_edits_on<T: Tables>(
     alloc: Global,
     rows: &[Row],
 ) -> Result<Vec<Edit>, Fault>
-    ensures kept { IsKept T.is_sure T.represents T.may_leave tables.old tables.new }
-    ensures made { Answers (T.is_sure tables.new) (T.represents tables.old) result
+    ensures made { Loads T.meaning tables.old tables.new result
         (λ s edits. with_rows rows.now s ≡ Ok (all_edited edits.items s)) }
-    ensures idle { Answers (T.is_sure tables.new) (T.represents tables.old) result
+    ensures idle { Answers T.meaning tables.old tables.new result
         (λ s edits. HaveNothingNew rows.now s → edits.items ≡ []) }
-    ensures refused { IsRefusedFor (T.is_sure tables.new) (T.represents tables.old) result (with_rows rows.now) }
+    ensures refused { IsRefusedFor T.meaning tables.old tables.new result (with_rows rows.now) }
 {
     let Stored {
         mut policy,
@@ -255,12 +253,11 @@ pub fn row_edits_on<T: Tables>(
 
 // Loads what a first policy needs, and decides; writes nothing.
 fn edits_on<T: Tables>(tables: &mut T, alloc: Global, rows: &[Row]) -> Result<Vec<Edit>, Fault>
-    ensures kept { IsKept T.is_sure T.represents T.may_leave tables.old tables.new }
-    ensures made { Answers (T.is_sure tables.new) (T.represents tables.old) result
+    ensures made { Loads T.meaning tables.old tables.new result
         (λ s edits. bootstrapped rows.now s ≡ Ok (all_edited edits.items s)) }
-    ensures idle { Answers (T.is_sure tables.new) (T.represents tables.old) result
+    ensures idle { Answers T.meaning tables.old tables.new result
         (λ s edits. HaveNothingNew rows.now s → edits.items ≡ []) }
-    ensures refused { IsRefusedFor (T.is_sure tables.new) (T.represents tables.old) result (bootstrapped rows.now) }
+    ensures refused { IsRefusedFor T.meaning tables.old tables.new result (bootstrapped rows.now) }
 {
     if tables.has_users()? {
         return Err(Fault::NotEmpty);
@@ -270,16 +267,19 @@ fn edits_on<T: Tables>(tables: &mut T, alloc: Global, rows: &[Row]) -> Result<Ve
 
 // Writes the edits of a first policy, if there are any.
 fn write_first<T: Tables>(tables: &mut T, alloc: Global, edits: Vec<Edit>) -> Result<(), Fault>
-    ensures sure { T.is_sure tables.new → T.is_sure tables.old }
-    ensures idle { edits.items ≡ [] → (left : State) → T.may_leave tables.new left → T.may_leave tables.old left }
-    ensures founds { T.is_sure tables.new → (s : State) → T.represents tables.old s → (rows : List TheRow)
+    ensures sure { T.meaning.is_sure tables.new → T.meaning.is_sure tables.old }
+    ensures idle { edits.items ≡ [] → (left : State) → T.meaning.may_leave tables.new left
+        → T.meaning.may_leave tables.old left }
+    ensures founds { T.meaning.is_sure tables.new → (s : State) → T.meaning.represents tables.old s
+        → (rows : List TheRow)
         → bootstrapped rows s ≡ Ok (all_edited edits.items s)
-        → OnOk result (IsBootstrap T.represents T.may_leave tables.new s rows) }
+        → OnOk result (IsBootstrap T.meaning tables.new s rows) }
     ensures refused { IfErr result (λ f. (f ≡ why.NoMemory) ⊎ (f ≡ why.Store)) }
-    ensures unchanged { T.is_sure tables.new → (s : State) → T.represents tables.old s
-        → OnErr result (T.represents tables.new s) }
-    ensures crash { T.is_sure tables.new → (s : State) → T.represents tables.old s → (left : State)
-        → T.may_leave tables.new left → T.may_leave tables.old left ⊎ (left ≡ all_edited edits.items s) }
+    ensures unchanged { T.meaning.is_sure tables.new → (s : State) → T.meaning.represents tables.old s
+        → OnErr result (T.meaning.represents tables.new s) }
+    ensures crash { T.meaning.is_sure tables.new → (s : State) → T.meaning.represents tables.old s → (left : State)
+        → T.meaning.may_leave tables.new left
+        → T.meaning.may_leave tables.old left ⊎ (left ≡ all_edited edits.items s) }
 {
     let change = Change {
         edits,
@@ -294,16 +294,18 @@ fn write_first<T: Tables>(tables: &mut T, alloc: Global, edits: Vec<Edit>) -> Re
 
 /// Takes the rows of a first policy, where no user is stored.
 pub fn bootstrap<T: Tables>(tables: &mut T, alloc: Global, rows: &[Row]) -> Result<(), Fault>
-    ensures sure { T.is_sure tables.new → T.is_sure tables.old }
-    ensures done { T.is_sure tables.new → (s : State) → T.represents tables.old s
-        → OnOk result (IsBootstrap T.represents T.may_leave tables.new s rows.now) }
-    ensures refused { IsRefusedFor (T.is_sure tables.new) (T.represents tables.old) result (bootstrapped rows.now) }
-    ensures unchanged { T.is_sure tables.new → (s : State) → T.represents tables.old s
-        → OnErr result (T.represents tables.new s) }
-    ensures crash { T.is_sure tables.new → (s : State) → T.represents tables.old s → (left : State)
-        → T.may_leave tables.new left → T.may_leave tables.old left ⊎ (bootstrapped rows.now s ≡ Ok left) }
-    ensures idle { T.is_sure tables.new → (s : State) → T.represents tables.old s → HaveNothingNew rows.now s
-        → (left : State) → T.may_leave tables.new left → T.may_leave tables.old left }
+    ensures sure { T.meaning.is_sure tables.new → T.meaning.is_sure tables.old }
+    ensures done { T.meaning.is_sure tables.new → (s : State) → T.meaning.represents tables.old s
+        → OnOk result (IsBootstrap T.meaning tables.new s rows.now) }
+    ensures refused { IsRefusedFor T.meaning tables.old tables.new result (bootstrapped rows.now) }
+    ensures unchanged { T.meaning.is_sure tables.new → (s : State) → T.meaning.represents tables.old s
+        → OnErr result (T.meaning.represents tables.new s) }
+    ensures crash { T.meaning.is_sure tables.new → (s : State) → T.meaning.represents tables.old s → (left : State)
+        → T.meaning.may_leave tables.new left
+        → T.meaning.may_leave tables.old left ⊎ (bootstrapped rows.now s ≡ Ok left) }
+    ensures idle { T.meaning.is_sure tables.new → (s : State) → T.meaning.represents tables.old s
+        → HaveNothingNew rows.now s
+        → (left : State) → T.meaning.may_leave tables.new left → T.meaning.may_leave tables.old left }
 {
     let edits = edits_on(tables, alloc, rows)?;
     write_first(tables, alloc, edits)

@@ -4,8 +4,7 @@ ghost use Rattle.std.specs.Fmt.{decimal};
 ghost use Rattle.opc_board.specs.Invariants.{Name, console_at};
 ghost use Rattle.opc_board.specs.Texts.{columns};
 ghost use Rattle.opc_state.specs.declared.change.Edit.TheVariants.{PutBatch};
-ghost use Rattle.opc_state.specs.Asked.{Answers};
-ghost use Rattle.opc_state.specs.Changes.{IsKept};
+ghost use Rattle.opc_state.specs.Asked.{Loads};
 ghost use Rattle.opc_state.specs.Loads.{batch_rows};
 ghost use Rattle.opc_state.specs.State.{State};
 ghost use Rattle.opc_machine.specs.Effects.{IsOutcome};
@@ -70,8 +69,7 @@ fn new_batch<T: Tables>(
     number: u32,
     rows: &[Row],
 ) -> Result<Outcome, StoreFault>
-    ensures kept { IsKept T.is_sure T.represents T.may_leave tables.old tables.new }
-    ensures outcome { Answers (T.is_sure tables.new) (T.represents tables.old) result
+    ensures { Loads T.meaning tables.old tables.new result
         (λ s o. batch_rows s.batches number ≡ None → IsOutcome s (new_batch s number rows.now) o) }
 {
     let mut edits = match row_edits_on(tables, alloc, rows) {
@@ -119,8 +117,7 @@ fn batch_on<T: Tables>(
     number: u32,
     rows: &[Row],
 ) -> Result<Outcome, StoreFault>
-    ensures kept { IsKept T.is_sure T.represents T.may_leave tables.old tables.new }
-    ensures outcome { Answers (T.is_sure tables.new) (T.represents tables.old) result
+    ensures { Loads T.meaning tables.old tables.new result
         (λ s o. IsOutcome s (batch_outcome s number rows.now (batch_of s.batches number)) o) }
 {
     match tables.batch(alloc, number)? {
@@ -138,8 +135,7 @@ pub fn import_on<T: Tables>(
     batch: u32,
     rows: &Rows<Row>,
 ) -> Result<Outcome, StoreFault>
-    ensures kept { IsKept T.is_sure T.represents T.may_leave tables.old tables.new }
-    ensures outcome { Answers (T.is_sure tables.new) (T.represents tables.old) result
+    ensures { Loads T.meaning tables.old tables.new result
         (λ s o. (name : Name) → console ≡ console_at s.board name
         → IsOutcome s (import_outcome s name batch rows.now) o) }
 {

@@ -4,8 +4,7 @@ ghost use Rattle.opc_board.specs.Invariants.{Name, console_at};
 ghost use Rattle.opc_board.specs.Texts.{columns};
 ghost use Rattle.opc_policy_members.specs.Profiles.{of_class};
 ghost use Rattle.opc_policy_members.specs.Members.{groups_of};
-ghost use Rattle.opc_state.specs.Asked.{Answers};
-ghost use Rattle.opc_state.specs.Changes.{IsKept};
+ghost use Rattle.opc_state.specs.Asked.{Loads};
 ghost use Rattle.opc_machine.specs.Effects.{IsOutcome};
 ghost use Rattle.opc_machine.specs.Listings.{profile_line, profiles_outcome};
 ghost use Rattle.opc_machine.specs.Rights.{is_owner, profile_shown};
@@ -110,8 +109,7 @@ fn all_groups<T: Tables>(
     alloc: Global,
     user: &UserId,
 ) -> Result<Vec<GroupName>, StoreFault>
-    ensures kept { IsKept T.is_sure T.represents T.may_leave tables.old tables.new }
-    ensures groups { Answers (T.is_sure tables.new) (T.represents tables.old) result
+    ensures { Loads T.meaning tables.old tables.new result
         (λ s groups. groups.items ≡ groups_of s.policy.connects user.now) }
 {
     let groups = tables.groups_of(alloc, user, u32::MAX)?;
@@ -125,8 +123,7 @@ fn all_groups<T: Tables>(
 // The profiles of a class for one who sees all of them: no access list is loaded.
 #[tactic(auto, using(crate::proofs::Listed::bare_lines))]
 fn all_on<T: Tables>(tables: &mut T, alloc: Global, class: Class) -> Result<Rows<Line>, StoreFault>
-    ensures kept { IsKept T.is_sure T.represents T.may_leave tables.old tables.new }
-    ensures lines { Answers (T.is_sure tables.new) (T.represents tables.old) result
+    ensures { Loads T.meaning tables.old tables.new result
         (λ s lines. lines ≡ map profile_line (of_class class s.policy.profiles)) }
 {
     let profiles = tables.definitions(alloc, class)?;
@@ -141,8 +138,7 @@ fn seen_on<T: Tables>(
     user: &User,
     class: Class,
 ) -> Result<Rows<Line>, StoreFault>
-    ensures kept { IsKept T.is_sure T.represents T.may_leave tables.old tables.new }
-    ensures lines { Answers (T.is_sure tables.new) (T.represents tables.old) result
+    ensures { Loads T.meaning tables.old tables.new result
         (λ s lines. lines ≡ map profile_line
         (filter (is_seen console.now user.now (groups_of s.policy.connects user.now.id))
         (of_class class s.policy.profiles))) }
@@ -161,8 +157,7 @@ fn lines_on<T: Tables>(
     asking: &Requester,
     class: Class,
 ) -> Result<Rows<Line>, StoreFault>
-    ensures kept { IsKept T.is_sure T.represents T.may_leave tables.old tables.new }
-    ensures lines { Answers (T.is_sure tables.new) (T.represents tables.old) result
+    ensures { Loads T.meaning tables.old tables.new result
         (λ s lines. asking.now.user ≡ acting s asking.now.console
         → lines ≡ map profile_line (filter (profile_shown s asking.now.console) (of_class class s.policy.profiles))) }
 {
@@ -183,8 +178,7 @@ pub fn profiles_on<T: Tables>(
     console: Option<ConsoleRow>,
     class: Class,
 ) -> Result<Outcome, StoreFault>
-    ensures kept { IsKept T.is_sure T.represents T.may_leave tables.old tables.new }
-    ensures outcome { Answers (T.is_sure tables.new) (T.represents tables.old) result
+    ensures { Loads T.meaning tables.old tables.new result
         (λ s o. (name : Name) → console ≡ console_at s.board name → IsOutcome s (profiles_outcome s name class) o) }
 {
     let requester = match requester_on(tables, alloc, console)? {

@@ -38,7 +38,7 @@ use Rattle.opc_policy_members.specs.declared.policy.Policy.{Policy}
 use Rattle.opc_policy_members.specs.Members.{groups_of, is_group}
 use Rattle.opc_state.specs.Changes.{IsKept}
 use Rattle.opc_state.specs.Loads.{is_connected}
-use Rattle.opc_state.specs.State.{State}
+use Rattle.opc_state.specs.Meaning.{Meaning}
 
 mirrored : (a b : List ℕ) → bytes_eq a b ≡ bytes_eq b a
 mirrored a b = both_ways (bytes_eq a b) (bytes_eq b a)
@@ -65,10 +65,10 @@ pub connected_is : (p : Policy) (user group : List ℕ) → is_connected p user 
 connected_is p user group = among user group p.connects
 
 -- what two loads keep, one after the other
-pub kept_again : {T : Type 0} (is_sure : T → Type 0) (represents may_leave : T → State → Type 0) (old mid new : T)
-    → IsKept is_sure represents may_leave old mid → IsKept is_sure represents may_leave mid new
-    → IsKept is_sure represents may_leave old new
-kept_again is_sure represents may_leave old mid new first second = record {
+pub kept_again : {T : Type 0} (m : Meaning T) (old mid new : T)
+    → IsKept m old mid → IsKept m mid new
+    → IsKept m old new
+kept_again m old mid new first second = record {
   sure = λ h. first.sure (second.sure h);
   same = λ h s r. second.same h s (first.same (second.sure h) s r);
   crash = λ s m. first.crash s (second.crash s m);

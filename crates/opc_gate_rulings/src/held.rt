@@ -4,8 +4,7 @@ ghost use Rattle.std.specs.Option.{option_copied};
 ghost use Rattle.opc_policy_members.specs.Access.{entry_level, first_level, highest_level};
 ghost use Rattle.opc_policy_members.specs.Held.{held, listed_groups};
 ghost use Rattle.opc_policy_members.specs.Members.{groups_of};
-ghost use Rattle.opc_state.specs.Asked.{Answers};
-ghost use Rattle.opc_state.specs.Changes.{IsKept};
+ghost use Rattle.opc_state.specs.Asked.{Loads};
 ghost use Rattle.opc_state.specs.Loads.{access_list};
 ghost use Rattle.opc_gate_rulings.specs.Held.{held_in, with_list};
 
@@ -38,8 +37,7 @@ pub(crate) fn level_on<T: Tables>(
     user: &User,
     console: &ConsoleName,
 ) -> Result<Level, StoreFault>
-    ensures kept { IsKept T.is_sure T.represents T.may_leave tables.old tables.new }
-    ensures level { Answers (T.is_sure tables.new) (T.represents tables.old) result
+    ensures { Loads T.meaning tables.old tables.new result
         (λ s level. level ≡ held_in s.policy profile.now user.now console.now) }
 {
     let mut most = FIRST;
@@ -63,8 +61,7 @@ fn level_within<T: Tables>(
     console: &ConsoleName,
     most: u32,
 ) -> Result<Option<Level>, StoreFault>
-    ensures kept { IsKept T.is_sure T.represents T.may_leave tables.old tables.new }
-    ensures level { Answers (T.is_sure tables.new) (T.represents tables.old) result
+    ensures { Loads T.meaning tables.old tables.new result
         (λ s found. IfSome found (λ level. level ≡ held_in s.policy profile.now user.now console.now)) }
 {
     let entries = tables.entries(alloc, profile.class, &profile.pattern, most)?;
@@ -101,8 +98,7 @@ fn level_by_entries<T: Tables>(
     user: &User,
     console: &ConsoleName,
 ) -> Result<Level, StoreFault>
-    ensures kept { IsKept T.is_sure T.represents T.may_leave tables.old tables.new }
-    ensures level { Answers (T.is_sure tables.new) (T.represents tables.old) result
+    ensures { Loads T.meaning tables.old tables.new result
         (λ s level. entries ≡ access_list s.policy profile.now.class profile.now.pattern
         → level ≡ held_in s.policy profile.now user.now console.now) }
 {
@@ -138,8 +134,7 @@ fn listed_groups_of<T: Tables>(
     user: &User,
     entries: &[Entry],
 ) -> Result<Vec<GroupName>, StoreFault>
-    ensures kept { IsKept T.is_sure T.represents T.may_leave tables.old tables.new }
-    ensures groups { Answers (T.is_sure tables.new) (T.represents tables.old) result
+    ensures { Loads T.meaning tables.old tables.new result
         (λ s groups. groups.items ≡ listed_groups entries.now (groups_of s.policy.connects user.now.id)) }
 {
     let mut groups = Vec::new(alloc);
@@ -168,8 +163,7 @@ fn level_by_groups<T: Tables>(
     console: &ConsoleName,
     groups: &[GroupName],
 ) -> Result<Level, StoreFault>
-    ensures kept { IsKept T.is_sure T.represents T.may_leave tables.old tables.new }
-    ensures level { Answers (T.is_sure tables.new) (T.represents tables.old) result
+    ensures { Loads T.meaning tables.old tables.new result
         (λ s level. level ≡ held (with_list s.policy profile.now) user.now (Some console.now) groups.now) }
 {
     let plain = first_level_on(tables, profile, None, user, groups)?;
@@ -185,8 +179,7 @@ fn first_level_on<T: Tables>(
     user: &User,
     groups: &[GroupName],
 ) -> Result<Option<Level>, StoreFault>
-    ensures kept { IsKept T.is_sure T.represents T.may_leave tables.old tables.new }
-    ensures level { Answers (T.is_sure tables.new) (T.represents tables.old) result
+    ensures { Loads T.meaning tables.old tables.new result
         (λ s level. level ≡ first_level (access_list s.policy profile.now.class profile.now.pattern)
         (option_copied when.entry) user.now groups.now) }
 {
@@ -207,8 +200,7 @@ fn level_of<T: Tables>(
     when: Option<&ConsoleName>,
     id: &EntryId,
 ) -> Result<Option<Level>, StoreFault>
-    ensures kept { IsKept T.is_sure T.represents T.may_leave tables.old tables.new }
-    ensures level { Answers (T.is_sure tables.new) (T.represents tables.old) result
+    ensures { Loads T.meaning tables.old tables.new result
         (λ s level. level ≡ entry_level (access_list s.policy profile.now.class profile.now.pattern)
         (option_copied when.entry) id.now) }
 {
@@ -222,8 +214,7 @@ fn highest_level_on<T: Tables>(
     when: Option<&ConsoleName>,
     groups: &[GroupName],
 ) -> Result<Option<Level>, StoreFault>
-    ensures kept { IsKept T.is_sure T.represents T.may_leave tables.old tables.new }
-    ensures level { Answers (T.is_sure tables.new) (T.represents tables.old) result
+    ensures { Loads T.meaning tables.old tables.new result
         (λ s level. level ≡ highest_level (access_list s.policy profile.now.class profile.now.pattern)
         (option_copied when.entry) groups.now) }
 {

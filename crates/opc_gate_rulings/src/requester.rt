@@ -2,8 +2,7 @@
 ghost use Rattle.std.specs.Prelude.{◌≡◌, ◌&&◌, IfOk, Some};
 ghost use Rattle.std.specs.Option.{is_none};
 ghost use Rattle.opc_board.specs.Invariants.{Name, console_at};
-ghost use Rattle.opc_state.specs.Asked.{Answers};
-ghost use Rattle.opc_state.specs.Changes.{IsKept};
+ghost use Rattle.opc_state.specs.Asked.{Loads};
 ghost use Rattle.opc_state.specs.State.{State};
 ghost use Rattle.opc_machine.specs.Rights.{is_owner, is_special, sees_all};
 ghost use Rattle.opc_machine.specs.Rulings.{is_required, is_revoked};
@@ -81,8 +80,7 @@ pub fn requester_on<T: Tables>(
     alloc: Global,
     console: Option<ConsoleRow>,
 ) -> Result<Asking, StoreFault>
-    ensures kept { IsKept T.is_sure T.represents T.may_leave tables.old tables.new }
-    ensures asking { Answers (T.is_sure tables.new) (T.represents tables.old) result
+    ensures { Loads T.meaning tables.old tables.new result
         (λ s asking. (name : Name) → console ≡ console_at s.board name → IsRequester s name asking) }
 {
     let console = match console_for(console) {

@@ -5,9 +5,8 @@ ghost use Rattle.opc_names.specs.Names.{is_plain, is_resource};
 ghost use Rattle.opc_names.specs.declared.class.Class.TheVariants.{Opercmds};
 ghost use Rattle.opc_policy_members.specs.Members.{groups_of, user_of};
 ghost use Rattle.opc_policy.specs.Rulings.{ruling as policy_ruling};
-ghost use Rattle.opc_state.specs.Asked.{Answers};
+ghost use Rattle.opc_state.specs.Asked.{Loads};
 ghost use Rattle.opc_state.specs.State.{deciding_in};
-ghost use Rattle.opc_state.specs.Changes.{IsKept};
 ghost use Rattle.opc_gate_rulings.specs.Held.{class_ruling};
 ghost use Rattle.opc_gate_rulings.specs.RulingBasis.{IsRulingBasis};
 ghost use Rattle.opc_machine.specs.Rulings.{
@@ -69,8 +68,7 @@ fn profile_ruling_on<T: Tables>(
     console: &ConsoleName,
     needed: Level,
 ) -> Result<Option<Ruling>, StoreFault>
-    ensures kept { IsKept T.is_sure T.represents T.may_leave tables.old tables.new }
-    ensures ruling { Answers (T.is_sure tables.new) (T.represents tables.old) result (λ s r. r ≡
+    ensures { Loads T.meaning tables.old tables.new result (λ s r. r ≡
         class_ruling true (deciding_in s.policy class resource.now) user.now (Some console.now)
         (groups_of s.policy.connects user.now.id) needed) }
 {
@@ -90,8 +88,7 @@ fn by_profile<T: Tables>(
     console: &ConsoleRow,
     need: &Need,
 ) -> Result<Ruling, StoreFault>
-    ensures kept { IsKept T.is_sure T.represents T.may_leave tables.old tables.new }
-    ensures ruling { Answers (T.is_sure tables.new) (T.represents tables.old) result (λ s r. r ≡
+    ensures { Loads T.meaning tables.old tables.new result (λ s r. r ≡
         policy_ruling true (deciding_in s.policy Opercmds need.now.resource) (Some user.now) (Some console.now.name)
         (groups_of s.policy.connects user.now.id) console.now.auth need.now) }
 {
@@ -124,8 +121,7 @@ fn own_user_on<T: Tables>(
     alloc: Global,
     console: &ConsoleRow,
 ) -> Result<Option<User>, StoreFault>
-    ensures kept { IsKept T.is_sure T.represents T.may_leave tables.old tables.new }
-    ensures user { Answers (T.is_sure tables.new) (T.represents tables.old) result
+    ensures { Loads T.meaning tables.old tables.new result
         (λ s u. u ≡ option_and_then (user_of s.policy.users) (own_user s console.now)) }
 {
     if !is_auto(console.mode) {
@@ -140,9 +136,7 @@ pub fn acting_user_on<T: Tables>(
     alloc: Global,
     console: &ConsoleRow,
 ) -> Result<Option<UserId>, StoreFault>
-    ensures kept { IsKept T.is_sure T.represents T.may_leave tables.old tables.new }
-    ensures user { Answers (T.is_sure tables.new) (T.represents tables.old) result
-        (λ s u. u ≡ acting_user s console.now) }
+    ensures { Loads T.meaning tables.old tables.new result (λ s u. u ≡ acting_user s console.now) }
 {
     if console.user.is_some() {
         return Ok(console.user);
@@ -159,8 +153,7 @@ pub(crate) fn acting_on<T: Tables>(
     alloc: Global,
     console: &ConsoleRow,
 ) -> Result<Option<User>, StoreFault>
-    ensures kept { IsKept T.is_sure T.represents T.may_leave tables.old tables.new }
-    ensures user { Answers (T.is_sure tables.new) (T.represents tables.old) result (λ s u. u ≡ acting s console.now) }
+    ensures { Loads T.meaning tables.old tables.new result (λ s u. u ≡ acting s console.now) }
 {
     match console.user {
         Some(id) => tables.user(alloc, &id),
@@ -185,9 +178,7 @@ pub fn ruling_basis_at<T: Tables>(
     alloc: Global,
     console: &ConsoleRow,
 ) -> Result<RulingBasis, StoreFault>
-    ensures kept { IsKept T.is_sure T.represents T.may_leave tables.old tables.new }
-    ensures basis { Answers (T.is_sure tables.new) (T.represents tables.old) result
-        (λ s basis. IsRulingBasis s console.now basis) }
+    ensures { Loads T.meaning tables.old tables.new result (λ s basis. IsRulingBasis s console.now basis) }
 {
     if is_required(console.mode) && console.user.is_none() {
         return Ok(RulingBasis::Denied(Rule::LogonRequired));
@@ -213,8 +204,7 @@ pub fn ruling_on<T: Tables>(
     console: &ConsoleRow,
     need: &Need,
 ) -> Result<Ruling, StoreFault>
-    ensures kept { IsKept T.is_sure T.represents T.may_leave tables.old tables.new }
-    ensures ruling { Answers (T.is_sure tables.new) (T.represents tables.old) result
+    ensures { Loads T.meaning tables.old tables.new result
         (λ s r. IsRulingBasis s console.now basis.now → r ≡ ruling s console.now need.now) }
 {
     match basis {
@@ -241,9 +231,7 @@ pub fn logon_ruling_on<T: Tables>(
     console: &ConsoleRow,
     user: &User,
 ) -> Result<Ruling, StoreFault>
-    ensures kept { IsKept T.is_sure T.represents T.may_leave tables.old tables.new }
-    ensures ruling { Answers (T.is_sure tables.new) (T.represents tables.old) result
-        (λ s r. r ≡ logon_ruling s console.now user.now) }
+    ensures { Loads T.meaning tables.old tables.new result (λ s r. r ≡ logon_ruling s console.now user.now) }
 {
     if user.revoked {
         return Ok(Ruling::Denied(Rule::Revoked));
@@ -303,8 +291,7 @@ fn is_shown<T: Tables>(
     console: &ConsoleRow,
     line: &Line,
 ) -> Result<bool, StoreFault>
-    ensures kept { IsKept T.is_sure T.represents T.may_leave tables.old tables.new }
-    ensures shown { Answers (T.is_sure tables.new) (T.represents tables.old) result
+    ensures { Loads T.meaning tables.old tables.new result
         (λ s b. IsRulingBasis s console.now basis.now → b ≡ shown s console.now line.now) }
 {
     match need_to_show(line.item) {
@@ -324,8 +311,7 @@ pub fn shown_lines<T: Tables>(
     console: &ConsoleRow,
     lines: Vec<Line>,
 ) -> Result<Rows<Line>, StoreFault>
-    ensures kept { IsKept T.is_sure T.represents T.may_leave tables.old tables.new }
-    ensures lines { Answers (T.is_sure tables.new) (T.represents tables.old) result
+    ensures { Loads T.meaning tables.old tables.new result
         (λ s kept. IsRulingBasis s console.now basis.now → kept ≡ filter (shown s console.now) lines.items) }
 {
     let mut kept = Rows::new(alloc);

@@ -6,34 +6,34 @@ use Rattle.opc_http_head.specs.declared.refusal.HttpRefusal.{HttpRefusal}
 use Rattle.opc_http_requests.specs.Faults as faults
 use Rattle.opc_http_requests.specs.declared.fault.ReadingFault.{ReadingFault}
 use Rattle.opc_http_requests.specs.declared.fault.ReadingFault.TheVariants as reading
-use Rattle.opc_state.specs.State.{State}
+use Rattle.opc_state.specs.Meaning.{Meaning}
 use Rattle.opc_http.specs.Exchange.{IsCutOff, IsFaulty, IsServed, IsReported, Replies, Reply, is_read}
 use Rattle.opc_http.specs.declared.exchanging.LinkFault.{LinkFault}
 use Rattle.opc_http.specs.declared.exchanging.LinkFault.TheVariants as fault
 use Rattle.opc_http.specs.declared.exchanging.Served.{Served}
 
-module _ {T K : Type 0} (is_sure : T → Type 0) (represents may_leave : T → State → Type 0) (held : K → Option (List ℕ))
+module _ {T K : Type 0} (m : Meaning T) (held : K → Option (List ℕ))
     (left : Option (List ℕ)) (before after : K) (old new : T) (moment : ℕ) where
   -- a reply that is told is served
-  pub served : (reply : Reply) → Replies is_sure represents may_leave left old new moment reply
+  pub served : (reply : Reply) → Replies m left old new moment reply
       → (res : Result Served LinkFault) → IfOk res (IsReported held reply before after)
-      → IfOk res (IsServed is_sure represents may_leave held left before after old new moment)
+      → IfOk res (IsServed m held left before after old new moment)
   served reply replies (Ok done) reported = record { reply = reply; replies = replies; reported = reported }
   served reply replies (Err why) reported = tt
 
   -- one that is cut off leaves what its fault leaves
-  pub cut_off : (reply : Reply) → Replies is_sure represents may_leave left old new moment reply
+  pub cut_off : (reply : Reply) → Replies m left old new moment reply
       → (why : LinkFault) → IsCutOff held reply before after why
-      → IsFaulty is_sure represents may_leave held left before after old new moment why
+      → IsFaulty m held left before after old new moment why
   cut_off reply replies fault.Read cut = absurd cut
   cut_off reply replies (fault.Write handled) cut = record { reply = reply; replies = replies; cut_off = cut }
   cut_off reply replies (fault.NoMemory true) cut = record { reply = reply; replies = replies; cut_off = cut }
   cut_off (Ok answer) replies (fault.NoMemory false) cut = absurd (search (rules, cut.1))
   cut_off (Err refusal) replies (fault.NoMemory false) cut = (cut.0, replies.1)
 
-  pub faulty : (reply : Reply) → Replies is_sure represents may_leave left old new moment reply
+  pub faulty : (reply : Reply) → Replies m left old new moment reply
       → (res : Result Served LinkFault) → IfErr res (IsCutOff held reply before after)
-      → IfErr res (IsFaulty is_sure represents may_leave held left before after old new moment)
+      → IfErr res (IsFaulty m held left before after old new moment)
   faulty reply replies (Ok done) cut = tt
   faulty reply replies (Err why) cut = cut_off reply replies why cut
 

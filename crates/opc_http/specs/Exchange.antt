@@ -6,6 +6,7 @@ use Rattle.opc_http_head.specs.declared.refusal.HttpRefusal.{HttpRefusal}
 use Rattle.opc_http_requests.specs.Asked.{AsksOnly}
 use Rattle.opc_http_responses.specs.Responses.{refusal_response, response_of}
 use Rattle.opc_http_responses.specs.Statuses.{refusal_status, status_of}
+use Rattle.opc_state.specs.Meaning.{Meaning}
 use Rattle.opc_state.specs.State.{State}
 use Rattle.opc_machine.specs.declared.request.Request.{Request}
 use Rattle.opc_machine.specs.declared.request.Answer.{Answer}
@@ -60,14 +61,14 @@ module _ {K : Type 0} (held : K → Option (List ℕ)) where
       AppendsPrefix (held before) (held after) (reply_bytes reply) × (handled ≡ is_ok reply)
   IsCutOff reply before after (fault.NoMemory handled) = (after ≡ before) × (handled ≡ is_ok reply)
 
-module _ {T : Type 0} (is_sure : T → Type 0) (represents may_leave : T → State → Type 0) where
+module _ {T : Type 0} (m : Meaning T) where
   -- The request that is asked for was handled once, with this answer: a step of the access machine. What a crash may
   -- leave goes by that answer.
   pub record IsOneStep (left : Option (List ℕ)) (old new : T) (moment : ℕ) (answer : Answer) : Type 0 where
     pub request : Request
     pub asked : IsAsked left (Ok request)
-    pub handled : is_sure new → (s : State) → represents old s
-        → IsHandled represents may_leave old new s moment (input_of request) answer
+    pub handled : m.is_sure new → (s : State) → m.represents old s
+        → IsHandled m old new s moment (input_of request) answer
 
   -- The reply is the one to what is asked. Where that is no request, the tables are as they were.
   abbrev pub Replies : Option (List ℕ) → T → T → ℕ → Reply → Type 0

@@ -95,11 +95,11 @@ pub fn exchange<T: Tables, S: Source, K: Sink>(
     gate: &mut Gate<T>,
     moment: u64,
 ) -> Result<Served, LinkFault>
-    ensures served { IfOk result (IsServed T.is_sure T.represents T.may_leave K.held (S.left source.old) sink.old sink.new gate.old
+    ensures served { IfOk result (IsServed T.meaning K.held (S.left source.old) sink.old sink.new gate.old
         gate.new moment) }
-    ensures fault { IfErr result (IsFaulty T.is_sure T.represents T.may_leave K.held (S.left source.old) sink.old sink.new
+    ensures fault { IfErr result (IsFaulty T.meaning K.held (S.left source.old) sink.old sink.new
         gate.old gate.new moment) }
-    ensures sure { T.is_sure gate.new → T.is_sure gate.old }
+    ensures sure { T.meaning.is_sure gate.new → T.meaning.is_sure gate.old }
     ensures stops { IfSome (S.left source.old) (λ all. StopsAtEnd all (S.left source.new)) }
     ensures most { TakesAtMost 73728 (S.left source.old) (S.left source.new) }
     ensures reads { ReadsOnly S.left S.gives MayRead source.old [] source.new }

@@ -34,6 +34,7 @@ use Rattle.std.specs.List.{All}
 use Rattle.std.proofs.Math.Seq.{get_or-append_seam, take-append_seam}
 use Rattle.std.proofs.lemmas.List.{take_all}
 use Rattle.std.proofs.lemmas.List.Elements.{All-nil, All-push}
+use Rattle.opc_state.specs.Meaning.{Meaning}
 use Rattle.opc_state.specs.State.{State}
 use Rattle.opc_machine.specs.declared.request.Request.{Request}
 use Rattle.opc_machine.specs.declared.request.Answer.{Answer}
@@ -125,8 +126,8 @@ module _ {C G D : Type 0} (limits : C → Duration → Bool → Type 0) (remaini
     failed = none_came f cut.met last cut.failed;
   }
 
-module _ {T : Type 0} (is_sure : T → Type 0) (represents may_leave : T → State → Type 0) where
-  begins : (now : T) → IsRunOf is_sure represents may_leave now now none_handled
+module _ {T : Type 0} (m : Meaning T) where
+  begins : (now : T) → IsRunOf m now now none_handled
   begins now = record {
     moments = All-nil (λ (r : ℕ × Request). r.0 ≤ LAST_MOMENT);
     run = λ sure s represented. record {
@@ -141,8 +142,8 @@ module _ {T : Type 0} (is_sure : T → Type 0) (represents may_leave : T → Sta
 
   -- a run of the machine goes on by one request
   run_on : (old mid new : T) (s : State) (rs : List (ℕ × Request)) (answers : List Answer) (r : ℕ × Request) (answer : Answer)
-      → (run : IsRun represents may_leave old mid s rs answers) → IsHandled represents may_leave mid new run.last r.0 (input_of r.1) answer
-      → IsRun represents may_leave old new s (rs ++ r ∷ []) (answers ++ answer ∷ [])
+      → (run : IsRun m old mid s rs answers) → IsHandled m mid new run.last r.0 (input_of r.1) answer
+      → IsRun m old new s (rs ++ r ∷ []) (answers ++ answer ∷ [])
   run_on old mid new s rs answers r answer run handled =
       let all = rs ++ r ∷ [] in
       let long : length all ≡ length rs + 1 = length-append rs (r ∷ []) in
@@ -150,23 +151,23 @@ module _ {T : Type 0} (is_sure : T → Type 0) (represents may_leave : T → Sta
       let whole : take (length rs + 1) all ≡ all = take_all (length rs + 1) all (omega (arith, long)) in
       let is : r ≡ get_or all (length rs) r = sym (get_or-append_seam rs r [] r) in
       let low : length rs < length all = omega (arith, long) in
-      let step : (first : IsRun represents may_leave old mid s (take (length rs) all) answers)
-      → IsHandled represents may_leave mid new first.last r.0 (input_of r.1) answer
-      → IsRun represents may_leave old new s (take (length rs + 1) all) (answers ++ answer ∷ []) =
-      λ first step. run_more represents may_leave all (length rs) r old mid new s answers answer low is first step in
-      let same : (first : IsRun represents may_leave old mid s rs answers) → IsHandled represents may_leave mid new first.last r.0 (input_of r.1) answer
-      → IsRun represents may_leave old new s (take (length rs + 1) all) (answers ++ answer ∷ []) =
-      subst (λ qs. (first : IsRun represents may_leave old mid s qs answers) → IsHandled represents may_leave mid new first.last r.0 (input_of r.1) answer
-      → IsRun represents may_leave old new s (take (length rs + 1) all) (answers ++ answer ∷ [])) seam step in
-      subst (λ qs. IsRun represents may_leave old new s qs (answers ++ answer ∷ [])) whole (same run handled)
+      let step : (first : IsRun m old mid s (take (length rs) all) answers)
+      → IsHandled m mid new first.last r.0 (input_of r.1) answer
+      → IsRun m old new s (take (length rs + 1) all) (answers ++ answer ∷ []) =
+      λ first step. run_more m all (length rs) r old mid new s answers answer low is first step in
+      let same : (first : IsRun m old mid s rs answers) → IsHandled m mid new first.last r.0 (input_of r.1) answer
+      → IsRun m old new s (take (length rs + 1) all) (answers ++ answer ∷ []) =
+      subst (λ qs. (first : IsRun m old mid s qs answers) → IsHandled m mid new first.last r.0 (input_of r.1) answer
+      → IsRun m old new s (take (length rs + 1) all) (answers ++ answer ∷ [])) seam step in
+      subst (λ qs. IsRun m old new s qs (answers ++ answer ∷ [])) whole (same run handled)
 
-  none_more : (old mid new : T) (handled : Handled) → new ≡ mid → IsRunOf is_sure represents may_leave old mid handled
-      → IsRunOf is_sure represents may_leave old new handled
-  none_more old mid new handled same run = subst (λ t. IsRunOf is_sure represents may_leave old t handled) (sym same) run
+  none_more : (old mid new : T) (handled : Handled) → new ≡ mid → IsRunOf m old mid handled
+      → IsRunOf m old new handled
+  none_more old mid new handled same run = subst (λ t. IsRunOf m old t handled) (sym same) run
 
-  one_more : (old mid new : T) (handled : Handled) (moment : ℕ) (request : Request) (answer : Answer) → moment ≤ LAST_MOMENT → (is_sure new → is_sure mid)
-      → (is_sure new → (s : State) → represents mid s → IsHandled represents may_leave mid new s moment (input_of request) answer)
-      → IsRunOf is_sure represents may_leave old mid handled → IsRunOf is_sure represents may_leave old new (handled_with handled moment request answer)
+  one_more : (old mid new : T) (handled : Handled) (moment : ℕ) (request : Request) (answer : Answer) → moment ≤ LAST_MOMENT → (m.is_sure new → m.is_sure mid)
+      → (m.is_sure new → (s : State) → m.represents mid s → IsHandled m mid new s moment (input_of request) answer)
+      → IsRunOf m old mid handled → IsRunOf m old new (handled_with handled moment request answer)
   one_more old mid new handled moment request answer low sure step run = record {
     moments = All-push (λ (r : ℕ × Request). r.0 ≤ LAST_MOMENT) handled.requests (moment, request) run.moments low;
     run = λ known s represented.
@@ -176,10 +177,10 @@ module _ {T : Type 0} (is_sure : T → Type 0) (represents may_leave : T → Sta
   }
 
   -- what an exchange adds to what was handled, by what is replied in it
-  module _ (old mid new : T) (handled : Handled) (left : Option (List ℕ)) (moment : ℕ) (low : moment ≤ LAST_MOMENT) (sure : is_sure new → is_sure mid)
-      (run : IsRunOf is_sure represents may_leave old mid handled) where
-    by_reply : (reply : Reply) → Replies is_sure represents may_leave left mid new moment reply
-        → (more : Handled) × IsReplied left handled more moment reply × IsRunOf is_sure represents may_leave old new more
+  module _ (old mid new : T) (handled : Handled) (left : Option (List ℕ)) (moment : ℕ) (low : moment ≤ LAST_MOMENT) (sure : m.is_sure new → m.is_sure mid)
+      (run : IsRunOf m old mid handled) where
+    by_reply : (reply : Reply) → Replies m left mid new moment reply
+        → (more : Handled) × IsReplied left handled more moment reply × IsRunOf m old new more
     by_reply (Ok answer) one = (
       handled_with handled moment one.request answer,
       (one.request, one.asked, refl),
@@ -188,33 +189,33 @@ module _ {T : Type 0} (is_sure : T → Type 0) (represents may_leave : T → Sta
     by_reply (Err refusal) none = (handled, (none.0, refl), none_more old mid new handled none.1 run)
 
     module _ (before after : Option (List ℕ)) where
-      replied : (served : Served) → IsReplyServed is_sure represents may_leave (λ held. held) left before after mid new moment served
-          → (more : Handled) × RepliesOnce handled left moment before after (Ok served) more × IsRunOf is_sure represents may_leave old new more
+      replied : (served : Served) → IsReplyServed m (λ held. held) left before after mid new moment served
+          → (more : Handled) × RepliesOnce handled left moment before after (Ok served) more × IsRunOf m old new more
       replied served one = let r = by_reply one.reply one.replies in (r.0, record { reply = one.reply; replied = r.1; written = one.reported }, r.2)
 
-      cut_off : (f : LinkFault) → IsUnserved is_sure represents may_leave (λ held. held) left before after mid new moment f
-          → (more : Handled) × RepliesOnce handled left moment before after (Err f) more × IsRunOf is_sure represents may_leave old new more
+      cut_off : (f : LinkFault) → IsUnserved m (λ held. held) left before after mid new moment f
+          → (more : Handled) × RepliesOnce handled left moment before after (Err f) more × IsRunOf m old new more
       cut_off f one = let r = by_reply one.reply one.replies in (r.0, record { reply = one.reply; replied = r.1; written = one.cut_off }, r.2)
 
-      broken : (f : LinkFault) → IsFaulty is_sure represents may_leave (λ held. held) left before after mid new moment f
-          → (more : Handled) × IsConversation handled left moment before after (Err f) more × IsRunOf is_sure represents may_leave old new more
+      broken : (f : LinkFault) → IsFaulty m (λ held. held) left before after mid new moment f
+          → (more : Handled) × IsConversation handled left moment before after (Err f) more × IsRunOf m old new more
       broken fault.Read h = (handled, (h.0, refl), none_more old mid new handled h.1 run)
       broken (fault.Write said) h = cut_off (fault.Write said) h
       broken (fault.NoMemory false) h = (handled, (h.0, refl), none_more old mid new handled h.1 run)
       broken (fault.NoMemory true) h = cut_off (fault.NoMemory true) h
 
-      exchanged : (ended : Result Served LinkFault) → IsExchange is_sure represents may_leave mid left moment before after ended new
-          → (more : Handled) × IsConversation handled left moment before after ended more × IsRunOf is_sure represents may_leave old new more
+      exchanged : (ended : Result Served LinkFault) → IsExchange m mid left moment before after ended new
+          → (more : Handled) × IsConversation handled left moment before after ended more × IsRunOf m old new more
       exchanged (Ok served) one = replied served one.served
       exchanged (Err f) one = broken f one.fault
 
   -- what clients that came and were served make of the tables
   module _ {C : Type 0} (limits : C → Duration → Bool → Type 0) (remaining contents : C → Option (List ℕ)) (timeout : Option Duration) where
     served_one : (came gone : Arrival C) (old mid new : T) (handled : Handled) → came.moment ≤ LAST_MOMENT
-        → IsServed limits remaining contents (IsExchange is_sure represents may_leave) timeout came gone mid new
-        → IsRunOf is_sure represents may_leave old mid handled
+        → IsServed limits remaining contents (IsExchange m) timeout came gone mid new
+        → IsRunOf m old mid handled
         → (more : Handled) × IsServed limits remaining contents IsConversation timeout came gone handled more
-        × IsRunOf is_sure represents may_leave old new more × (is_sure new → is_sure mid)
+        × IsRunOf m old new more × (m.is_sure new → m.is_sure mid)
     served_one came gone old mid new handled low (inl one) run =
         let r = exchanged old mid new handled _ came.moment low one.made.sure run _ _ one.ended one.made in
         (r.0, inl (record { limited = one.limited; ended = one.ended; made = r.1 }), r.2, one.made.sure)
@@ -226,16 +227,16 @@ module _ {T : Type 0} (is_sure : T → Type 0) (represents may_leave : T → Sta
         idle = refl;
       }),
       none_more old mid new handled none.idle run,
-      λ sure. subst is_sure none.idle sure,
+      λ sure. subst m.is_sure none.idle sure,
     )
 
     module _ {D : Type 0} (accepts : D → Result (C × C) Error → D → Type 0) (clock_says : D → Result Duration Error → D → Type 0) (first : D) (old : T) where
       handled_for : (n : ℕ) (last : D) (new : T)
-          → AreServed limits remaining contents (IsExchange is_sure represents may_leave) timeout accepts clock_says
+          → AreServed limits remaining contents (IsExchange m) timeout accepts clock_says
           first old n last new
           → (handled : Handled) × AreServed limits remaining contents IsConversation timeout accepts clock_says first none_handled n last handled
-          × IsRunOf is_sure represents may_leave old new handled × (is_sure new → is_sure old)
-      handled_for zero last new are = (none_handled, (are.0, refl), none_more old old new none_handled are.1 (begins old), λ sure. subst is_sure are.1 sure)
+          × IsRunOf m old new handled × (m.is_sure new → m.is_sure old)
+      handled_for zero last new are = (none_handled, (are.0, refl), none_more old old new none_handled are.1 (begins old), λ sure. subst m.is_sure are.1 sure)
       handled_for (suc n) last new (met, was, came, gone, are, arrival, served) =
           let before = handled_for n met was are in
           let one = served_one came gone old was new before.0 (within arrival.reading came.moment arrival.moment) served before.2 in
@@ -243,10 +244,10 @@ module _ {T : Type 0} (is_sure : T → Type 0) (represents may_leave : T → Sta
 
       module _ {A : Type 0} (count : ℕ) (last : D) (new : T) where
         pub all_handled : (end : Result A ServeFault)
-            → OnOk end (AreServed limits remaining contents (IsExchange is_sure represents may_leave) timeout accepts clock_says first old count last new)
-            → IfErr end (λ f. IsCutShort limits remaining contents (IsExchange is_sure represents may_leave) timeout
+            → OnOk end (AreServed limits remaining contents (IsExchange m) timeout accepts clock_says first old count last new)
+            → IfErr end (λ f. IsCutShort limits remaining contents (IsExchange m) timeout
             accepts clock_says first old count f last new)
-            → AreHandled is_sure represents may_leave limits remaining contents timeout old new count end
+            → AreHandled m limits remaining contents timeout old new count end
         all_handled (Ok a) are cut =
             let h = handled_for count last new are in record {
               handled = h.0;
@@ -267,9 +268,9 @@ module _ {T : Type 0} (is_sure : T → Type 0) (represents may_leave : T → Sta
             }
 
         pub sure : (end : Result A ServeFault)
-            → OnOk end (AreServed limits remaining contents (IsExchange is_sure represents may_leave) timeout accepts clock_says first old count last new)
-            → IfErr end (λ f. IsCutShort limits remaining contents (IsExchange is_sure represents may_leave) timeout
+            → OnOk end (AreServed limits remaining contents (IsExchange m) timeout accepts clock_says first old count last new)
+            → IfErr end (λ f. IsCutShort limits remaining contents (IsExchange m) timeout
             accepts clock_says first old count f last new)
-            → is_sure new → is_sure old
+            → m.is_sure new → m.is_sure old
         sure (Ok a) are cut = (handled_for count last new are).3
         sure (Err f) are cut = (handled_for cut.done cut.met new cut.served).3

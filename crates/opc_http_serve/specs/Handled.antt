@@ -2,6 +2,7 @@
 use Rattle.std.specs.Prelude.{◌≡◌, ◌≤◌, ◌++◌, ◌∷◌, ℕ, Bool, true, false, List, [], Option, Result, Ok, Err, IfErr, IfOk}
 use Rattle.std.specs.List.{All}
 use Rattle.std.specs.declared.time.Duration.{Duration}
+use Rattle.opc_state.specs.Meaning.{Meaning}
 use Rattle.opc_state.specs.State.{State}
 use Rattle.opc_machine.specs.declared.request.Request.{Request}
 use Rattle.opc_machine.specs.declared.request.Answer.{Answer}
@@ -60,20 +61,20 @@ IsConversation old left moment before after (Err (fault.Write handled)) new =
     RepliesOnce old left moment before after (Err (fault.Write handled)) new
 IsConversation old left moment before after (Ok served) new = RepliesOnce old left moment before after (Ok served) new
 
-module _ {T : Type 0} (is_sure : T → Type 0) (represents may_leave : T → State → Type 0) where
+module _ {T : Type 0} (m : Meaning T) where
   -- An exchange over tables: what was left of the reader's bytes was asked for and handled, and what the writer holds
   -- more is the reply, or a part of it.
   pub record IsExchange (old : T) (left : Option (List ℕ)) (moment : ℕ) (before after : Option (List ℕ))
       (ended : Result Served LinkFault) (new : T) : Type 0 where
-    pub served : IfOk ended (IsServed is_sure represents may_leave (λ held. held) left before after old new moment)
-    pub fault : IfErr ended (IsFaulty is_sure represents may_leave (λ held. held) left before after old new moment)
-    pub sure : is_sure new → is_sure old
+    pub served : IfOk ended (IsServed m (λ held. held) left before after old new moment)
+    pub fault : IfErr ended (IsFaulty m (λ held. held) left before after old new moment)
+    pub sure : m.is_sure new → m.is_sure old
 
   -- What was handled is a run of the machine, at moments that may be ones. Where nothing was, nothing changed.
   pub record IsRunOf (old new : T) (handled : Handled) : Type 0 where
     pub moments : All (λ (r : ℕ × Request). r.0 ≤ LAST_MOMENT) handled.requests
-    pub run : is_sure new → (s : State) → represents old s
-        → IsRun represents may_leave old new s handled.requests handled.answers
+    pub run : m.is_sure new → (s : State) → m.represents old s
+        → IsRun m old new s handled.requests handled.answers
     pub idle : handled.requests ≡ [] → new ≡ old
 
   module _ {C : Type 0} (limits : C → Duration → Bool → Type 0) (remaining contents : C → Option (List ℕ))

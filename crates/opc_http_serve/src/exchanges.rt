@@ -33,7 +33,7 @@ pub trait Exchanges {
 }
 
 impl<T: Tables> Exchanges for Gate<T> {
-    ghost exchanged = { λ old left moment before after result new. IsExchange T.is_sure T.represents T.may_leave old left moment
+    ghost exchanged = { λ old left moment before after result new. IsExchange T.meaning old left moment
         before after result new };
 
     fn serve_one<S: Source, K: Sink>(

@@ -88,11 +88,11 @@ pub fn serve_on<H: AllocGlobal + Clock, L: OpenListener, T: Tables>(
 ) -> Result<(), ServeFault>
 where
     L::Stream: Connection,
-    ensures sure { T.is_sure gate.new → T.is_sure gate.old }
-    ensures handled { AreHandled T.is_sure T.represents T.may_leave L.Stream.limits L.Stream.remaining L.Stream.contents
+    ensures sure { T.meaning.is_sure gate.new → T.meaning.is_sure gate.old }
+    ensures handled { AreHandled T.meaning L.Stream.limits L.Stream.remaining L.Stream.contents
         timeout gate.old gate.new count result }
     ensures served { ServesClients L.Stream.limits L.Stream.remaining L.Stream.contents
-        (IsExchange T.is_sure T.represents T.may_leave) timeout gate.old count result gate.new }
+        (IsExchange T.meaning) timeout gate.old count result gate.new }
 {
     let mut door = Acceptor::new(rt, listener);
     serve(rt.alloc(), &mut door, count, timeout, routes, gate)

@@ -1,7 +1,15 @@
 -- What is asked of tables that represent a state.
 use Rattle.std.specs.Prelude.{Result, IfOk}
+use Rattle.opc_state.specs.Changes.{IsKept}
+use Rattle.opc_state.specs.Meaning.{Meaning}
 use Rattle.opc_state.specs.State.{State}
 
 -- where the tables are sure, and represent a state, a success answers this of it
-abbrev pub Answers : {V E : Type 0} → Type 0 → (State → Type 0) → Result V E → (State → V → Type 0) → Type 0
-Answers sure represents result asked = sure → (s : State) → represents s → IfOk result (asked s)
+abbrev pub Answers : {T V E : Type 0} → Meaning T → T → T → Result V E → (State → V → Type 0) → Type 0
+Answers m old new result asked = m.is_sure new → (s : State) → m.represents old s → IfOk result (asked s)
+
+-- A load keeps what the tables mean, and where it succeeds it answers this of the state.
+pub record Loads {T V E : Type 0} (m : Meaning T) (old new : T) (result : Result V E)
+    (asked : State → V → Type 0) : Type 0 where
+  pub kept : IsKept m old new
+  pub answers : Answers m old new result asked

@@ -20,6 +20,7 @@ use Rattle.opc_state.specs.declared.change.Batch.{Batch}
 use Rattle.opc_state.specs.declared.change.Change.{Change}
 use Rattle.opc_state.specs.declared.change.Edit.{Edit}
 use Rattle.opc_state.specs.declared.change.Edit.TheVariants as edit
+use Rattle.opc_state.specs.Meaning.{Meaning}
 use Rattle.opc_state.specs.Members.{
   with_unit,
   with_device,
@@ -137,8 +138,7 @@ abbrev pub is_nothing : Change → Bool
 is_nothing c = no_edits c.edits.items && is_none c.account
 
 -- Nothing was changed between these two: not the state, nor what a crash may leave.
-pub record IsKept {T : Type 0} (is_sure : T → Type 0) (represents may_leave : T → State → Type 0) (old new : T) : Type
-    0 where
-  pub sure : is_sure new → is_sure old
-  pub same : is_sure new → (s : State) → represents old s → represents new s
-  pub crash : (s : State) → may_leave new s → may_leave old s
+pub record IsKept {T : Type 0} (m : Meaning T) (old new : T) : Type 0 where
+  pub sure : m.is_sure new → m.is_sure old
+  pub same : m.is_sure new → (s : State) → m.represents old s → m.represents new s
+  pub crash : (s : State) → m.may_leave new s → m.may_leave old s

@@ -6,4 +6,5 @@ pub mod Invariants
 pub mod Asked
 pub mod Footprints
 pub mod Loads
+pub mod Meaning
 pub mod PolicyFile

@@ -5,7 +5,7 @@ ghost use Rattle.opc_board.specs.Invariants.{console_at, device_at, reply_at, un
 ghost use Rattle.opc_policy_members.specs.Profiles.{of_class, profile_of};
 ghost use Rattle.opc_policy_members.specs.Members.{user_of, groups_of};
 ghost use Rattle.opc_policy_members.specs.Taken.{has_group, has_user, is_active};
-ghost use Rattle.opc_state.specs.Asked.{Answers};
+ghost use Rattle.opc_state.specs.Asked.{Answers, Loads};
 ghost use Rattle.opc_state.specs.Invariants.{IsKeyed};
 ghost use Rattle.opc_state.specs.Loads.{
   access_list,
@@ -19,9 +19,10 @@ ghost use Rattle.opc_state.specs.Loads.{
   level_for,
   masters,
 };
+ghost use Rattle.opc_state.specs.Meaning.{Meaning};
 ghost use Rattle.opc_state.specs.PolicyFile.{rows_of};
 ghost use Rattle.opc_state.specs.State.{State, Fits, deciding_in, has_users};
-ghost use Rattle.opc_state.specs.Changes.{IsKept, changed_by};
+ghost use Rattle.opc_state.specs.Changes.{changed_by};
 
 use crate::account::AccountRow;
 use crate::change::Change;
@@ -43,88 +44,63 @@ use std::alloc::Global;
 
 /// Tables that keep a state: loads by key, none of which reads the histories, and one commit.
 pub trait Tables {
-    /// The tables represent the state, as long as they are open.
-    ghost represents: { Self → State → Type 0 };
-
-    /// Nobody else writes them, and the disk returns what was written.
-    ghost is_sure: { Self → Type 0 };
-
-    /// A crash may leave tables that represent the state.
-    ghost may_leave: { Self → State → Type 0 };
+    /// Which states they represent, and which a crash may leave.
+    ghost meaning: { Meaning Self };
 
     /// The console of a name.
     fn console(&mut self, name: &ConsoleName) -> Result<Option<ConsoleRow>, StoreFault>
-        ensures kept { IsKept is_sure represents may_leave self.old self.new }
-        ensures console { Answers (is_sure self.new) (represents self.old) result
-            (λ s row. row ≡ console_at s.board name.now) }
-        ensures keyed { Answers (is_sure self.new) (represents self.old) result (λ s _. IsKeyed s) };
+        ensures console { Loads meaning self.old self.new result (λ s row. row ≡ console_at s.board name.now) }
+        ensures keyed { Answers meaning self.old self.new result (λ s _. IsKeyed s) };
 
     /// The unit of work of a name.
     fn unit(&mut self, name: &UnitName) -> Result<Option<UnitRow>, StoreFault>
-        ensures kept { IsKept is_sure represents may_leave self.old self.new }
-        ensures unit { Answers (is_sure self.new) (represents self.old) result (λ s row. row ≡ unit_at s.board name.now) };
+        ensures { Loads meaning self.old self.new result (λ s row. row ≡ unit_at s.board name.now) };
 
     /// The device of a number.
     fn device(&mut self, number: &Device) -> Result<Option<DeviceRow>, StoreFault>
-        ensures kept { IsKept is_sure represents may_leave self.old self.new }
-        ensures device { Answers (is_sure self.new) (represents self.old) result
-            (λ s row. row ≡ device_at s.board number.now) };
+        ensures { Loads meaning self.old self.new result (λ s row. row ≡ device_at s.board number.now) };
 
     /// The open reply of a number.
     fn reply(&mut self, id: ReplyId) -> Result<Option<ReplyRow>, StoreFault>
-        ensures kept { IsKept is_sure represents may_leave self.old self.new }
-        ensures reply { Answers (is_sure self.new) (represents self.old) result (λ s row. row ≡ reply_at s.board id) };
+        ensures { Loads meaning self.old self.new result (λ s row. row ≡ reply_at s.board id) };
 
     /// Whether the day is halted.
     fn is_halted(&mut self) -> Result<bool, StoreFault>
-        ensures kept { IsKept is_sure represents may_leave self.old self.new }
-        ensures halted { Answers (is_sure self.new) (represents self.old) result (λ s halted. halted ≡ s.board.halted) }
-        ensures keyed { Answers (is_sure self.new) (represents self.old) result (λ s _. IsKeyed s) };
+        ensures halted { Loads meaning self.old self.new result (λ s halted. halted ≡ s.board.halted) }
+        ensures keyed { Answers meaning self.old self.new result (λ s _. IsKeyed s) };
 
     /// The devices that a unit has, in order.
     fn devices_of(&mut self, alloc: Global, unit: &UnitName) -> Result<Rows<DeviceRow>, StoreFault>
-        ensures kept { IsKept is_sure represents may_leave self.old self.new }
-        ensures devices { Answers (is_sure self.new) (represents self.old) result
-            (λ s rows. rows ≡ devices_of s.board unit.now) };
+        ensures { Loads meaning self.old self.new result (λ s rows. rows ≡ devices_of s.board unit.now) };
 
     /// The consoles where a user is on, in order.
     fn consoles_of(&mut self, alloc: Global, user: &UserId) -> Result<Rows<ConsoleRow>, StoreFault>
-        ensures kept { IsKept is_sure represents may_leave self.old self.new }
-        ensures consoles { Answers (is_sure self.new) (represents self.old) result
-            (λ s rows. rows ≡ consoles_of s.board user.now) };
+        ensures { Loads meaning self.old self.new result (λ s rows. rows ≡ consoles_of s.board user.now) };
 
     /// The online consoles with AUTH MASTER, in order, two at most: with two, at least one is not the console that is
     /// named.
     fn masters(&mut self, alloc: Global) -> Result<Rows<ConsoleRow>, StoreFault>
-        ensures kept { IsKept is_sure represents may_leave self.old self.new }
-        ensures masters { Answers (is_sure self.new) (represents self.old) result
-            (λ s rows. rows ≡ take 2 (masters s.board)) };
+        ensures { Loads meaning self.old self.new result (λ s rows. rows ≡ take 2 (masters s.board)) };
 
     /// All units of work, in order.
     fn units(&mut self, alloc: Global) -> Result<Rows<UnitRow>, StoreFault>
-        ensures kept { IsKept is_sure represents may_leave self.old self.new }
-        ensures units { Answers (is_sure self.new) (represents self.old) result (λ s rows. rows ≡ s.board.units) };
+        ensures { Loads meaning self.old self.new result (λ s rows. rows ≡ s.board.units) };
 
     /// All devices, in order.
     fn devices(&mut self, alloc: Global) -> Result<Rows<DeviceRow>, StoreFault>
-        ensures kept { IsKept is_sure represents may_leave self.old self.new }
-        ensures devices { Answers (is_sure self.new) (represents self.old) result (λ s rows. rows ≡ s.board.devices) };
+        ensures { Loads meaning self.old self.new result (λ s rows. rows ≡ s.board.devices) };
 
     /// All consoles, in order.
     fn consoles(&mut self, alloc: Global) -> Result<Rows<ConsoleRow>, StoreFault>
-        ensures kept { IsKept is_sure represents may_leave self.old self.new }
-        ensures consoles { Answers (is_sure self.new) (represents self.old) result (λ s rows. rows ≡ s.board.consoles) };
+        ensures { Loads meaning self.old self.new result (λ s rows. rows ≡ s.board.consoles) };
 
     /// All open replies, in order.
     fn replies(&mut self, alloc: Global) -> Result<Rows<ReplyRow>, StoreFault>
-        ensures kept { IsKept is_sure represents may_leave self.old self.new }
-        ensures replies { Answers (is_sure self.new) (represents self.old) result (λ s rows. rows ≡ s.board.replies) };
+        ensures { Loads meaning self.old self.new result (λ s rows. rows ≡ s.board.replies) };
 
     /// The user of an id.
     fn user(&mut self, alloc: Global, id: &UserId) -> Result<Option<User>, StoreFault>
-        ensures kept { IsKept is_sure represents may_leave self.old self.new }
-        ensures user { Answers (is_sure self.new) (represents self.old) result
-            (λ s user. user ≡ user_of s.policy.users id.now) };
+        ensures { Loads meaning self.old self.new result (λ s user. user ≡ user_of s.policy.users id.now) };
 
     /// The groups that a user is connected to, as many as asked for at most, in order.
     fn groups_of(
@@ -133,15 +109,12 @@ pub trait Tables {
         user: &UserId,
         most: u32,
     ) -> Result<Vec<GroupName>, StoreFault>
-        ensures kept { IsKept is_sure represents may_leave self.old self.new }
-        ensures groups { Answers (is_sure self.new) (represents self.old) result
+        ensures { Loads meaning self.old self.new result
             (λ s groups. groups.items ≡ take most (groups_of s.policy.connects user.now)) };
 
     /// Whether a class is active.
     fn is_active(&mut self, class: Class) -> Result<bool, StoreFault>
-        ensures kept { IsKept is_sure represents may_leave self.old self.new }
-        ensures active { Answers (is_sure self.new) (represents self.old) result
-            (λ s active. active ≡ is_active s.policy.active class) };
+        ensures { Loads meaning self.old self.new result (λ s active. active ≡ is_active s.policy.active class) };
 
     /// The profile of a class that decides a resource, as a search finds it, but for its access list.
     fn deciding(
@@ -150,10 +123,9 @@ pub trait Tables {
         class: Class,
         resource: &Resource,
     ) -> Result<Found, StoreFault>
-        ensures kept { IsKept is_sure represents may_leave self.old self.new }
-        ensures found { Answers (is_sure self.new) (represents self.old) result
+        ensures found { Loads meaning self.old self.new result
             (λ s found. found.profile ≡ option_map bare (deciding_in s.policy class resource.now)) }
-        ensures keyed { Answers (is_sure self.new) (represents self.old) result (λ s _. IsKeyed s) };
+        ensures keyed { Answers meaning self.old self.new result (λ s _. IsKeyed s) };
 
     /// The access list of a profile, as many entries as asked for at most.
     fn entries(
@@ -163,8 +135,7 @@ pub trait Tables {
         pattern: &Pattern,
         most: u32,
     ) -> Result<Entries, StoreFault>
-        ensures kept { IsKept is_sure represents may_leave self.old self.new }
-        ensures entries { Answers (is_sure self.new) (represents self.old) result
+        ensures { Loads meaning self.old self.new result
             (λ s entries. entries ≡ take most (access_list s.policy class pattern.now)) };
 
     /// The level of the entry of a profile for an id, at one console or, where none is given, at every console.
@@ -175,33 +146,25 @@ pub trait Tables {
         id: &EntryId,
         when: Option<&ConsoleName>,
     ) -> Result<Option<Level>, StoreFault>
-        ensures kept { IsKept is_sure represents may_leave self.old self.new }
-        ensures level { Answers (is_sure self.new) (represents self.old) result
+        ensures { Loads meaning self.old self.new result
             (λ s level. level ≡ level_for s.policy class pattern.now id.now (option_copied when.entry)) };
 
     /// Whether a user is connected to a group of this name.
     fn is_connected(&mut self, user: &UserId, group: &str) -> Result<bool, StoreFault>
-        ensures kept { IsKept is_sure represents may_leave self.old self.new }
-        ensures connected { Answers (is_sure self.new) (represents self.old) result
+        ensures { Loads meaning self.old self.new result
             (λ s connected. connected ≡ is_connected s.policy user.now group.now) };
 
     /// Whether a user has this name.
     fn has_user(&mut self, name: &str) -> Result<bool, StoreFault>
-        ensures kept { IsKept is_sure represents may_leave self.old self.new }
-        ensures there { Answers (is_sure self.new) (represents self.old) result
-            (λ s there. there ≡ has_user s.policy name.now) };
+        ensures { Loads meaning self.old self.new result (λ s there. there ≡ has_user s.policy name.now) };
 
     /// Whether a group has this name.
     fn has_group(&mut self, name: &str) -> Result<bool, StoreFault>
-        ensures kept { IsKept is_sure represents may_leave self.old self.new }
-        ensures there { Answers (is_sure self.new) (represents self.old) result
-            (λ s there. there ≡ has_group s.policy name.now) };
+        ensures { Loads meaning self.old self.new result (λ s there. there ≡ has_group s.policy name.now) };
 
     /// Whether a connect, an owner or an access list names this user.
     fn is_named(&mut self, user: &UserId) -> Result<bool, StoreFault>
-        ensures kept { IsKept is_sure represents may_leave self.old self.new }
-        ensures named { Answers (is_sure self.new) (represents self.old) result
-            (λ s named. named ≡ is_named s.policy user.now) };
+        ensures { Loads meaning self.old self.new result (λ s named. named ≡ is_named s.policy user.now) };
 
     /// The profile of a class and a pattern, but for its access list.
     fn definition(
@@ -210,20 +173,17 @@ pub trait Tables {
         class: Class,
         pattern: &Pattern,
     ) -> Result<Option<Profile>, StoreFault>
-        ensures kept { IsKept is_sure represents may_leave self.old self.new }
-        ensures definition { Answers (is_sure self.new) (represents self.old) result
+        ensures { Loads meaning self.old self.new result
             (λ s profile. profile ≡ option_map bare (profile_of s.policy.profiles class pattern.now)) };
 
     /// The profiles of a class, in the order of their patterns, but for their access lists.
     fn definitions(&mut self, alloc: Global, class: Class) -> Result<Vec<Profile>, StoreFault>
-        ensures kept { IsKept is_sure represents may_leave self.old self.new }
-        ensures definitions { Answers (is_sure self.new) (represents self.old) result
+        ensures { Loads meaning self.old self.new result
             (λ s profiles. profiles.items ≡ map bare (of_class class s.policy.profiles)) };
 
     /// The profiles of a class, in the order of their patterns.
     fn profiles(&mut self, alloc: Global, class: Class) -> Result<Vec<Profile>, StoreFault>
-        ensures kept { IsKept is_sure represents may_leave self.old self.new }
-        ensures profiles { Answers (is_sure self.new) (represents self.old) result
+        ensures { Loads meaning self.old self.new result
             (λ s profiles. profiles.items ≡ of_class class s.policy.profiles) };
 
     /// The rows of the account from a number on, as many as asked for at most, with their numbers, which begin at 1.
@@ -233,43 +193,36 @@ pub trait Tables {
         from: u64,
         count: u32,
     ) -> Result<Vec<(u64, AccountRow)>, StoreFault>
-        ensures kept { IsKept is_sure represents may_leave self.old self.new }
-        ensures account { Answers (is_sure self.new) (represents self.old) result
-            (λ s rows. rows.items ≡ asked_for from count s.account) };
+        ensures { Loads meaning self.old self.new result (λ s rows. rows.items ≡ asked_for from count s.account) };
 
     /// The rows of the batch of a number, if it is kept.
     fn batch(&mut self, alloc: Global, number: u32) -> Result<Option<Rows<Row>>, StoreFault>
-        ensures kept { IsKept is_sure represents may_leave self.old self.new }
-        ensures batch { Answers (is_sure self.new) (represents self.old) result
-            (λ s rows. rows ≡ batch_rows s.batches number) };
+        ensures { Loads meaning self.old self.new result (λ s rows. rows ≡ batch_rows s.batches number) };
 
     /// Whether a user is stored.
     fn has_users(&mut self) -> Result<bool, StoreFault>
-        ensures kept { IsKept is_sure represents may_leave self.old self.new }
-        ensures users { Answers (is_sure self.new) (represents self.old) result (λ s some. some ≡ has_users s.policy) };
+        ensures { Loads meaning self.old self.new result (λ s some. some ≡ has_users s.policy) };
 
     /// The whole policy.
     fn policy(&mut self, alloc: Global) -> Result<Policy, StoreFault>
-        ensures kept { IsKept is_sure represents may_leave self.old self.new }
-        ensures policy { Answers (is_sure self.new) (represents self.old) result (λ s policy. policy ≡ s.policy) };
+        ensures { Loads meaning self.old self.new result (λ s policy. policy ≡ s.policy) };
 
     /// The policy and the consoles, as the rows of a policy file.
     fn written(&mut self, alloc: Global) -> Result<Vec<Row>, StoreFault>
-        ensures kept { IsKept is_sure represents may_leave self.old self.new }
-        ensures rows { Answers (is_sure self.new) (represents self.old) result
-            (λ s rows. rows.items ≡ rows_of s.policy s.board.consoles) };
+        ensures { Loads meaning self.old self.new result (λ s rows. rows.items ≡ rows_of s.policy s.board.consoles) };
 
     /// Writes all of a change, or nothing. A crash leaves the state before or after it; once it is acknowledged, the
     /// state after it alone.
     fn commit(&mut self, alloc: Global, change: &Change) -> Result<(), StoreFault>
-        ensures sure { is_sure self.new → is_sure self.old }
-        ensures done { is_sure self.new → (s : State) → represents self.old s
-            → OnOk result (represents self.new (changed_by change.now s)) }
-        ensures fits { is_sure self.new → (s : State) → represents self.old s
+        ensures sure { meaning.is_sure self.new → meaning.is_sure self.old }
+        ensures done { meaning.is_sure self.new → (s : State) → meaning.represents self.old s
+            → OnOk result (meaning.represents self.new (changed_by change.now s)) }
+        ensures fits { meaning.is_sure self.new → (s : State) → meaning.represents self.old s
             → OnOk result (Fits s → Fits (changed_by change.now s)) }
-        ensures failed { is_sure self.new → (s : State) → represents self.old s → OnErr result (represents self.new s) }
-        ensures acknowledged { is_sure self.new → (s : State) → represents self.old s
-            → OnOk result ((left : State) → may_leave self.new left → left ≡ changed_by change.now s) }
-        ensures crash { is_sure self.new → (s : State) → represents self.old s → (left : State)
-            → may_leave self.new left → may_leave self.old left ⊎ (left ≡ changed_by change.now s) };
+        ensures failed { meaning.is_sure self.new → (s : State) → meaning.represents self.old s
+            → OnErr result (meaning.represents self.new s) }
+        ensures acknowledged { meaning.is_sure self.new → (s : State) → meaning.represents self.old s
+            → OnOk result ((left : State) → meaning.may_leave self.new left → left ≡ changed_by change.now s) }
+        ensures crash { meaning.is_sure self.new → (s : State) → meaning.represents self.old s → (left : State)
+            → meaning.may_leave self.new left → meaning.may_leave self.old left ⊎ (left ≡ changed_by change.now s) };
 }

@@ -55,6 +55,7 @@ use Rattle.opc_state.specs.declared.change.Edit.{Edit}
 use Rattle.opc_state.specs.Changes.{IsKept, all_edited, changed_by}
 use Rattle.opc_state.specs.Invariants.{IsKeyed}
 use Rattle.opc_state.specs.Loads.{bare}
+use Rattle.opc_state.specs.Meaning.{Meaning}
 use Rattle.opc_state.specs.State.{State, deciding_in}
 use Rattle.opc_state.proofs.SameRows.{first, names, rest}
 use Rattle.opc_state_cache.specs.Cache.{
@@ -70,6 +71,7 @@ use Rattle.opc_state_cache.specs.Cache.{
   remembered,
   same_name,
 }
+use Rattle.opc_state_cache.specs.Meaning.{cached_meaning}
 use Rattle.opc_state_cache.specs.declared.cached.Cached.{Cached}
 use Rattle.opc_state_cache.proofs.Keyed.{IsFoundIn, deciding_found}
 use Rattle.opc_state_cache.proofs.Named.{same_pattern}
@@ -174,17 +176,16 @@ fewer_hold c s entries h = go (invalidates s.policy c.edits.items)
 
 -- ---- the tables with the cache
 
-module _ {T : Type 0} (is_sure : T → Type 0) (represents may_leave : T → State → Type 0) where
-  pub held : (tables : T) (entries : Entries) (s : State) → IsCached represents tables entries s → Holds entries s
+module _ {T : Type 0} (m : Meaning T) where
+  pub held : (tables : T) (entries : Entries) (s : State) → IsCached m tables entries s → Holds entries s
   held tables entries s h = record { right = h.right; keyed = h.keyed }
 
-  pub with_cache : (tables : T) (entries : Entries) (s : State) → represents tables s → Holds entries s → IsCached represents tables entries s
+  pub with_cache : (tables : T) (entries : Entries) (s : State) → m.represents tables s → Holds entries s → IsCached m tables entries s
   with_cache tables entries s represented h = record { represented = represented; right = h.right; keyed = h.keyed }
 
-  pub cached_kept : (old new : Cached T) → IsKept is_sure represents may_leave old.tables new.tables
-      → (is_sure new.tables → (s : State) → represents old.tables s → Holds old.recent s → Holds new.recent s)
-      → IsKept (λ (c : Cached T). is_sure c.tables) (λ (c : Cached T) s. IsCached represents c.tables c.recent s)
-      (λ (c : Cached T) s. may_leave c.tables s) old new
+  pub cached_kept : (old new : Cached T) → IsKept m old.tables new.tables
+      → (m.is_sure new.tables → (s : State) → m.represents old.tables s → Holds old.recent s → Holds new.recent s)
+      → IsKept (cached_meaning m) old new
   cached_kept old new kept holds = record {
     sure = kept.sure;
     same = λ sure s h. with_cache new.tables new.recent s (kept.same sure s h.represented) (holds sure s h.represented (held old.tables old.recent s h));

@@ -12,6 +12,7 @@ use Rattle.opc_policy_members.specs.Profiles.{profile_of}
 use Rattle.opc_state.specs.declared.change.Edit.{Edit}
 use Rattle.opc_state.specs.declared.change.Edit.TheVariants as edit
 use Rattle.opc_state.specs.Invariants.{IsKeyed}
+use Rattle.opc_state.specs.Meaning.{Meaning}
 use Rattle.opc_state.specs.State.{State, deciding_in}
 
 -- a class and a resource
@@ -38,9 +39,8 @@ IsRight p entries = (e : Name × Option (List ℕ)) → Contains entries e → e
 
 -- Tables represent a state, and what is cached of it is right. Where anything is cached the state is in the order of
 -- its keys, so that its profiles are found by their patterns.
-pub record IsCached {T : Type 0} (represents : T → State → Type 0) (tables : T) (entries : Entries) (s : State) : Type
-    0 where
-  pub represented : represents tables s
+pub record IsCached {T : Type 0} (m : Meaning T) (tables : T) (entries : Entries) (s : State) : Type 0 where
+  pub represented : m.represents tables s
   pub right : IsRight s.policy entries
   pub keyed : (e : Name × Option (List ℕ)) → Contains entries e → IsKeyed s
 

@@ -4,8 +4,7 @@ ghost use Rattle.std.specs.List.{list_any};
 ghost use Rattle.std.specs.Option.{option_and_then, option_map};
 ghost use Rattle.opc_terms.specs.declared.fault.Fault.TheVariants as why;
 ghost use Rattle.opc_policy_members.specs.Profiles.{profile_of};
-ghost use Rattle.opc_state.specs.Asked.{Answers};
-ghost use Rattle.opc_state.specs.Changes.{IsKept};
+ghost use Rattle.opc_state.specs.Asked.{Answers, Loads};
 ghost use Rattle.opc_state.specs.Invariants.{IsKeyed};
 ghost use Rattle.opc_state.specs.Loads.{bare};
 ghost use Rattle.opc_state.specs.State.{deciding_in};
@@ -71,10 +70,9 @@ impl<T: Tables> Cached<T> {
         class: Class,
         resource: &Resource,
     ) -> Result<Found, StoreFault>
-        ensures kept { IsKept T.is_sure T.represents T.may_leave self.old.tables self.new.tables }
-        ensures found { Answers (T.is_sure self.new.tables) (T.represents self.old.tables) result
+        ensures found { Loads T.meaning self.old.tables self.new.tables result
             (λ s found. found.profile ≡ option_map bare (deciding_in s.policy class resource.now)) }
-        ensures keyed { Answers (T.is_sure self.new.tables) (T.represents self.old.tables) result (λ s _. IsKeyed s) }
+        ensures keyed { Answers T.meaning self.old.tables self.new.tables result (λ s _. IsKeyed s) }
         ensures keeps { IfOk result (λ found. IsKeptWith self.old.recent self.new.recent (class, resource.now)
             (option_map pattern_of found.profile)) }
         ensures failed { OnErr result (self.new.recent ≡ self.old.recent) }
@@ -91,8 +89,7 @@ impl<T: Tables> Cached<T> {
         alloc: Global,
         change: &Change,
     ) -> Result<(), StoreFault>
-        ensures kept { IsKept T.is_sure T.represents T.may_leave self.old.tables self.new.tables }
-        ensures forgets { Answers (T.is_sure self.new.tables) (T.represents self.old.tables) result
+        ensures forgets { Loads T.meaning self.old.tables self.new.tables result
             (λ s _. self.new.recent ≡ remembered s.policy change.now.edits.items self.old.recent) }
         ensures failed { OnErr result (self.new.recent ≡ self.old.recent) }
     {
@@ -120,8 +117,7 @@ pub(crate) fn cached_pattern<T: Tables>(
     class: Class,
     pattern: Option<Pattern>,
 ) -> Result<Found, StoreFault>
-    ensures kept { IsKept T.is_sure T.represents T.may_leave tables.old tables.new }
-    ensures found { Answers (T.is_sure tables.new) (T.represents tables.old) result
+    ensures { Loads T.meaning tables.old tables.new result
         (λ s found. found.profile ≡ option_map bare (option_and_then (profile_of s.policy.profiles class) pattern)) }
 {
     let profile = match pattern {
@@ -156,8 +152,7 @@ fn adds_or_removes_profile<T: Tables>(
     alloc: Global,
     edit: &Edit,
 ) -> Result<bool, StoreFault>
-    ensures kept { IsKept T.is_sure T.represents T.may_leave tables.old tables.new }
-    ensures redefines { Answers (T.is_sure tables.new) (T.represents tables.old) result
+    ensures { Loads T.meaning tables.old tables.new result
         (λ s redefines. redefines ≡ adds_or_removes_profile s.policy edit.now) }
 {
     let Edit::PutProfile(profile) = edit else {
@@ -172,9 +167,7 @@ fn adds_or_removes_profile<T: Tables>(
 // Whether edits may change which profile decides. Only where there is one are the tables asked: whether a profile that
 // it puts is there is one look-up by its key. A change without a profile asks nothing.
 fn invalidates<T: Tables>(tables: &mut T, alloc: Global, edits: &[Edit]) -> Result<bool, StoreFault>
-    ensures kept { IsKept T.is_sure T.represents T.may_leave tables.old tables.new }
-    ensures redecides { Answers (T.is_sure tables.new) (T.represents tables.old) result
-        (λ s redecides. redecides ≡ invalidates s.policy edits.now) }
+    ensures { Loads T.meaning tables.old tables.new result (λ s redecides. redecides ≡ invalidates s.policy edits.now) }
 {
     match edits {
         [] => Ok(false),

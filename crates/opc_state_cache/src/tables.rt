@@ -21,13 +21,9 @@ use opc_terms::store_fault::StoreFault;
 use std::alloc::Global;
 
 impl<T: Tables> Tables for Cached<T> {
-    ghost use Rattle.opc_state_cache.specs.Cache.{IsCached};
+    ghost use Rattle.opc_state_cache.specs.Meaning.{cached_meaning};
 
-    ghost represents = { λ cached s. IsCached T.represents cached.tables cached.recent s };
-
-    ghost is_sure = { λ cached. T.is_sure cached.tables };
-
-    ghost may_leave = { λ cached s. T.may_leave cached.tables s };
+    ghost meaning = { cached_meaning T.meaning };
 
     fn console(&mut self, name: &ConsoleName) -> Result<Option<ConsoleRow>, StoreFault> {
         self.tables.console(name)

@@ -8,11 +8,11 @@ use Rattle.opc_state.specs.Changes.{with_halted}
 use Rattle.opc_store_schema.specs.Represented.{AreTablesOf}
 use Rattle.opc_store_schema.proofs.Decoded.{one_state}
 use Rattle.opc_store_schema.proofs.Opened.{alone_from}
-use Rattle.opc_store.specs.StoreTables.{MayLeave}
+use Rattle.opc_store.specs.StoreTables.{store_meaning}
 use Rattle.opc_store.specs.StoreLaws.{LeavesTables, LeavesWhatIsThere, ShutTablesGiveNothing, ShutTablesTellNothing}
 
 module _ {S : Type 0} (g : Ghosts S) where
-  pub leaves_tables : LeavesTables g (MayLeave g)
+  pub leaves_tables : LeavesTables g (store_meaning g)
   leaves_tables h s alone clean trees may never =
       let one = alone empty (clean, trees, may, λ t are. absurd (none t are)) in
       let two = alone (with_halted true empty) (clean, trees, may, λ t are. absurd (none t are)) in
@@ -22,7 +22,7 @@ module _ {S : Type 0} (g : Ghosts S) where
       none : (t : State) → AreTablesOf trees t → ⊥
       none t are = never (subst (AreTablesOf trees) (alone t (clean, trees, may, λ u those. one_state trees u t those are)) are)
 
-  pub leaves_what_is_there : LeavesWhatIsThere g (MayLeave g)
+  pub leaves_what_is_there : LeavesWhatIsThere g (store_meaning g)
   leaves_what_is_there h s itself was left it =
       sym (it.3 s (subst (λ (t : Trees). AreTablesOf t s) (sym (itself it.0 it.1 it.2)) (alone_from (state g h).now s was)))
 

@@ -13,7 +13,7 @@ use Rattle.opc_state.specs.Invariants.{IsKeyed}
 use Rattle.opc_state.specs.State.{State, Fits}
 use Rattle.opc_store_schema.specs.Changes.{Becomes}
 use Rattle.opc_store_schema.specs.Represented.{Represents, AreTablesOf}
-use Rattle.opc_store.specs.StoreTables.{RepresentsIfOpen, IsSure, MayLeave}
+use Rattle.opc_store.specs.StoreTables.{RepresentsIfOpen, IsSure, MayLeave, store_meaning}
 use Rattle.opc_store_schema.proofs.KeyOrder.{is_keyed}
 
 -- no number of what tables represent passes what they can hold
@@ -35,7 +35,7 @@ on_err_weaker (Err e) f h = f h
 
 module _ {S : Type 0} (g : Ghosts S) where
   -- a load keeps the tables, and what a crash may leave
-  pub kept : {X E : Type 0} (a b : Held S) (r : Result X E) → Looks g a b r → IsKept (IsSure g) (RepresentsIfOpen g) (MayLeave g) a b
+  pub kept : {X E : Type 0} (a b : Held S) (r : Result X E) → Looks g a b r → IsKept (store_meaning g) a b
   kept a b r h = record {
     sure = λ clean. omega (arith, h.survives.clean);
     same = λ clean s was is_open. subst (λ (db : Database). Represents db s) (sym (h.same clean is_open)) (was (h.was_open clean is_open));

@@ -6,23 +6,24 @@ use Rattle.sqlite_trees.specs.Tree.{Trees}
 use Rattle.sqlite.specs.Held.{Held, state}
 use Rattle.opc_policy_members.specs.declared.profile.Profile.{Profile}
 use Rattle.opc_state.specs.Asked.{Answers}
+use Rattle.opc_state.specs.Meaning.{Meaning}
 use Rattle.opc_state.specs.State.{State}
 use Rattle.opc_store_sql.specs.Steps.{Looks}
 use Rattle.opc_store_schema.specs.Represented.{Represents, AreTablesOf}
 use Rattle.opc_store.specs.Opening.{LeavesItself}
-use Rattle.opc_store.specs.StoreTables.{IsShut, IsSure, RepresentsIfOpen}
+use Rattle.opc_store.specs.StoreTables.{IsShut, IsSure, store_meaning}
 
-module _ {S : Type 0} (g : Ghosts S) (may_leave : Held S → State → Type 0) where
+module _ {S : Type 0} (g : Ghosts S) (m : Meaning (Held S)) where
   -- Where a crash leaves one state alone, whatever trees it may leave are tables of that: none are of another state, or
   -- of none.
   abbrev pub LeavesTables : Type 0
-  LeavesTables = (h : Held S) (s : State) → ((left : State) → may_leave h left → left ≡ s) → IsSure g h
+  LeavesTables = (h : Held S) (s : State) → ((left : State) → m.may_leave h left → left ≡ s) → IsSure g h
       → (trees : Trees) → (state g h).may_leave trees → ¬ ¬ AreTablesOf trees s
 
   -- Where a crash leaves what is there, as after an opening, it leaves alone the state that is there.
   abbrev pub LeavesWhatIsThere : Type 0
   LeavesWhatIsThere = (h : Held S) (s : State) → LeavesItself (state g h) → Represents (state g h).now s
-      → (left : State) → may_leave h left → left ≡ s
+      → (left : State) → m.may_leave h left → left ≡ s
 
 -- A source over tables may be asked at any time. It has the profiles of the state that they represent, and what it
 -- answers counts where the disk returned what was written.
@@ -42,5 +43,5 @@ module _ {S : Type 0} (g : Ghosts S) where
   abbrev pub ShutTablesTellNothing : (V W E : Type 0) → Type 0
   ShutTablesTellNothing V W E =
       (old new : Held S) (result : Result V E) (part : V → W) (asked : State → W)
-      → Answers (IsSure g new) (RepresentsIfOpen g old) result (λ s v. part v ≡ asked s)
+      → Answers (store_meaning g) old new result (λ s v. part v ≡ asked s)
       → IsSure g new → IsShut g old → (s t : State) → asked s ≢ asked t → IsErr result

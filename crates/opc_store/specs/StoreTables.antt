@@ -4,6 +4,7 @@ use Rattle.sqlite_trees.specs.declared.store.Store.{Ghosts}
 use Rattle.sqlite_trees.specs.Tree.{Trees}
 use Rattle.sqlite.specs.Held.{Held, state}
 use Rattle.sqlite.specs.State.{HasCleanDisk}
+use Rattle.opc_state.specs.Meaning.{Meaning}
 use Rattle.opc_state.specs.State.{State}
 use Rattle.opc_store_schema.specs.Represented.{Represents, AreTablesOf}
 
@@ -24,3 +25,7 @@ module _ {S : Type 0} (g : Ghosts S) where
   -- none. So what is no state counts as each, and where a crash leaves one state alone, it leaves tables of that.
   abbrev pub MayLeave : Held S → State → Type 0
   MayLeave h s = IsSure h × (trees : Trees) × (state g h).may_leave trees × ((t : State) → AreTablesOf trees t → t ≡ s)
+
+  -- what the tables mean
+  abbrev pub store_meaning : Meaning (Held S)
+  store_meaning = record { represents = RepresentsIfOpen; is_sure = IsSure; may_leave = MayLeave }

@@ -15,12 +15,12 @@ use sqlite::Alter;
 
 /// Where a crash leaves one state of a store alone, what it leaves are tables of that state.
 pub fn a_state_left_alone_is_left_as_tables<S: Alter>()
-    ensures { LeavesTables S.Store ⟦<Store<S> as Tables>⟧.may_leave }
+    ensures { LeavesTables S.Store ⟦<Store<S> as Tables>⟧.meaning }
 {}
 
 /// After an opening, a crash leaves the state that is there alone.
 pub fn what_is_there_is_left_alone<S: Alter>()
-    ensures { LeavesWhatIsThere S.Store ⟦<Store<S> as Tables>⟧.may_leave }
+    ensures { LeavesWhatIsThere S.Store ⟦<Store<S> as Tables>⟧.meaning }
 {}
 
 /// A store may be searched at any time: it has the profiles of the state that its tables represent, and what it answers

@@ -81,13 +81,9 @@ impl<S: Alter> Store<S> {
 }
 
 impl<S: Alter> Tables for Store<S> {
-    ghost use Rattle.opc_store.specs.StoreTables.{RepresentsIfOpen, IsSure, MayLeave};
+    ghost use Rattle.opc_store.specs.StoreTables.{store_meaning};
 
-    ghost represents = { RepresentsIfOpen S.Store };
-
-    ghost is_sure = { IsSure S.Store };
-
-    ghost may_leave = { MayLeave S.Store };
+    ghost meaning = { store_meaning S.Store };
 
     #[tactic(auto, using(crate::proofs::StoreTablesLemmas::keyed))]
     fn console(&mut self, name: &ConsoleName) -> Result<Option<ConsoleRow>, StoreFault> {

@@ -1,10 +1,9 @@
 -- What a call makes of, and finds in, tables that represent a state.
-use Rattle.std.specs.Prelude.{◌≡◌, ℕ, List, map, Result, OnOk}
+use Rattle.std.specs.Prelude.{◌≡◌, ℕ, List, map, Result, IfOk, OnOk}
 use Rattle.sqlite_trees.specs.declared.store.Store.{Ghosts}
 use Rattle.sqlite.specs.Order.{Row}
 use Rattle.sqlite.specs.State.{HasCleanDisk, Shown}
 use Rattle.sqlite.specs.Held.{Held, state}
-use Rattle.opc_state.specs.Asked.{Answers}
 use Rattle.opc_state.specs.State.{State}
 use Rattle.opc_store_schema.specs.Changes.{Becomes}
 use Rattle.opc_store_schema.specs.Represented.{Represents}
@@ -12,7 +11,8 @@ use Rattle.opc_store_schema.specs.Represented.{Represents}
 module _ {S : Type 0} (g : Ghosts S) where
   -- on a clean disk a success answers this of the state that the tables represented before
   abbrev pub Finds : {V E : Type 0} → Held S → Held S → Result V E → (State → V → Type 0) → Type 0
-  Finds old new result asked = Answers (HasCleanDisk (state g new)) (Represents (state g old).now) result asked
+  Finds old new result asked = HasCleanDisk (state g new) → (s : State) → Represents (state g old).now s
+      → IfOk result (asked s)
 
   -- on a clean disk after a success the tables represent what they did, with the change
   abbrev pub Makes : {V E : Type 0} → Held S → Held S → Result V E → (State → State) → Type 0

@@ -25,11 +25,7 @@ use std::alloc::Global;
 pub(super) struct FailingTables;
 
 impl Tables for FailingTables {
-    ghost represents = { λ _ _. Unit {0} };
-
-    ghost is_sure = { λ _. ⊥ };
-
-    ghost may_leave = { λ _ _. Unit {0} };
+    ghost meaning = { record { represents = λ _ _. Unit {0}; is_sure = λ _. ⊥; may_leave = λ _ _. Unit {0} } };
 
     fn console(&mut self, _name: &ConsoleName) -> Result<Option<ConsoleRow>, StoreFault> {
         Err(StoreFault::Store)

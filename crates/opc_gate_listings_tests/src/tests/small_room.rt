@@ -69,11 +69,7 @@ fn profiles(alloc: Global) -> Result<Vec<Profile>, StoreFault> {
 }
 
 impl Tables for SmallRoom {
-    ghost represents = { λ _ _. Unit {0} };
-
-    ghost is_sure = { λ _. ⊥ };
-
-    ghost may_leave = { λ _ _. Unit {0} };
+    ghost meaning = { record { represents = λ _ _. Unit {0}; is_sure = λ _. ⊥; may_leave = λ _ _. Unit {0} } };
 
     fn console(&mut self, name: &ConsoleName) -> Result<Option<ConsoleRow>, StoreFault> {
         Ok(Some(ConsoleRow {

@@ -1,6 +1,4 @@
 use Rattle.std.proofs.Common.{◌∙◌, inl, refl, subst, sym}
-use Rattle.opc_state_cache.specs.Cache.{IsCached}
-use Rattle.opc_state_cache.specs.declared.cached.Cached.{Cached}
 use Rattle.opc_cli_program.specs.Runs.{IsAnsweredInput}
 use Rattle.opc_cli_program.proofs.Uncached.{answered_input}
 use Rattle.opc_cli_program.proofs.run.run_cached.Goals as goal
@@ -19,11 +17,9 @@ returns-clause-runs g c =
     let written = c.answer_script-end.new.output in
     let end = c.answer_script-end.result in
     let made = c.in-Ok.ensures.made in
-    subst (λ tables. IsAnsweredInput t.is_sure t.represents t.may_leave k.held k.has_failed tables c.into_store.result left before written end) made.0
-    (subst (λ tables. IsAnsweredInput t.is_sure t.represents t.may_leave k.held k.has_failed c.in-Ok.gate.tables tables
+    subst (λ tables. IsAnsweredInput t.meaning k.held k.has_failed tables c.into_store.result left before written end) made.0
+    (subst (λ tables. IsAnsweredInput t.meaning k.held k.has_failed c.in-Ok.gate.tables tables
     left before written end) (sym c.into_store.ensures)
-    (answered_input (λ (cached : Cached g.row.T.Denot). cached.tables) t.is_sure t.represents t.may_leave
-    (λ (cached : Cached g.row.T.Denot) s. IsCached t.represents cached.tables cached.recent s)
-    (λ (cached : Cached g.row.T.Denot) s h. h.represented) c.in-Ok.gate c.answer_script-end.new.gate
-    (λ s h. c.in-Ok.ensures.represents s (subst (λ tables. t.represents tables s) made.0 h))
+    (answered_input t.meaning c.in-Ok.gate c.answer_script-end.new.gate
+    (λ s h. c.in-Ok.ensures.represents s (subst (λ tables. t.meaning.represents tables s) made.0 h))
     k.held k.has_failed left before written end c.answer_script-end.ensures.runs))

@@ -1,6 +1,4 @@
 use Rattle.std.proofs.Common.{◌∙◌, ap, inl, subst}
-use Rattle.opc_state_cache.specs.Cache.{IsCached}
-use Rattle.opc_state_cache.specs.declared.cached.Cached.{Cached}
 use Rattle.opc_cli_failures.specs.Statuses.{status_of}
 use Rattle.opc_cli_program.proofs.Services.{handed_back, says_where}
 use Rattle.opc_cli_program.proofs.serve.serve_tables.Goals as goal
@@ -14,8 +12,6 @@ pub returns-clause-serves : goal.returns-clause-serves
 returns-clause-serves g c =
     let t = g.T.Tables in
     let made = c.in-Ok.ensures.made in
-    handed_back (λ (cached : Cached g.row.T.Denot). cached.tables) t.is_sure t.represents t.may_leave
-    (λ (cached : Cached g.row.T.Denot) s. IsCached t.represents cached.tables cached.recent s)
-    (λ (cached : Cached g.row.T.Denot) s h. h.represented) c.in-Ok.gate c.serve_at-end.new.gate
-    (λ s h. c.in-Ok.ensures.represents s (subst (λ tables. t.represents tables s) made.0 h))
+    handed_back t.meaning c.in-Ok.gate c.serve_at-end.new.gate
+    (λ s h. c.in-Ok.ensures.represents s (subst (λ tables. t.meaning.represents tables s) made.0 h))
     _ _ _ _ _ made.0 c.into_store.ensures c.args.serve.now c.serve_at-end.result _ _ (says_where _ _ _ _ _ _) c.serve_at-end.ensures.serves

@@ -11,9 +11,9 @@ pub loop-group-preserved : goal.loop-group-preserved
 loop-group-preserved g c =
     let before = c.loop-group.invariant in
     let kept = c.in_ok-level_of.ensures.kept in (
-      kept_again _ _ _ _ _ _ before.0 kept,
+      kept_again _ _ _ _ before.0 kept,
       λ sure s represents.
-          let level = c.in_ok-level_of.ensures.level sure s (before.0.same (kept.sure sure) s represents) in
+          let level = c.in_ok-level_of.ensures.answers sure s (before.0.same (kept.sure sure) s represents) in
           let more = at_drop_more (highest_level
           (access_list s.policy c.args.profile.now.class c.args.profile.now.pattern) (option_copied c.args.when))
           c.args.groups.now c.loop-group.group-index c.group-item.result c.loop-group-test.true in

@@ -8,8 +8,8 @@ use Rattle.opc_gate_rulings.proofs.held.highest_level_on.Given as goal
 
 abbrev pub invariant-loop-group : goal.invariant-loop-group
 invariant-loop-group g l =
-    IsKept g.T.Tables.is_sure g.T.Tables.represents g.T.Tables.may_leave l.fn.tables l.tables
-    × (g.T.Tables.is_sure l.tables → (s : State) → g.T.Tables.represents l.fn.tables s
+    IsKept g.T.Tables.meaning l.fn.tables l.tables
+    × (g.T.Tables.meaning.is_sure l.tables → (s : State) → g.T.Tables.meaning.represents l.fn.tables s
     → higher l.highest (highest_level (access_list s.policy l.profile.class l.profile.pattern) (option_copied l.when)
     (drop l.group-index l.groups)) ≡ highest_level (access_list s.policy l.profile.class l.profile.pattern)
     (option_copied l.when) l.groups)

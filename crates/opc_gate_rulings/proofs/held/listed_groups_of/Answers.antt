@@ -8,10 +8,10 @@ pub loop-entry-preserved : goal.loop-entry-preserved
 loop-entry-preserved g c =
     let before = c.loop-entry.invariant in
     let kept = c.in_ok-is_connected.ensures.kept in (
-      kept_again _ _ _ _ _ _ before.0 kept,
+      kept_again _ _ _ _ before.0 kept,
       λ sure s represents.
           let so_far = before.1 (kept.sure sure) s represents in
-          let connected = rw c.text.ensures.text at (c.in_ok-is_connected.ensures.connected sure s (before.0.same (kept.sure sure) s represents)) in
+          let connected = rw c.text.ensures.text at (c.in_ok-is_connected.ensures.answers sure s (before.0.same (kept.sure sure) s represents)) in
           let member = sym (connected ∙ connected_is s.policy c.args.user.now.id c.entry-item.result.id) in
           elim c.if-branch.branch [
             | then-branch+in_ok-group_of+in_ok-push w ↦

@@ -7,6 +7,6 @@ use Rattle.opc_gate_rulings.proofs.held.listed_groups_of.Given as goal
 
 abbrev pub invariant-loop-entry : goal.invariant-loop-entry
 invariant-loop-entry g l =
-    IsKept g.T.Tables.is_sure g.T.Tables.represents g.T.Tables.may_leave l.fn.tables l.tables
-    × (g.T.Tables.is_sure l.tables → (s : State) → g.T.Tables.represents l.fn.tables s
+    IsKept g.T.Tables.meaning l.fn.tables l.tables
+    × (g.T.Tables.meaning.is_sure l.tables → (s : State) → g.T.Tables.meaning.represents l.fn.tables s
     → l.groups.items ≡ listed_groups (take l.entry-index l.entries) (groups_of s.policy.connects l.user.id))

@@ -1,14 +1,17 @@
-use Rattle.std.proofs.Common.{sym, ◌∙◌}
+use Rattle.std.proofs.Common.{sym, ◌∙◌, rules}
 use Rattle.opc_gate_rulings.proofs.Ruled.{one_rules}
 use Rattle.opc_gate_rulings.proofs.ruling.profile_ruling_on.Goals as goal
 
-pub returns-clause-ruling : goal.returns-clause-ruling
-returns-clause-ruling g c = λ sure s represents.
-    let first = c.in_ok-found.ensures in
-    let second = c.in_ok-held.ensures in
-    let before = second.kept.sure sure in
-    let found = sym c.in-Some.is ∙ first.found before s represents in
-    let level = rw c.in-Some.profile-is at (second.level sure s (first.kept.same before s represents)) in
-    let ruling = rw c.in-Some.profile-is at c.ruling_at.ensures.ruling in
-    rw (ruling, level)
-    (one_rules s c.args.class c.args.resource.now c.args.user.now c.args.console.now c.args.needed (first.keyed before s represents) c.in-Some.profile found)
+pub returns : goal.returns
+returns g c = record {
+  kept = search rules;
+  answers = λ sure s represents.
+      let first = c.in_ok-found.ensures in
+      let second = c.in_ok-held.ensures in
+      let before = second.kept.sure sure in
+      let found = sym c.in-Some.is ∙ first.found.answers before s represents in
+      let level = rw c.in-Some.profile-is at (second.answers sure s (first.found.kept.same before s represents)) in
+      let ruling = rw c.in-Some.profile-is at c.ruling_at.ensures.ruling in
+      rw (ruling, level)
+      (one_rules s c.args.class c.args.resource.now c.args.user.now c.args.console.now c.args.needed (first.keyed before s represents) c.in-Some.profile found);
+}

@@ -7,6 +7,6 @@ use Rattle.opc_gate_rulings.proofs.ruling.shown_lines.Given as goal
 
 abbrev pub invariant-loop-line : goal.invariant-loop-line
 invariant-loop-line g l =
-    IsKept g.T.Tables.is_sure g.T.Tables.represents g.T.Tables.may_leave l.fn.tables l.tables
-    × (g.T.Tables.is_sure l.tables → (s : State) → g.T.Tables.represents l.fn.tables s
+    IsKept g.T.Tables.meaning l.fn.tables l.tables
+    × (g.T.Tables.meaning.is_sure l.tables → (s : State) → g.T.Tables.meaning.represents l.fn.tables s
     → IsRulingBasis s l.console l.basis → l.kept ≡ filter (shown s l.console) l.yielded)

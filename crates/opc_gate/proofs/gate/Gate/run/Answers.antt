@@ -9,7 +9,7 @@ loop-request-init g c =
       room = omega (arith, c.in_ok-answers.ensures.capacity);
       counted = search rules;
       each = search rules;
-      run = λ sure s represented. rw c.in_ok-answers.ensures.items (run_none g.T.Tables.represents g.T.Tables.may_leave _ s represented);
+      run = λ sure s represented. rw c.in_ok-answers.ensures.items (run_none g.T.Tables.meaning _ s represented);
     }
 
 pub loop-request-preserved : goal.loop-request-preserved
@@ -22,7 +22,7 @@ loop-request-preserved g c =
       counted = omega arith;
       each = search rules;
       run = rw c.push_reserved.ensures.items
-          (sure_more g.T.Tables.is_sure g.T.Tables.represents g.T.Tables.may_leave c.args.requests.now
+          (sure_more g.T.Tables.meaning c.args.requests.now
           c.loop-request.request-index c.request-item.result _ _ _ _ c.handle.result (omega arith) c.request-item.is
           was.run (handled.sure, handled.handled));
     }

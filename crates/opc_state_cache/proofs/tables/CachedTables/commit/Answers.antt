@@ -6,35 +6,35 @@ use Rattle.opc_state_cache.proofs.tables.CachedTables.commit.Goals as goal
 pub returns-in_err-invalidate_for-clause-failed : goal.returns-in_err-invalidate_for-clause-failed
 returns-in_err-invalidate_for-clause-failed g c = λ sure s h.
     let t = g.T.Tables in
-    let kept = c.invalidate_for.ensures.kept in
+    let kept = c.invalidate_for.ensures.forgets.kept in
     let same = c.in_err-invalidate_for.ensures.failed in
     let holds : Holds c.invalidate_for.new.self.recent s =
     subst (λ entries. Holds entries s) (sym same)
-    (held t.is_sure t.represents t.may_leave c.args.self.now.tables c.args.self.now.recent s h) in
-    on_err_too c.from_residual.result (with_cache t.is_sure t.represents t.may_leave c.invalidate_for.new.self.tables
+    (held t.meaning c.args.self.now.tables c.args.self.now.recent s h) in
+    on_err_too c.from_residual.result (with_cache t.meaning c.invalidate_for.new.self.tables
     c.invalidate_for.new.self.recent s (kept.same sure s h.represented) holds)
 
 pub returns-clause-done : goal.returns-clause-done
 returns-clause-done g c = λ sure s h.
     let t = g.T.Tables in
-    let kept = c.invalidate_for.ensures.kept in
+    let kept = c.invalidate_for.ensures.forgets.kept in
     let mid = c.commit.ensures.sure sure in
-    let are = c.in_ok-invalidate_for.ensures.forgets mid s h.represented in
+    let are = c.in_ok-invalidate_for.ensures.forgets.answers mid s h.represented in
     let holds = subst (λ entries. Holds entries (changed_by c.args.change.now s)) (sym are)
     (remembered_holds c.args.change.now s c.args.self.now.recent
-    (held t.is_sure t.represents t.may_leave c.args.self.now.tables c.args.self.now.recent s h)) in
-    on_ok c.commit.result (λ done. with_cache t.is_sure t.represents t.may_leave c.commit.new.self
+    (held t.meaning c.args.self.now.tables c.args.self.now.recent s h)) in
+    on_ok c.commit.result (λ done. with_cache t.meaning c.commit.new.self
     c.invalidate_for.new.self.recent (changed_by c.args.change.now s) done holds)
     (c.commit.ensures.done sure s (kept.same mid s h.represented))
 
 pub returns-clause-failed : goal.returns-clause-failed
 returns-clause-failed g c = λ sure s h.
     let t = g.T.Tables in
-    let kept = c.invalidate_for.ensures.kept in
+    let kept = c.invalidate_for.ensures.forgets.kept in
     let mid = c.commit.ensures.sure sure in
-    let are = c.in_ok-invalidate_for.ensures.forgets mid s h.represented in
+    let are = c.in_ok-invalidate_for.ensures.forgets.answers mid s h.represented in
     let holds = subst (λ entries. Holds entries s) (sym are)
     (fewer_hold c.args.change.now s c.args.self.now.recent
-    (held t.is_sure t.represents t.may_leave c.args.self.now.tables c.args.self.now.recent s h)) in
-    on_err c.commit.result (λ same. with_cache t.is_sure t.represents t.may_leave c.commit.new.self
+    (held t.meaning c.args.self.now.tables c.args.self.now.recent s h)) in
+    on_err c.commit.result (λ same. with_cache t.meaning c.commit.new.self
     c.invalidate_for.new.self.recent s same holds) (c.commit.ensures.failed sure s (kept.same mid s h.represented))

@@ -12,7 +12,7 @@ use Rattle.opc_cli_failures.specs.declared.status.Status.TheVariants.{Done, Refu
 use Rattle.opc_cli_failures.specs.Statuses.{number_of, status_of}
 use Rattle.opc_cli_words.specs.declared.words.Task.{Task}
 use Rattle.opc_cli_words.specs.Reading.{AreRead}
-use Rattle.opc_cli.specs.Words.{AreDone, IsFaultTold, IsTaskDone}
+use Rattle.opc_cli.specs.Words.{AreDone, IsFaultReported, IsTaskDone}
 
 pub at_most_three : (status : Status) → number_of status ≤ 3
 at_most_three Done = omega arith
@@ -27,8 +27,8 @@ openings_fail opening.Store = refl
 openings_fail (opening.NotOurs version) = refl
 
 pub same_fault : {E : Type 0} (shown : E → Option (List ℕ)) (quiet reported : Watched E) (one other : Fault)
-    → one ≡ other → IsFaultTold shown quiet reported one → IsFaultTold shown quiet reported other
-same_fault shown quiet reported one other is h = subst (IsFaultTold shown quiet reported) is h
+    → one ≡ other → IsFaultReported shown quiet reported one → IsFaultReported shown quiet reported other
+same_fault shown quiet reported one other is h = subst (IsFaultReported shown quiet reported) is h
 
 -- where the words ask for a task, and that was done
 module _ {D : Type 0} (g : disk.Ghosts D) (is_fresh : Bool → D → Type 0) (image : Image) {W E : Type 0}

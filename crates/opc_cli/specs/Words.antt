@@ -31,21 +31,21 @@ status_of_work end (Err kept) = Failed
 
 module _ {E : Type 0} (shown : E → Option (List ℕ)) where
   -- A fault was printed first, unless a write failed.
-  abbrev pub IsFaultTold : (quiet reported : Watched E) → Fault → Type 0
-  IsFaultTold quiet reported fault = reported.failed ≡ false
+  abbrev pub IsFaultReported : (quiet reported : Watched E) → Fault → Type 0
+  IsFaultReported quiet reported fault = reported.failed ≡ false
       → IsReported fault (shown quiet.inner) (shown reported.inner)
 
   -- Where it failed, its fault was.
-  abbrev pub IsEndTold : (quiet reported : Watched E) → Result Status Failure → Type 0
-  IsEndTold quiet reported end = IfErr end (λ failure. IsFaultTold quiet reported failure.fault)
+  abbrev pub IsEndReported : (quiet reported : Watched E) → Result Status Failure → Type 0
+  IsEndReported quiet reported end = IfErr end (λ failure. IsFaultReported quiet reported failure.fault)
 
   -- The fault of its end was, and then, where the file was not closed, that the store failed.
-  abbrev pub IsWorkTold : {A B : Type 0} → (quiet reported : Watched E) → Result Status Failure → (closed : Result A B)
+  abbrev pub IsWorkReported : {A B : Type 0} → (quiet reported : Watched E) → Result Status Failure → (closed : Result A B)
       → Type 0
-  IsWorkTold quiet reported end (Ok files) = IsEndTold quiet reported end
-  IsWorkTold quiet reported end (Err kept) =
-      (first : Watched E) × IsEndTold quiet first end × (reported.failed ≡ false → first.failed ≡ false)
-      × IsFaultTold first reported Store
+  IsWorkReported quiet reported end (Ok files) = IsEndReported quiet reported end
+  IsWorkReported quiet reported end (Err kept) =
+      (first : Watched E) × IsEndReported quiet first end × (reported.failed ≡ false → first.failed ≡ false)
+      × IsFaultReported first reported Store
 
 -- The program ran over new tables in memory. Of what the files of the system hold nothing is known.
 pub record IsDoneInMemory {W E : Type 0} (contents : W → Option (List ℕ)) (shown : E → Option (List ℕ))
@@ -55,7 +55,7 @@ pub record IsDoneInMemory {W E : Type 0} (contents : W → Option (List ℕ)) (s
   pub ran : IsRunInMemory (λ (w : Watched W). contents w.inner) (λ (w : Watched W). w.failed) (λ path. None) policy left
       before written end
   pub status_is : status ≡ status_of_end end
-  pub end_told : IsEndTold shown quiet reported end
+  pub end_told : IsEndReported shown quiet reported end
 
 -- Of a database file: `image` is what it holds at first.
 module _ {D : Type 0} (g : disk.Ghosts D) (is_fresh : Bool → D → Type 0) (image : Image) {W E : Type 0}
@@ -67,7 +67,7 @@ module _ {D : Type 0} (g : disk.Ghosts D) (is_fresh : Bool → D → Type 0) (im
     pub closed : Result (Files D) (Error × FileStore D g)
     pub done : IsWorkAt {g = g} contents image work left before written end closed
     pub status_is : status ≡ status_of_work end closed
-    pub end_told : IsWorkTold shown quiet reported end closed
+    pub end_told : IsWorkReported shown quiet reported end closed
 
   -- The file was not opened, and nothing was done or written.
   pub record IsNotBegun : Type 0 where
@@ -75,7 +75,7 @@ module _ {D : Type 0} (g : disk.Ghosts D) (is_fresh : Bool → D → Type 0) (im
     pub not_opened : IsNotOpened g is_fresh image fault
     pub silent : written ≡ before
     pub status_is : status ≡ Failed
-    pub fault_told : IsFaultTold shown quiet reported (opening_fault fault)
+    pub fault_reported : IsFaultReported shown quiet reported (opening_fault fault)
 
   abbrev pub IsWorkInFile : Work → Type 0
   IsWorkInFile work = IsDoneInFile work ⊎ IsNotBegun

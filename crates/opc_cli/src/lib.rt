@@ -7,7 +7,7 @@ ghost use Rattle.sqlite_std_file.specs.File.{IsFresh};
 ghost use Rattle.opc_store.specs.Opening.{opening_fault};
 ghost use Rattle.opc_cli_failures.specs.Statuses.{number_of};
 ghost use Rattle.opc_cli_words.specs.Reading.{words_after};
-ghost use Rattle.opc_cli.specs.Words.{AreDone, IsDoneInMemory, IsRun, IsWorkInFile, IsWorkTold, status_of_work};
+ghost use Rattle.opc_cli.specs.Words.{AreDone, IsDoneInMemory, IsRun, IsWorkInFile, IsWorkReported, status_of_work};
 
 mod database;
 pub mod script;
@@ -178,7 +178,7 @@ fn ended<S: Start, E: Write>(
     errors: &mut Watched<E>,
 ) -> Status
     ensures status { result ≡ status_of_work end closed }
-    ensures reported { IsWorkTold E.contents errors.old errors.new end closed }
+    ensures reported { IsWorkReported E.contents errors.old errors.new end closed }
 {
     let status = reported(end, paths, errors);
     match closed {

@@ -132,15 +132,15 @@ allocate_back device unit d u =
     let parts : separated (device ++ 32 ∷ unit) ≡ Some (device, unit) = separated_back device unit (name_is_word device_rule device d) in
     rw (parts, name_back device_rule device d, name_back unit_rule unit u) refl
 
-told_back : (reported : List ℕ) → 0 < length reported → not_empty reported ≡ Some reported
-told_back reported h = grind (arith, nat_tests, h)
+reported_back : (reported : List ℕ) → 0 < length reported → not_empty reported ≡ Some reported
+reported_back reported h = grind (arith, nat_tests, h)
 
 ask_back : (id : ℕ) (reported : List ℕ) → id < 100 → 0 < length reported → ask (two_digits id ++ 32 ∷ reported) ≡ Some (event.Ask id reported)
 unfolding asked
 ask_back id reported low long =
     let parts : separated (two_digits id ++ 32 ∷ reported) ≡ Some (two_digits id, reported) =
     separated_back (two_digits id) reported (digits_are_word id low) in
-    rw (parts, id_back id low, told_back reported long) refl
+    rw (parts, id_back id low, reported_back reported long) refl
 
 -- what follows a verb is read by the verb
 verb_back : (verb rest : List ℕ) (e : Event) → IsWord verb → event_of (verb ++ 32 ∷ rest) (Some (verb, rest)) ≡ Some e → event_in (verb ++ 32 ∷ rest) ≡ Some e

@@ -78,11 +78,11 @@ not_both answer reported other apart (inl up) second = up
 not_both answer reported other apart (inr first) (inl up) = up
 not_both answer reported other apart (inr first) (inr second) = absurd (apart (sym first ∙ second))
 
-abbrev TellApart : Input → State → State → Type 0
-TellApart r s t = (moment : ℕ) (answer : Answer) (new other : State) → Step s moment r answer new → Step t moment r answer other → IsAborted answer
+abbrev ReportApart : Input → State → State → Type 0
+ReportApart r s t = (moment : ℕ) (answer : Answer) (new other : State) → Step s moment r answer new → Step t moment r answer other → IsAborted answer
 
 abbrev AreApart : Input → Type 0
-AreApart r = (s : State) × (t : State) × TellApart r s t
+AreApart r = (s : State) × (t : State) × ReportApart r s t
 
 at_console : (r : Input) (name : List ℕ) → console_of r ≡ Some name → AreApart r
 at_console r name names = (

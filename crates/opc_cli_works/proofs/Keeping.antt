@@ -67,11 +67,11 @@ without Y (Some a) is h = absurd (cc)
 -- ---- answers that are told
 
 -- what ended well was done, and its lines were written
-done_told : {K : Type 0} (held : K → Option (List ℕ)) (has_failed : K → Bool) (a : Answer) (before written : K)
+done_reported : {K : Type 0} (held : K → Option (List ℕ)) (has_failed : K → Bool) (a : Answer) (before written : K)
     (status : Status) → IsReported held has_failed a before written (Ok status)
     → (lines : List Line) × (rule : Option Rule) × (a ≡ answer.Done lines rule) × Appends (held before) (held written) (lines_text lines)
-done_told held has_failed (answer.Done lines rule) before written status reported = (lines, rule, refl, reported.1)
-done_told held has_failed (answer.Refused fault rule) before written status reported = absurd reported.0
+done_reported held has_failed (answer.Done lines rule) before written status reported = (lines, rule, refl, reported.1)
+done_reported held has_failed (answer.Refused fault rule) before written status reported = absurd reported.0
 
 not_aborted : (a : Answer) (lines : List Line) (rule : Option Rule) → a ≡ answer.Done lines rule → IsAborted a → ⊥
 not_aborted a lines rule is (inl memory) = absurd cc
@@ -240,7 +240,7 @@ module _ {D : Type 0} (g : disk.Ghosts D) where
         → IsKeptRequest g s moment r (held before) (held written) files
     request_kept opened last s moment r before written status files ends clean was step =
         let it = step.handled (ends.1 clean).was_clean s was in
-        let reported = done_told held has_failed step.answer before written status step.reported in
+        let reported = done_reported held has_failed step.answer before written status step.reported in
         let becomes = made s moment r step.answer it.next reported.0 reported.1 reported.2 it.step in
         record {
           lines = reported.0;

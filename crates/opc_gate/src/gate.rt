@@ -190,7 +190,7 @@ fn decide(
 
 fn aborted(fault: StoreFault) -> Answer
     ensures aborts { IsAborted result }
-    ensures told { result ≡ Answer.Refused (store_fault fault) None }
+    ensures reported { result ≡ Answer.Refused (store_fault fault) None }
 {
     Answer::Refused {
         fault: Fault::from(fault),

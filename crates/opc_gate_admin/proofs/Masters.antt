@@ -81,11 +81,11 @@ not_false true h = refl
 not_false false h = absurd (search (rules, h))
 
 -- of two consoles, one goes by another name
-two_tell : (name : Name) (xs : List ConsoleRow) → Ascends console_before xs
+two_report : (name : Name) (xs : List ConsoleRow) → Ascends console_before xs
     → list_any (λ c. not (is c.name name)) (take 2 xs) ≡ list_any (λ c. not (is c.name name)) xs
-two_tell name [] order = refl
-two_tell name (x ∷ []) order = refl
-two_tell name (x ∷ y ∷ xs) order = go (not (is x.name name)) (not (is y.name name)) refl refl
+two_report name [] order = refl
+two_report name (x ∷ []) order = refl
+two_report name (x ∷ y ∷ xs) order = go (not (is x.name name)) (not (is y.name name)) refl refl
   where
     go : (a b : Bool) → not (is x.name name) ≡ a → not (is y.name name) ≡ b → (a || (b || false)) ≡ (a || (b || list_any (λ c. not (is c.name name)) xs))
     go true b e f = refl
@@ -94,7 +94,7 @@ two_tell name (x ∷ y ∷ xs) order = go (not (is x.name name)) (not (is y.name
 
 pub others : (s : State) (name : Name) → IsKeyed s → list_any (λ c. not (is c.name name)) (take 2 (masters s.board)) ≡ has_other_master name s.board.consoles
 others s name order =
-    two_tell name (masters s.board) (ascends_filter console_before is_master s.board.consoles order.board.consoles)
+    two_report name (masters s.board) (ascends_filter console_before is_master s.board.consoles order.board.consoles)
     ∙ any_filtered is_master (λ c. not (is c.name name)) s.board.consoles
 
 -- ---- whether the last one is lost

@@ -132,10 +132,10 @@ module _ (s : State) (n : ℕ) (all copy : List Row) (edits now : List Edit) (co
     lines = lines;
     rule = None;
   })
-  kept_makes founded lines told =
+  kept_makes founded lines reported =
       ap (λ r. or_refused r >>= λ new. does (record new { batches = with_batch batch new.batches }) (batch_line n (codes "KEPT") ∷ []) None) founded
       ∙ ap (λ t. does t (batch_line n (codes "KEPT") ∷ []) None) (sym state_is)
-      ∙ ap (λ ls. does (all_edited now s) ls None) (sym told)
+      ∙ ap (λ ls. does (all_edited now s) ls None) (sym reported)
 
   tie : (b : Batch) → (b.number == n) ≡ true → batch_cmp batch b ≡ Equal
   tie b h = ap (nat_cmp n) (eqb-true b.number n h) ∙ itself (nat_cmp n n) (nat_cmp_total.antisymm n n)

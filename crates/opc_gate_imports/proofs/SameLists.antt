@@ -28,54 +28,54 @@ use Rattle.opc_state.proofs.SameRows.{name_itself}
 use Rattle.opc_machine.specs.Imports.{same_row, same_rows, same_user}
 use Rattle.opc_machine.proofs.SameBatches.{row_is}
 
-class_told : (c d : Class) → of_class.eq-value.it c d ≡ true → same_class c d ≡ true
-class_told Console Console h = refl
-class_told Opercmds Opercmds h = refl
-class_told Console Opercmds h = absurd (search (rules, h))
-class_told Opercmds Console h = absurd (search (rules, h))
+class_reported : (c d : Class) → of_class.eq-value.it c d ≡ true → same_class c d ≡ true
+class_reported Console Console h = refl
+class_reported Opercmds Opercmds h = refl
+class_reported Console Opercmds h = absurd (search (rules, h))
+class_reported Opercmds Console h = absurd (search (rules, h))
 
-level_told : (l m : Level) → of_level.eq-value.it l m ≡ true → bytes_eq (level_text l) (level_text m) ≡ true
-level_told l m h = let same : l ≡ m = search (rules, h) in ap (λ x. bytes_eq (level_text l) (level_text x)) (sym same) ∙ name_itself (level_text l)
+level_reported : (l m : Level) → of_level.eq-value.it l m ≡ true → bytes_eq (level_text l) (level_text m) ≡ true
+level_reported l m h = let same : l ≡ m = search (rules, h) in ap (λ x. bytes_eq (level_text l) (level_text x)) (sym same) ∙ name_itself (level_text l)
 
-auth_told : (a b : Auth) → of_auth.eq-value.it a b ≡ true → bytes_eq (auth_text a) (auth_text b) ≡ true
-auth_told a b h = let same : a ≡ b = search (rules, h) in ap (λ x. bytes_eq (auth_text a) (auth_text x)) (sym same) ∙ name_itself (auth_text a)
+auth_reported : (a b : Auth) → of_auth.eq-value.it a b ≡ true → bytes_eq (auth_text a) (auth_text b) ≡ true
+auth_reported a b h = let same : a ≡ b = search (rules, h) in ap (λ x. bytes_eq (auth_text a) (auth_text x)) (sym same) ∙ name_itself (auth_text a)
 
-mode_told : (m k : Mode) → of_mode.eq-value.it m k ≡ true → bytes_eq (mode_text m) (mode_text k) ≡ true
-mode_told m k h = let same : m ≡ k = search (rules, h) in ap (λ x. bytes_eq (mode_text m) (mode_text x)) (sym same) ∙ name_itself (mode_text m)
+mode_reported : (m k : Mode) → of_mode.eq-value.it m k ≡ true → bytes_eq (mode_text m) (mode_text k) ≡ true
+mode_reported m k h = let same : m ≡ k = search (rules, h) in ap (λ x. bytes_eq (mode_text m) (mode_text x)) (sym same) ∙ name_itself (mode_text m)
 
-flag_told : (a b : Bool) → beq a b ≡ true → same_flag a b ≡ true
-flag_told true b h = search (rules, h)
-flag_told false true h = h
-flag_told false false h = refl
+flag_reported : (a b : Bool) → beq a b ≡ true → same_flag a b ≡ true
+flag_reported true b h = search (rules, h)
+flag_reported false true h = h
+flag_reported false false h = refl
 
-text_told : (d e : Option (List ℕ)) → option_eq bytes_eq d e ≡ true → same_text d e ≡ true
-text_told None None h = refl
-text_told (Some d) (Some e) h = h
-text_told None (Some e) h = absurd (search (rules, h))
-text_told (Some d) None h = absurd (search (rules, h))
+text_reported : (d e : Option (List ℕ)) → option_eq bytes_eq d e ≡ true → same_text d e ≡ true
+text_reported None None h = refl
+text_reported (Some d) (Some e) h = h
+text_reported None (Some e) h = absurd (search (rules, h))
+text_reported (Some d) None h = absurd (search (rules, h))
 
-name_told : (a b : List ℕ) → bytes_eq a b ≡ true → bytes_eq a b ≡ true
-name_told a b h = h
+name_reported : (a b : List ℕ) → bytes_eq a b ≡ true → bytes_eq a b ≡ true
+name_reported a b h = h
 
-and_told : (a b c d : Bool) → (a ≡ true → c ≡ true) → (b ≡ true → d ≡ true) → (a && b) ≡ true → (c && d) ≡ true
-and_told true true c d one other h = ap₂ (λ x y. x && y) (one refl) (other refl)
-and_told true false c d one other h = absurd (search (rules, h))
-and_told false b c d one other h = absurd (search (rules, h))
+and_reported : (a b c d : Bool) → (a ≡ true → c ≡ true) → (b ≡ true → d ≡ true) → (a && b) ≡ true → (c && d) ≡ true
+and_reported true true c d one other h = ap₂ (λ x y. x && y) (one refl) (other refl)
+and_reported true false c d one other h = absurd (search (rules, h))
+and_reported false b c d one other h = absurd (search (rules, h))
 
-user_told : (u v : User) → of_user.eq-value.it u v ≡ true → same_user u v ≡ true
-user_told u v = and_told _ _ _ _ (name_told u.id v.id) (and_told _ _ _ _ (flag_told u.special v.special) (and_told _ _ _ _ (flag_told u.auditor v.auditor)
-    (and_told _ _ _ _ (flag_told u.revoked v.revoked) (and_told _ _ _ _ (text_told u.digest v.digest) (flag_told u.restricted v.restricted)))))
+user_reported : (u v : User) → of_user.eq-value.it u v ≡ true → same_user u v ≡ true
+user_reported u v = and_reported _ _ _ _ (name_reported u.id v.id) (and_reported _ _ _ _ (flag_reported u.special v.special) (and_reported _ _ _ _ (flag_reported u.auditor v.auditor)
+    (and_reported _ _ _ _ (flag_reported u.revoked v.revoked) (and_reported _ _ _ _ (text_reported u.digest v.digest) (flag_reported u.restricted v.restricted)))))
 
 row_told : (r q : Row) → of_row.eq-value.it r q ≡ true → same_row r q ≡ true
-row_told (rows.Class c a) (rows.Class d b) = and_told _ _ _ _ (class_told c d) (flag_told a b)
-row_told (rows.Group n) (rows.Group m) = name_told n m
-row_told (rows.User u) (rows.User v) = user_told u v
-row_told (rows.Connect u g) (rows.Connect v k) = and_told _ _ _ _ (name_told u v) (name_told g k)
-row_told (rows.Console n a m) (rows.Console o b k) = and_told _ _ _ _ (name_told n o) (and_told _ _ _ _ (auth_told a b) (mode_told m k))
+row_told (rows.Class c a) (rows.Class d b) = and_reported _ _ _ _ (class_reported c d) (flag_reported a b)
+row_told (rows.Group n) (rows.Group m) = name_reported n m
+row_told (rows.User u) (rows.User v) = user_reported u v
+row_told (rows.Connect u g) (rows.Connect v k) = and_reported _ _ _ _ (name_reported u v) (name_reported g k)
+row_told (rows.Console n a m) (rows.Console o b k) = and_reported _ _ _ _ (name_reported n o) (and_reported _ _ _ _ (auth_reported a b) (mode_reported m k))
 row_told (rows.Profile c p u o w) (rows.Profile d q v n x) =
-    and_told _ _ _ _ (class_told c d) (and_told _ _ _ _ (name_told p q) (and_told _ _ _ _ (level_told u v) (and_told _ _ _ _ (name_told o n) (flag_told w x))))
+    and_reported _ _ _ _ (class_reported c d) (and_reported _ _ _ _ (name_reported p q) (and_reported _ _ _ _ (level_reported u v) (and_reported _ _ _ _ (name_reported o n) (flag_reported w x))))
 row_told (rows.Permit c p e l w) (rows.Permit d q f m x) =
-    and_told _ _ _ _ (class_told c d) (and_told _ _ _ _ (name_told p q) (and_told _ _ _ _ (name_told e f) (and_told _ _ _ _ (level_told l m) (text_told w x))))
+    and_reported _ _ _ _ (class_reported c d) (and_reported _ _ _ _ (name_reported p q) (and_reported _ _ _ _ (name_reported e f) (and_reported _ _ _ _ (level_reported l m) (text_reported w x))))
 row_told r q = λ h. absurd (search (rules, h))
 
 derived_itself : (r : Row) → of_row.eq-value.it r r ≡ true

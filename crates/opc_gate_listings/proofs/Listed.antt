@@ -97,18 +97,18 @@ module _ (s : State) (c : ConsoleRow) (profiles : List Profile) where
       ∙ ap (λ b. b || is_owner (Some u) (Some p) || holds_read s c (Some u) p) not_all) profiles)
 
 -- what a listing comes to, by what was found out of the console that asks
-pub account_told : (s : State) (name : List ℕ) (from count : ℕ) (c : ConsoleRow) (u : Option User) (lines : List Line)
+pub account_reported : (s : State) (name : List ℕ) (from count : ℕ) (c : ConsoleRow) (u : Option User) (lines : List Line)
     → console_asking s name ≡ Ok c → u ≡ acting s c → sees_all u ≡ true
     → lines ≡ map account_line (asked_for from count s.account)
     → account_outcome s name from count ≡ does s lines None
-account_told s name from count c u lines asks acts sees are =
+account_reported s name from count c u lines asks acts sees are =
     ap (λ x. x >>= λ d. refuse_if NotSpecial None (not (account_shown s d)) >>= λ _. does s (map account_line (asked_for from count s.account)) None) asks
     ∙ ap (λ b. refuse_if NotSpecial None (not b) >>= λ _. does s (map account_line (asked_for from count s.account)) None) (ap sees_all (sym acts) ∙ sees)
     ∙ ap (λ l. does s l None) (sym are)
 
-pub profiles_told : (s : State) (name : List ℕ) (class : Class) (c : ConsoleRow) (lines : List Line)
+pub profiles_reported : (s : State) (name : List ℕ) (class : Class) (c : ConsoleRow) (lines : List Line)
     → console_asking s name ≡ Ok c → lines ≡ map profile_line
     (filter (profile_shown s c) (of_class class s.policy.profiles))
     → profiles_outcome s name class ≡ does s lines None
-profiles_told s name class c lines asks are =
+profiles_reported s name class c lines asks are =
     ap (λ x. x >>= λ d. does s (map profile_line (filter (profile_shown s d) (of_class class s.policy.profiles))) None) asks ∙ ap (λ l. does s l None) (sym are)

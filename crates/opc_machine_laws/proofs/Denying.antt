@@ -86,7 +86,7 @@ use Rattle.opc_machine.specs.Rights.{account_shown, console_asking, is_special, 
 use Rattle.opc_machine.specs.Rulings.{acting, is_required, is_revoked, logon_denial}
 use Rattle.opc_machine.proofs.Inversion.{console_is, refused_is}
 use Rattle.opc_machine_laws.proofs.Plain.{IsPlain, IsPlainIfFault, event_plain, none_of_authority, not_aborted}
-use Rattle.opc_machine_laws.proofs.Naming.{IfRefused, IsTold, IsToldBy, then_told, console_told, command_told, board_has_none, aborted_has_none}
+use Rattle.opc_machine_laws.proofs.Naming.{IfRefused, IsReported, IsReportedBy, then_reported, console_reported, command_reported, board_has_none, aborted_has_none}
 
 -- what is in the way of a change is neither of authority nor aborted
 abbrev pub IfInTheWay : {A : Type 0} → Result A Fault → Type 0
@@ -269,108 +269,108 @@ logon_rule s c = go (is_required c.mode) (is_none c.user) (is_revoked (acting s 
     go false nobody false = tt
 
 module _ (s : State) (r : Input) where
-  refuse_told : (f : Fault) (b : Bool) → IsPlain f → IfRefused (IsTold s r) (refuse_if f None b)
-  refuse_told f true none = none
-  refuse_told f false none = tt
+  refuse_reported : (f : Fault) (b : Bool) → IsPlain f → IfRefused (IsReported s r) (refuse_if f None b)
+  refuse_reported f true none = none
+  refuse_reported f false none = tt
 
-  or_told : {A : Type 0} (x : Result A Fault) → IfInTheWay x → IfRefused (IsTold s r) (or_refused x)
-  or_told (Ok x) none = tt
-  or_told (Err f) none = none
+  or_reported : {A : Type 0} (x : Result A Fault) → IfInTheWay x → IfRefused (IsReported s r) (or_refused x)
+  or_reported (Ok x) none = tt
+  or_reported (Err f) none = none
 
-  acted_told : (a : BoardOutcome) → IsPlainIfFault a → IfRefused (IsTold s r) (acted None a)
-  acted_told (Ok d) plain = tt
-  acted_told (Err f) plain = plain
+  acted_reported : (a : BoardOutcome) → IsPlainIfFault a → IfRefused (IsReported s r) (acted None a)
+  acted_reported (Ok d) plain = tt
+  acted_reported (Err f) plain = plain
 
   module _ (name : List ℕ) (shut_out : (why : Rule) → IsShutOut s name why → IsDeniedBy s r why) where
-    asking_told : IfRefused (IsTold s r) (console_asking s name)
-    asking_told = then_told (IsTold s r) (console_for s name) (λ c. unless_denied (logon_denial s c) >>= λ _. Ok c) (console_told s r name)
-        (λ c is. then_told (IsTold s r) (unless_denied (logon_denial s c)) (λ _. Ok c)
+    asking_reported : IfRefused (IsReported s r) (console_asking s name)
+    asking_reported = then_reported (IsReported s r) (console_for s name) (λ c. unless_denied (logon_denial s c) >>= λ _. Ok c) (console_reported s r name)
+        (λ c is. then_reported (IsReported s r) (unless_denied (logon_denial s c)) (λ _. Ok c)
         (at_logon c (console_is s name c is) (logon_denial s c) refl (logon_rule s c)) (λ _ _. tt))
       where
         at_logon : (c : ConsoleRow) → (console_at s.board name ≡ Some c) × (c.online ≡ true) → (o : Option Rule)
-            → logon_denial s c ≡ o → IsLogonRule o → IfRefused (IsTold s r) (unless_denied o)
+            → logon_denial s c ≡ o → IsLogonRule o → IfRefused (IsReported s r) (unless_denied o)
         at_logon c at None is proper = tt
         at_logon c at (Some why) is proper = inl (proper, shut_out why (record { console = c; there = at.0; online = at.1; denied = is }))
 
-admin_told : (s : State) (name : List ℕ) (o : Operation) → IfRefused (IsTold s (input.Admin name o)) (admin_outcome s name o)
-admin_told s name o =
-    then_told P (console_asking s name) (λ c. refuse_if (right_fault o) None (not (may_change s c o)) >>= λ _.
+admin_reported : (s : State) (name : List ℕ) (o : Operation) → IfRefused (IsReported s (input.Admin name o)) (admin_outcome s name o)
+admin_reported s name o =
+    then_reported P (console_asking s name) (λ c. refuse_if (right_fault o) None (not (may_change s c o)) >>= λ _.
     or_refused (changed s o) >>= λ new. does new [] None)
-    (asking_told s r name (λ why returned. returned))
-    (λ c _. then_told P (refuse_if (right_fault o) None (not (may_change s c o))) (λ _. or_refused (changed s o) >>= λ new. does new [] None)
-    (refuse_told s r (right_fault o) (not (may_change s c o)) (right_plain o))
-    (λ _ _. then_told P (or_refused (changed s o)) (λ new. does new [] None)
-    (or_told s r (changed s o) (with_rows_none s (board_changed o s.board) (policy_changed s.board o s.policy)
+    (asking_reported s r name (λ why returned. returned))
+    (λ c _. then_reported P (refuse_if (right_fault o) None (not (may_change s c o))) (λ _. or_refused (changed s o) >>= λ new. does new [] None)
+    (refuse_reported s r (right_fault o) (not (may_change s c o)) (right_plain o))
+    (λ _ _. then_reported P (or_refused (changed s o)) (λ new. does new [] None)
+    (or_reported s r (changed s o) (with_rows_none s (board_changed o s.board) (policy_changed s.board o s.policy)
     (policy_none s.board o s.policy))) (λ _ _. tt)))
   where
     r : Input
     r = input.Admin name o
 
     P : Refusal → Type 0
-    P = IsTold s r
+    P = IsReported s r
 
-profiles_told : (s : State) (name : List ℕ) (class : Class) → IfRefused (IsTold s (input.ListProfiles name class)) (profiles_outcome s name class)
-profiles_told s name class =
-    then_told (IsTold s (input.ListProfiles name class)) (console_asking s name)
+profiles_reported : (s : State) (name : List ℕ) (class : Class) → IfRefused (IsReported s (input.ListProfiles name class)) (profiles_outcome s name class)
+profiles_reported s name class =
+    then_reported (IsReported s (input.ListProfiles name class)) (console_asking s name)
     (λ c. does s (map profile_line (filter (profile_shown s c) (of_class class s.policy.profiles))) None)
-    (asking_told s (input.ListProfiles name class) name (λ why returned. returned)) (λ _ _. tt)
+    (asking_reported s (input.ListProfiles name class) name (λ why returned. returned)) (λ _ _. tt)
 
-account_told : (s : State) (name : List ℕ) (from count : ℕ) → IfRefused (IsTold s (input.ListAccount name from count)) (account_outcome s name from count)
-account_told s name from count =
-    then_told (IsTold s r) (console_asking s name)
+account_reported : (s : State) (name : List ℕ) (from count : ℕ) → IfRefused (IsReported s (input.ListAccount name from count)) (account_outcome s name from count)
+account_reported s name from count =
+    then_reported (IsReported s r) (console_asking s name)
     (λ c. refuse_if fault.NotSpecial None (not (account_shown s c)) >>= λ _. does s
     (map account_line (asked_for from count s.account)) None)
-    (asking_told s r name (λ why returned. returned))
-    (λ c _. then_told (IsTold s r) (refuse_if fault.NotSpecial None (not (account_shown s c)))
+    (asking_reported s r name (λ why returned. returned))
+    (λ c _. then_reported (IsReported s r) (refuse_if fault.NotSpecial None (not (account_shown s c)))
     (λ _. does s (map account_line (asked_for from count s.account)) None)
-    (refuse_told s r fault.NotSpecial (not (account_shown s c)) tt) (λ _ _. tt))
+    (refuse_reported s r fault.NotSpecial (not (account_shown s c)) tt) (λ _ _. tt))
   where
     r : Input
     r = input.ListAccount name from count
 
-import_told : (s : State) (name : List ℕ) (number : ℕ) (all : List Row) → IfRefused (IsTold s (input.Import name number all)) (import_outcome s name number all)
-import_told s name number all =
-    then_told (IsTold s r) (console_asking s name)
+import_reported : (s : State) (name : List ℕ) (number : ℕ) (all : List Row) → IfRefused (IsReported s (input.Import name number all)) (import_outcome s name number all)
+import_reported s name number all =
+    then_reported (IsReported s r) (console_asking s name)
     (λ c. refuse_if fault.NotSpecial None (not (is_special (acting s c))) >>= λ _. batch_outcome s number all
     (batch_of s.batches number))
-    (asking_told s r name (λ why returned. returned))
-    (λ c _. then_told (IsTold s r) (refuse_if fault.NotSpecial None (not (is_special (acting s c))))
+    (asking_reported s r name (λ why returned. returned))
+    (λ c _. then_reported (IsReported s r) (refuse_if fault.NotSpecial None (not (is_special (acting s c))))
     (λ _. batch_outcome s number all (batch_of s.batches number))
-    (refuse_told s r fault.NotSpecial (not (is_special (acting s c))) tt) (λ _ _. batch_told (batch_of s.batches number)))
+    (refuse_reported s r fault.NotSpecial (not (is_special (acting s c))) tt) (λ _ _. batch_reported (batch_of s.batches number)))
   where
     r : Input
     r = input.Import name number all
 
-    again : (same : Bool) → IfRefused (IsTold s r) (if same then does s (batch_line number (codes "AGAIN") ∷ []) None else refused fault.BatchChanged None)
+    again : (same : Bool) → IfRefused (IsReported s r) (if same then does s (batch_line number (codes "AGAIN") ∷ []) None else refused fault.BatchChanged None)
     again true = tt
     again false = tt
 
-    batch_told : (kept : Option Batch) → IfRefused (IsTold s r) (batch_outcome s number all kept)
-    batch_told None = then_told (IsTold s r) (or_refused (with_rows all s)) (λ new. does (record new {
+    batch_reported : (kept : Option Batch) → IfRefused (IsReported s r) (batch_outcome s number all kept)
+    batch_reported None = then_reported (IsReported s r) (or_refused (with_rows all s)) (λ new. does (record new {
       batches = with_batch (record {
         number = number;
         rows = all;
       }) new.batches;
     }) (batch_line number (codes "KEPT") ∷ []) None)
-        (or_told s r (with_rows all s) (with_rows_none s (consoles_after all s.board) (policy_after all s.policy) (rows_none all s.policy))) (λ _ _. tt)
-    batch_told (Some kept) = again (same_rows kept.rows all)
+        (or_reported s r (with_rows all s) (with_rows_none s (consoles_after all s.board) (policy_after all s.policy) (rows_none all s.policy))) (λ _ _. tt)
+    batch_reported (Some kept) = again (same_rows kept.rows all)
 
-event_told : (s : State) (e : Event) → IfRefused (IsTold s (input.Event e)) (event_outcome s e)
-event_told s e = then_told (IsTold s (input.Event e)) (acted None (event_effect s.board e))
+event_reported : (s : State) (e : Event) → IfRefused (IsReported s (input.Event e)) (event_outcome s e)
+event_reported s e = then_reported (IsReported s (input.Event e)) (acted None (event_effect s.board e))
     (λ act. does (record s { board = act.board }) [] None)
-    (acted_told s (input.Event e) (event_effect s.board e) (event_plain s.board e)) (λ _ _. tt)
+    (acted_reported s (input.Event e) (event_effect s.board e) (event_plain s.board e)) (λ _ _. tt)
 
-outcome_told : (s : State) (r : Input) → IfRefused (IsTold s r) (outcome s r)
-outcome_told s (input.Command name text) = command_told s name text
-outcome_told s (input.Admin name o) = admin_told s name o
-outcome_told s (input.ListProfiles name class) = profiles_told s name class
-outcome_told s (input.ListAccount name from count) = account_told s name from count
-outcome_told s (input.Import name batch all) = import_told s name batch all
-outcome_told s (input.Event e) = event_told s e
+outcome_reported : (s : State) (r : Input) → IfRefused (IsReported s r) (outcome s r)
+outcome_reported s (input.Command name text) = command_reported s name text
+outcome_reported s (input.Admin name o) = admin_reported s name o
+outcome_reported s (input.ListProfiles name class) = profiles_reported s name class
+outcome_reported s (input.ListAccount name from count) = account_reported s name from count
+outcome_reported s (input.Import name batch all) = import_reported s name batch all
+outcome_reported s (input.Event e) = event_reported s e
 
 -- of what is refused in the end, too
-pub told_of : (s : State) (r : Input) (f : Fault) (why : Option Rule) → Refused f why ≡ answer_of (outcome s r) → IsToldBy s r f why
-told_of s r f why answers = let P : StateOutcome → Type 0 = IfRefused (IsTold s r) in subst P (refused_is (outcome s r) f why answers) (outcome_told s r)
+pub told_of : (s : State) (r : Input) (f : Fault) (why : Option Rule) → Refused f why ≡ answer_of (outcome s r) → IsReportedBy s r f why
+told_of s r f why answers = let P : StateOutcome → Type 0 = IfRefused (IsReported s r) in subst P (refused_is (outcome s r) f why answers) (outcome_reported s r)
 
 -- what the board refuses is no refusal of authority
 by_board : (s : State) (r : Input) (f : Fault) (why : Rule) → IsRefusedByBoard s r f why → IsOfAuthority f → ⊥
@@ -386,7 +386,7 @@ rules_named s moment r f why new authority (inl left) = absurd (aborted_has_none
 rules_named s moment r f why new authority (inr (inl full)) = absurd (aborted_has_none f why (inr full.answers) authority)
 rules_named s moment r f why new authority (inr (inr done)) = go why (told_of s r f why done.answers)
   where
-    go : (o : Option Rule) → IsToldBy s r f o → (because : Rule) × (o ≡ Some because) × IsNamedBy f because × IsDeniedBy s r because
+    go : (o : Option Rule) → IsReportedBy s r f o → (because : Rule) × (o ≡ Some because) × IsNamedBy f because × IsDeniedBy s r because
     go None plain = absurd (none_of_authority f plain authority)
     go (Some because) (inl returned) = (because, refl, returned.0, returned.1)
     go (Some because) (inr way) = absurd (by_board s r f because way authority)
@@ -406,6 +406,6 @@ aborted_left s moment r f why new given (inl left) = left.same
 aborted_left s moment r f why new given (inr (inl full)) = full.same
 aborted_left s moment r f why new given (inr (inr done)) = absurd (go why (told_of s r f why done.answers) given)
   where
-    go : (o : Option Rule) → IsToldBy s r f o → IsAborted (Refused f o) → ⊥
+    go : (o : Option Rule) → IsReportedBy s r f o → IsAborted (Refused f o) → ⊥
     go None plain aborts = not_aborted f plain aborts
     go (Some because) returned aborts = named_none f because aborts

@@ -251,13 +251,13 @@ outcome_left s (input.Event e) = event_left s e
 
 -- the row of a warning
 
-told_warned : (why : Option Rule) → is_warned why ≡ true → IsWarned why
-told_warned (Some (rule.Profile class pattern held needed warned)) h = h
-told_warned (Some rule.NoProfile) h = search (rules, h)
-told_warned (Some (rule.ConsoleGroup group auth)) h = search (rules, h)
-told_warned (Some rule.LogonRequired) h = search (rules, h)
-told_warned (Some rule.Revoked) h = search (rules, h)
-told_warned None h = search (rules, h)
+reported_warned : (why : Option Rule) → is_warned why ≡ true → IsWarned why
+reported_warned (Some (rule.Profile class pattern held needed warned)) h = h
+reported_warned (Some rule.NoProfile) h = search (rules, h)
+reported_warned (Some (rule.ConsoleGroup group auth)) h = search (rules, h)
+reported_warned (Some rule.LogonRequired) h = search (rules, h)
+reported_warned (Some rule.Revoked) h = search (rules, h)
+reported_warned None h = search (rules, h)
 
 not_warned : (why : Option Rule) → is_warned why ≡ false → IsWarned why → ⊥
 not_warned (Some (rule.Profile class pattern held needed warned)) h is = false≢true (sym h ∙ is)
@@ -278,7 +278,7 @@ batches_in s (input.Event e) t u same left = same ∙ left
 module _ (s : State) (moment : ℕ) (r : Input) (t : State) (why : Option Rule) (left : IsLeftBy s r t) where
   row_added : (b : Bool) → is_warned why ≡ b → LeavesRest s moment r why (if b then accounted (account_row s moment r (codes "WARN") why) t else t)
   row_added true warned = record {
-    account = inl (told_warned why warned, ap (λ rows. rows ++ account_row s moment r (codes "WARN") why ∷ []) left.0);
+    account = inl (reported_warned why warned, ap (λ rows. rows ++ account_row s moment r (codes "WARN") why ∷ []) left.0);
     batches = batches_in s r t (accounted (account_row s moment r (codes "WARN") why) t) refl left.1;
   }
   row_added false silent = record { account = inr (not_warned why silent, left.0); batches = left.1 }

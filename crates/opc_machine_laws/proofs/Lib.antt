@@ -22,7 +22,7 @@ pub mod Holding
 pub mod Keys
 pub mod Knowing
 pub mod Leaving
-pub mod LinesTold
+pub mod LinesReported
 pub mod Logging
 pub mod Masters
 pub mod Naming

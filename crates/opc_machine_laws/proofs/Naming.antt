@@ -97,21 +97,21 @@ use Rattle.opc_machine.proofs.Inversion.{allowed_ok, console_is, command_is, fou
 
 -- A rule that a refusal names denies, or allowed what the board refused; one that names none is neither of authority
 -- nor aborted.
-abbrev pub IsToldBy : State → Input → Fault → Option Rule → Type 0
-IsToldBy s r f None = IsPlain f
-IsToldBy s r f (Some why) = (IsNamedBy f why × IsDeniedBy s r why) ⊎ IsRefusedByBoard s r f why
+abbrev pub IsReportedBy : State → Input → Fault → Option Rule → Type 0
+IsReportedBy s r f None = IsPlain f
+IsReportedBy s r f (Some why) = (IsNamedBy f why × IsDeniedBy s r why) ⊎ IsRefusedByBoard s r f why
 
-abbrev pub IsTold : State → Input → Refusal → Type 0
-IsTold s r d = IsToldBy s r d.fault d.rule
+abbrev pub IsReported : State → Input → Refusal → Type 0
+IsReported s r d = IsReportedBy s r d.fault d.rule
 
 abbrev pub IfRefused : {A : Type 0} → (Refusal → Type 0) → Result A Refusal → Type 0
 IfRefused P (Ok x) = Unit {0}
 IfRefused P (Err d) = P d
 
-pub then_told : {A B : Type 0} (P : Refusal → Type 0) (x : Result A Refusal) (f : A → Result B Refusal) → IfRefused P x
+pub then_reported : {A B : Type 0} (P : Refusal → Type 0) (x : Result A Refusal) (f : A → Result B Refusal) → IfRefused P x
     → ((y : A) → x ≡ Ok y → IfRefused P (f y)) → IfRefused P (x >>= f)
-then_told P (Ok y) f h g = g y refl
-then_told P (Err d) f h g = h
+then_reported P (Ok y) f h g = g y refl
+then_reported P (Err d) f h g = h
 
 line_plain : (f : ReadFault) → IsPlain (line_fault f)
 line_plain line.Empty = tt
@@ -205,47 +205,47 @@ logon_proper s c user = go user.revoked
         (decides_in_class s.policy.profiles Console c.name) user (Some c.name) (groups_of s.policy.connects user.id)
         Read
 
-pub console_told : (s : State) (r : Input) (name : List ℕ) → IfRefused (IsTold s r) (console_for s name)
-console_told s r name = then_told (IsTold s r) (found fault.NoConsole (console_at s.board name))
+pub console_reported : (s : State) (r : Input) (name : List ℕ) → IfRefused (IsReported s r) (console_for s name)
+console_reported s r name = then_reported (IsReported s r) (found fault.NoConsole (console_at s.board name))
     (λ c. refuse_if fault.ConsoleOffline None (not c.online) >>= λ _. Ok c) (there (console_at s.board name))
-    (λ c _. then_told (IsTold s r) (refuse_if fault.ConsoleOffline None (not c.online)) (λ _. Ok c) (online (not c.online)) (λ _ _. tt))
+    (λ c _. then_reported (IsReported s r) (refuse_if fault.ConsoleOffline None (not c.online)) (λ _. Ok c) (online (not c.online)) (λ _ _. tt))
   where
-    there : (o : Option ConsoleRow) → IfRefused (IsTold s r) (found fault.NoConsole o)
+    there : (o : Option ConsoleRow) → IfRefused (IsReported s r) (found fault.NoConsole o)
     there (Some c) = tt
     there None = tt
 
-    online : (b : Bool) → IfRefused (IsTold s r) (refuse_if fault.ConsoleOffline None b)
+    online : (b : Bool) → IfRefused (IsReported s r) (refuse_if fault.ConsoleOffline None b)
     online true = tt
     online false = tt
 
 module _ (s : State) (name text : List ℕ) where
-  line_told : (r : Result Command ReadFault) → IfRefused (IsTold s (input.Command name text)) (command_or r)
+  line_told : (r : Result Command ReadFault) → IfRefused (IsReported s (input.Command name text)) (command_or r)
   line_told (Ok c) = tt
   line_told (Err f) = line_plain f
 
-  acted_told : (c : ConsoleRow) (command : Command) (why : Rule) → IsAllowed s name text c command why
+  acted_reported : (c : ConsoleRow) (command : Command) (why : Rule) → IsAllowed s name text c command why
       → (r : BoardOutcome) → effect s.board command c.name ≡ r
-      → IfRefused (IsTold s (input.Command name text)) (acted (Some why) r)
-  acted_told c command why allows (Ok d) is = tt
-  acted_told c command why allows (Err f) is = inr (record { console = c; command = command; allowed = allows; refused = f; refuses = is; returned = refl })
+      → IfRefused (IsReported s (input.Command name text)) (acted (Some why) r)
+  acted_reported c command why allows (Ok d) is = tt
+  acted_reported c command why allows (Err f) is = inr (record { console = c; command = command; allowed = allows; refused = f; refuses = is; returned = refl })
 
-  ruling_told : (c : ConsoleRow) (command : Command) → IsHeard s name text c command → (need : Need) → need_of s.board command ≡ Some need
-      → (r : Ruling) → ruling s c need ≡ r → IsProper denial_fault r → IfRefused (IsTold s (input.Command name text)) (allowed r)
-  ruling_told c command heard need needs (Allowed why) is proper = tt
-  ruling_told c command heard need needs (Denied why) is proper =
+  ruling_reported : (c : ConsoleRow) (command : Command) → IsHeard s name text c command → (need : Need) → need_of s.board command ≡ Some need
+      → (r : Ruling) → ruling s c need ≡ r → IsProper denial_fault r → IfRefused (IsReported s (input.Command name text)) (allowed r)
+  ruling_reported c command heard need needs (Allowed why) is proper = tt
+  ruling_reported c command heard need needs (Denied why) is proper =
       inl (proper, inl (record { console = c; command = command; heard = heard; need = need; needs = needs; denied = is }))
 
-  board_told : (c : ConsoleRow) (command : Command) → IsHeard s name text c command → (need : Need)
+  board_reported : (c : ConsoleRow) (command : Command) → IsHeard s name text c command → (need : Need)
       → need_of s.board command ≡ Some need
-      → IfRefused (IsTold s (input.Command name text)) (board_command s c command need)
-  board_told c command heard need needs =
-      then_told (IsTold s (input.Command name text)) (allowed (ruling s c need))
+      → IfRefused (IsReported s (input.Command name text)) (board_command s c command need)
+  board_reported c command heard need needs =
+      then_reported (IsReported s (input.Command name text)) (allowed (ruling s c need))
       (λ why. acted (Some why) (effect s.board command c.name) >>= λ act. does (record s { board = act.board })
       (filter (shown s c) act.lines) (Some why))
-      (ruling_told c command heard need needs (ruling s c need) refl (ruling_proper s c need))
-      (λ why is. then_told (IsTold s (input.Command name text)) (acted (Some why) (effect s.board command c.name))
+      (ruling_reported c command heard need needs (ruling s c need) refl (ruling_proper s c need))
+      (λ why is. then_reported (IsReported s (input.Command name text)) (acted (Some why) (effect s.board command c.name))
       (λ act. does (record s { board = act.board }) (filter (shown s c) act.lines) (Some why))
-      (acted_told c command why (record {
+      (acted_reported c command why (record {
         heard = heard;
         need = need;
         needs = needs;
@@ -254,7 +254,7 @@ module _ (s : State) (name text : List ℕ) where
 
   kept_off : (c : ConsoleRow) (id password : Operand (List ℕ)) → IsHeard s name text c (command.Logon id password)
       → c.user ≡ None → (user : User) → known_by s id.value password.value ≡ Some user
-      → (r : Ruling) → logon_ruling s c user ≡ r → IsProper logon_fault r → IfRefused (IsTold s (input.Command name text)) (admit r)
+      → (r : Ruling) → logon_ruling s c user ≡ r → IsProper logon_fault r → IfRefused (IsReported s (input.Command name text)) (admit r)
   kept_off c id password heard nobody user known (Allowed why) is proper = tt
   kept_off c id password heard nobody user known (Denied why) is proper =
       inl (
@@ -271,55 +271,55 @@ module _ (s : State) (name text : List ℕ) where
         }),
       )
 
-  logon_told : (c : ConsoleRow) (id password : Operand (List ℕ)) → IsHeard s name text c (command.Logon id password)
-      → IfRefused (IsTold s (input.Command name text)) (logon s c id.value password.value)
-  logon_told c id password heard =
-      then_told (IsTold s (input.Command name text)) (nobody_on c.user)
+  logon_reported : (c : ConsoleRow) (id password : Operand (List ℕ)) → IsHeard s name text c (command.Logon id password)
+      → IfRefused (IsReported s (input.Command name text)) (logon s c id.value password.value)
+  logon_reported c id password heard =
+      then_reported (IsReported s (input.Command name text)) (nobody_on c.user)
       (λ _. found fault.BadLogon (known_by s id.value password.value) >>= λ user. admit (logon_ruling s c user) >>=
       λ why. does (record s { board = logged_on c.name id.value s.board }) [] (Some why))
       (nobody c.user)
-      (λ on is_on. then_told (IsTold s (input.Command name text))
+      (λ on is_on. then_reported (IsReported s (input.Command name text))
       (found fault.BadLogon (known_by s id.value password.value))
       (λ user. admit (logon_ruling s c user) >>= λ why. does
       (record s { board = logged_on c.name id.value s.board }) [] (Some why))
       (stored (known_by s id.value password.value))
-      (λ user is. then_told (IsTold s (input.Command name text)) (admit (logon_ruling s c user))
+      (λ user is. then_reported (IsReported s (input.Command name text)) (admit (logon_ruling s c user))
       (λ why. does (record s { board = logged_on c.name id.value s.board }) [] (Some why))
       (kept_off c id password heard (nobody_ok c.user on is_on) user
       (found_ok fault.BadLogon (known_by s id.value password.value) user is) (logon_ruling s c user) refl
       (logon_proper s c user)) (λ why _. tt)))
     where
-      nobody : (o : Option (List ℕ)) → IfRefused (IsTold s (input.Command name text)) (nobody_on o)
+      nobody : (o : Option (List ℕ)) → IfRefused (IsReported s (input.Command name text)) (nobody_on o)
       nobody None = tt
       nobody (Some user) = tt
 
-      stored : (o : Option User) → IfRefused (IsTold s (input.Command name text)) (found fault.BadLogon o)
+      stored : (o : Option User) → IfRefused (IsReported s (input.Command name text)) (found fault.BadLogon o)
       stored (Some user) = tt
       stored None = tt
 
-  logoff_told : (c : ConsoleRow) → IfRefused (IsTold s (input.Command name text)) (logoff s c)
-  logoff_told c = then_told (IsTold s (input.Command name text)) (refuse_if fault.NotOn None (is_none c.user))
+  logoff_reported : (c : ConsoleRow) → IfRefused (IsReported s (input.Command name text)) (logoff s c)
+  logoff_reported c = then_reported (IsReported s (input.Command name text)) (refuse_if fault.NotOn None (is_none c.user))
       (λ _. does (record s { board = logged_off c.name s.board }) [] None) (on (is_none c.user)) (λ _ _. tt)
     where
-      on : (b : Bool) → IfRefused (IsTold s (input.Command name text)) (refuse_if fault.NotOn None b)
+      on : (b : Bool) → IfRefused (IsReported s (input.Command name text)) (refuse_if fault.NotOn None b)
       on true = tt
       on false = tt
 
-  no_need_told : (c : ConsoleRow) (k : Command) → IsHeard s name text c k → IfRefused (IsTold s (input.Command name text)) (without_need s c k)
-  no_need_told c (command.Logon id password) heard = logon_told c id password heard
-  no_need_told c command.Logoff heard = logoff_told c
-  no_need_told c other heard = tt
+  no_need_reported : (c : ConsoleRow) (k : Command) → IsHeard s name text c k → IfRefused (IsReported s (input.Command name text)) (without_need s c k)
+  no_need_reported c (command.Logon id password) heard = logon_reported c id password heard
+  no_need_reported c command.Logoff heard = logoff_reported c
+  no_need_reported c other heard = tt
 
-  typed_told : (c : ConsoleRow) (k : Command) → IsHeard s name text c k → (need : Option Need)
-      → need_of s.board k ≡ need → IfRefused (IsTold s (input.Command name text)) (typed s c k need)
-  typed_told c k heard (Some need) is = board_told c k heard need is
-  typed_told c k heard None is = no_need_told c k heard
+  typed_reported : (c : ConsoleRow) (k : Command) → IsHeard s name text c k → (need : Option Need)
+      → need_of s.board k ≡ need → IfRefused (IsReported s (input.Command name text)) (typed s c k need)
+  typed_reported c k heard (Some need) is = board_reported c k heard need is
+  typed_reported c k heard None is = no_need_reported c k heard
 
-  pub command_told : IfRefused (IsTold s (input.Command name text)) (command_outcome s name text)
-  command_told = then_told (IsTold s (input.Command name text)) (console_for s name)
-      (λ c. command_in text >>= λ k. typed s c k (need_of s.board k)) (console_told s (input.Command name text) name)
-      (λ c there. then_told (IsTold s (input.Command name text)) (command_in text) (λ k. typed s c k (need_of s.board k)) (line_told (reading text))
-      (λ k reads. typed_told c k (heard c there k reads) (need_of s.board k) refl))
+  pub command_reported : IfRefused (IsReported s (input.Command name text)) (command_outcome s name text)
+  command_reported = then_reported (IsReported s (input.Command name text)) (console_for s name)
+      (λ c. command_in text >>= λ k. typed s c k (need_of s.board k)) (console_reported s (input.Command name text) name)
+      (λ c there. then_reported (IsReported s (input.Command name text)) (command_in text) (λ k. typed s c k (need_of s.board k)) (line_told (reading text))
+      (λ k reads. typed_reported c k (heard c there k reads) (need_of s.board k) refl))
     where
       heard : (c : ConsoleRow) → console_for s name ≡ Ok c → (k : Command) → command_in text ≡ Ok k → IsHeard s name text c k
       heard c there k reads =

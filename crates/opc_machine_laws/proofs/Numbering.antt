@@ -51,22 +51,22 @@ board_back board.NoMemory = refl
 board_alone : (f g : BoardFault) → board_fault g ≡ board_fault f → g ≡ f
 board_alone f g h = let same : ◌≡◌ {A = Option BoardFault} (Some g) (Some f) = sym (board_back g) ∙ ap board_of h ∙ board_back f in search (rules, same)
 
-pub board_told : BoardFaultsAreDistinct
-board_told board.NoUnit = record { number = refl; alone = board_alone board.NoUnit }
-board_told board.NonCancelable = record { number = refl; alone = board_alone board.NonCancelable }
-board_told board.Cancelable = record { number = refl; alone = board_alone board.Cancelable }
-board_told board.UnitExists = record { number = refl; alone = board_alone board.UnitExists }
-board_told board.NoDevice = record { number = refl; alone = board_alone board.NoDevice }
-board_told board.DeviceState = record { number = refl; alone = board_alone board.DeviceState }
-board_told board.DeviceInUse = record { number = refl; alone = board_alone board.DeviceInUse }
-board_told board.NoVolume = record { number = refl; alone = board_alone board.NoVolume }
-board_told board.NoReply = record { number = refl; alone = board_alone board.NoReply }
-board_told board.NoTarget = record { number = refl; alone = board_alone board.NoTarget }
-board_told board.Halted = record { number = refl; alone = board_alone board.Halted }
-board_told board.LastMaster = record { number = refl; alone = board_alone board.LastMaster }
-board_told board.WrongKind = record { number = refl; alone = board_alone board.WrongKind }
-board_told board.ReplyExists = record { number = refl; alone = board_alone board.ReplyExists }
-board_told board.NoMemory = record { number = refl; alone = board_alone board.NoMemory }
+pub board_reported : BoardFaultsAreDistinct
+board_reported board.NoUnit = record { number = refl; alone = board_alone board.NoUnit }
+board_reported board.NonCancelable = record { number = refl; alone = board_alone board.NonCancelable }
+board_reported board.Cancelable = record { number = refl; alone = board_alone board.Cancelable }
+board_reported board.UnitExists = record { number = refl; alone = board_alone board.UnitExists }
+board_reported board.NoDevice = record { number = refl; alone = board_alone board.NoDevice }
+board_reported board.DeviceState = record { number = refl; alone = board_alone board.DeviceState }
+board_reported board.DeviceInUse = record { number = refl; alone = board_alone board.DeviceInUse }
+board_reported board.NoVolume = record { number = refl; alone = board_alone board.NoVolume }
+board_reported board.NoReply = record { number = refl; alone = board_alone board.NoReply }
+board_reported board.NoTarget = record { number = refl; alone = board_alone board.NoTarget }
+board_reported board.Halted = record { number = refl; alone = board_alone board.Halted }
+board_reported board.LastMaster = record { number = refl; alone = board_alone board.LastMaster }
+board_reported board.WrongKind = record { number = refl; alone = board_alone board.WrongKind }
+board_reported board.ReplyExists = record { number = refl; alone = board_alone board.ReplyExists }
+board_reported board.NoMemory = record { number = refl; alone = board_alone board.NoMemory }
 
 -- and so of a line
 abbrev line_of : Fault → Option ReadFault

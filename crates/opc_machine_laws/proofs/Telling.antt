@@ -16,7 +16,7 @@ use Rattle.opc_reader.specs.declared.verb.Verb.TheVariants as verb
 use Rattle.opc_reader_commands.specs.Quotes.{text_value}
 use Rattle.opc_reader.specs.Verbs.{verbs}
 use Rattle.opc_reader_commands.proofs.Quoted.{says}
-use Rattle.opc_machine_laws.specs.TellingLaws.{LinesReadSo, RulesReadSo, SpellingsReadBack, TypedTextsSay, VerbsAreSpelledSo, WordsReadSo}
+use Rattle.opc_machine_laws.specs.ReportingLaws.{LinesReadSo, RulesReadSo, SpellingsReadBack, TypedTextsSay, VerbsAreSpelledSo, WordsReadSo}
 
 level_back : (x : Level) → lookup levels (level_text x) ≡ Some x
 level_back level.None = refl

@@ -104,8 +104,8 @@ lines_on b (command.Reply id text) = reply_line id.value (text_value text.typed.
 lines_on b other = []
 
 -- Of these a command that acts gives those that may be shown, and no other line.
-abbrev pub CommandsTellTheirLines : Type 0
-CommandsTellTheirLines =
+abbrev pub CommandsReportTheirLines : Type 0
+CommandsReportTheirLines =
     (s : State) (console : ConsoleRow) (k : Command) (why : Rule) (lines : List Line) (rule : Option Rule) (new : State)
     → Acts s console k why (Done lines rule) new
     → lines ≡ filter (shown s console) (lines_on s.board k)

@@ -18,4 +18,4 @@ pub mod RulingLaws
 pub mod SpecificLaws
 pub mod StoredLaws
 pub mod TakingLaws
-pub mod TellingLaws
+pub mod ReportingLaws

@@ -1,5 +1,5 @@
 //! What tables, tests and texts mean, to those who read them.
-ghost use Rattle.opc_machine_laws.specs.DisplayLaws.{BoardsGoByName, CommandsTellTheirLines};
+ghost use Rattle.opc_machine_laws.specs.DisplayLaws.{BoardsGoByName, CommandsReportTheirLines};
 ghost use Rattle.opc_machine_laws.specs.HoldingLaws.{EachGroupCounts, LevelsIncludeThoseBelow};
 ghost use Rattle.opc_machine_laws.specs.LeavingLaws.{RequestsAreAsked};
 ghost use Rattle.opc_machine_laws.specs.NeedLaws.{CommandsNeedSo};
@@ -13,7 +13,7 @@ ghost use Rattle.opc_machine_laws.specs.StoredLaws.{
   OnIsWhoIsOn,
   StoredIsWhatIsThere,
 };
-ghost use Rattle.opc_machine_laws.specs.TellingLaws.{
+ghost use Rattle.opc_machine_laws.specs.ReportingLaws.{
   LinesReadSo,
   RulesReadSo,
   SpellingsReadBack,
@@ -63,8 +63,8 @@ pub fn batches_are_kept()
 
 /// A display lists what the board has, in its order, R shows the reply that it answers, and no other command shows
 /// anything.
-pub fn commands_tell_their_lines()
-    ensures { CommandsTellTheirLines }
+pub fn commands_report_their_lines()
+    ensures { CommandsReportTheirLines }
 {}
 
 /// Each fault has its number.

@@ -18,5 +18,5 @@ returns-in-Err g c = inr (record {
   not_opened = c.in-Err.ensures.failed;
   silent = c.in-Err.ensures.silent;
   status_is = c.reported.ensures.status ∙ ap status_of c.not_opened-failure.ensures ∙ openings_fail c.in-Err.fault;
-  fault_told = same_fault g.E.Write.contents c.args.errors.now c.reported.new.errors _ _ c.not_opened-failure.ensures c.reported.ensures.reported;
+  fault_reported = same_fault g.E.Write.contents c.args.errors.now c.reported.new.errors _ _ c.not_opened-failure.ensures c.reported.ensures.reported;
 })

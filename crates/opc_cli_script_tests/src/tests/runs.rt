@@ -64,7 +64,7 @@ fn end_of(rt: &impl Abort, fault: ScriptFault) -> Fail {
 }
 
 #[test]
-fn a_bad_line_is_told_and_nothing_is_run(rt: HostRuntime) -> Result<(), Fail> {
+fn a_bad_line_is_reported_and_nothing_is_run(rt: HostRuntime) -> Result<(), Fail> {
     let mut long = String::with_capacity(rt.alloc(), 1_048_577)?;
     for _ in 0..1_048_577 {
         long.push('\n')?;

@@ -45,15 +45,15 @@ fn profiles_are_listed(rt: HostRuntime) -> Result<(), Fail> {
         let mut tables = room(id, special, auditor, false)?;
         let console = tables.console(&ConsoleName::read(console)?)?;
         let outcome = profiles_on(&mut tables, rt.alloc(), console, Class::Opercmds)?;
-        let mut told = String::new(rt.alloc());
+        let mut reported = String::new(rt.alloc());
         if let Outcome::Done(effect) = outcome {
             for line in effect.lines.as_slice() {
-                told.push_str(line.text.as_str())?;
-                told.push_str("/")?;
+                reported.push_str(line.text.as_str())?;
+                reported.push_str("/")?;
             }
             assert!(rt; effect.rule.is_none() && effect.edits.is_empty());
         }
-        assert_eq!(rt; told.as_str(), wanted, "{id}");
+        assert_eq!(rt; reported.as_str(), wanted, "{id}");
     }
     Ok(())
 }
@@ -63,14 +63,14 @@ fn the_account_is_listed(rt: HostRuntime) -> Result<(), Fail> {
     let mut tables = room("AUDIT", false, true, false)?;
     let console = tables.console(&ConsoleName::read("C1")?)?;
     let outcome = account_on(&mut tables, rt.alloc(), console, 2, 1)?;
-    let mut told = String::new(rt.alloc());
+    let mut reported = String::new(rt.alloc());
     if let Outcome::Done(effect) = outcome {
         for line in effect.lines.as_slice() {
-            told.push_str(line.text.as_str())?;
-            told.push_str("/")?;
+            reported.push_str(line.text.as_str())?;
+            reported.push_str("/")?;
         }
     }
-    assert_eq!(rt; told.as_str(), "2 102 C3 - E12 LOGONREQUIRED/");
+    assert_eq!(rt; reported.as_str(), "2 102 C3 - E12 LOGONREQUIRED/");
     Ok(())
 }
 

@@ -19,7 +19,7 @@ pub(super) fn get(alloc: Global, path: &str) -> Result<String, AllocError> {
 }
 
 // What a request says, as a line.
-fn told(alloc: Global, request: &Request) -> Result<String, AllocError> {
+fn reported(alloc: Global, request: &Request) -> Result<String, AllocError> {
     match request {
         Request::Command { console, text } => {
             let name = console.text();
@@ -66,7 +66,7 @@ pub(super) fn asked<R: Read + Drop>(
     };
     let mut source = Watched::new(reader);
     match read_request(alloc, &routes, &mut source) {
-        Ok(request) => Ok(Ok(told(alloc, &request)?)),
+        Ok(request) => Ok(Ok(reported(alloc, &request)?)),
         Err(ReadingFault::NoMemory) => Err(AllocError),
         Err(fault) => Ok(Err(fault)),
     }

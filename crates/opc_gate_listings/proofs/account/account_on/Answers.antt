@@ -5,7 +5,7 @@ use Rattle.opc_machine.specs.Listings.{account_outcome}
 use Rattle.opc_gate_rulings.specs.declared.requester.Asking.TheVariants.{By}
 use Rattle.opc_gate_rulings.specs.Requester.{IsRequester}
 use Rattle.opc_gate_rulings.proofs.Named.{by_any_name}
-use Rattle.opc_gate_listings.proofs.Listed.{account_told}
+use Rattle.opc_gate_listings.proofs.Listed.{account_reported}
 use Rattle.opc_gate_listings.proofs.account.account_on.Goals as goal
 
 pub returns : goal.returns
@@ -17,7 +17,7 @@ returns g c = record {
       (λ name at.
       let asks : IsRequester s name (By c.in-By.requester) = subst (IsRequester s name) c.in-By.is (c.in_ok-requester.ensures.answers before s represents name at) in
       let lines = c.in_ok-lines.ensures.answers sure s (c.in_ok-requester.ensures.kept.same before s represents) in
-      let comes = account_told s name c.args.from c.args.count c.in-By.requester.console c.in-By.requester.user
+      let comes = account_reported s name c.args.from c.args.count c.in-By.requester.console c.in-By.requester.user
       c.in_ok-lines.lines asks.0 asks.1 (sym c.if-not-sees_all.ensures) lines in
       subst (λ o. IfOk c.listing.result (IsOutcome s o)) (sym comes) (c.listing.ensures s));
 }

@@ -5,7 +5,7 @@ use Rattle.opc_machine.specs.Listings.{profiles_outcome}
 use Rattle.opc_gate_rulings.specs.declared.requester.Asking.TheVariants.{By}
 use Rattle.opc_gate_rulings.specs.Requester.{IsRequester}
 use Rattle.opc_gate_rulings.proofs.Named.{by_any_name}
-use Rattle.opc_gate_listings.proofs.Listed.{profiles_told}
+use Rattle.opc_gate_listings.proofs.Listed.{profiles_reported}
 use Rattle.opc_gate_listings.proofs.profiles.profiles_on.Goals as goal
 
 pub returns : goal.returns
@@ -17,6 +17,6 @@ returns g c = record {
       (λ name at.
       let asks : IsRequester s name (By c.in-By.requester) = subst (IsRequester s name) c.in-By.is (c.in_ok-requester.ensures.answers before s represents name at) in
       let lines = c.in_ok-lines.ensures.answers sure s (c.in_ok-requester.ensures.kept.same before s represents) asks.1 in
-      let comes = profiles_told s name c.args.class c.in-By.requester.console c.in_ok-lines.lines asks.0 lines in
+      let comes = profiles_reported s name c.args.class c.in-By.requester.console c.in_ok-lines.lines asks.0 lines in
       subst (λ o. IfOk c.listing.result (IsOutcome s o)) (sym comes) (c.listing.ensures s));
 }

@@ -1,4 +1,4 @@
-use Rattle.opc_machine_laws.proofs.LinesTold.{go_by_name}
+use Rattle.opc_machine_laws.proofs.LinesReported.{go_by_name}
 use Rattle.opc_machine_laws.proofs.meanings.boards_go_by_name.Goals as goal
 
 pub returns : goal.returns

@@ -40,7 +40,8 @@ module _ {E : Type 0} (shown : E → Option (List ℕ)) where
   IsEndReported quiet reported end = IfErr end (λ failure. IsFaultReported quiet reported failure.fault)
 
   -- The fault of its end was, and then, where the file was not closed, that the store failed.
-  abbrev pub IsWorkReported : {A B : Type 0} → (quiet reported : Watched E) → Result Status Failure → (closed : Result A B)
+  abbrev pub IsWorkReported : {A B : Type 0} → (quiet reported : Watched E)
+      → Result Status Failure → (closed : Result A B)
       → Type 0
   IsWorkReported quiet reported end (Ok files) = IsEndReported quiet reported end
   IsWorkReported quiet reported end (Err kept) =

@@ -60,7 +60,8 @@ fn fault_in(alloc: Global, place: Place, text: &str, fault: ImportFault) -> Fail
 fn rows_in(alloc: Global, place: Place, bytes: &[u8]) -> Result<Vec<Row>, Failure>
     ensures rows { IfOk result (λ rows. IsPolicyFile bytes.now rows.items) }
     ensures fault { IfErr result (λ failure. IsFailure failure.fault ⊎ IsNoPolicyFile bytes.now failure.fault) }
-    ensures exact { IfErr result (λ failure. (failure.fault ≡ Fault.NoMemory) ⊎ IsNoPolicyFile bytes.now failure.fault) }
+    ensures exact { IfErr result (λ failure.
+        (failure.fault ≡ Fault.NoMemory) ⊎ IsNoPolicyFile bytes.now failure.fault) }
     ensures no_text { IsNoText bytes.now → IsErrAnd result (λ failure. failure.fault ≡ Fault.RowFault 0 Why.Header) }
 {
     if bytes.len() > POLICY_LIMIT as usize {

@@ -111,7 +111,8 @@ pub fn open_port<P: Ports, W: Write>(
     output: &mut W,
 ) -> Result<P::Listener, Failure>
     ensures status { IfErr result (λ failure. status_of failure.fault ≡ Status.Failed) }
-    ensures listens { IfOk result (λ listener. IsReported P.binds P.is_at ports.now port listener (W.contents output.old)
+    ensures listens { IfOk result (λ listener. IsReported P.binds P.is_at ports.now port listener
+        (W.contents output.old)
         (W.contents output.new)) }
 {
     let (listener, given) = listen(ports, port)?;

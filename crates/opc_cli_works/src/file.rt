@@ -28,7 +28,8 @@ pub fn work_at<S: Start, R: Read, W: Write>(
     input: &mut R,
     output: &mut Watched<W>,
 ) -> Result<(Result<Status, Failure>, Closed<S>), OpenFault>
-    ensures worked { IfOk result (λ r. IsWorkAt W.contents (image_at S.Start) work.now (R.remaining input.old) output.old
+    ensures worked { IfOk result (λ r. IsWorkAt W.contents (image_at S.Start) work.now (R.remaining input.old)
+        output.old
         output.new r.0 r.1) }
     ensures failed { IfErr result (IsNotOpened ⟦<FileFrom<S> as Disk>⟧ IsFresh (image_at S.Start)) }
     ensures silent { OnErr result (output.new ≡ output.old) }

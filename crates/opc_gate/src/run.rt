@@ -45,7 +45,8 @@ impl<T: Tables> Gate<T> {
         ensures sure { T.meaning.is_sure self.new → T.meaning.is_sure self.old }
         ensures heard { OnOk result (IsHeardRun T.meaning L.heard self.old self.new requests.now
             listener.old listener.new) }
-        ensures ended { IfErr result (IsEndedRun T.meaning L.heard L.missed self.old self.new requests.now listener.old listener.new) }
+        ensures ended { IfErr result (IsEndedRun T.meaning L.heard L.missed self.old self.new requests.now
+            listener.old listener.new) }
     {
         for request in requests {
             let answer = self.handle(alloc, request.0, &request.1);

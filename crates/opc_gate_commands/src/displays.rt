@@ -67,7 +67,8 @@ pub(crate) fn display_on<T: Tables>(
 ) -> Result<Outcome, StoreFault>
     requires { is_display command.now ≡ true }
     ensures { Loads T.meaning tables.old tables.new result
-        (λ s o. IsRulingBasis s console.now basis.now → IsOutcome s (allowed_command s console.now command.now rule) o) }
+        (λ s o. IsRulingBasis s console.now basis.now
+        → IsOutcome s (allowed_command s console.now command.now rule) o) }
 {
     let lines = lines_on(tables, alloc, command)?;
     let lines = shown_lines(tables, alloc, basis, console, lines)?;

@@ -77,7 +77,8 @@ fn loaded_rows<T: Tables>(
     keys: BoardKeys,
 ) -> Result<BoardRows, StoreFault>
     ensures { Loads T.meaning tables.old tables.new result
-        (λ s part. IsKeyed s × HasLoaded s no_rows part (λ footprint. HasKeys footprint (without_history s.board) keys)) }
+        (λ s part. IsKeyed s
+        × HasLoaded s no_rows part (λ footprint. HasKeys footprint (without_history s.board) keys)) }
 {
     let halted = tables.is_halted()?;
     let mut part = nothing(alloc, halted);

@@ -97,7 +97,8 @@ fn same_rows(rows: &[Row], others: &[Row]) -> bool
 // A batch whose number is kept: nothing is done, where its rows are the same.
 fn same_batch(alloc: Global, number: u32, kept: &[Row], rows: &[Row]) -> Result<Outcome, StoreFault>
     ensures { (s : State)
-        → IfOk result (λ o. IsOutcome s (same_batch s number rows.now (record { number = number; rows = kept.now })) o) }
+        → IfOk result (λ o. IsOutcome s (same_batch s number rows.now
+        (record { number = number; rows = kept.now })) o) }
 {
     if !same_rows(kept, rows) {
         return refused(Fault::BatchChanged, None);

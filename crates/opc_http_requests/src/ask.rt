@@ -114,9 +114,11 @@ fn read_planned<S: Source>(
         planned (span_bytes buf.old.items spans.now.path) (drop spans.now.len (buf.old.items ++ left)) plan ≡ Ok
         request)) }
     ensures refused { IfErr result (λ fault. IfRefused fault (λ why. IfSome (S.left source.old) (λ left.
-        planned (span_bytes buf.old.items spans.now.path) (drop spans.now.len (buf.old.items ++ left)) plan ≡ Err why))) }
+        planned (span_bytes buf.old.items spans.now.path) (drop spans.now.len (buf.old.items ++ left)) plan
+        ≡ Err why))) }
     ensures most { TakesAtMost (spans.now.len + plan.length - vec_len buf.old) (S.left source.old) (S.left source.new) }
-    ensures reads { ReadsOnly S.left S.gives (MayFill (spans.now.len + plan.length)) source.old buf.old.items source.new }
+    ensures reads { ReadsOnly S.left S.gives (MayFill (spans.now.len + plan.length)) source.old
+        buf.old.items source.new }
     ensures failed { S.has_failed source.new ≡ (if is_read result then true else S.has_failed source.old) }
 {
     let end = spans.len + plan.length as usize;
@@ -139,7 +141,8 @@ pub fn read_request<S: Source>(
     source: &mut S,
 ) -> Result<Request, ReadingFault>
     ensures asked { IfOk result (λ request. IfSome (S.left source.old) (λ all. AsksOnly all (Ok request))) }
-    ensures refused { IfErr result (λ fault. IfRefused fault (λ why. IfSome (S.left source.old) (λ all. AsksOnly all (Err why)))) }
+    ensures refused { IfErr result (λ fault. IfRefused fault (λ why.
+        IfSome (S.left source.old) (λ all. AsksOnly all (Err why)))) }
     ensures stops { IfSome (S.left source.old) (λ all. StopsAtEnd all (S.left source.new)) }
     ensures most { TakesAtMost 73728 (S.left source.old) (S.left source.new) }
     ensures reads { ReadsOnly S.left S.gives MayRead source.old [] source.new }

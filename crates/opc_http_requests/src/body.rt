@@ -14,7 +14,8 @@ pub(crate) fn read_to<S: Source>(
     ensures reads { IfOk result (λ whole. ReadsTo length whole (S.left source.old) (S.left source.new) buf.old.items
         buf.new.items) }
     ensures most { TakesAtMost (length - vec_len buf.old) (S.left source.old) (S.left source.new) }
-    ensures blocks { ReadsInto S.left S.gives (MayFill length) source.old buf.old.items source.new buf.new.items result }
+    ensures blocks { ReadsInto S.left S.gives (MayFill length) source.old buf.old.items
+        source.new buf.new.items result }
     ensures failed { S.has_failed source.new ≡ (if is_read result then true else S.has_failed source.old) }
 {
     while buf.len() < length {

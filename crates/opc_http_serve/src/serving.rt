@@ -67,7 +67,8 @@ pub fn serve<A: Arrivals, X: Exchanges>(
 ) -> Result<(), ServeFault>
     ensures done { OnOk result (AreServed A.Connection.limits A.Connection.remaining A.Connection.contents X.exchanged
         timeout A.accepts A.clock_says arrivals.old gate.old count arrivals.new gate.new) }
-    ensures ended { IfErr result (λ fault. IsCutShort A.Connection.limits A.Connection.remaining A.Connection.contents X.exchanged
+    ensures ended { IfErr result (λ fault. IsCutShort A.Connection.limits A.Connection.remaining
+        A.Connection.contents X.exchanged
         timeout A.accepts A.clock_says arrivals.old gate.old count fault arrivals.new gate.new) }
 {
     for _client in 0..count {

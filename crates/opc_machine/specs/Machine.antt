@@ -83,8 +83,9 @@ is_warned None = false
 -- The state after a request: a refusal changes nothing but the account, and what a warning alone let pass is
 -- accounted too.
 abbrev pub after : State → ℕ → Input → StateOutcome → State
-after s moment r (Ok effect) = if is_warned effect.rule then accounted (account_row s moment r (codes "WARN") effect.rule)
-    effect.state else effect.state
+after s moment r (Ok effect) =
+    if is_warned effect.rule then accounted (account_row s moment r (codes "WARN") effect.rule) effect.state
+    else effect.state
 after s moment r (Err refusal) = accounted (account_row s moment r (fault_code refusal.fault) refusal.rule) s
 
 abbrev pub answer_of : StateOutcome → Answer

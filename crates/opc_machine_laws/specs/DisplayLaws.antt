@@ -56,7 +56,8 @@ abbrev pub ListsEveryUnit : Type 0
 ListsEveryUnit =
     (s : State) (console : ConsoleRow) (why : Rule) (lines : List Line) (rule : Option Rule) (new : State)
     → Acts s console command.DisplayUnits why (Done lines rule) new → (line : Line)
-    → Contains lines line ↔ ((unit : UnitRow) × (line ≡ unit_line unit) × Contains s.board.units unit × MayBeShown s console (codes "MVS.DISPLAY.JOB") unit.name)
+    → Contains lines line ↔ ((unit : UnitRow) × (line ≡ unit_line unit)
+    × Contains s.board.units unit × MayBeShown s console (codes "MVS.DISPLAY.JOB") unit.name)
 
 -- D A with a name that unit alone,
 abbrev pub ListsTheUnit : Type 0
@@ -71,7 +72,8 @@ abbrev pub ListsEveryConsole : Type 0
 ListsEveryConsole =
     (s : State) (console : ConsoleRow) (why : Rule) (lines : List Line) (rule : Option Rule) (new : State)
     → Acts s console command.DisplayConsoles why (Done lines rule) new → (line : Line)
-    → Contains lines line ↔ ((row : ConsoleRow) × (line ≡ console_line row) × Contains s.board.consoles row × MayBeShown s console (codes "MVS.DISPLAY.CN") row.name)
+    → Contains lines line ↔ ((row : ConsoleRow) × (line ≡ console_line row)
+    × Contains s.board.consoles row × MayBeShown s console (codes "MVS.DISPLAY.CN") row.name)
 
 -- They list each of these once, in the order of the board.
 abbrev pub ListsEachUnitOnce : Type 0

@@ -126,7 +126,14 @@ pub record LinesReadSo : Type 0 where
     user = Some (codes "ANNA");
     monitor = true;
   })).text ≡ codes "C1       ONLINE  MN SYS,IO ANNA"
-  pub unattended : (console_line (record { name = codes "MASTER1"; auth = auth.Master; mode = mode.Optional; online = false; user = None; monitor = false })).text ≡ codes "MASTER1  OFFLINE -- MASTER -"
+  pub unattended : (console_line (record {
+    name = codes "MASTER1";
+    auth = auth.Master;
+    mode = mode.Optional;
+    online = false;
+    user = None;
+    monitor = false;
+  })).text ≡ codes "MASTER1  OFFLINE -- MASTER -"
   pub reply : (reply_line 7 (codes "READY?")).text ≡ codes "07 READY?"
   pub profile : (profile_line (record {
     class = Opercmds;

@@ -54,7 +54,8 @@ pub record IsKept {K R : Type 0} (old new : K → R) (key : K) (row : R) : Type 
 pub record ProfileBecomes (profile : Profile) (old new : Policy) : Type 0 where
   pub kept : (was : Profile) → profile_of old.profiles profile.class
       profile.pattern
-      ≡ Some was → profile_of new.profiles profile.class profile.pattern ≡ Some (record profile { entries = was.entries })
+      ≡ Some was
+      → profile_of new.profiles profile.class profile.pattern ≡ Some (record profile { entries = was.entries })
   pub fresh : profile_of old.profiles profile.class profile.pattern ≡ None
       → profile_of new.profiles profile.class profile.pattern ≡ Some (record profile { entries = [] })
   pub others : (class : Class) (pattern : List ℕ) → IsOther class pattern profile.class profile.pattern

@@ -1,5 +1,5 @@
 //! Opening and closing.
-ghost use Rattle.std.specs.Prelude.{◌≡◌, ◌⊎◌, false, IfOk, IfErr, IfSome, IsTrue, IsFalse};
+ghost use Rattle.std.specs.Prelude.{◌≡◌, ◌⊎◌, false, IfOk, IfErr, IsTrue, IsFalse};
 ghost use Rattle.sqlite.specs.Held.{state};
 ghost use Rattle.sqlite.specs.Closing.{IsCopied};
 ghost use Rattle.sqlite_std_file.specs.File.{IsFresh};
@@ -38,7 +38,7 @@ use opc_store_schema::names::has_our_name;
 use opc_store_schema::version::version_on;
 use opc_terms::fault::Fault;
 use opc_terms::store_fault::StoreFault;
-use sqlite::{Alter, Connection, Error, FileFrom, FileStore, Files, Options, Start, Wary};
+use sqlite::{Alter, Connection, Error, FileFrom, FileStore, Files, Start, Wary};
 use sqlite_disk::Disk;
 use std::alloc::Global;
 use thiserror::Error;
@@ -153,9 +153,11 @@ impl<S: Alter> Store<S> {
             → (state S.Store conn).now.schema ≡ no_schema → Represents (state S.Store store).now empty) }
         ensures unharmed { IfErr result (λ e. HasCleanDisk (state S.Store e.1) → IsTrue (state S.Store conn).is_open
             → IsTrue (state S.Store e.1).is_open → (state S.Store e.1).now ≡ (state S.Store conn).now) }
-        ensures crash { IfOk result (λ store. Survives (state S.Store conn) (state S.Store store) (MayLeave S.Store conn)) }
+        ensures crash { IfOk result (λ store. Survives (state S.Store conn) (state S.Store store)
+            (MayLeave S.Store conn)) }
         ensures crash_at_fault { IfErr result
-            (λ e. Survives (state S.Store conn) (state S.Store e.1) (λ db. IsNoVersion e.0 × MayLeave S.Store conn db)) }
+            (λ e. Survives (state S.Store conn) (state S.Store e.1)
+            (λ db. IsNoVersion e.0 × MayLeave S.Store conn db)) }
         ensures outside { IfErr result (λ e. e.1.in_transaction ≡ false) }
         ensures settled { IfOk result (λ store. LeavesItself (state S.Store store)) }
     {
@@ -231,28 +233,12 @@ impl<D: Disk + Drop> Store<FileStore<D>> {
     /// Gives the two files back, with the last commit in the database file.
     pub fn close(self) -> Result<Files<D>, (Error, FileStore<D>)>
         ensures copied { IfOk result (λ files. AreClean D.Disk files.log files.db → IsCopied self files) }
-        ensures usable { IfOk result (λ files. IsTrue (D.Disk.is_usable files.log) × IsTrue (D.Disk.is_usable files.db)) }
+        ensures usable { IfOk result (λ files. IsTrue (D.Disk.is_usable files.log)
+            × IsTrue (D.Disk.is_usable files.db)) }
         ensures settled { IsTrue (file_state self).is_open → (file_state self).now ≡ (file_state self).committed }
     {
         let conn = self.into_connection();
         let _settled = conn.is_autocommit();
         conn.close_files()
-    }
-
-    /// Closes the store and opens its files again: they represent the state that was committed last.
-    pub fn reopen(self, alloc: Global, options: Options) -> Option<Self>
-        ensures { IfSome result (λ again. HasCleanDisk (file_state again) → (s : _)
-            → Represents (file_state self).committed s → Represents (file_state again).now s) }
-    {
-        let Ok(files) = self.close() else {
-            return None;
-        };
-        let Ok(conn) = Connection::open_files(alloc, files, options) else {
-            return None;
-        };
-        match Store::open_files(alloc, conn) {
-            Ok(again) => Some(again),
-            Err(_) => None,
-        }
     }
 }

@@ -18,7 +18,8 @@ impl<S: Alter> ProfileSource for Store<S> {
     ghost use Rattle.opc_store_sql.proofs.Looking.{looks_off, looks_start};
 
     // Those of the state that the tables represent, with their access lists.
-    ghost has = { λ store profiles. (s : State) × Represents (state S.Store store).now s × (profiles ≡ s.policy.profiles) };
+    ghost has = { λ store profiles. (s : State) × Represents (state S.Store store).now s
+        × (profiles ≡ s.policy.profiles) };
 
     ghost is_ready = { λ _. ⊤ };
 
@@ -33,7 +34,8 @@ impl<S: Alter> ProfileSource for Store<S> {
 
     ghost kept_itself = { λ store. looks_start _ unanswered refl store };
 
-    ghost kept_again = { λ store next last first more. looks_off _ unanswered store next last first tt unanswered refl more };
+    ghost kept_again = { λ store next last first more.
+        looks_off _ unanswered store next last first tt unanswered refl more };
 
     fn first_in(
         &mut self,

@@ -100,7 +100,8 @@ pub trait Work {
     fn over<T: Tables>(&self, alloc: Global, tables: &mut T) -> Self::Out;
 }
 
-/// What a work with a store over files comes to, if the store opens, and the files. The store is never dropped: that would
+/// What a work with a store over files comes to, if the store opens, and the files. The store is never dropped:
+/// that would
 /// be proved at each end of a function.
 pub fn worked<D: Disk + Drop, W: Work>(
     alloc: Global,

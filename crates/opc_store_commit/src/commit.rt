@@ -108,7 +108,8 @@ pub fn commit_on<S: Alter>(
     ensures mode { conn.new.in_transaction ≡ false }
     ensures done { Makes S.Store conn.old conn.new result (changed_by change.now) }
     ensures failed { HasCleanDisk (state S.Store conn.new) → IsTrue (state S.Store conn.new).is_open
-        → OnErr result ((s : _) → Represents (state S.Store conn.old).now s → Represents (state S.Store conn.new).now s) }
+        → OnErr result ((s : _) → Represents (state S.Store conn.old).now s
+        → Represents (state S.Store conn.new).now s) }
     ensures acknowledged { HasCleanDisk (state S.Store conn.new)
         → OnOk result ((db : _) → (state S.Store conn.new).may_leave db → (s : _)
         → Represents (state S.Store conn.old).now s → AreTablesOf db (changed_by change.now s)) }

@@ -30,7 +30,8 @@ impl TableRow<KeptText> for LogTable {
 pub fn add_log<S: Alter>(tx: &mut Transaction<'_, S>, text: &KeptText) -> Result<(), Error>
     ensures same_reference { tx.new.conn.ghost_name ≡ tx.old.conn.ghost_name }
     ensures stays { Stays S.Store tx.old.conn.now tx.new.conn.now result }
-    ensures done { Makes S.Store tx.old.conn.now tx.new.conn.now result (λ s. with_log (s.board.log ++ text.now ∷ []) s) }
+    ensures done { Makes S.Store tx.old.conn.now tx.new.conn.now result
+        (λ s. with_log (s.board.log ++ text.now ∷ []) s) }
 {
     run(
         tx,

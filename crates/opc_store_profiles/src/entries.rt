@@ -242,7 +242,8 @@ pub(crate) fn entry_rows_on<S: Alter>(
     requires { conn.old.in_transaction ≡ false }
     ensures mode { conn.new.in_transaction ≡ false }
     ensures looks { Looks S.Store conn.old conn.new result }
-    ensures found { Finds S.Store conn.old conn.new result (λ s v. HaveLists v.items (of_class class s.policy.profiles)) }
+    ensures found { Finds S.Store conn.old conn.new result
+        (λ s v. HaveLists v.items (of_class class s.policy.profiles)) }
 {
     read(
         conn,
@@ -262,7 +263,8 @@ pub fn level_for_on<S: Alter>(
     requires { conn.old.in_transaction ≡ false }
     ensures mode { conn.new.in_transaction ≡ false }
     ensures looks { Looks S.Store conn.old conn.new result }
-    ensures found { Finds S.Store conn.old conn.new result (λ s v. v ≡ level_for s.policy class pattern.now id.now when) }
+    ensures found { Finds S.Store conn.old conn.new result
+        (λ s v. v ≡ level_for s.policy class pattern.now id.now when) }
 {
     let at = when.as_ref();
     let rows = read(
@@ -281,7 +283,8 @@ pub fn has_entry_on<S: Alter>(conn: &mut Connection<S>, user: &UserId) -> Result
     requires { conn.old.in_transaction ≡ false }
     ensures mode { conn.new.in_transaction ≡ false }
     ensures looks { Looks S.Store conn.old conn.new result }
-    ensures found { Finds S.Store conn.old conn.new result (λ s v. v ≡ list_any (has_entry user.now) s.policy.profiles) }
+    ensures found { Finds S.Store conn.old conn.new result
+        (λ s v. v ≡ list_any (has_entry user.now) s.policy.profiles) }
 {
     is_there_on(
         conn,

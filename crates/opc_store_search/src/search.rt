@@ -94,7 +94,8 @@ pub(crate) fn first_with_head_on<S: Alter>(
     ensures mode { conn.new.in_transaction ≡ false }
     ensures looks { Looks S.Store conn.old conn.new result }
     ensures first { Finds S.Store conn.old conn.new result (λ s taken.
-        taken.profile ≡ option_map bare (deciding (with_head head.now (of_class class s.policy.profiles)) resource.now)) }
+        taken.profile ≡ option_map bare (deciding (with_head head.now (of_class class s.policy.profiles))
+        resource.now)) }
     ensures rows { Finds S.Store conn.old conn.new result (λ s taken.
         taken.rows ≡ length (read_until (deciding (with_head head.now (of_class class s.policy.profiles)) resource.now)
         (with_head head.now (of_class class s.policy.profiles)))) }

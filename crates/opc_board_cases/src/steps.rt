@@ -38,6 +38,8 @@ fn lines_text(alloc: Global, lines: &[Line]) -> Result<String, AllocError> {
 fn answer_text(alloc: Global, answer: Result<Vec<Line>, BoardFault>) -> Result<String, AllocError> {
     match answer {
         Ok(lines) => lines_text(alloc, lines.as_slice()),
+        // Refused memory ends the program: it is no answer that a case asks for.
+        Err(BoardFault::NoMemory) => Err(AllocError),
         Err(fault) => format!(in alloc; "  {fault:?}\n"),
     }
 }

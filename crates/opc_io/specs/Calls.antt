@@ -3,12 +3,12 @@ use Rattle.std.specs.Prelude.{◌≡◌, ◌⊎◌, ◌<◌, ℕ, List, IsErr, R
 use Rattle.std.specs.declared.io.Error.{Error}
 
 -- A write of these bytes is reported as it was answered, or, where it took no byte of some, as a failure.
-abbrev pub IsToldAs : List ℕ → (answer told : Result ℕ Error) → Type 0
-IsToldAs bytes answer told = (told ≡ answer) ⊎ ((answer ≡ Ok 0) × (0 < length bytes) × IsErr told)
+abbrev pub IsReportedAs : List ℕ → (answer reported : Result ℕ Error) → Type 0
+IsReportedAs bytes answer reported = (reported ≡ answer) ⊎ ((answer ≡ Ok 0) × (0 < length bytes) × IsErr reported)
 
 -- One write was made, and it is reported so.
 pub record Writes {W : Type 0} (writes : W → List ℕ → Result ℕ Error → W → Type 0) (before : W) (bytes : List ℕ)
-    (told : Result ℕ Error) (after : W) : Type 0 where
+    (reported : Result ℕ Error) (after : W) : Type 0 where
   pub answer : Result ℕ Error
   pub made : writes before bytes answer after
-  pub is : IsToldAs bytes answer told
+  pub is : IsReportedAs bytes answer reported

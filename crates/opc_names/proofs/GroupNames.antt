@@ -1,9 +1,23 @@
--- A text that reads as a group's name reads as a user's id.
-use Rattle.std.proofs.Common.{◌≡◌, ℕ, ◌+◌, true, false, not, cond, List, [], ◌∷◌, length, Some, None, refl, sym, subst, ◌∙◌}
+-- A text that reads as a group's or a console's name reads as a user's id.
+use Rattle.std.proofs.Common.{◌≡◌, ℕ, ◌+◌, true, false, not, cond, List, [], ◌∷◌, length, Some, None, refl, sym, subst, ◌∙◌, arith}
+use Rattle.std.specs.Prelude.{nat_lt}
 use Rattle.std.specs.List.{position}
 use Rattle.std.specs.Option.{option_map}
+use Rattle.std.specs.Str.{chars}
+use Rattle.std.proofs.lemmas.Bool.Decides.{nat_tests}
 use Rattle.opc_names.specs.declared.rule.Alphabet.TheVariants.{NameCharacters, NoDigitFirst}
-use Rattle.opc_names.specs.Names.{bad_character, bad_part, bad_qualifier, qualifiers, may_begin, may_follow, group_rule}
+use Rattle.opc_names.specs.Names.{
+  bad_character,
+  bad_part,
+  bad_qualifier,
+  name_fault,
+  qualifiers,
+  may_begin,
+  may_follow,
+  console_rule,
+  group_rule,
+  user_rule,
+}
 use Rattle.opc_names.specs.Laws.{GroupNamesReadAsUsers}
 use Rattle.opc_names.proofs.Faults.{begin_follows, name_passes}
 
@@ -28,3 +42,12 @@ group_names_read_as_users text h =
     let characters = no_bad_character text passed.characters in
     let parts : bad_qualifier NameCharacters text ≡ None = sym (same_parts 0 (qualifiers text)) ∙ passed.parts in
     rw (passed.some, passed.enough, passed.few, characters, parts) refl
+
+pub console_names_read_as_users : (text : List ℕ) → name_fault console_rule text ≡ None → name_fault user_rule text ≡ None
+console_names_read_as_users text h =
+    let passed = name_passes console_rule text h in
+    let some = passed.some in
+    let enough : nat_lt (length (chars text)) 1 ≡ false = grind (arith, nat_tests, some) in
+    let characters = no_bad_character text passed.characters in
+    let parts : bad_qualifier NameCharacters text ≡ None = sym (same_parts 0 (qualifiers text)) ∙ passed.parts in
+    rw (some, enough, passed.few, characters, parts) refl

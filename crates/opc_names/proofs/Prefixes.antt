@@ -153,18 +153,18 @@ pub record ArePrefixes (x y : ℕ) (us vs : List ℕ) : Type 0 where
   pub x_is : x ≡ number_after 0 (take 8 us)
   pub y_is : y ≡ number_after 0 (take 8 vs)
 
-numbers_tell : (x y : ℕ) (us vs : List ℕ) → ArePrefixes x y us vs → nat_cmp x y ≡ order (take 8 us) (take 8 vs)
-numbers_tell x y us vs h = rw (h.x_is, h.y_is)
+numbers_report : (x y : ℕ) (us vs : List ℕ) → ArePrefixes x y us vs → nat_cmp x y ≡ order (take 8 us) (take 8 vs)
+numbers_report x y us vs h = rw (h.x_is, h.y_is)
     (numbers_are_in_order 0 (take 8 us) (take 8 vs)
     (omega (arith, length-take-le 8 us h.long, length-take-le 8 vs (omega (arith, h.long, h.lengths)))) h.ours h.theirs)
 
 -- where these differ they decide the order
 pub prefixes_decide : (x y : ℕ) (us vs : List ℕ) → ArePrefixes x y us vs → x ≢ y → (nat_cmp x y ≡ order us vs) × (nat_cmp x y ≢ Equal)
 prefixes_decide x y us vs h differ =
-    let told = numbers_tell x y us vs h in
-    let unequal : order (take 8 us) (take 8 vs) ≢ Equal = (λ z. differ (same_number x y (told ∙ z))) in
-    (told ∙ sym (prefixes 8 us vs h.lengths unequal), λ z. differ (same_number x y z))
+    let reported = numbers_report x y us vs h in
+    let unequal : order (take 8 us) (take 8 vs) ≢ Equal = (λ z. differ (same_number x y (reported ∙ z))) in
+    (reported ∙ sym (prefixes 8 us vs h.lengths unequal), λ z. differ (same_number x y z))
 
 -- and else it is that of the rest
 pub prefixes_pass : (x y : ℕ) (us vs : List ℕ) → ArePrefixes x y us vs → x ≡ y → order us vs ≡ order (drop 8 us) (drop 8 vs)
-prefixes_pass x y us vs h same = after 8 us vs h.lengths (sym (numbers_tell x y us vs h) ∙ sym (nat_cmp_is x y Equal same))
+prefixes_pass x y us vs h same = after 8 us vs h.lengths (sym (numbers_report x y us vs h) ∙ sym (nat_cmp_is x y Equal same))

@@ -37,7 +37,10 @@ impl<const N: usize> Model for Bytes<N> {
 
     ghost inverse = { λ bytes. record { room = padded_to N bytes; len = length bytes } };
 
-    ghost inverse_ok = { λ b h i. record { room = padded-take N b.len b.room h i; len = length-padded N b.len b.room h i } };
+    ghost inverse_ok = { λ b h i. record {
+      room = padded-take N b.len b.room h i;
+      len = length-padded N b.len b.room h i;
+    } };
 }
 
 impl<const N: usize> Bytes<N> {

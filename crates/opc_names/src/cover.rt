@@ -82,7 +82,8 @@ fn prepend_qualifier(
 )
     requires plain { StarOnlyLast qualifier.now }
     requires others { covered.old
-        ≡ covered_suffixes (map tokens (qualifiers_left (option_copied others))) (qualifiers_left (option_copied name)) }
+        ≡ covered_suffixes (map tokens (qualifiers_left (option_copied others)))
+        (qualifiers_left (option_copied name)) }
     ensures { covered.new
         ≡ covered_suffixes (tokens qualifier.now ∷ map tokens (qualifiers_left (option_copied others.entry)))
         (qualifiers_left (option_copied name.entry)) }

@@ -102,6 +102,15 @@ impl<K: NameKind<N>, const N: usize> Name<K, N> {
         // they are a text. A test at each call would be 8 % of the instructions of `explain`.
         unsafe { str::from_utf8_unchecked(self.bytes.as_slice()) }
     }
+
+    /// The same text as a name of a wider kind: each name of this kind is one of that, as each console name is a valid
+    /// user id.
+    pub fn as_kind<L: NameKind<M>, const M: usize>(&self) -> Name<L, M>
+        requires wider { (text : List ℕ) → name_fault K.rule text ≡ None → name_fault L.rule text ≡ None }
+        ensures { result ≡ self.now }
+    {
+        Name::of(self.text())
+    }
 }
 
 impl<K: NameKind<N>, const N: usize> PartialEq for Name<K, N> {

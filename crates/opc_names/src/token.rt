@@ -40,7 +40,8 @@ impl Token {
 
 /// The first token of a text, and what follows it.
 pub(crate) fn first_token(text: &[u8]) -> Option<(Token, &[u8])>
-    ensures token { MatchOption result (tokens text.now ≡ []) (λ first. tokens text.now ≡ first.0 ∷ tokens first.1.now) }
+    ensures token { MatchOption result (tokens text.now ≡ [])
+        (λ first. tokens text.now ≡ first.0 ∷ tokens first.1.now) }
     ensures text { MatchOption result (text.now ≡ []) (λ first. text.now ≡ spelling first.0 ++ first.1.now) }
 {
     match text {

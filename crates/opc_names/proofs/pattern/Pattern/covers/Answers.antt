@@ -16,8 +16,8 @@ covers-requires-clause-few c = rw c.text-name.ensures.text (resource_qualifiers 
 -- what is covered begins with the head
 pub returns-else-starts_with : goal.returns-else-starts_with
 returns-else-starts_with c =
-    let tells = starts_is Decides-eqb c.as_bytes.result.now c.as_bytes-2.result.now c.starts_with.result c.starts_with.ensures.value in
+    let reports = starts_is Decides-eqb c.as_bytes.result.now c.as_bytes-2.result.now c.starts_with.result c.starts_with.ensures.value in
     let is_prefix : CoversText c.args.self.now c.args.resource.now → c.starts_with.result ≡ true =
     λ covers. (let prefix = heads_are_prefixes c.args.self.now c.args.resource.now c.text-pattern.ensures.reads_back
-    covers in tells.1 prefix.0 (let e = prefix.1 in cc)) in
+    covers in reports.1 prefix.0 (let e = prefix.1 in cc)) in
     (λ t. (let f = c.if-starts_with.false in cc), is_prefix)

@@ -6,7 +6,7 @@ use Rattle.opc_board.specs.declared.board.BoardRows.{BoardRows}
 use Rattle.opc_board.specs.declared.fault.BoardFault.{BoardFault}
 use Rattle.opc_board.specs.declared.line.Line.{Line}
 use Rattle.opc_board.specs.Invariants.{Name, console_at, device_at, is, reply_at, unit_at}
-use Rattle.opc_board.specs.Outcome.{Outcome, ◌>>=◌, done_with, faults_or, found}
+use Rattle.opc_board.specs.Outcome.{BoardOutcome, ◌>>=◌, done_with, faults_or, found}
 use Rattle.opc_board.specs.Footprint.{AreLeft, IsInOrder, LeavesRest, Footprint, only, outcome_only, has_console_of, has_device_of, has_reply_of, has_unit_of}
 use Rattle.opc_board.proofs.Names.{is_same_name}
 use Rattle.opc_rows.proofs.Filtered.{find_seen}
@@ -38,19 +38,19 @@ is_not false e = absurd (cc)
 
 module _ (footprint : Footprint) where
   -- what comes of the part, and what comes of the whole
-  abbrev pub Agrees : BoardRows → Outcome → Outcome → Type 0
+  abbrev pub Agrees : BoardRows → BoardOutcome → BoardOutcome → Type 0
   Agrees b part whole = (part ≡ outcome_only footprint whole) × LeavesRest footprint b whole
 
   pub left_alone : (b : BoardRows) → AreLeft footprint b b
   left_alone b = record { units = refl; devices = refl; consoles = refl; replies = refl }
 
   pub found_then : {A : Type 0} (b : BoardRows) (f : BoardFault) (part whole : Option A) → part ≡ whole
-      → (run more : A → Outcome) → ((x : A) → whole ≡ Some x → Agrees b (run x) (more x))
+      → (run more : A → BoardOutcome) → ((x : A) → whole ≡ Some x → Agrees b (run x) (more x))
       → Agrees b (found f part >>= run) (found f whole >>= more)
   found_then b f part (Some x) same run more h = rw same (h x refl)
   found_then b f part None same run more h = (ap (λ o. found f o >>= run) same, tt)
 
-  pub faults_then : (b : BoardRows) (faults : List (Bool × BoardFault)) (part whole : Outcome) → Agrees b part whole
+  pub faults_then : (b : BoardRows) (faults : List (Bool × BoardFault)) (part whole : BoardOutcome) → Agrees b part whole
       → Agrees b (faults_or faults part) (faults_or faults whole)
   faults_then b [] part whole h = h
   faults_then b ((there, fault) ∷ faults) part whole h = go there (faults_then b faults part whole h)
@@ -62,7 +62,7 @@ module _ (footprint : Footprint) where
       go false more = more
 
   -- the same, where the faults are looked for on the board
-  pub faults_same : (b : BoardRows) (few faults : List (Bool × BoardFault)) (part whole : Outcome) → few ≡ faults
+  pub faults_same : (b : BoardRows) (few faults : List (Bool × BoardFault)) (part whole : BoardOutcome) → few ≡ faults
       → Agrees b part whole → Agrees b (faults_or few part) (faults_or faults whole)
   faults_same b few faults part whole same h = rw same (faults_then b faults part whole h)
 

@@ -28,7 +28,7 @@ use Rattle.opc_board.specs.Devices.{
   with_device,
 }
 use Rattle.opc_board.specs.Invariants.{Name, device_at, device_before, earlier, is, unit_at}
-use Rattle.opc_board.specs.Outcome.{Outcome, ◌>>=◌, done, faults_or, found}
+use Rattle.opc_board.specs.Outcome.{BoardOutcome, ◌>>=◌, done, faults_or, found}
 use Rattle.opc_board.specs.Footprint.{IsInOrder, Footprint, only, has_device_of}
 use Rattle.opc_board.proofs.Names.{is_same_name, earlier_on, earlier_or_later, is_mirrored}
 use Rattle.opc_rows.proofs.Filtered.{changed_left, changed_seen, put_left, put_seen}
@@ -199,10 +199,10 @@ module _ (footprint : Footprint) where
       → Agrees footprint b (attach number (only footprint b)) (attach number b)
   attach_local number b order sees = rw (device_seen footprint b number sees) (go (is_some (device_at b number)) refl)
     where
-      part : Outcome
+      part : BoardOutcome
       part = done (record (only footprint b) { devices = put device_before (new_device number) (only footprint b).devices })
 
-      whole : Outcome
+      whole : BoardOutcome
       whole = done (record b { devices = put device_before (new_device number) b.devices })
 
       go : (there : Bool) → is_some (device_at b number) ≡ there

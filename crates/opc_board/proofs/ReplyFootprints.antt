@@ -8,7 +8,7 @@ use Rattle.opc_board.specs.declared.fault.BoardFault.TheVariants.{NoReply, NoTar
 use Rattle.opc_board.specs.declared.line.Line.{Line}
 use Rattle.opc_board.specs.declared.rows.ReplyRow.{ReplyRow}
 use Rattle.opc_board.specs.Invariants.{reply_at, reply_before}
-use Rattle.opc_board.specs.Outcome.{Outcome, done, done_with}
+use Rattle.opc_board.specs.Outcome.{BoardOutcome, done, done_with}
 use Rattle.opc_board.specs.Replies.{answered, ask, halt, halt_faults, is_on, is_session, reply, send, send_faults, without_reply}
 use Rattle.opc_board.specs.Footprint.{IsInOrder, Footprint, only, has_reply_of}
 use Rattle.opc_board.specs.Texts.{reply_line}
@@ -65,10 +65,10 @@ module _ (footprint : Footprint) where
       → Agrees footprint b (ask id text (only footprint b)) (ask id text b)
   ask_local id text b order sees = rw (reply_seen footprint b id sees) (go (is_some (reply_at b id)) refl)
     where
-      part : Outcome
+      part : BoardOutcome
       part = done (record (only footprint b) { replies = put reply_before (record { id = id; text = text }) (only footprint b).replies })
 
-      whole : Outcome
+      whole : BoardOutcome
       whole = done (record b { replies = put reply_before (record { id = id; text = text }) b.replies })
 
       go : (there : Bool) → is_some (reply_at b id) ≡ there

@@ -9,7 +9,7 @@ use Rattle.opc_board.specs.declared.rows.DeviceRow.{DeviceRow}
 use Rattle.opc_board.specs.declared.rows.UnitKind.{UnitKind}
 use Rattle.opc_board.specs.declared.rows.UnitRow.{UnitRow}
 use Rattle.opc_board.specs.Invariants.{Name, device_before, earlier, is, unit_at, unit_before}
-use Rattle.opc_board.specs.Outcome.{Outcome, done, faults_or}
+use Rattle.opc_board.specs.Outcome.{BoardOutcome, done, faults_or}
 use Rattle.opc_board.specs.Footprint.{IsInOrder, Footprint, HasLeaving, only, has_console_of, has_device_of, has_reply_of, has_unit_of}
 use Rattle.opc_board.specs.Units.{
   at_unit,
@@ -134,10 +134,10 @@ module _ (footprint : Footprint) where
       (job_in name kind cancelable b)
   job_in_local name kind cancelable b order sees = rw (unit_seen footprint b name sees) (go b.halted (is_some (unit_at b name)) refl)
     where
-      part : Outcome
+      part : BoardOutcome
       part = done (record (only footprint b) { units = put unit_before (new_unit name kind cancelable) (only footprint b).units })
 
-      whole : Outcome
+      whole : BoardOutcome
       whole = done (record b { units = put unit_before (new_unit name kind cancelable) b.units })
 
       go : (halted there : Bool) → is_some (unit_at b name) ≡ there

@@ -8,7 +8,7 @@ use Rattle.opc_board.specs.declared.board.BoardRows.{BoardRows}
 use Rattle.opc_board.specs.declared.fault.BoardFault.{BoardFault}
 use Rattle.opc_board.specs.declared.fault.BoardFault.TheVariants.{NoTarget, LastMaster}
 use Rattle.opc_board.specs.Invariants.{Name, is, console_before, console_at, has_master}
-use Rattle.opc_board.specs.Outcome.{Outcome, done, faults_or, found, ◌>>=◌}
+use Rattle.opc_board.specs.Outcome.{BoardOutcome, done, faults_or, found, ◌>>=◌}
 
 -- consoles with this row in place of the one of its name
 abbrev pub replaced : ConsoleRow → List ConsoleRow → List ConsoleRow
@@ -25,11 +25,11 @@ loses_master old new = has_master old && not (has_master new)
 abbrev pub vary_faults : ConsoleRow → BoardRows → List (Bool × BoardFault)
 vary_faults row b = (loses_master b.consoles (replaced row b.consoles), LastMaster) ∷ []
 
-abbrev pub varied : ConsoleRow → BoardRows → Outcome
+abbrev pub varied : ConsoleRow → BoardRows → BoardOutcome
 varied row b = faults_or (vary_faults row b) (done (with_console row b))
 
 -- V CN(name),ONLINE
-abbrev pub vary_console_online : Name → BoardRows → Outcome
+abbrev pub vary_console_online : Name → BoardRows → BoardOutcome
 vary_console_online name b = do
   console ← found NoTarget (console_at b name)
   varied (record console { online = true }) b
@@ -38,19 +38,19 @@ vary_console_online name b = do
 abbrev pub put_offline : ConsoleRow → ConsoleRow
 put_offline c = if c.online then record c { online = false; user = None } else c
 
-abbrev pub vary_console_offline : Name → BoardRows → Outcome
+abbrev pub vary_console_offline : Name → BoardRows → BoardOutcome
 vary_console_offline name b = do
   console ← found NoTarget (console_at b name)
   varied (put_offline console) b
 
 -- V CN(name),AUTH=auth
-abbrev pub vary_console_auth : Name → Auth → BoardRows → Outcome
+abbrev pub vary_console_auth : Name → Auth → BoardRows → BoardOutcome
 vary_console_auth name auth b = do
   console ← found NoTarget (console_at b name)
   varied (record console { auth = auth }) b
 
 -- E CN(name): nobody is on there afterwards
-abbrev pub reset_console : Name → BoardRows → Outcome
+abbrev pub reset_console : Name → BoardRows → BoardOutcome
 reset_console name b = do
   console ← found NoTarget (console_at b name)
   done (with_console (record console { user = None }) b)

@@ -7,7 +7,7 @@ use Rattle.opc_board.specs.declared.board.BoardRows.{BoardRows}
 use Rattle.opc_board.specs.declared.fault.BoardFault.{BoardFault}
 use Rattle.opc_board.specs.declared.fault.BoardFault.TheVariants.{NoUnit, NoDevice, DeviceState, DeviceInUse, NoVolume}
 use Rattle.opc_board.specs.Invariants.{Name, is, device_before, unit_at, device_at}
-use Rattle.opc_board.specs.Outcome.{Outcome, done, faults_or, found, ◌>>=◌}
+use Rattle.opc_board.specs.Outcome.{BoardOutcome, done, faults_or, found, ◌>>=◌}
 
 -- the board with this row in place of the one of its number
 abbrev pub with_device : DeviceRow → BoardRows → BoardRows
@@ -17,7 +17,7 @@ with_device row b = record b { devices = changed (λ d. is d.number row.number) 
 abbrev pub online_faults : DeviceRow → List (Bool × BoardFault)
 online_faults d = (d.online, DeviceState) ∷ []
 
-abbrev pub vary_online : Name → BoardRows → Outcome
+abbrev pub vary_online : Name → BoardRows → BoardOutcome
 vary_online number b = do
   device ← found NoDevice (device_at b number)
   faults_or (online_faults device) (done (with_device (record device { online = true }) b))
@@ -26,7 +26,7 @@ vary_online number b = do
 abbrev pub offline_faults : DeviceRow → List (Bool × BoardFault)
 offline_faults d = (not d.online, DeviceState) ∷ (is_some d.unit, DeviceInUse) ∷ []
 
-abbrev pub vary_offline : Name → BoardRows → Outcome
+abbrev pub vary_offline : Name → BoardRows → BoardOutcome
 vary_offline number b = do
   device ← found NoDevice (device_at b number)
   faults_or (offline_faults device) (done (with_device (record device { online = false }) b))
@@ -35,7 +35,7 @@ vary_offline number b = do
 abbrev pub mount_faults : DeviceRow → List (Bool × BoardFault)
 mount_faults d = (not d.online, DeviceState) ∷ (is_some d.volume, DeviceState) ∷ []
 
-abbrev pub mount : Name → Name → BoardRows → Outcome
+abbrev pub mount : Name → Name → BoardRows → BoardOutcome
 mount number volume b = do
   device ← found NoDevice (device_at b number)
   faults_or (mount_faults device) (done (with_device (record device { volume = Some volume }) b))
@@ -44,7 +44,7 @@ mount number volume b = do
 abbrev pub unload_faults : DeviceRow → List (Bool × BoardFault)
 unload_faults d = (is_none d.volume, NoVolume) ∷ (is_some d.unit, DeviceInUse) ∷ []
 
-abbrev pub unload : Name → BoardRows → Outcome
+abbrev pub unload : Name → BoardRows → BoardOutcome
 unload number b = do
   device ← found NoDevice (device_at b number)
   faults_or (unload_faults device) (done (with_device (record device { volume = None }) b))
@@ -64,7 +64,7 @@ emptied d = record d { volume = None; unit = None }
 abbrev pub loaded : DeviceRow → DeviceRow → DeviceRow
 loaded source d = record d { volume = source.volume; unit = source.unit }
 
-abbrev pub swap : Name → Name → BoardRows → Outcome
+abbrev pub swap : Name → Name → BoardRows → BoardOutcome
 swap from to b = do
   source ← found NoDevice (device_at b from)
   target ← found NoDevice (device_at b to)
@@ -77,7 +77,7 @@ new_device number = record { number = number; online = true; volume = None; unit
 abbrev pub attach_faults : Name → BoardRows → List (Bool × BoardFault)
 attach_faults number b = (is_some (device_at b number), DeviceState) ∷ []
 
-abbrev pub attach : Name → BoardRows → Outcome
+abbrev pub attach : Name → BoardRows → BoardOutcome
 attach number b = faults_or (attach_faults number b)
     (done (record b { devices = put device_before (new_device number) b.devices }))
 
@@ -85,7 +85,7 @@ attach number b = faults_or (attach_faults number b)
 abbrev pub allocate_faults : DeviceRow → List (Bool × BoardFault)
 allocate_faults d = (not d.online, DeviceState) ∷ (is_some d.unit, DeviceInUse) ∷ []
 
-abbrev pub allocate : Name → Name → BoardRows → Outcome
+abbrev pub allocate : Name → Name → BoardRows → BoardOutcome
 allocate number name b = do
   device ← found NoDevice (device_at b number)
   unit ← found NoUnit (unit_at b name)
@@ -95,7 +95,7 @@ allocate number name b = do
 abbrev pub free_faults : DeviceRow → List (Bool × BoardFault)
 free_faults d = (is_none d.unit, DeviceState) ∷ []
 
-abbrev pub free : Name → BoardRows → Outcome
+abbrev pub free : Name → BoardRows → BoardOutcome
 free number b = do
   device ← found NoDevice (device_at b number)
   faults_or (free_faults device) (done (with_device (record device { unit = None }) b))

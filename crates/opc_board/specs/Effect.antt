@@ -38,7 +38,7 @@ use Rattle.opc_board.specs.declared.event.Event.{Event}
 use Rattle.opc_board.specs.declared.event.Event.TheVariants.{JobIn, JobEnd, Ask, Attach, Allocate, Free, Resume}
 use Rattle.opc_board.specs.Invariants.{Name, unit_at}
 use Rattle.opc_board.specs.Texts.{unit_line, lines_of, device_line, console_line, reply_line}
-use Rattle.opc_board.specs.Outcome.{Outcome, done, done_with}
+use Rattle.opc_board.specs.Outcome.{BoardOutcome, done, done_with}
 use Rattle.opc_board.specs.Units.{cancel, cancel_user, force, job_end, job_in, start, stop, modify}
 use Rattle.opc_board.specs.Devices.{vary_online, vary_offline, mount, unload, swap, attach, allocate, free}
 use Rattle.opc_board.specs.Consoles.{
@@ -51,7 +51,7 @@ use Rattle.opc_board.specs.Consoles.{
 use Rattle.opc_board.specs.Replies.{reply, ask, send, log_line, halt, resumed}
 
 -- A command that is typed at a console. LOGON and LOGOFF leave the board to whoever checks the password.
-abbrev pub effect : BoardRows → Command → Name → Outcome
+abbrev pub effect : BoardRows → Command → Name → BoardOutcome
 effect b DisplayUnits console = done_with b (map unit_line b.units)
 effect b (DisplayUnit name) console = done_with b (lines_of (unit_at b name.value))
 effect b DisplayDevices console = done_with b (map device_line b.devices)
@@ -127,7 +127,7 @@ is_change Logoff = false
 is_change command = true
 
 -- an event, which gives no line
-abbrev pub event_effect : BoardRows → Event → Outcome
+abbrev pub event_effect : BoardRows → Event → BoardOutcome
 event_effect b (JobIn name kind cancelable) = job_in name kind cancelable b
 event_effect b (JobEnd name) = job_end name b
 event_effect b (Ask id text) = ask id text b

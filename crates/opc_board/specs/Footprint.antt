@@ -45,7 +45,7 @@ use Rattle.opc_board.specs.declared.rows.UnitRow.{UnitRow}
 use Rattle.opc_board.specs.Invariants.{Name, is, is_master, unit_before, device_before, console_before, reply_before}
 use Rattle.opc_board.specs.Units.{is_holder}
 use Rattle.opc_board.specs.Replies.{is_on}
-use Rattle.opc_board.specs.Outcome.{Outcome, done}
+use Rattle.opc_board.specs.Outcome.{BoardOutcome, done}
 use Rattle.opc_board.specs.Consoles.{logged_on, logged_off}
 use Rattle.opc_board.specs.Effect.{effect, event_effect}
 
@@ -97,17 +97,17 @@ pub record IsInOrder (b : BoardRows) : Type 0 where
   pub replies : Ascends reply_before b.replies
 
 -- an outcome within a footprint: the same fault, or the same lines and the rows of the footprint
-abbrev pub outcome_only : Footprint → Outcome → Outcome
+abbrev pub outcome_only : Footprint → BoardOutcome → BoardOutcome
 outcome_only footprint (Ok d) = Ok (record { board = only footprint d.board; lines = d.lines })
 outcome_only footprint (Err fault) = Err fault
 
 -- The board afterwards, if there is one, is in order and has the other rows as they were.
-abbrev pub LeavesRest : Footprint → BoardRows → Outcome → Type 0
+abbrev pub LeavesRest : Footprint → BoardRows → BoardOutcome → Type 0
 LeavesRest footprint b (Ok d) = IsInOrder d.board × AreLeft footprint b d.board
 LeavesRest footprint b (Err fault) = Unit {0}
 
 -- What comes of the rows of a footprint is, within the footprint, what comes of the whole board.
-abbrev pub IsLocal : Footprint → BoardRows → (BoardRows → Outcome) → Type 0
+abbrev pub IsLocal : Footprint → BoardRows → (BoardRows → BoardOutcome) → Type 0
 IsLocal footprint b run = (run (only footprint b) ≡ outcome_only footprint (run b)) × LeavesRest footprint b (run b)
 
 -- an online console has AUTH MASTER, and it is not this one

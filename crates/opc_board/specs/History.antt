@@ -6,7 +6,7 @@ use Rattle.opc_board.specs.declared.rows.ReplyRow.{ReplyRow}
 use Rattle.opc_board.specs.declared.rows.MessageRow.{MessageRow}
 use Rattle.opc_board.specs.declared.event.Event.{Event}
 use Rattle.opc_board.specs.Invariants.{Name}
-use Rattle.opc_board.specs.Outcome.{Outcome}
+use Rattle.opc_board.specs.Outcome.{BoardOutcome}
 use Rattle.opc_board.specs.Effect.{effect, event_effect}
 
 -- answered replies, log lines and messages, the oldest first
@@ -30,7 +30,7 @@ after past b = record b {
   messages = past.messages ++ b.messages;
 }
 
-abbrev pub outcome_after : History → Outcome → Outcome
+abbrev pub outcome_after : History → BoardOutcome → BoardOutcome
 outcome_after past (Ok d) = Ok (record { board = after past d.board; lines = d.lines })
 outcome_after past (Err fault) = Err fault
 

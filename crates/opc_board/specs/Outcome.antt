@@ -25,29 +25,29 @@ pub record Done : Type 0 where
   pub board : BoardRows
   pub lines : List Line
 
-abbrev pub Outcome : Type 0
-Outcome = Result Done BoardFault
+abbrev pub BoardOutcome : Type 0
+BoardOutcome = Result Done BoardFault
 
-abbrev pub done_with : BoardRows → List Line → Outcome
+abbrev pub done_with : BoardRows → List Line → BoardOutcome
 done_with board lines = Ok (record { board = board; lines = lines })
 
 -- done without a line
-abbrev pub done : BoardRows → Outcome
+abbrev pub done : BoardRows → BoardOutcome
 done board = done_with board []
 
 -- A call without lines came to this outcome: the new board is that of the outcome, or it met the outcome's fault and
 -- left the board as it was.
-abbrev pub ComesTo : (old new : BoardRows) → Outcome → Result Unit BoardFault → Type 0
+abbrev pub ComesTo : (old new : BoardRows) → BoardOutcome → Result Unit BoardFault → Type 0
 ComesTo old new outcome result = MatchResult result (λ _. outcome ≡ done new)
     (λ fault. (new ≡ old) × (outcome ≡ Err fault))
 
 -- the same of a call that takes memory, which may be refused
-abbrev pub ComesToOrNoMemory : (old new : BoardRows) → Outcome → Result Unit BoardFault → Type 0
+abbrev pub ComesToOrNoMemory : (old new : BoardRows) → BoardOutcome → Result Unit BoardFault → Type 0
 ComesToOrNoMemory old new outcome result =
     MatchResult result (λ _. outcome ≡ done new) (λ fault. (new ≡ old) × (fault ≢ NoMemory → outcome ≡ Err fault))
 
 -- the first of these faults that is there, and else the outcome
-abbrev pub faults_or : List (Bool × BoardFault) → Outcome → Outcome
+abbrev pub faults_or : List (Bool × BoardFault) → BoardOutcome → BoardOutcome
 faults_or [] outcome = outcome
 faults_or ((there, fault) ∷ faults) outcome = if there then Err fault else faults_or faults outcome
 

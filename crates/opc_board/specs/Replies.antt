@@ -9,7 +9,7 @@ use Rattle.opc_board.specs.declared.fault.BoardFault.{BoardFault}
 use Rattle.opc_board.specs.declared.fault.BoardFault.TheVariants.{NoReply, NoTarget, Halted, ReplyExists}
 use Rattle.opc_board.specs.Invariants.{Name, reply_before, unit_at, reply_at}
 use Rattle.opc_board.specs.Units.{is_tsu, is_holder}
-use Rattle.opc_board.specs.Outcome.{Outcome, done, done_with, faults_or, found, ◌>>=◌}
+use Rattle.opc_board.specs.Outcome.{BoardOutcome, done, done_with, faults_or, found, ◌>>=◌}
 use Rattle.opc_board.specs.Texts.{reply_line}
 
 -- R id,text: the reply is open no more, and its answer is kept after all others
@@ -19,7 +19,7 @@ without_reply id b = record b { replies = filter (λ r. not (r.id == id)) b.repl
 abbrev pub answered : ℕ → List ℕ → BoardRows → BoardRows
 answered id text b = record b { answered = b.answered ++ record { id = id; text = text } ∷ [] }
 
-abbrev pub reply : ℕ → List ℕ → BoardRows → Outcome
+abbrev pub reply : ℕ → List ℕ → BoardRows → BoardOutcome
 reply id text b = do
   open_reply ← found NoReply (reply_at b id)
   done_with (answered id text (without_reply id b)) (reply_line id text ∷ [])
@@ -28,7 +28,7 @@ reply id text b = do
 abbrev pub ask_faults : ℕ → BoardRows → List (Bool × BoardFault)
 ask_faults id b = (is_some (reply_at b id), ReplyExists) ∷ []
 
-abbrev pub ask : ℕ → List ℕ → BoardRows → Outcome
+abbrev pub ask : ℕ → List ℕ → BoardRows → BoardOutcome
 ask id text b = faults_or (ask_faults id b) (done (record b {
   replies = put reply_before (record {
     id = id;
@@ -52,7 +52,7 @@ has_session user b = is_session (unit_at b user)
 abbrev pub send_faults : Name → BoardRows → List (Bool × BoardFault)
 send_faults user b = (not (is_on user b || has_session user b), NoTarget) ∷ []
 
-abbrev pub send : Name → List ℕ → BoardRows → Outcome
+abbrev pub send : Name → List ℕ → BoardRows → BoardOutcome
 send user text b = faults_or (send_faults user b) (done (record b {
   messages = b.messages ++ record {
     user = user;
@@ -61,14 +61,14 @@ send user text b = faults_or (send_faults user b) (done (record b {
 }))
 
 -- L 'text': the line is kept after all others
-abbrev pub log_line : List ℕ → BoardRows → Outcome
+abbrev pub log_line : List ℕ → BoardRows → BoardOutcome
 log_line text b = done (record b { log = b.log ++ text ∷ [] })
 
 -- Z EOD: the day is halted; it goes on when it is resumed
 abbrev pub halt_faults : BoardRows → List (Bool × BoardFault)
 halt_faults b = (b.halted, Halted) ∷ []
 
-abbrev pub halt : BoardRows → Outcome
+abbrev pub halt : BoardRows → BoardOutcome
 halt b = faults_or (halt_faults b) (done (record b { halted = true }))
 
 abbrev pub resumed : BoardRows → BoardRows

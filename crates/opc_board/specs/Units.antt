@@ -17,7 +17,7 @@ use Rattle.opc_board.specs.declared.fault.BoardFault.TheVariants.{
   WrongKind,
 }
 use Rattle.opc_board.specs.Invariants.{Name, is, unit_before, unit_at}
-use Rattle.opc_board.specs.Outcome.{Outcome, done, faults_or, found, ◌>>=◌}
+use Rattle.opc_board.specs.Outcome.{BoardOutcome, done, faults_or, found, ◌>>=◌}
 
 abbrev pub is_tsu : UnitKind → Bool
 is_tsu Job = false
@@ -43,7 +43,7 @@ without_unit name b = record b {
 abbrev pub cancel_faults : UnitRow → List (Bool × BoardFault)
 cancel_faults unit = (is_tsu unit.kind, WrongKind) ∷ (not unit.cancelable, NonCancelable) ∷ []
 
-abbrev pub cancel : Name → BoardRows → Outcome
+abbrev pub cancel : Name → BoardRows → BoardOutcome
 cancel name b = do
   unit ← found NoUnit (unit_at b name)
   faults_or (cancel_faults unit) (done (without_unit name b))
@@ -51,7 +51,7 @@ cancel name b = do
 abbrev pub cancel_user_faults : UnitRow → List (Bool × BoardFault)
 cancel_user_faults unit = (not (is_tsu unit.kind), WrongKind) ∷ (not unit.cancelable, NonCancelable) ∷ []
 
-abbrev pub cancel_user : Name → BoardRows → Outcome
+abbrev pub cancel_user : Name → BoardRows → BoardOutcome
 cancel_user name b = do
   unit ← found NoUnit (unit_at b name)
   faults_or (cancel_user_faults unit) (done (without_unit name b))
@@ -60,13 +60,13 @@ cancel_user name b = do
 abbrev pub force_faults : UnitRow → List (Bool × BoardFault)
 force_faults unit = (unit.cancelable, Cancelable) ∷ []
 
-abbrev pub force : Name → BoardRows → Outcome
+abbrev pub force : Name → BoardRows → BoardOutcome
 force name b = do
   unit ← found NoUnit (unit_at b name)
   faults_or (force_faults unit) (done (without_unit name b))
 
 -- the end of a job: a unit leaves
-abbrev pub job_end : Name → BoardRows → Outcome
+abbrev pub job_end : Name → BoardRows → BoardOutcome
 job_end name b = do
   unit ← found NoUnit (unit_at b name)
   done (without_unit name b)
@@ -84,12 +84,12 @@ new_unit name kind cancelable = record {
 abbrev pub come_faults : Name → BoardRows → List (Bool × BoardFault)
 come_faults name b = (b.halted, Halted) ∷ (is_some (unit_at b name), UnitExists) ∷ []
 
-abbrev pub job_in : Name → UnitKind → Bool → BoardRows → Outcome
+abbrev pub job_in : Name → UnitKind → Bool → BoardRows → BoardOutcome
 job_in name kind cancelable b = faults_or (come_faults name b)
     (done (record b { units = put unit_before (new_unit name kind cancelable) b.units }))
 
 -- S member.id: a started task comes
-abbrev pub start : Name → Name → BoardRows → Outcome
+abbrev pub start : Name → Name → BoardRows → BoardOutcome
 start member id b = job_in id (Stc member) true b
 
 -- the board with a change at one unit
@@ -100,12 +100,12 @@ at_unit name change b = record b { units = changed (λ u. is u.name name) change
 abbrev pub kind_faults : UnitRow → List (Bool × BoardFault)
 kind_faults unit = (is_tsu unit.kind, WrongKind) ∷ []
 
-abbrev pub stop : Name → BoardRows → Outcome
+abbrev pub stop : Name → BoardRows → BoardOutcome
 stop name b = do
   unit ← found NoUnit (unit_at b name)
   faults_or (kind_faults unit) (done (at_unit name (λ u. record u { stopping = true }) b))
 
-abbrev pub modify : Name → List ℕ → BoardRows → Outcome
+abbrev pub modify : Name → List ℕ → BoardRows → BoardOutcome
 modify name text b = do
   unit ← found NoUnit (unit_at b name)
   faults_or (kind_faults unit) (done (at_unit name (λ u. record u { last_text = Some text }) b))

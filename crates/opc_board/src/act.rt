@@ -43,7 +43,8 @@ impl Board {
         requires console { IsSome (console_at self.old console.now) }
         requires command { is_session_command command.now ≡ false }
         ensures done { IfOk result (λ lines. effect self.old command.now console.now ≡ done_with self.new lines.items) }
-        ensures refused { IfErr result (λ fault. fault ≢ NoMemory → effect self.old command.now console.now ≡ Err fault) }
+        ensures refused { IfErr result (λ fault. fault ≢ NoMemory
+            → effect self.old command.now console.now ≡ Err fault) }
         ensures unchanged { OnErr result (self.new ≡ self.old) }
     {
         match command {

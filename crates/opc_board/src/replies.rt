@@ -27,11 +27,7 @@ use std::alloc::Global;
 pub fn session_of(user: &UserId) -> UnitName
     ensures { result ≡ user.now }
 {
-    match UnitName::read(user.text()) {
-        Ok(name) => name,
-        // The syntax of unit names is that of user ids.
-        Err(_) => unreachable!(),
-    }
+    user.as_kind()
 }
 
 impl ConsoleRow {

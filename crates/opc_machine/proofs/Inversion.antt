@@ -9,7 +9,7 @@ use Rattle.opc_reader.specs.declared.line.ReadFault.{ReadFault}
 use Rattle.opc_board.specs.declared.line.Line.{Line}
 use Rattle.opc_board.specs.declared.rows.ConsoleRow.{ConsoleRow}
 use Rattle.opc_board.specs.Invariants.{console_at}
-use Rattle.opc_board.specs.Outcome.{Done as BoardDone, Outcome as BoardOutcome}
+use Rattle.opc_board.specs.Outcome.{Done as BoardDone, BoardOutcome}
 use Rattle.opc_terms.specs.declared.fault.Fault.TheVariants as fault
 use Rattle.opc_state.specs.State.{State}
 use Rattle.opc_machine.specs.declared.request.Answer.TheVariants.{Done, Refused}

@@ -41,7 +41,7 @@ use Rattle.opc_board.specs.declared.rows.ConsoleRow.{ConsoleRow}
 use Rattle.opc_board.specs.Consoles.{logged_on, logged_off}
 use Rattle.opc_board.specs.Effect.{effect, event_effect}
 use Rattle.opc_board.specs.Invariants.{console_at, kind_at}
-use Rattle.opc_board.specs.Outcome.{Done, Outcome as BoardOutcome}
+use Rattle.opc_board.specs.Outcome.{Done, BoardOutcome}
 use Rattle.opc_state.specs.State.{State}
 use Rattle.opc_machine.specs.Faults.{line_fault, board_fault}
 use Rattle.opc_machine.specs.declared.outcome.Refusal.{Refusal}

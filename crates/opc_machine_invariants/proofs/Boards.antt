@@ -71,7 +71,7 @@ use Rattle.opc_board.specs.Invariants.{
   unit_at,
   unit_before,
 }
-use Rattle.opc_board.specs.Outcome.{Outcome, ◌>>=◌, done, done_with, faults_or, found}
+use Rattle.opc_board.specs.Outcome.{BoardOutcome, ◌>>=◌, done, done_with, faults_or, found}
 use Rattle.opc_board.specs.Replies.{answered, ask, ask_faults, halt, halt_faults, reply, send, send_faults, without_reply}
 use Rattle.opc_board.specs.Texts.{reply_line}
 use Rattle.opc_board.specs.Units.{
@@ -118,15 +118,15 @@ module _ (p : Policy) where
   abbrev pub IsKeptBoard : BoardRows → Type 0
   IsKeptBoard b = IsBoard b × AllByRecursion (IsConsoleOfStored p) b.consoles
 
-  abbrev pub IfDone : Outcome → Type 0
+  abbrev pub IfDone : BoardOutcome → Type 0
   IfDone (Ok d) = IsKeptBoard d.board
   IfDone (Err f) = Unit {0}
 
-  found_then : {A : Type 0} (f : BoardFault) (o : Option A) (next : A → Outcome) → ((x : A) → o ≡ Some x → IfDone (next x)) → IfDone (found f o >>= next)
+  found_then : {A : Type 0} (f : BoardFault) (o : Option A) (next : A → BoardOutcome) → ((x : A) → o ≡ Some x → IfDone (next x)) → IfDone (found f o >>= next)
   found_then f (Some x) next h = h x refl
   found_then f None next h = tt
 
-  faults_then : (faults : List (Bool × BoardFault)) (o : Outcome) → (AllByRecursion IsAbsent faults → IfDone o) → IfDone (faults_or faults o)
+  faults_then : (faults : List (Bool × BoardFault)) (o : BoardOutcome) → (AllByRecursion IsAbsent faults → IfDone o) → IfDone (faults_or faults o)
   faults_then [] o h = h tt
   faults_then (fault ∷ faults) o h = go fault.0 refl (λ absent. faults_then faults o (λ rest. h (absent, rest)))
     where

@@ -47,7 +47,7 @@ use Rattle.opc_board.specs.declared.line.Line.{Line}
 use Rattle.opc_board.specs.declared.rows.ConsoleRow.{ConsoleRow}
 use Rattle.opc_board.specs.Consoles.{logged_on, logged_off}
 use Rattle.opc_board.specs.Effect.{effect, event_effect}
-use Rattle.opc_board.specs.Outcome.{Done as BoardDone, Outcome as BoardOutcome}
+use Rattle.opc_board.specs.Outcome.{Done as BoardDone, BoardOutcome}
 use Rattle.opc_state.specs.declared.change.Batch.{Batch}
 use Rattle.opc_state.specs.Invariants.{IsPolicy}
 use Rattle.opc_state.specs.Members.{with_batch}
@@ -95,7 +95,8 @@ use Rattle.opc_machine.specs.Rulings.{acting, logon_ruling, ruling, shown}
 use Rattle.opc_machine_invariants.proofs.Boards.{IfDone, IsKeptBoard, changed_kept, defined_kept, effect_kept, event_kept}
 use Rattle.opc_machine.proofs.Inversion.{found_ok}
 use Rattle.opc_machine_invariants.proofs.Orders.{policy_ordered, rows_ordered}
-use Rattle.opc_machine_invariants.proofs.Policies.{IfMade, policy_kept, rows_kept}
+use Rattle.opc_machine_invariants.proofs.Policies.{IfMade}
+use Rattle.opc_machine_invariants.proofs.PoliciesChanged.{policy_kept, rows_kept}
 use Rattle.opc_machine_invariants.proofs.Extending.{Extends, board_on}
 
 -- where something is done the state meets the invariants

@@ -3,6 +3,7 @@ pub mod Keeping
 pub mod Orders
 pub mod Extending
 pub mod Policies
+pub mod PoliciesChanged
 pub mod Appending
 pub mod Taken
 pub mod ExportedPolicies

@@ -7,10 +7,7 @@ use Rattle.std.proofs.Common.{
   false,
   not,
   ◌||◌,
-  ◌&&◌,
   List,
-  [],
-  ◌∷◌,
   Option,
   Some,
   None,
@@ -27,7 +24,7 @@ use Rattle.std.proofs.Common.{
 }
 use Rattle.std.specs.BTreeSet.{replace_key}
 use Rattle.std.specs.List.{AllByRecursion, list_any}
-use Rattle.std.specs.Option.{is_some, option_map_or}
+use Rattle.std.specs.Option.{option_map_or}
 use Rattle.std.specs.Str.{bytes_eq}
 use Rattle.opc_names.specs.declared.class.Class.{Class}
 use Rattle.opc_policy_members.specs.declared.connect.Connect.{Connect}
@@ -35,26 +32,29 @@ use Rattle.opc_policy_members.specs.declared.entry.Entry.{Entry}
 use Rattle.opc_terms.specs.declared.fault.Fault.{Fault}
 use Rattle.opc_policy_members.specs.declared.policy.Policy.{Policy}
 use Rattle.opc_policy_members.specs.declared.profile.Profile.{Profile}
-use Rattle.opc_policy_members.specs.declared.row.Row.{Row}
 use Rattle.opc_policy_members.specs.declared.row.Row.TheVariants as rows
 use Rattle.opc_policy_members.specs.declared.user.User.{User}
 use Rattle.opc_policy_members.specs.Access.{entry_cmp, is_for, with_entry}
 use Rattle.opc_policy_members.specs.Members.{connect_cmp, name_cmp, user_cmp, with_connect, with_group, with_user}
 use Rattle.opc_policy_members.specs.Profiles.{is_of, profile_cmp, profile_of, with_definition, with_permission}
-use Rattle.opc_policy_members.specs.Taken.{after_row, has_group, has_holder, has_user, needing, unless}
+use Rattle.opc_policy_members.specs.Taken.{has_group, has_user, needing, unless}
 use Rattle.opc_rows.proofs.Orders.{all_filter, all_found, all_weaker, find_filter}
 use Rattle.opc_board.specs.declared.board.BoardRows.{BoardRows}
 use Rattle.opc_board.specs.declared.rows.ConsoleRow.{ConsoleRow}
 use Rattle.opc_board.specs.Replies.{is_on}
 use Rattle.opc_board.specs.Units.{is_holder}
-use Rattle.opc_state.specs.Invariants.{IsConnectOfStored, IsConsoleOfStored, IsEntryOfStored, IsPolicy, IsProfileOfStored}
-use Rattle.opc_state.specs.Members.{without_connect, without_entry, without_permission, without_profile, without_user}
-use Rattle.opc_state.specs.Loads.{has_entry, is_connected}
-use Rattle.opc_machine.specs.Administration.{board_changed, definition, has_name, is_in_use, is_permitted, policy_changed, unless_in_use}
-use Rattle.opc_machine.specs.Bootstrap.{policy_after, then_policy}
-use Rattle.opc_machine.specs.declared.operation.Operation.{Operation}
+use Rattle.opc_state.specs.Invariants.{
+  IsConnectOfStored,
+  IsConsoleOfStored,
+  IsEntryOfStored,
+  IsPolicy,
+  IsProfileOfStored,
+}
+use Rattle.opc_state.specs.Members.{without_entry, without_permission, without_user}
+use Rattle.opc_state.specs.Loads.{has_entry}
+use Rattle.opc_machine.specs.Administration.{is_in_use, unless_in_use}
 use Rattle.opc_machine.specs.declared.operation.Operation.TheVariants as operation
-use Rattle.opc_machine_invariants.proofs.Boards.{IsKeptBoard, defined_kept}
+use Rattle.opc_machine_invariants.proofs.Boards.{IsKeptBoard}
 use Rattle.opc_machine_invariants.proofs.Extending.{
   all_inserted,
   all_replaced,
@@ -68,28 +68,24 @@ use Rattle.opc_machine_invariants.proofs.Extending.{
   all_unless,
   same_name,
   tied_names,
-  none_named,
   either_on,
   Extends,
-  extends_itself,
-  extends_on,
   connects_on,
   profiles_on,
-  board_on,
 }
 
 -- users
 
-abbrev with_this : Policy → User → Policy
+abbrev pub with_this : Policy → User → Policy
 with_this p u = record p { users = with_user u p.users }
 
 user_found : (p : Policy) (u : User) (id : List ℕ) → has_user (with_this p u) id ≡ (bytes_eq id u.id || has_user p id)
 user_found p u id = some_replaced user_cmp (λ (v : User). bytes_eq id v.id) u p.users (λ v same. ap (bytes_eq id) (sym (tied_names u.id v.id same)))
 
-user_extends : (p : Policy) (u : User) → Extends p (with_this p u)
+pub user_extends : (p : Policy) (u : User) → Extends p (with_this p u)
 user_extends p u = record { users = λ id h. user_found p u id ∙ ap (λ b. bytes_eq id u.id || b) h ∙ or_true (bytes_eq id u.id); groups = λ name h. h }
 
-user_kept : (p : Policy) (u : User) → IsPolicy p → AllByRecursion (λ (g : List ℕ). bytes_eq g u.id ≡ false) p.groups → IsPolicy (with_this p u)
+pub user_kept : (p : Policy) (u : User) → IsPolicy p → AllByRecursion (λ (g : List ℕ). bytes_eq g u.id ≡ false) p.groups → IsPolicy (with_this p u)
 user_kept p u invariants others = record {
   apart = all_weaker (λ (g : List ℕ). (has_user p g ≡ false) × (bytes_eq g u.id ≡ false))
       (λ (g : List ℕ). has_user (with_this p u) g ≡ false)
@@ -100,7 +96,7 @@ user_kept p u invariants others = record {
 }
 
 -- a stored user has no group's name
-stored_apart : (p : Policy) (id : List ℕ) → has_user p id ≡ true
+pub stored_apart : (p : Policy) (id : List ℕ) → has_user p id ≡ true
     → AllByRecursion (λ (g : List ℕ). has_user p g ≡ false) p.groups
     → AllByRecursion (λ (g : List ℕ). bytes_eq g id ≡ false) p.groups
 stored_apart p id stored apart = all_weaker (λ (g : List ℕ). has_user p g ≡ false)
@@ -112,17 +108,17 @@ stored_apart p id stored apart = all_weaker (λ (g : List ℕ). has_user p g ≡
 
 -- groups
 
-group_extends : (p : Policy) (name : List ℕ) → Extends p (record p { groups = with_group name p.groups })
+pub group_extends : (p : Policy) (name : List ℕ) → Extends p (record p { groups = with_group name p.groups })
 group_extends p name = record { users = λ id h. h; groups = λ other h. any_inserted name_cmp (bytes_eq other) name p.groups h }
 
-group_kept : (p : Policy) (name : List ℕ) → IsPolicy p → has_user p name ≡ false → IsPolicy (record p { groups = with_group name p.groups })
+pub group_kept : (p : Policy) (name : List ℕ) → IsPolicy p → has_user p name ≡ false → IsPolicy (record p { groups = with_group name p.groups })
 group_kept p name invariants free = record {
   apart = all_inserted (λ (g : List ℕ). has_user p g ≡ false) name_cmp name p.groups free invariants.apart;
   connects = connects_on p (record p { groups = with_group name p.groups }) (group_extends p name) p.connects invariants.connects;
   profiles = profiles_on p (record p { groups = with_group name p.groups }) (group_extends p name) p.profiles invariants.profiles;
 }
 
-connect_kept : (p : Policy) (c : Connect) → IsPolicy p → IsConnectOfStored p c → IsPolicy (record p { connects = with_connect c p.connects })
+pub connect_kept : (p : Policy) (c : Connect) → IsPolicy p → IsConnectOfStored p c → IsPolicy (record p { connects = with_connect c p.connects })
 connect_kept p c invariants stored = record {
   apart = invariants.apart;
   connects = all_inserted (IsConnectOfStored p) connect_cmp c p.connects stored invariants.connects;
@@ -131,14 +127,14 @@ connect_kept p c invariants stored = record {
 
 -- profiles
 
-with_profiles_kept : (p : Policy) (profiles : List Profile) → IsPolicy p → AllByRecursion (IsProfileOfStored p) profiles
+pub with_profiles_kept : (p : Policy) (profiles : List Profile) → IsPolicy p → AllByRecursion (IsProfileOfStored p) profiles
     → IsPolicy (record p { profiles = profiles })
 with_profiles_kept p profiles invariants all = record { apart = invariants.apart; connects = invariants.connects; profiles = all }
 
 found_stored : (p : Policy) (class : Class) (pattern : List ℕ) (q : Profile) → IsPolicy p → profile_of p.profiles class pattern ≡ Some q → IsProfileOfStored p q
 found_stored p class pattern q invariants at = all_found (IsProfileOfStored p) (is_of class pattern) q p.profiles at invariants.profiles
 
-defined_stored : (p : Policy) (d : Profile) → IsPolicy p → has_user p d.owner ≡ true
+pub defined_stored : (p : Policy) (d : Profile) → IsPolicy p → has_user p d.owner ≡ true
     → AllByRecursion (IsEntryOfStored p) d.entries → IsPolicy (record p { profiles = with_definition d p.profiles })
 defined_stored p d invariants owner entries =
     with_profiles_kept p (with_definition d p.profiles) invariants
@@ -154,7 +150,7 @@ defined_stored p d invariants owner entries =
     go None at = entries
     go (Some q) at = (found_stored p d.class d.pattern q invariants at).1
 
-permission_kept : (p : Policy) (class : Class) (pattern : List ℕ) (e : Entry) → IsPolicy p → IsEntryOfStored p e
+pub permission_kept : (p : Policy) (class : Class) (pattern : List ℕ) (e : Entry) → IsPolicy p → IsEntryOfStored p e
     → IsPolicy (record p { profiles = with_permission class pattern e p.profiles })
 permission_kept p class pattern e invariants stored =
     with_profiles_kept p (with_permission class pattern e p.profiles) invariants
@@ -170,7 +166,7 @@ permission_kept p class pattern e invariants stored =
         all_replaced (IsProfileOfStored p) profile_cmp (record q { entries = with_entry e q.entries }) p.profiles
         (was.0, all_replaced (IsEntryOfStored p) entry_cmp e q.entries stored was.1) invariants.profiles
 
-less_permission_kept : (p : Policy) (class : Class) (pattern id : List ℕ) (when : Option (List ℕ)) → IsPolicy p
+pub less_permission_kept : (p : Policy) (class : Class) (pattern id : List ℕ) (when : Option (List ℕ)) → IsPolicy p
     → IsPolicy (record p { profiles = without_permission class pattern id when p.profiles })
 less_permission_kept p class pattern id when invariants =
     with_profiles_kept p (without_permission class pattern id when p.profiles) invariants
@@ -223,7 +219,7 @@ module _ (p : Policy) (b : BoardRows) (id : List ℕ) (unused : is_in_use p b id
         (or_right (bytes_eq q.owner id) (has_entry id q) free) stored.1,
   )
 
-  gone_kept : IsPolicy p → IsPolicy gone
+  pub gone_kept : IsPolicy p → IsPolicy gone
   gone_kept invariants = record {
     apart = all_weaker (λ (g : List ℕ). has_user p g ≡ false) (λ (g : List ℕ). has_user gone g ≡ false)
         (λ g none. fewer_found (λ (u : User). bytes_eq g u.id) (λ (u : User). not (bytes_eq u.id id)) p.users none)
@@ -238,7 +234,7 @@ module _ (p : Policy) (b : BoardRows) (id : List ℕ) (unused : is_in_use p b id
   holder_stays None differs stored = tt
   holder_stays (Some x) differs stored = stays x differs stored
 
-  gone_board : IsKeptBoard p b → IsKeptBoard gone b
+  pub gone_board : IsKeptBoard p b → IsKeptBoard gone b
   gone_board kept = (
     kept.0,
     all_unless (λ (c : ConsoleRow). is_holder id c.user) (IsConsoleOfStored p) (IsConsoleOfStored gone)
@@ -262,258 +258,3 @@ pub in_use_made : (P : Policy → Type 0) (b : Bool) (name : List ℕ) (made : R
     → (b ≡ false → IfMade P made) → IfMade P (unless_in_use b name made)
 in_use_made P true name made h = tt
 in_use_made P false name made h = h refl
-
--- Each operation keeps policy and board.
-pub policy_kept : (b : BoardRows) (o : Operation) (p : Policy) → IsPolicy p → IsKeptBoard p b
-    → IfMade (λ q. IsPolicy q × IsKeptBoard q (board_changed o b)) (policy_changed b o p)
-policy_kept b (operation.AddUser id special auditor digest restricted) p invariants kept =
-    unless_made (λ q. IsPolicy q × IsKeptBoard q b) (has_name p id) id
-    (Ok (record p {
-      users = with_user
-          (record {
-            id = id;
-            special = special;
-            auditor = auditor;
-            revoked = false;
-            digest = digest;
-            restricted = restricted;
-          }) p.users;
-    })) (λ h0. (
-      user_kept p (record {
-        id = id;
-        special = special;
-        auditor = auditor;
-        revoked = false;
-        digest = digest;
-        restricted = restricted;
-      }) invariants (none_named id p.groups (or_right (has_user p id) (has_group p id) h0)),
-      board_on p (with_this p (record {
-        id = id;
-        special = special;
-        auditor = auditor;
-        revoked = false;
-        digest = digest;
-        restricted = restricted;
-      })) (user_extends p
-          (record {
-            id = id;
-            special = special;
-            auditor = auditor;
-            revoked = false;
-            digest = digest;
-            restricted = restricted;
-          })) b kept,
-    ))
-policy_kept b (operation.AltUser id special auditor revoked digest restricted) p invariants kept =
-    needing_made (λ q. IsPolicy q × IsKeptBoard q b) (has_user p id) id
-    (Ok (record p {
-      users = with_user
-          (record {
-            id = id;
-            special = special;
-            auditor = auditor;
-            revoked = revoked;
-            digest = digest;
-            restricted = restricted;
-          }) p.users;
-    })) (λ h0. (
-      user_kept p (record {
-        id = id;
-        special = special;
-        auditor = auditor;
-        revoked = revoked;
-        digest = digest;
-        restricted = restricted;
-      }) invariants (stored_apart p id h0 invariants.apart),
-      board_on p (with_this p (record {
-        id = id;
-        special = special;
-        auditor = auditor;
-        revoked = revoked;
-        digest = digest;
-        restricted = restricted;
-      }))
-          (user_extends p (record {
-            id = id;
-            special = special;
-            auditor = auditor;
-            revoked = revoked;
-            digest = digest;
-            restricted = restricted;
-          })) b kept,
-    ))
-policy_kept b (operation.DelUser id) p invariants kept =
-    needing_made (λ q. IsPolicy q × IsKeptBoard q b) (has_user p id) id
-    (unless_in_use (is_in_use p b id) id (Ok (record p { users = without_user id p.users })))
-    (λ h0. in_use_made (λ q. IsPolicy q × IsKeptBoard q b) (is_in_use p b id) id
-    (Ok (record p { users = without_user id p.users }))
-    (λ h1. (gone_kept p b id h1 invariants, gone_board p b id h1 kept)))
-policy_kept b (operation.AddGroup name) p invariants kept =
-    unless_made (λ q. IsPolicy q × IsKeptBoard q b) (has_name p name) name
-    (Ok (record p { groups = with_group name p.groups }))
-    (λ h0. (group_kept p name invariants (or_left (has_user p name) (has_group p name) h0), kept))
-policy_kept b (operation.Connect user group) p invariants kept =
-    needing_made (λ q. IsPolicy q × IsKeptBoard q b) (has_user p user) user
-    (needing (has_group p group) group
-    (unless (is_connected p user group) group
-    (Ok (record p { connects = with_connect (record { user = user; group = group }) p.connects }))))
-    (λ h0. needing_made (λ q. IsPolicy q × IsKeptBoard q b) (has_group p group) group
-    (unless (is_connected p user group) group
-    (Ok (record p { connects = with_connect (record { user = user; group = group }) p.connects })))
-    (λ h1. unless_made (λ q. IsPolicy q × IsKeptBoard q b) (is_connected p user group) group
-    (Ok (record p { connects = with_connect (record { user = user; group = group }) p.connects })) (λ h2. (
-      connect_kept p (record {
-        user = user;
-        group = group;
-      }) invariants (h0, h1),
-      kept,
-    ))))
-policy_kept b (operation.Remove user group) p invariants kept =
-    needing_made (λ q. IsPolicy q × IsKeptBoard q b) (has_user p user) user
-    (needing (has_group p group) group
-    (needing (is_connected p user group) group
-    (Ok (record p { connects = without_connect (record { user = user; group = group }) p.connects }))))
-    (λ h0. needing_made (λ q. IsPolicy q × IsKeptBoard q b) (has_group p group) group
-    (needing (is_connected p user group) group
-    (Ok (record p { connects = without_connect (record { user = user; group = group }) p.connects })))
-    (λ h1. needing_made (λ q. IsPolicy q × IsKeptBoard q b) (is_connected p user group) group
-    (Ok (record p { connects = without_connect (record { user = user; group = group }) p.connects })) (λ h2. (
-      record {
-        apart = invariants.apart;
-        connects = all_filter (IsConnectOfStored p) (λ (c : Connect). not (bytes_eq c.user user && bytes_eq c.group group)) p.connects invariants.connects;
-        profiles = invariants.profiles;
-      },
-      kept,
-    ))))
-policy_kept b (operation.RDefine class pattern owner uacc warning) p invariants kept =
-    unless_made (λ q. IsPolicy q × IsKeptBoard q b) (is_some (profile_of p.profiles class pattern)) pattern
-    (needing (has_user p owner) owner
-    (Ok (record p { profiles = with_definition (definition class pattern owner uacc warning) p.profiles })))
-    (λ h0. needing_made (λ q. IsPolicy q × IsKeptBoard q b) (has_user p owner) owner
-    (Ok (record p { profiles = with_definition (definition class pattern owner uacc warning) p.profiles }))
-    (λ h1. (defined_stored p (definition class pattern owner uacc warning) invariants h1 tt, kept)))
-policy_kept b (operation.RAlter class pattern owner uacc warning) p invariants kept =
-    needing_made (λ q. IsPolicy q × IsKeptBoard q b) (is_some (profile_of p.profiles class pattern)) pattern
-    (needing (has_user p owner) owner
-    (Ok (record p { profiles = with_definition (definition class pattern owner uacc warning) p.profiles })))
-    (λ h0. needing_made (λ q. IsPolicy q × IsKeptBoard q b) (has_user p owner) owner
-    (Ok (record p { profiles = with_definition (definition class pattern owner uacc warning) p.profiles }))
-    (λ h1. (defined_stored p (definition class pattern owner uacc warning) invariants h1 tt, kept)))
-policy_kept b (operation.RDelete class pattern) p invariants kept =
-    needing_made (λ q. IsPolicy q × IsKeptBoard q b) (is_some (profile_of p.profiles class pattern)) pattern
-    (Ok (record p { profiles = without_profile class pattern p.profiles }))
-    (λ h0. (
-      with_profiles_kept p (without_profile class pattern p.profiles) invariants
-          (all_filter (IsProfileOfStored p) (λ (q : Profile). not (is_of class pattern q)) p.profiles
-          invariants.profiles),
-      kept,
-    ))
-policy_kept b (operation.Permit class pattern id level when) p invariants kept =
-    needing_made (λ q. IsPolicy q × IsKeptBoard q b) (is_some (profile_of p.profiles class pattern)) pattern
-    (needing (has_holder p id) id (Ok
-    (record p {
-      profiles = with_permission class pattern (record { id = id; when = when; level = level }) p.profiles;
-    }))) (λ h0. needing_made (λ q. IsPolicy q × IsKeptBoard q b) (has_holder p id) id
-    (Ok (record p {
-      profiles = with_permission class pattern (record { id = id; when = when; level = level })
-          p.profiles;
-    })) (λ h1. (
-      permission_kept p class pattern (record {
-        id = id;
-        when = when;
-        level = level;
-      }) invariants h1,
-      kept,
-    )))
-policy_kept b (operation.PermitDelete class pattern id when) p invariants kept =
-    needing_made (λ q. IsPolicy q × IsKeptBoard q b) (is_some (profile_of p.profiles class pattern)) pattern
-    (needing (is_permitted p class pattern id when) id
-    (Ok (record p { profiles = without_permission class pattern id when p.profiles })))
-    (λ h0. needing_made (λ q. IsPolicy q × IsKeptBoard q b) (is_permitted p class pattern id when) id
-    (Ok (record p { profiles = without_permission class pattern id when p.profiles }))
-    (λ h1. (less_permission_kept p class pattern id when invariants, kept)))
-policy_kept b (operation.ClassActive class active) p invariants kept = (
-  record {
-    apart = invariants.apart;
-    connects = invariants.connects;
-    profiles = invariants.profiles;
-  },
-  kept,
-)
-policy_kept b (operation.DefineConsole name auth mode) p invariants kept = (invariants, defined_kept p name auth mode b kept)
-
--- Each row keeps a policy, and takes no user or group from it.
-row_kept : (row : Row) (p : Policy) → IsPolicy p → IfMade (λ q. IsPolicy q × Extends p q) (after_row row p)
-row_kept (rows.Class class active) p invariants = (
-  record {
-    apart = invariants.apart;
-    connects = invariants.connects;
-    profiles = invariants.profiles;
-  },
-  record { users = λ id h. h; groups = λ name h. h },
-)
-row_kept (rows.Group name) p invariants =
-    unless_made (λ q. IsPolicy q × Extends p q) (has_user p name) name
-    (Ok (record p { groups = with_group name p.groups }))
-    (λ h0. (group_kept p name invariants h0, group_extends p name))
-row_kept (rows.User user) p invariants =
-    unless_made (λ q. IsPolicy q × Extends p q) (has_group p user.id) user.id
-    (Ok (record p { users = with_user user p.users }))
-    (λ h0. (user_kept p user invariants (none_named user.id p.groups h0), user_extends p user))
-row_kept (rows.Connect user group) p invariants =
-    needing_made (λ q. IsPolicy q × Extends p q) (has_user p user) user
-    (needing (has_group p group) group
-    (Ok (record p { connects = with_connect (record { user = user; group = group }) p.connects })))
-    (λ h0. needing_made (λ q. IsPolicy q × Extends p q) (has_group p group) group
-    (Ok (record p { connects = with_connect (record { user = user; group = group }) p.connects })) (λ h1. (
-      connect_kept p (record { user = user; group = group }) invariants (h0, h1),
-      record {
-        users = λ id h. h;
-        groups = λ name h. h;
-      },
-    )))
-row_kept (rows.Console name auth mode) p invariants = (invariants, extends_itself p)
-row_kept (rows.Profile class pattern uacc owner warning) p invariants =
-    needing_made (λ q. IsPolicy q × Extends p q) (has_user p owner) owner
-    (Ok (record p {
-      profiles = with_definition
-          (record { class = class; pattern = pattern; owner = owner; uacc = uacc; warning = warning; entries = [] })
-          p.profiles;
-    })) (λ h0. (
-      defined_stored p (record { class = class; pattern = pattern; owner = owner; uacc = uacc; warning = warning; entries = [] }) invariants h0 tt,
-      record {
-        users = λ id h. h;
-        groups = λ name h. h;
-      },
-    ))
-row_kept (rows.Permit class pattern id level when) p invariants =
-    needing_made (λ q. IsPolicy q × Extends p q) (is_some (profile_of p.profiles class pattern)) pattern
-    (needing (has_holder p id) id (Ok
-    (record p {
-      profiles = with_permission class pattern (record { id = id; when = when; level = level }) p.profiles;
-    }))) (λ h0. needing_made (λ q. IsPolicy q × Extends p q) (has_holder p id) id
-    (Ok (record p {
-      profiles = with_permission class pattern (record { id = id; when = when; level = level })
-          p.profiles;
-    })) (λ h1. (
-      permission_kept p class pattern (record { id = id; when = when; level = level }) invariants h1,
-      record {
-        users = λ id h. h;
-        groups = λ name h. h;
-      },
-    )))
-
--- and so do rows one after another
-pub rows_kept : (all : List Row) (p : Policy) → IsPolicy p → IfMade (λ q. IsPolicy q × Extends p q) (policy_after all p)
-rows_kept [] p invariants = (invariants, extends_itself p)
-rows_kept (row ∷ more) p invariants = go (after_row row p) (row_kept row p invariants) (λ q kept. rows_kept more q kept)
-  where
-    further : (q : Policy) → Extends p q → (r : Result Policy Fault) → IfMade (λ t. IsPolicy t × Extends q t) r → IfMade (λ t. IsPolicy t × Extends p t) r
-    further q e (Ok t) h = (h.0, extends_on p q t e h.1)
-    further q e (Err f) h = tt
-
-    go : (r : Result Policy Fault) → IfMade (λ q. IsPolicy q × Extends p q) r
-        → ((q : Policy) → IsPolicy q → IfMade (λ t. IsPolicy t × Extends q t) (policy_after more q))
-        → IfMade (λ q. IsPolicy q × Extends p q) (then_policy r (λ q. policy_after more q))
-    go (Ok q) h later = further q h.1 (policy_after more q) (later q h.0)
-    go (Err f) h later = tt

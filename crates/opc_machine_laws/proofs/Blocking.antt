@@ -44,7 +44,7 @@ use Rattle.opc_board.specs.Devices.{
 }
 use Rattle.opc_board.specs.Effect.{effect, event_effect}
 use Rattle.opc_board.specs.Invariants.{Name, console_at, device_at, device_before, has_master, reply_at, reply_before, unit_at, unit_before}
-use Rattle.opc_board.specs.Outcome.{Done, Outcome, ◌>>=◌, done, done_with, faults_or, found}
+use Rattle.opc_board.specs.Outcome.{Done, BoardOutcome, ◌>>=◌, done, done_with, faults_or, found}
 use Rattle.opc_board.specs.Replies.{answered, ask_faults, halt_faults, is_session, send_faults, without_reply}
 use Rattle.opc_board.specs.Texts.{reply_line}
 use Rattle.opc_board.specs.Units.{at_unit, cancel_faults, cancel_user_faults, come_faults, force_faults, kind_faults, new_unit, without_unit}
@@ -67,15 +67,15 @@ use Rattle.opc_machine_laws.proofs.AtNames.{console_becomes, goes_offline, offli
 use Rattle.opc_machine_laws.proofs.Hindering.{lost_master}
 
 -- these are all that is in the way of an outcome, which else ends so
-pub record Blocks (E : Outcome → Type 0) (all : List (Bool × BoardFault)) (o : Outcome) : Type 0 where
+pub record Blocks (E : BoardOutcome → Type 0) (all : List (Bool × BoardFault)) (o : BoardOutcome) : Type 0 where
   pub refused : (f : BoardFault) → first_obstacle all ≡ Some f → o ≡ Err f
   pub ends : first_obstacle all ≡ None → E o
 
-module _ (E : Outcome → Type 0) where
-  free : (o : Outcome) → E o → Blocks E [] o
+module _ (E : BoardOutcome → Type 0) where
+  free : (o : BoardOutcome) → E o → Blocks E [] o
   free o ends = record { refused = λ f h. absurd (search (rules, h)); ends = λ h. ends }
 
-  listed : (faults : List (Bool × BoardFault)) (o : Outcome) → E o → Blocks E faults (faults_or faults o)
+  listed : (faults : List (Bool × BoardFault)) (o : BoardOutcome) → E o → Blocks E faults (faults_or faults o)
   listed [] o ends = free o ends
   listed (fault ∷ faults) o ends = go fault.0 (listed faults o ends)
     where
@@ -84,7 +84,7 @@ module _ (E : Outcome → Type 0) where
       go false later = record { refused = later.refused; ends = later.ends }
 
   looked_up : {A : Type 0} (f : BoardFault) (rest : Option A → List (Bool × BoardFault)) (o : Option A)
-      (next : A → Outcome) → ((x : A) → o ≡ Some x → Blocks E (rest (Some x)) (next x))
+      (next : A → BoardOutcome) → ((x : A) → o ≡ Some x → Blocks E (rest (Some x)) (next x))
       → Blocks E ((is_none o, f) ∷ rest o) (found f o >>= next)
   looked_up {A = A} f rest o next h = go o h
     where
@@ -98,7 +98,7 @@ both one other = (not (is_online one), DeviceState) ∷ (not (is_online other), 
     ∷ (not (has_volume one), NoVolume) ∷ (has_volume other, DeviceState) ∷ (is_used other, DeviceState) ∷ []
 
 module _ (b : BoardRows) (at : Name) where
-  abbrev Ends : Command → Outcome → Type 0
+  abbrev Ends : Command → BoardOutcome → Type 0
   Ends k = IsDoneOrLosesMaster b at k
 
   does : (k : Command) (new : BoardRows) → Ends k (done new)
@@ -263,7 +263,7 @@ act_without_obstacle b at k none = (blocked b at k).ends none
 
 -- events
 
-abbrev Acts : Outcome → Type 0
+abbrev Acts : BoardOutcome → Type 0
 Acts o = (act : Done) × (o ≡ Ok act)
 
 module _ (b : BoardRows) where

@@ -3,10 +3,10 @@ use Rattle.std.proofs.Common.{◌≡◌, Bool, true, false, if◌then◌else◌,
 use Rattle.std.specs.List.{AllByRecursion}
 use Rattle.opc_board.specs.declared.board.BoardRows.{BoardRows}
 use Rattle.opc_board.specs.declared.fault.BoardFault.{BoardFault}
-use Rattle.opc_board.specs.Outcome.{Outcome, ◌>>=◌, faults_or, found}
+use Rattle.opc_board.specs.Outcome.{BoardOutcome, ◌>>=◌, faults_or, found}
 
 -- where something is done, the board is of this kind afterwards
-abbrev pub IfActs : (BoardRows → Type 0) → Outcome → Type 0
+abbrev pub IfActs : (BoardRows → Type 0) → BoardOutcome → Type 0
 IfActs P (Ok act) = P act.board
 IfActs P (Err f) = Unit {0}
 
@@ -15,12 +15,12 @@ abbrev pub IsAbsent : Bool × BoardFault → Type 0
 IsAbsent fault = fault.0 ≡ false
 
 module _ (P : BoardRows → Type 0) where
-  pub found_acts : {A : Type 0} (f : BoardFault) (o : Option A) (next : A → Outcome)
+  pub found_acts : {A : Type 0} (f : BoardFault) (o : Option A) (next : A → BoardOutcome)
       → ((x : A) → o ≡ Some x → IfActs P (next x)) → IfActs P (found f o >>= next)
   found_acts f (Some x) next h = h x refl
   found_acts f None next h = tt
 
-  pub faults_act : (faults : List (Bool × BoardFault)) (o : Outcome) → (AllByRecursion IsAbsent faults → IfActs P o) → IfActs P (faults_or faults o)
+  pub faults_act : (faults : List (Bool × BoardFault)) (o : BoardOutcome) → (AllByRecursion IsAbsent faults → IfActs P o) → IfActs P (faults_or faults o)
   faults_act [] o h = h tt
   faults_act (fault ∷ faults) o h = go fault.0 refl (λ absent. faults_act faults o (λ rest. h (absent, rest)))
     where

@@ -232,7 +232,7 @@ again_is s number all kept reached h = go (same_rows kept.rows all) h
     go false k = absurd (search (rules, k))
 
 module _ (s : State) (number : ℕ) (all : List Row) (lines : List Line) (new : State) where
-  -- the effect, with the lines that were told and the state that was reached
+  -- the effect, with the lines that were shown and the state that was reached
   batch_is : (kept : Option Batch) → batch_of s.batches number ≡ kept → (reached : StateEffect)
       → batch_outcome s number all kept ≡ Ok reached → lines ≡ reached.lines → (reached.rule ≡ None → new ≡ reached.state)
       → IsKeptAgain s number all lines new ⊎ IsTakenWhole s number all lines new

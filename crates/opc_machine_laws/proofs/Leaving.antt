@@ -48,7 +48,7 @@ use Rattle.opc_board.specs.declared.line.Line.{Line}
 use Rattle.opc_board.specs.declared.rows.ConsoleRow.{ConsoleRow}
 use Rattle.opc_board.specs.Consoles.{logged_off, logged_on}
 use Rattle.opc_board.specs.Effect.{effect, event_effect}
-use Rattle.opc_board.specs.Outcome.{Done as BoardDone, Outcome as BoardOutcome}
+use Rattle.opc_board.specs.Outcome.{Done as BoardDone, BoardOutcome}
 use Rattle.opc_state.specs.declared.change.Batch.{Batch}
 use Rattle.opc_state.specs.Loads.{asked_for}
 use Rattle.opc_state.specs.Members.{with_batch}
@@ -310,8 +310,8 @@ console_named (input.ListAccount name from count) = refl
 console_named (input.Import name number rows) = refl
 console_named (input.Event e) = refl
 
-pub rows_tell : AccountRowsSay
-rows_tell s moment r code why = record { moment = refl; console = refl; code = refl; rule = refl }
+pub rows_report : AccountRowsSay
+rows_report s moment r code why = record { moment = refl; console = refl; code = refl; rule = refl }
 
 -- events
 

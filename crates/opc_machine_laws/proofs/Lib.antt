@@ -10,6 +10,7 @@ pub mod Boards
 pub mod Changing
 pub mod Consoles
 pub mod Denying
+pub mod DenyingAll
 pub mod Displaying
 pub mod Doing
 pub mod Finding
@@ -37,8 +38,10 @@ pub mod Refusing
 pub mod Removing
 pub mod RowEffects
 pub mod RowsKept
+pub mod RowObstacles
 pub mod Specific
 pub mod Stored
 pub mod Taking
-pub mod Telling
+pub mod Reporting
 pub mod Worked
+pub mod WorkedListings

@@ -11,13 +11,13 @@ use Rattle.opc_board.specs.Consoles.{put_offline, vary_faults}
 use Rattle.opc_board.specs.Devices.{mount_faults, offline_faults, online_faults, swap_faults, unload_faults}
 use Rattle.opc_board.specs.Effect.{effect}
 use Rattle.opc_board.specs.Invariants.{Name, console_at, device_at, reply_at, unit_at}
-use Rattle.opc_board.specs.Outcome.{Done as BoardDone, Outcome, ◌>>=◌, done, done_with, faults_or, found}
+use Rattle.opc_board.specs.Outcome.{Done as BoardDone, BoardOutcome, ◌>>=◌, done, done_with, faults_or, found}
 use Rattle.opc_board.specs.Replies.{halt_faults, send_faults}
 use Rattle.opc_board.specs.Units.{cancel_faults, cancel_user_faults, come_faults, force_faults, kind_faults}
 use Rattle.opc_machine.specs.Rulings.{shown}
 use Rattle.opc_machine_laws.specs.DisplayLaws.{BoardsGoByName, CommandsReportTheirLines, lines_on}
 
-abbrev lines_in : Outcome → List Line
+abbrev lines_in : BoardOutcome → List Line
 lines_in (Ok act) = act.lines
 lines_in (Err fault) = []
 
@@ -31,15 +31,15 @@ no_lines ((there, fault) ∷ faults) b = go there (no_lines faults b)
     go true later = refl
     go false later = later
 
-of_found : {A : Type 0} (fault : BoardFault) (o : Option A) (next : A → Outcome) → ((x : A) → lines_in (next x) ≡ []) → lines_in (found fault o >>= next) ≡ []
+of_found : {A : Type 0} (fault : BoardFault) (o : Option A) (next : A → BoardOutcome) → ((x : A) → lines_in (next x) ≡ []) → lines_in (found fault o >>= next) ≡ []
 of_found fault None next h = refl
 of_found fault (Some x) next h = h x
 
 -- Where a command does something these are its lines.
-abbrev AreLines : BoardRows → Command → Outcome → Type 0
+abbrev AreLines : BoardRows → Command → BoardOutcome → Type 0
 AreLines b k o = (act : BoardDone) → o ≡ Ok act → act.lines ≡ lines_on b k
 
-returned : (o : Outcome) (lines : List Line) → lines_in o ≡ lines → (act : BoardDone) → o ≡ Ok act → act.lines ≡ lines
+returned : (o : BoardOutcome) (lines : List Line) → lines_in o ≡ lines → (act : BoardDone) → o ≡ Ok act → act.lines ≡ lines
 returned o lines h act is = ap lines_in (sym is) ∙ h
 
 replied : (b : BoardRows) (o : Option ReplyRow) (new : BoardRows) (lines : List Line) (act : BoardDone)

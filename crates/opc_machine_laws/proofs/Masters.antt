@@ -16,7 +16,7 @@ use Rattle.opc_board.specs.declared.rows.ConsoleRow.{ConsoleRow}
 use Rattle.opc_board.specs.Consoles.{at_console}
 use Rattle.opc_board.specs.Effect.{effect, event_effect}
 use Rattle.opc_board.specs.Invariants.{console_at, has_master}
-use Rattle.opc_board.specs.Outcome.{Done as BoardDone, Outcome}
+use Rattle.opc_board.specs.Outcome.{Done as BoardDone, BoardOutcome}
 use Rattle.opc_state.specs.State.{State}
 use Rattle.opc_machine.specs.declared.request.Answer.TheVariants.{Done, Refused}
 use Rattle.opc_machine.specs.Inputs.{Input}
@@ -40,7 +40,7 @@ use Rattle.opc_machine_laws.proofs.Logging.{off_only_where, on_only_where}
 use Rattle.opc_machine_laws.proofs.Taking.{operations_keep_a_master, rows_in_turn}
 
 -- what the board makes is of this kind
-made : (P : BoardRows → Type 0) (o : Outcome) (act : BoardDone) → o ≡ Ok act → IfActs P o → P act.board
+made : (P : BoardRows → Type 0) (o : BoardOutcome) (act : BoardDone) → o ≡ Ok act → IfActs P o → P act.board
 made P o act is h = subst (IfActs P) is h
 
 one_command : (text : List ℕ) (k other : Command) → Reads text k → Reads text other → other ≡ k

@@ -59,7 +59,7 @@ use Rattle.opc_board.specs.declared.rows.ConsoleRow.{ConsoleRow}
 use Rattle.opc_board.specs.Consoles.{logged_on, logged_off}
 use Rattle.opc_board.specs.Effect.{effect}
 use Rattle.opc_board.specs.Invariants.{console_at}
-use Rattle.opc_board.specs.Outcome.{Outcome as BoardOutcome}
+use Rattle.opc_board.specs.Outcome.{BoardOutcome}
 use Rattle.opc_state.specs.State.{State, deciding_in}
 use Rattle.opc_machine.specs.declared.request.Answer.TheVariants.{Refused}
 use Rattle.opc_machine.specs.Faults.{line_fault, board_fault}
@@ -219,9 +219,9 @@ console_reported s r name = then_reported (IsReported s r) (found fault.NoConsol
     online false = tt
 
 module _ (s : State) (name text : List ℕ) where
-  line_told : (r : Result Command ReadFault) → IfRefused (IsReported s (input.Command name text)) (command_or r)
-  line_told (Ok c) = tt
-  line_told (Err f) = line_plain f
+  line_reported : (r : Result Command ReadFault) → IfRefused (IsReported s (input.Command name text)) (command_or r)
+  line_reported (Ok c) = tt
+  line_reported (Err f) = line_plain f
 
   acted_reported : (c : ConsoleRow) (command : Command) (why : Rule) → IsAllowed s name text c command why
       → (r : BoardOutcome) → effect s.board command c.name ≡ r
@@ -318,7 +318,7 @@ module _ (s : State) (name text : List ℕ) where
   pub command_reported : IfRefused (IsReported s (input.Command name text)) (command_outcome s name text)
   command_reported = then_reported (IsReported s (input.Command name text)) (console_for s name)
       (λ c. command_in text >>= λ k. typed s c k (need_of s.board k)) (console_reported s (input.Command name text) name)
-      (λ c there. then_reported (IsReported s (input.Command name text)) (command_in text) (λ k. typed s c k (need_of s.board k)) (line_told (reading text))
+      (λ c there. then_reported (IsReported s (input.Command name text)) (command_in text) (λ k. typed s c k (need_of s.board k)) (line_reported (reading text))
       (λ k reads. typed_reported c k (heard c there k reads) (need_of s.board k) refl))
     where
       heard : (c : ConsoleRow) → console_for s name ≡ Ok c → (k : Command) → command_in text ≡ Ok k → IsHeard s name text c k

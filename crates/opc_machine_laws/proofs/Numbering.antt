@@ -1,4 +1,4 @@
--- By which number each fault is told, and what an authority enters.
+-- By which number each fault is reported, and what an authority enters.
 use Rattle.std.proofs.Common.{◌≡◌, Option, Some, None, refl, sym, ap, ◌∙◌, rules}
 use Rattle.std.specs.Fmt.{digits}
 use Rattle.opc_names.specs.declared.auth.Auth.TheVariants as auth
@@ -89,13 +89,13 @@ line_back (line.OpenQuote at) = refl
 line_alone : (f g : ReadFault) → line_fault g ≡ line_fault f → g ≡ f
 line_alone f g h = let same : ◌≡◌ {A = Option ReadFault} (Some g) (Some f) = sym (line_back g) ∙ ap line_of h ∙ line_back f in search (rules, same)
 
-pub line_told : LineFaultsAreDistinct
-line_told line.Empty = record { number = refl; text = refl; alone = line_alone line.Empty }
-line_told line.TooLong = record { number = refl; text = refl; alone = line_alone line.TooLong }
-line_told (line.BadCharacter at) = record { number = refl; text = refl; alone = line_alone (line.BadCharacter at) }
-line_told (line.UnknownVerb span) = record { number = refl; text = refl; alone = line_alone (line.UnknownVerb span) }
-line_told (line.BadOperand span) = record { number = refl; text = refl; alone = line_alone (line.BadOperand span) }
-line_told (line.OpenQuote at) = record { number = refl; text = refl; alone = line_alone (line.OpenQuote at) }
+pub line_reported : LineFaultsAreDistinct
+line_reported line.Empty = record { number = refl; text = refl; alone = line_alone line.Empty }
+line_reported line.TooLong = record { number = refl; text = refl; alone = line_alone line.TooLong }
+line_reported (line.BadCharacter at) = record { number = refl; text = refl; alone = line_alone (line.BadCharacter at) }
+line_reported (line.UnknownVerb span) = record { number = refl; text = refl; alone = line_alone (line.UnknownVerb span) }
+line_reported (line.BadOperand span) = record { number = refl; text = refl; alone = line_alone (line.BadOperand span) }
+line_reported (line.OpenQuote at) = record { number = refl; text = refl; alone = line_alone (line.OpenQuote at) }
 
 pub authorities_enter : AuthoritiesEnterTheirGroups
 authorities_enter auth.Master = refl

@@ -11,7 +11,7 @@ use Rattle.opc_board.specs.declared.fault.BoardFault.TheVariants.{NoUnit, NoDevi
 use Rattle.opc_board.specs.Devices.{allocate_faults, attach_faults, free_faults, new_device, with_device}
 use Rattle.opc_board.specs.Effect.{event_effect}
 use Rattle.opc_board.specs.Invariants.{device_at, device_before, unit_at, unit_before, reply_before}
-use Rattle.opc_board.specs.Outcome.{Outcome, ◌>>=◌, done, faults_or, found}
+use Rattle.opc_board.specs.Outcome.{BoardOutcome, ◌>>=◌, done, faults_or, found}
 use Rattle.opc_board.specs.Replies.{ask_faults}
 use Rattle.opc_board.specs.Units.{come_faults, new_unit, without_unit}
 use Rattle.opc_rows.specs.Ordered.{put}
@@ -44,11 +44,11 @@ not_aborted f plain (inr h) = let at : f ≡ fault.Store = search (rules, h) in 
 
 -- the faults of events
 
-abbrev pub IsPlainIfFault : Outcome → Type 0
+abbrev pub IsPlainIfFault : BoardOutcome → Type 0
 IsPlainIfFault (Ok d) = Unit {0}
 IsPlainIfFault (Err f) = IsPlain (board_fault f)
 
-faults_plain : (faults : List (Bool × BoardFault)) (o : Outcome)
+faults_plain : (faults : List (Bool × BoardFault)) (o : BoardOutcome)
     → AllByRecursion (λ (x : Bool × BoardFault). IsPlain (board_fault x.1)) faults → IsPlainIfFault o
     → IsPlainIfFault (faults_or faults o)
 faults_plain [] o all plain = plain
@@ -58,7 +58,7 @@ faults_plain (x ∷ faults) o all plain = go x.0 (faults_plain faults o all.1 pl
     go true later = all.0
     go false later = later
 
-found_plain : {A : Type 0} (f : BoardFault) (o : Option A) (next : A → Outcome) → IsPlain (board_fault f)
+found_plain : {A : Type 0} (f : BoardFault) (o : Option A) (next : A → BoardOutcome) → IsPlain (board_fault f)
     → ((x : A) → IsPlainIfFault (next x)) → IsPlainIfFault (found f o >>= next)
 found_plain f (Some x) next plain h = h x
 found_plain f None next plain h = plain

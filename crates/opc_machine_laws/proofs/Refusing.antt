@@ -146,12 +146,12 @@ logon_faults s name text c other none = absurd none
 
 -- rights
 
-right_told : (o : Operation) → right_fault o ≡ missing_right (changed_profile o)
-right_told (operation.RAlter class pattern owner uacc warning) = refl
-right_told (operation.RDelete class pattern) = refl
-right_told (operation.Permit class pattern id level when) = refl
-right_told (operation.PermitDelete class pattern id when) = refl
-right_told o = refl
+right_reported : (o : Operation) → right_fault o ≡ missing_right (changed_profile o)
+right_reported (operation.RAlter class pattern owner uacc warning) = refl
+right_reported (operation.RDelete class pattern) = refl
+right_reported (operation.Permit class pattern id level when) = refl
+right_reported (operation.PermitDelete class pattern id when) = refl
+right_reported o = refl
 
 pub missing_rights : MissingRightsAreAnswered
 missing_rights s (input.Admin name o) c returned (asks, lacks, is) =
@@ -159,7 +159,7 @@ missing_rights s (input.Admin name o) c returned (asks, lacks, is) =
     ap (λ x. x >>= λ d. refuse_if (right_fault o) None (not (may_change s d o)) >>= λ _. or_refused (changed s o) >>=
     λ t. does t [] None) (asking_back s name c asks)
     ∙ ap (λ b. refuse_if (right_fault o) None (not b) >>= λ _. or_refused (changed s o) >>= λ t. does t [] None) lacks in
-    answered s (input.Admin name o) returned (comes ∙ ap refusal (right_told o ∙ sym is))
+    answered s (input.Admin name o) returned (comes ∙ ap refusal (right_reported o ∙ sym is))
 missing_rights s (input.ListAccount name from count) c returned (asks, lacks, is) =
     let comes : account_outcome s name from count ≡ refusal fault.NotSpecial =
     ap (λ x. x >>= λ d. refuse_if fault.NotSpecial None (not (account_shown s d)) >>= λ _. does s

@@ -162,7 +162,9 @@ HasDone at (command.Swap from to) old new = DevicesSwap from.value to.value old 
 HasDone at (command.ResetConsole name) old new =
     ConsoleBecomes name.value (λ was now. now ≡ record was { user = None }) old new
 HasDone at (command.Send text user) old new = MayBeNotified user.value old
-    × (new ≡ record old { messages = old.messages ++ record { user = user.value; text = text_value text.typed.text } ∷ [] })
+    × (new ≡ record old {
+      messages = old.messages ++ record { user = user.value; text = text_value text.typed.text } ∷ [];
+    })
 HasDone at (command.Log text) old new = new ≡ record old { log = old.log ++ text_value text.typed.text ∷ [] }
 HasDone at command.Monitor old new = ConsoleBecomes at (λ was now. now ≡ record was { monitor = true }) old new
 HasDone at command.StopMonitor old new = ConsoleBecomes at (λ was now. now ≡ record was { monitor = false }) old new

@@ -27,7 +27,7 @@ use Rattle.opc_board.specs.declared.rows.DeviceRow.{DeviceRow}
 use Rattle.opc_board.specs.declared.rows.UnitRow.{UnitRow}
 use Rattle.opc_board.specs.Effect.{effect, event_effect}
 use Rattle.opc_board.specs.Invariants.{Name, console_at, device_at, has_master, reply_at, unit_at}
-use Rattle.opc_board.specs.Outcome.{Done, Outcome}
+use Rattle.opc_board.specs.Outcome.{Done, BoardOutcome}
 use Rattle.opc_board.specs.Replies.{has_session, is_on, is_session}
 use Rattle.opc_machine_laws.specs.EffectLaws.{HasDone}
 use Rattle.opc_machine_laws.specs.ObstacleLaws.{first_obstacle}
@@ -100,14 +100,14 @@ BoardObstaclesAreFaults = (b : BoardRows) (at : Name) (k : Command) (fault : Boa
     → first_obstacle (board_obstacles b k) ≡ Some fault → effect b k at ≡ Err fault
 
 -- What the command does would lose the last online console with AUTH MASTER.
-pub record LosesMaster (b : BoardRows) (at : Name) (k : Command) (outcome : Outcome) : Type 0 where
+pub record LosesMaster (b : BoardRows) (at : Name) (k : Command) (outcome : BoardOutcome) : Type 0 where
   pub new : BoardRows
   pub done : HasDone at k b new
   pub lost : (has_master b.consoles ≡ true → has_master new.consoles ≡ true) → ⊥
   pub refused : outcome ≡ Err LastMaster
 
 -- Without any of these it acts, unless by that.
-abbrev pub IsDoneOrLosesMaster : BoardRows → Name → Command → Outcome → Type 0
+abbrev pub IsDoneOrLosesMaster : BoardRows → Name → Command → BoardOutcome → Type 0
 IsDoneOrLosesMaster b at k outcome = ((act : Done) × (outcome ≡ Ok act)) ⊎ LosesMaster b at k outcome
 
 abbrev pub CommandsActWithoutObstacle : Type 0

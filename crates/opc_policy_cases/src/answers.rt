@@ -42,7 +42,7 @@ fn spelled(alloc: Global, fault: &Fault) -> Result<String, AllocError> {
 }
 
 /// A fault of a question; out of memory is no answer, and ends the program.
-fn told(alloc: Global, fault: &Fault) -> Result<String> {
+fn reported(alloc: Global, fault: &Fault) -> Result<String> {
     match fault {
         Fault::NoMemory => bail!("out of memory"),
         fault => Ok(spelled(alloc, fault)?),
@@ -54,11 +54,11 @@ fn take(alloc: Global, policy: &mut Policy, record: &str) -> Result<String> {
     let file = format!(in alloc; "{HEADER}\n{record}\n")?;
     let rows = match read_policy(alloc, file.as_str()) {
         Ok(rows) => rows,
-        Err(fault) => return told(alloc, &Fault::from(fault)),
+        Err(fault) => return reported(alloc, &Fault::from(fault)),
     };
     for row in rows.as_slice() {
         if let Err(fault) = policy.take(alloc, row) {
-            return told(alloc, &fault);
+            return reported(alloc, &fault);
         }
     }
     Ok(String::from_str(alloc, "taken")?)
@@ -82,7 +82,7 @@ fn explained(alloc: Global, policy: &Policy, words: &Words<'_>) -> Result<String
             let text = explained.to_string(alloc)?;
             Ok(in_one_line(alloc, text.as_str())?)
         }
-        Err(fault) => told(alloc, &fault),
+        Err(fault) => reported(alloc, &fault),
     }
 }
 

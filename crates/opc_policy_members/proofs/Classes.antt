@@ -1,4 +1,4 @@
--- Two classes that are told to be the same are.
+-- Two classes that compare as equal are the same.
 use Rattle.std.proofs.Common.{◌≡◌, true, refl}
 use Rattle.opc_names.specs.Authority.{same_class}
 use Rattle.opc_names.specs.declared.class.Class.{Class}

@@ -1,4 +1,4 @@
--- Maps whose values tell their keys, as the lists of their values.
+-- Maps whose values determine their keys, as the lists of their values.
 use Rattle.std.proofs.Common.{◌≡◌, refl, sym, ap, ◌∙◌, Bool, true, false, cond, List, [], ◌∷◌, Some, None}
 use Rattle.std.specs.BTreeMap.{insert_entry, is_at}
 use Rattle.std.specs.BTreeSet.{replace_key}

@@ -12,17 +12,17 @@ use std::alloc::Global;
 pub fn needs(alloc: Global, line: &str) -> Result<String> {
     let command = read_command(line)?;
     let member = UnitName::read("MEMBER88")?;
-    let absent = told(alloc, &command, UnitKindAt::Absent)?;
-    let job = told(alloc, &command, UnitKindAt::Job)?;
-    let task = told(alloc, &command, UnitKindAt::Stc { member })?;
-    let session = told(alloc, &command, UnitKindAt::Tsu)?;
+    let absent = reported(alloc, &command, UnitKindAt::Absent)?;
+    let job = reported(alloc, &command, UnitKindAt::Job)?;
+    let task = reported(alloc, &command, UnitKindAt::Stc { member })?;
+    let session = reported(alloc, &command, UnitKindAt::Tsu)?;
     if absent == job && job == task && task == session {
         return Ok(absent);
     }
     Ok(format!(in alloc; "absent {absent}; job {job}; task {task}; session {session}")?)
 }
 
-fn told(alloc: Global, command: &Command<'_>, kind: UnitKindAt) -> Result<String> {
+fn reported(alloc: Global, command: &Command<'_>, kind: UnitKindAt) -> Result<String> {
     match need(command, kind) {
         Some(
             Need {

@@ -1,5 +1,5 @@
-use Rattle.opc_machine_laws.proofs.Leaving.{rows_tell}
+use Rattle.opc_machine_laws.proofs.Leaving.{rows_report}
 use Rattle.opc_machine_laws.proofs.laws.account_rows_say.Goals as goal
 
 pub returns : goal.returns
-returns c = rows_tell
+returns c = rows_report

@@ -1,4 +1,4 @@
-use Rattle.opc_machine_laws.proofs.Telling.{read_back, spelled, texts_say}
+use Rattle.opc_machine_laws.proofs.Reporting.{read_back, spelled, texts_say}
 use Rattle.opc_machine_laws.proofs.meanings.what_is_read_is_what_is_written.Goals as goal
 
 pub returns : goal.returns

@@ -1,4 +1,4 @@
-use Rattle.opc_machine_laws.proofs.RowsKept.{never_delete}
+use Rattle.opc_machine_laws.proofs.RowObstacles.{never_delete}
 use Rattle.opc_machine_laws.proofs.rows.rows_never_delete.Goals as goal
 
 pub returns : goal.returns

@@ -10,7 +10,7 @@ invariant-heads g l = record {
   ready : g.S.ProfileSource.is_ready l.source;
   kept : g.S.ProfileSource.is_kept l.fn.source l.source;
   faithful : g.S.ProfileSource.is_faithful l.source → g.S.ProfileSource.is_faithful l.fn.source;
-  told : (profiles : List Profile) → g.S.ProfileSource.has l.fn.source profiles → g.S.ProfileSource.is_faithful l.source → record {
+  reported : (profiles : List Profile) → g.S.ProfileSource.has l.fn.source profiles → g.S.ProfileSource.is_faithful l.source → record {
     same : g.S.ProfileSource.has l.source profiles;
     asked : AreProfiles profiles → Asked (of_class l.class profiles) l.name l.length l.rows;
   };

@@ -77,7 +77,8 @@ module _ {T : Type 0} (m : Meaning T) where
   pub written : (old new : T) (s : State) (moment : ℕ) (r : Input) (answer : Answer) (c : Change)
       → IsDecision s moment r answer c → IsNothingWhereSame s c → is_nothing c ≡ false → m.represents new (changed_by c s)
       → (Fits s → Fits (changed_by c s))
-      → ((left : State) → m.may_leave new left → m.may_leave old left ⊎ (left ≡ changed_by c s)) → ((left : State) → m.may_leave new left → left ≡ changed_by c s)
+      → ((left : State) → m.may_leave new left → m.may_leave old left ⊎ (left ≡ changed_by c s))
+      → ((left : State) → m.may_leave new left → left ≡ changed_by c s)
       → IsHandled m old new s moment r answer
   written old new s moment r answer c d nothing something represented fits crash acknowledged = record {
     next = changed_by c s;

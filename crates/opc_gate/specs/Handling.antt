@@ -1,14 +1,21 @@
 -- One request handled over tables, and a run of requests.
-use Rattle.std.specs.Prelude.{◌≡◌, ◌⊎◌, true, List, ◌∷◌, ◌++◌, length, take, ℕ}
+use Rattle.std.specs.Prelude.{◌≡◌, ◌⊎◌, Bool, true, List, ◌∷◌, ◌++◌, length, take, ℕ}
 use Rattle.std.specs.List.{All}
 use Rattle.opc_state.specs.declared.change.Change.{Change}
 use Rattle.opc_state.specs.Meaning.{Meaning}
 use Rattle.opc_state.specs.State.{State}
 use Rattle.opc_state.specs.Changes.{changed_by, is_nothing}
+use Rattle.opc_machine.specs.declared.outcome.Outcome.{Outcome}
+use Rattle.opc_machine.specs.declared.outcome.Outcome.TheVariants.{Done, Refused}
 use Rattle.opc_machine.specs.declared.request.Request.{Request}
 use Rattle.opc_machine.specs.declared.request.Answer.{Answer}
 use Rattle.opc_machine.specs.Inputs.{Input, input_of, inputs_of}
-use Rattle.opc_machine.specs.Machine.{outcome, after, answer_of, Step, Runs, IsAborted}
+use Rattle.opc_machine.specs.Machine.{outcome, after, answer_of, is_warned, Step, Runs, IsAborted}
+
+-- whether the account gets a row for what a request comes to: for a refusal, and for what a warning alone let pass
+abbrev pub is_accounted : Outcome → Bool
+is_accounted (Done effect) = is_warned effect.rule
+is_accounted (Refused refusal) = true
 
 -- the answer and the change are those of the machine
 pub record IsDecision (s : State) (moment : ℕ) (r : Input) (answer : Answer) (change : Change) : Type 0 where

@@ -1,5 +1,5 @@
 //! The gate.
-ghost use Rattle.std.specs.Prelude.{◌≡◌, ◌≢◌, ◌≤◌, ◌⊎◌, [], IfErr, IfOk, IfSome, None, OnErr, OnOk, Ok, Err, length, ℕ};
+ghost use Rattle.std.specs.Prelude.{◌≡◌, ◌≢◌, ◌≤◌, ◌⊎◌, [], IfErr, IfOk, IfSome, None, OnErr, OnOk, Ok, Err, length, true, ℕ};
 ghost use Rattle.opc_terms.specs.declared.fault.Fault.TheVariants as why;
 ghost use Rattle.std.specs.Option.{option_and_then};
 ghost use Rattle.opc_terms.specs.Faults.{store_fault};
@@ -15,7 +15,7 @@ ghost use Rattle.opc_machine.specs.Bootstrap.{bootstrapped};
 ghost use Rattle.opc_machine.specs.Inputs.{Input, console_of, input_of};
 ghost use Rattle.opc_machine.specs.Rulings.{acting_user};
 ghost use Rattle.opc_machine.specs.Machine.{IsAborted, account_row, is_warned, outcome as outcome_of, user_acting};
-ghost use Rattle.opc_gate.specs.Handling.{IsDecision, IsHandled, IsNothingWhereSame};
+ghost use Rattle.opc_gate.specs.Handling.{IsDecision, IsHandled, IsNothingWhereSame, is_accounted};
 ghost use Rattle.opc_machine.specs.Effects.{IsOutcome};
 
 use opc_board::rows::ConsoleRow;
@@ -86,18 +86,29 @@ fn console_on<T: Tables>(
     }
 }
 
-// For whom the console of a request acts. The account's user is a name: a user is loaded for it only if an AUTO console
-// with nobody on has to know whether its own user is stored. The ruling loads that user once more.
-fn user_acting_on<T: Tables>(
+fn is_accounted(outcome: &Outcome) -> bool
+    ensures { result ≡ is_accounted outcome.now }
+{
+    match outcome {
+        Outcome::Done(effect) => is_warned(&effect.rule),
+        Outcome::Refused(_) => true,
+    }
+}
+
+// For whom the console of a request acts, if the account gets a row for what the request comes to. The row has only the
+// name: a user is loaded for it only if an AUTO console with nobody on has to know whether its own user is stored.
+fn user_accounted_on<T: Tables>(
     tables: &mut T,
     alloc: Global,
     console: &Option<ConsoleRow>,
+    outcome: &Outcome,
 ) -> Result<Option<UserId>, StoreFault>
-    ensures { Loads T.meaning tables.old tables.new result (λ s u. u ≡ option_and_then (acting_user s) console.now) }
+    ensures { Loads T.meaning tables.old tables.new result
+        (λ s u. is_accounted outcome.now ≡ true → u ≡ option_and_then (acting_user s) console.now) }
 {
     match console {
-        Some(console) => acting_user_on(tables, alloc, console),
-        None => Ok(None),
+        Some(console) if is_accounted(outcome) => acting_user_on(tables, alloc, console),
+        _ => Ok(None),
     }
 }
 
@@ -145,7 +156,7 @@ fn decide(
     outcome: Outcome,
 ) -> Result<Decision, AllocError>
     ensures decides { (s : State) → IsOutcome s (outcome_of s (input_of request.now)) outcome
-        → user ≡ user_acting s (input_of request.now)
+        → (is_accounted outcome ≡ true → user ≡ user_acting s (input_of request.now))
         → IfOk result (λ d. IsDecision s moment (input_of request.now) d.answer d.change) }
     ensures idle { (s : State) → IsOutcome s (outcome_of s (input_of request.now)) outcome
         → IfOk result (λ d. IsNothingWhereSame s d.change) }
@@ -235,8 +246,8 @@ fn decision_on<T: Tables>(
         (λ s d. IsNothingWhereSame s d.change) }
 {
     let console = console_on(tables, request)?;
-    let user = user_acting_on(tables, alloc, &console)?;
     let outcome = outcome_on(tables, alloc, console, request)?;
+    let user = user_accounted_on(tables, alloc, &console, &outcome)?;
     Ok(decide(alloc, moment, request, user, outcome)?)
 }
 

@@ -6,9 +6,11 @@ use Rattle.opc_names.specs.declared.class.Class.{Class}
 use Rattle.opc_names.specs.declared.level.Level.{Level}
 use Rattle.opc_names.specs.Spellings.{auth_text, level_text}
 use Rattle.opc_terms.specs.declared.fault.Fault.{Fault}
+use Rattle.opc_terms.specs.declared.fault.Fault.TheVariants.{NotOwner, NotSpecial}
 use Rattle.opc_terms.specs.declared.store_fault.StoreFault.{StoreFault}
 use Rattle.opc_policy_members.specs.declared.policy.Policy.{Policy}
 use Rattle.opc_policy_members.specs.declared.profile.Profile.{Profile}
+use Rattle.opc_policy_members.specs.declared.user.User.{User}
 use Rattle.opc_policy_members.specs.Access.{entry_level}
 use Rattle.opc_terms.specs.Modes.{mode_text}
 use Rattle.opc_policy_members.specs.Profiles.{profile_of}
@@ -26,6 +28,7 @@ use Rattle.opc_machine.specs.declared.operation.Operation.TheVariants as operati
 use Rattle.opc_machine.specs.Administration.{changed}
 use Rattle.opc_machine.specs.Effects.{IsOutcome}
 use Rattle.opc_machine.specs.Outcome.{StateOutcome, ◌>>=◌, does, or_refused, refused}
+use Rattle.opc_machine.specs.Rights.{is_owner}
 
 -- what is done where the policy becomes another one, or is left
 abbrev pub policy_outcome : State → Result Policy Fault → StateOutcome
@@ -42,6 +45,16 @@ state_outcome made = do
 abbrev pub ComesTo : {T : Type 0} → Meaning T → T → T → Result Outcome StoreFault → Operation → Type 0
 ComesTo m old new result op = Loads m old new result
     (λ s o. IsKeyed s → IsOutcome s (state_outcome (changed s op)) o)
+
+-- whether somebody owns the profile of a class and a pattern, if they are given
+abbrev pub owns_profile : Policy → Option User → Option (Class × List ℕ) → Bool
+owns_profile p user None = false
+owns_profile p user (Some named) = is_owner user (profile_of p.profiles named.0 named.1)
+
+-- the fault of whoever lacks the right to an operation, by the profile whose owner has it
+abbrev pub fault_without : Option (Class × List ℕ) → Fault
+fault_without None = NotSpecial
+fault_without (Some named) = NotOwner
 
 -- the operations on a profile and on its access list
 abbrev pub is_of_profiles : Operation → Bool

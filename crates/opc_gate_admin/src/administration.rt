@@ -1,14 +1,16 @@
 //! Who has the right to an operation, and what it comes to.
-ghost use Rattle.std.specs.Prelude.{◌≡◌, true};
+ghost use Rattle.std.specs.Prelude.{◌≡◌, true, Option};
 ghost use Rattle.opc_board.specs.Invariants.{Name, console_at};
 ghost use Rattle.opc_policy_members.specs.Profiles.{profile_of};
+ghost use Rattle.opc_policy_members.specs.declared.policy.Policy.{Policy as ThePolicy};
+ghost use Rattle.opc_policy_members.specs.declared.user.User.{User as TheUser};
 ghost use Rattle.opc_state.specs.Asked.{Loads};
 ghost use Rattle.opc_state.specs.Invariants.{IsKeyed};
 ghost use Rattle.opc_machine.specs.Administration.{admin_outcome, definition};
 ghost use Rattle.opc_machine.specs.Effects.{IsOutcome};
-ghost use Rattle.opc_machine.specs.Rights.{is_owner, may_change, right_fault};
+ghost use Rattle.opc_machine.specs.Rights.{is_owner, may_change, owns_changed, right_fault};
 ghost use Rattle.opc_machine.specs.Rulings.{acting};
-ghost use Rattle.opc_gate_admin.specs.Operations.{ComesTo, is_of_profiles};
+ghost use Rattle.opc_gate_admin.specs.Operations.{ComesTo, fault_without, is_of_profiles, owns_profile};
 
 use crate::consoles::define_console;
 use crate::members::{add_group, add_user, alt_user, class_active, connect, del_user, remove};
@@ -30,15 +32,27 @@ use opc_terms::fault::Fault;
 use opc_terms::store_fault::StoreFault;
 use std::alloc::Global;
 
+// The profile that an operation changes, if its owner has the right to it. All else is for SPECIAL alone.
+fn owned_profile(op: &Operation) -> Option<(Class, Pattern)>
+    ensures owner { (p : ThePolicy) → (user : Option TheUser) →
+        owns_changed p user op.now ≡ owns_profile p user result }
+    ensures fault { right_fault op.now ≡ fault_without result }
+{
+    match op {
+        Operation::RAlter { class, pattern, .. }
+        | Operation::RDelete { class, pattern }
+        | Operation::Permit { class, pattern, .. }
+        | Operation::PermitDelete { class, pattern, .. } => Some((*class, *pattern)),
+        _ => None,
+    }
+}
+
 fn right_fault(op: &Operation) -> Fault
     ensures { result ≡ right_fault op.now }
 {
-    match op {
-        Operation::RAlter { .. }
-        | Operation::RDelete { .. }
-        | Operation::Permit { .. }
-        | Operation::PermitDelete { .. } => Fault::NotOwner,
-        _ => Fault::NotSpecial,
+    match owned_profile(op) {
+        Some(_) => Fault::NotOwner,
+        None => Fault::NotSpecial,
     }
 }
 
@@ -72,15 +86,10 @@ fn may_change<T: Tables>(
     if is_special(&asking.user) {
         return Ok(true);
     }
-    match op {
-        Operation::RAlter { class, pattern, .. }
-        | Operation::RDelete { class, pattern }
-        | Operation::Permit { class, pattern, .. }
-        | Operation::PermitDelete { class, pattern, .. } => {
-            owns(tables, alloc, &asking.user, *class, pattern)
-        }
-        _ => Ok(false),
-    }
+    let Some((class, pattern)) = owned_profile(op) else {
+        return Ok(false);
+    };
+    owns(tables, alloc, &asking.user, class, &pattern)
 }
 
 // The user that an operation gives.

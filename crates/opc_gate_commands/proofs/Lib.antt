@@ -3,3 +3,4 @@ pub mod Sessions
 pub mod Lines
 pub mod Loading
 pub mod Typed
+pub mod Units

@@ -9,7 +9,7 @@ use Rattle.opc_board.specs.declared.line.Line.{Line}
 use Rattle.opc_board.specs.Consoles.{logged_on, logged_off}
 use Rattle.opc_board.specs.Effect.{effect, event_effect}
 use Rattle.opc_board.specs.History.{after, history_of, outcome_after, without_history, CommandsOnlyAddToHistory, EventsOnlyAddToHistory}
-use Rattle.opc_board.specs.Outcome.{Outcome, done, done_with}
+use Rattle.opc_board.specs.Outcome.{BoardOutcome, done, done_with}
 use Rattle.opc_board.specs.Footprint.{
   AreLeft,
   CommandsAreLocal,
@@ -34,22 +34,22 @@ live_order : (b : BoardRows) → IsInOrder b → IsInOrder (without_history b)
 live_order b order = record { units = order.units; devices = order.devices; consoles = order.consoles; replies = order.replies }
 
 -- what comes of the part came of a whole
-record Came (footprint : Footprint) (live new : BoardRows) (lines : List Line) (o : Outcome) : Type 0 where
+record Came (footprint : Footprint) (live new : BoardRows) (lines : List Line) (o : BoardOutcome) : Type 0 where
   whole : BoardRows
   makes : o ≡ done_with whole lines
   is : new ≡ only footprint whole
   order : IsInOrder whole
   left : AreLeft footprint live whole
 
-abbrev board_or : BoardRows → Outcome → BoardRows
+abbrev board_or : BoardRows → BoardOutcome → BoardRows
 board_or b (Ok d) = d.board
 board_or b (Err f) = b
 
-abbrev lines_or : List Line → Outcome → List Line
+abbrev lines_or : List Line → BoardOutcome → List Line
 lines_or lines (Ok d) = d.lines
 lines_or lines (Err f) = lines
 
-came : (footprint : Footprint) (live new : BoardRows) (lines : List Line) (o : Outcome)
+came : (footprint : Footprint) (live new : BoardRows) (lines : List Line) (o : BoardOutcome)
     → outcome_only footprint o ≡ done_with new lines → LeavesRest footprint live o → Came footprint live new lines o
 came footprint live new lines (Ok d) h rest =
     let board : only footprint d.board ≡ new = ap (board_or new) h in
@@ -57,7 +57,7 @@ came footprint live new lines (Ok d) h rest =
     record { whole = d.board; makes = ap (done_with d.board) same; is = sym board; order = rest.0; left = rest.1 }
 came footprint live new lines (Err f) h rest = absurd (cc)
 
-stopped : (footprint : Footprint) (o : Outcome) (f : BoardFault) → outcome_only footprint o ≡ Err f → o ≡ Err f
+stopped : (footprint : Footprint) (o : BoardOutcome) (f : BoardFault) → outcome_only footprint o ≡ Err f → o ≡ Err f
 stopped footprint (Ok d) f h = absurd (cc)
 stopped footprint (Err g) f h = h
 
@@ -80,7 +80,7 @@ footprints s footprint old new whole was old_is new_is now left =
     }
 
 acted_so : (s : State) (footprint : Footprint) (old new : BoardRows) (lines : List Line) (edits : List Edit)
-    (o live : Outcome) → o ≡ outcome_after (history_of s.board) live → IsInOrder s.board
+    (o live : BoardOutcome) → o ≡ outcome_after (history_of s.board) live → IsInOrder s.board
     → old ≡ only footprint (without_history s.board)
     → Came footprint (without_history s.board) new lines live → Leads s old new edits → IsActed s o edits lines
 acted_so s footprint old new lines edits o live law order is c leads =

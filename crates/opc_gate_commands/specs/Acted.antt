@@ -6,7 +6,7 @@ use Rattle.opc_board.specs.declared.board.BoardRows.{BoardRows}
 use Rattle.opc_board.specs.declared.line.Line.{Line}
 use Rattle.opc_board.specs.declared.rows.ConsoleRow.{ConsoleRow}
 use Rattle.opc_board.specs.Effect.{effect}
-use Rattle.opc_board.specs.Outcome.{Outcome as BoardOutcome, done_with}
+use Rattle.opc_board.specs.Outcome.{BoardOutcome, done_with}
 use Rattle.opc_state.specs.declared.change.Edit.{Edit}
 use Rattle.opc_state.specs.State.{State}
 use Rattle.opc_state.specs.Changes.{all_edited}

@@ -3,10 +3,12 @@ ghost use Rattle.std.specs.Prelude.{◌≡◌, ◌≢◌, IfOk, None, Some, [], 
 ghost use Rattle.opc_board.specs.declared.fault.BoardFault.TheVariants.{NoMemory};
 ghost use Rattle.opc_board.specs.Consoles.{logged_on};
 ghost use Rattle.opc_board.specs.Effect.{is_session_command};
-ghost use Rattle.opc_board.specs.Invariants.{Name, console_at, kind_at};
+ghost use Rattle.opc_board.specs.Invariants.{Name, console_at, unit_kind};
 ghost use Rattle.opc_reader.specs.Reading.{reading};
 ghost use Rattle.opc_state.specs.Asked.{Loads};
 ghost use Rattle.opc_gate_commands.specs.Acted.{allowed_command};
+ghost use Rattle.opc_gate_commands.specs.Named.{unit_named};
+ghost use Rattle.opc_gate_footprints.specs.Loading.{IsUnitOf};
 ghost use Rattle.opc_machine.specs.Commands.{
   board_command as board_outcome,
   command_outcome,
@@ -14,7 +16,6 @@ ghost use Rattle.opc_machine.specs.Commands.{
   event_outcome,
   is_display,
   is_password,
-  kind_named,
   known_by,
   logoff as logoff_outcome,
   logon_fault,
@@ -32,7 +33,7 @@ use crate::displays::{display_on, is_display};
 use crate::effects::{act_on, apply_event, log_off, log_on};
 use opc_board::event::Event;
 use opc_board::fault::BoardFault;
-use opc_board::rows::ConsoleRow;
+use opc_board::rows::{ConsoleRow, UnitRow};
 use opc_gate_footprints::footprint::{console_footprint_on, event_footprint_on, footprint_on};
 use opc_gate_rulings::requester::console_for;
 use opc_gate_rulings::ruling::{
@@ -40,7 +41,7 @@ use opc_gate_rulings::ruling::{
 };
 use opc_machine::fault;
 use opc_machine::outcome::{Effect, Outcome, done, refused};
-use opc_names::name::{UnitName, UserId};
+use opc_names::name::UserId;
 use opc_policy::ruling::Ruling;
 use opc_policy_members::user::User;
 use opc_reader::line::{ReadFault, read_command};
@@ -81,25 +82,28 @@ fn logon_fault(rule: &Rule) -> Fault
     }
 }
 
-fn kind_at<T: Tables>(tables: &mut T, name: &UnitName) -> Result<UnitKindAt, StoreFault>
-    ensures { Loads T.meaning tables.old tables.new result (λ s kind. kind ≡ kind_at s.board name.now) }
+// The unit that a command names, if the need of the command goes by what it is.
+fn unit_named<T: Tables>(
+    tables: &mut T,
+    command: &Command<'_>,
+) -> Result<Option<UnitRow>, StoreFault>
+    ensures { Loads T.meaning tables.old tables.new result (λ s unit. unit ≡ unit_named s.board command.now) }
 {
-    match tables.unit(name)? {
-        Some(unit) => Ok(unit.kind.found()),
-        None => Ok(UnitKindAt::Absent),
+    match command {
+        Command::Cancel(name) => tables.unit(&name.value),
+        Command::Force(name) => tables.unit(&name.value),
+        Command::Stop(name) => tables.unit(&name.value),
+        Command::Modify(name, _) => tables.unit(&name.value),
+        _ => Ok(None),
     }
 }
 
-// What the unit is that a command names, if it is one whose need goes by that.
-fn kind_named<T: Tables>(tables: &mut T, command: &Command<'_>) -> Result<UnitKindAt, StoreFault>
-    ensures { Loads T.meaning tables.old tables.new result (λ s kind. kind ≡ kind_named s.board command.now) }
+fn unit_kind(unit: &Option<UnitRow>) -> UnitKindAt
+    ensures { result ≡ unit_kind unit.now }
 {
-    match command {
-        Command::Cancel(name) => kind_at(tables, &name.value),
-        Command::Force(name) => kind_at(tables, &name.value),
-        Command::Stop(name) => kind_at(tables, &name.value),
-        Command::Modify(name, _) => kind_at(tables, &name.value),
-        _ => Ok(UnitKindAt::Absent),
+    match unit {
+        Some(unit) => unit.kind.found(),
+        None => UnitKindAt::Absent,
     }
 }
 
@@ -113,22 +117,24 @@ fn board_fault(fault: BoardFault) -> Result<Fault, StoreFault>
     }
 }
 
-// What a command comes to that a rule allows, and that does more than show.
+// What a command comes to that a rule allows, and that does more than show. The unit that it names may be loaded.
 fn effect_on<T: Tables>(
     tables: &mut T,
     alloc: Global,
     basis: &RulingBasis,
     console: &ConsoleRow,
     command: &Command<'_>,
+    unit: Option<UnitRow>,
     rule: Rule,
 ) -> Result<Outcome, StoreFault>
     requires session { is_session_command command.now ≡ false }
     requires display { is_display command.now ≡ false }
     ensures { Loads T.meaning tables.old tables.new result
-        (λ s o. console_at s.board console.now.name ≡ Some console.now → IsRulingBasis s console.now basis.now
+        (λ s o. console_at s.board console.now.name ≡ Some console.now → IsUnitOf s unit
+        → IsRulingBasis s console.now basis.now
         → IsOutcome s (allowed_command s console.now command.now rule) o) }
 {
-    let board = footprint_on(tables, alloc, command, console)?;
+    let board = footprint_on(tables, alloc, command, console, unit)?;
     let acted = match act_on(alloc, board, command, &console.name) {
         Ok(acted) => acted,
         Err(fault) => return refused(board_fault(fault)?, Some(rule)),
@@ -146,11 +152,12 @@ fn board_command<T: Tables>(
     alloc: Global,
     console: &ConsoleRow,
     command: &Command<'_>,
+    unit: Option<UnitRow>,
     need: &Need,
 ) -> Result<Outcome, StoreFault>
     requires { is_session_command command.now ≡ false }
     ensures { Loads T.meaning tables.old tables.new result
-        (λ s o. console_at s.board console.now.name ≡ Some console.now
+        (λ s o. console_at s.board console.now.name ≡ Some console.now → IsUnitOf s unit
         → IsOutcome s (board_outcome s console.now command.now need.now) o) }
 {
     let basis = ruling_basis_at(tables, alloc, console)?;
@@ -161,7 +168,7 @@ fn board_command<T: Tables>(
     if is_display(command) {
         display_on(tables, alloc, &basis, console, command, rule)
     } else {
-        effect_on(tables, alloc, &basis, console, command, rule)
+        effect_on(tables, alloc, &basis, console, command, unit, rule)
     }
 }
 
@@ -277,9 +284,9 @@ fn typed<T: Tables>(
         (λ s o. console_at s.board console.now.name ≡ Some console.now
         → IsOutcome s (typed_outcome s console.now command.now (need_of s.board command.now)) o) }
 {
-    let kind = kind_named(tables, command)?;
-    match need(command, kind) {
-        Some(need) => board_command(tables, alloc, console, command, &need),
+    let unit = unit_named(tables, command)?;
+    match need(command, unit_kind(&unit)) {
+        Some(need) => board_command(tables, alloc, console, command, unit, &need),
         None => without_need(tables, alloc, console, command),
     }
 }

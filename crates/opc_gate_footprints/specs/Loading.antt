@@ -1,10 +1,11 @@
 -- The part of a state's board that is loaded for a command, an event, a logon or a logoff.
-use Rattle.std.specs.Prelude.{◌≡◌, ℕ, true}
+use Rattle.std.specs.Prelude.{◌≡◌, ℕ, true, Option, Some, IfSome}
 use Rattle.opc_reader_commands.specs.declared.command.Command.{Command}
 use Rattle.opc_board.specs.declared.board.BoardRows.{BoardRows}
 use Rattle.opc_board.specs.declared.event.Event.{Event}
+use Rattle.opc_board.specs.declared.rows.UnitRow.{UnitRow}
 use Rattle.opc_board.specs.Enough.{no_rows}
-use Rattle.opc_board.specs.Invariants.{Name}
+use Rattle.opc_board.specs.Invariants.{Name, unit_at}
 use Rattle.opc_board.specs.History.{without_history}
 use Rattle.opc_board.specs.Footprint.{IsInOrder, Footprint, IsFootprintOf, IsFootprintOfEvent, only}
 use Rattle.opc_state.specs.Invariants.{IsKeyed}
@@ -33,6 +34,10 @@ pub record IsConsoleFootprint (s : State) (console : Name) (part : BoardRows) : 
   pub order : IsInOrder s.board
   pub sees : footprint.consoles console ≡ true
   pub is : IsPart s footprint part
+
+-- a unit that is loaded already, if one is, is the one of its name
+abbrev pub IsUnitOf : State → Option UnitRow → Type 0
+IsUnitOf s unit = IfSome unit (λ u. unit_at s.board u.name ≡ Some u)
 
 -- what is loaded stays loaded
 pub record IsWithin (footprint more : Footprint) : Type 0 where

@@ -15,14 +15,15 @@ ghost use Rattle.opc_gate_footprints.specs.Loading.{
   IsEventFootprint,
   IsPart,
   IsFootprint,
+  IsUnitOf,
 };
 
 use crate::keys::{BoardKeys, keys_of_command, keys_of_event};
-use crate::load_one::{add_console, load_console, load_device, load_reply, load_unit};
+use crate::load_one::{add_console, load_console, load_device, load_reply, load_unit_once};
 use crate::load_several::{load_addressed, load_leaving, load_swapped, load_taken, load_varied};
 use opc_board::board::{Board, BoardRows};
 use opc_board::event::Event;
-use opc_board::rows::ConsoleRow;
+use opc_board::rows::{ConsoleRow, UnitRow};
 use opc_reader_commands::command::Command;
 use opc_rows::Rows;
 use opc_state::tables::Tables;
@@ -46,20 +47,22 @@ fn nothing(alloc: Global, halted: bool) -> BoardRows
     }
 }
 
-// Loads what is named.
+// Loads what is named. A unit may be loaded already.
 fn load_keys<T: Tables>(
     tables: &mut T,
     alloc: Global,
     part: &mut BoardRows,
     keys: BoardKeys,
+    loaded: Option<UnitRow>,
 ) -> Result<(), StoreFault>
     ensures { Loads T.meaning tables.old tables.new result
-        (λ s _. LoadsFirst s part.old part.new (λ footprint. HasKeys footprint (without_history s.board) keys)) }
+        (λ s _. IsUnitOf s loaded
+        → LoadsFirst s part.old part.new (λ footprint. HasKeys footprint (without_history s.board) keys)) }
 {
     match keys {
         BoardKeys::Nothing => Ok(()),
-        BoardKeys::Unit(name) => load_unit(tables, part, &name),
-        BoardKeys::Leaving(name) => load_leaving(tables, alloc, part, &name),
+        BoardKeys::Unit(name) => load_unit_once(tables, part, &name, loaded),
+        BoardKeys::Leaving(name) => load_leaving(tables, alloc, part, &name, loaded),
         BoardKeys::Device(number) => load_device(tables, part, &number),
         BoardKeys::Swapped(from, to) => load_swapped(tables, part, &from, &to),
         BoardKeys::Taken(number, name) => load_taken(tables, part, &number, &name),
@@ -75,14 +78,15 @@ fn loaded_rows<T: Tables>(
     tables: &mut T,
     alloc: Global,
     keys: BoardKeys,
+    loaded: Option<UnitRow>,
 ) -> Result<BoardRows, StoreFault>
     ensures { Loads T.meaning tables.old tables.new result
-        (λ s part. IsKeyed s
-        × HasLoaded s no_rows part (λ footprint. HasKeys footprint (without_history s.board) keys)) }
+        (λ s part. IsUnitOf s loaded
+        → IsKeyed s × HasLoaded s no_rows part (λ footprint. HasKeys footprint (without_history s.board) keys)) }
 {
     let halted = tables.is_halted()?;
     let mut part = nothing(alloc, halted);
-    load_keys(tables, alloc, &mut part, keys)?;
+    load_keys(tables, alloc, &mut part, keys, loaded)?;
     Ok(part)
 }
 
@@ -93,21 +97,22 @@ fn board_of(part: BoardRows) -> Result<Board, StoreFault>
     Board::of(part).map_err(|_| StoreFault::Store)
 }
 
-/// The footprint of a command that does more than show, typed at a console whose row is loaded. A board that breaks an
-/// invariant there fails.
+/// The footprint of a command that does more than show, typed at a console whose row is loaded. So may the unit be that
+/// it names. A board that breaks an invariant there fails.
 pub fn footprint_on<T: Tables>(
     tables: &mut T,
     alloc: Global,
     command: &Command<'_>,
     console: &ConsoleRow,
+    unit: Option<UnitRow>,
 ) -> Result<Board, StoreFault>
     requires { is_display command.now ≡ false }
     ensures there { IfOk result (λ board. IsSome (console_at board console.now.name)) }
     ensures footprint { Loads T.meaning tables.old tables.new result
-        (λ s board. console_at s.board console.now.name ≡ Some console.now
+        (λ s board. console_at s.board console.now.name ≡ Some console.now → IsUnitOf s unit
         → IsFootprint s command.now console.now.name board) }
 {
-    let mut part = loaded_rows(tables, alloc, keys_of_command(command))?;
+    let mut part = loaded_rows(tables, alloc, keys_of_command(command), unit)?;
     add_console(&mut part, console)?;
     board_of(part)
 }
@@ -120,7 +125,7 @@ pub fn event_footprint_on<T: Tables>(
 ) -> Result<Board, StoreFault>
     ensures { Loads T.meaning tables.old tables.new result (λ s board. IsEventFootprint s event.now board) }
 {
-    let part = loaded_rows(tables, alloc, keys_of_event(event))?;
+    let part = loaded_rows(tables, alloc, keys_of_event(event), None)?;
     board_of(part)
 }
 

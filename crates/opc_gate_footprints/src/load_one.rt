@@ -1,14 +1,14 @@
 //! Parts of a board, and what one row more makes of them.
 ghost use Rattle.std.specs.Prelude.{◌≡◌, IsSome, OnOk, Some, true, []};
 ghost use Rattle.opc_rows.specs.Ordered.{comes_before};
-ghost use Rattle.opc_board.specs.Invariants.{console_at};
+ghost use Rattle.opc_board.specs.Invariants.{console_at, unit_at};
 ghost use Rattle.opc_state.specs.Asked.{Loads};
 ghost use Rattle.opc_state.specs.State.{State};
 ghost use Rattle.opc_gate_footprints.specs.Joined.{joined};
-ghost use Rattle.opc_gate_footprints.specs.Loading.{LoadsMore};
+ghost use Rattle.opc_gate_footprints.specs.Loading.{IsUnitOf, LoadsMore};
 
 use opc_board::board::BoardRows;
-use opc_board::rows::{ConsoleRow, DeviceRow};
+use opc_board::rows::{ConsoleRow, DeviceRow, UnitRow};
 use opc_names::name::{ConsoleName, Device, UnitName};
 use opc_names::reply_id::ReplyId;
 use opc_rows::{Keyed, Rows};
@@ -52,6 +52,35 @@ pub(crate) fn load_unit<T: Tables>(
         (λ s _. LoadsMore s part.old part.new (λ footprint. footprint.units name.now ≡ true)) }
 {
     let unit = tables.unit(name)?;
+    add(&mut part.units, name, unit)
+}
+
+// The unit of a name, which is not loaded again if it is.
+fn unit_on<T: Tables>(
+    tables: &mut T,
+    name: &UnitName,
+    loaded: Option<UnitRow>,
+) -> Result<Option<UnitRow>, StoreFault>
+    ensures { Loads T.meaning tables.old tables.new result
+        (λ s unit. IsUnitOf s loaded → unit ≡ unit_at s.board name.now) }
+{
+    match loaded {
+        Some(unit) if unit.name == *name => Ok(Some(unit)),
+        _ => tables.unit(name),
+    }
+}
+
+/// Sees a unit that may be loaded already.
+pub(crate) fn load_unit_once<T: Tables>(
+    tables: &mut T,
+    part: &mut BoardRows,
+    name: &UnitName,
+    loaded: Option<UnitRow>,
+) -> Result<(), StoreFault>
+    ensures { Loads T.meaning tables.old tables.new result
+        (λ s _. IsUnitOf s loaded → LoadsMore s part.old part.new (λ footprint. footprint.units name.now ≡ true)) }
+{
+    let unit = unit_on(tables, name, loaded)?;
     add(&mut part.units, name, unit)
 }
 

@@ -4,28 +4,31 @@ ghost use Rattle.opc_board.specs.History.{without_history};
 ghost use Rattle.opc_board.specs.Footprint.{HasLeaving};
 ghost use Rattle.opc_state.specs.Asked.{Loads};
 ghost use Rattle.opc_gate_footprints.specs.BoardKeys.{HasMasters, HasConsolesOf};
-ghost use Rattle.opc_gate_footprints.specs.Loading.{LoadsFirst, LoadsMore};
+ghost use Rattle.opc_gate_footprints.specs.Loading.{IsUnitOf, LoadsFirst, LoadsMore};
 
-use crate::load_one::{load_console, load_device, load_unit};
+use crate::load_one::{load_console, load_device, load_unit, load_unit_once};
 use opc_board::board::BoardRows;
 use opc_board::replies::session_of;
+use opc_board::rows::UnitRow;
 use opc_names::name::{ConsoleName, Device, UnitName, UserId};
 use opc_state::tables::Tables;
 use opc_terms::store_fault::StoreFault;
 use std::alloc::Global;
 
-/// Sees a unit and the devices that it has.
+/// Sees a unit, which may be loaded already, and the devices that it has.
 pub(crate) fn load_leaving<T: Tables>(
     tables: &mut T,
     alloc: Global,
     part: &mut BoardRows,
     name: &UnitName,
+    loaded: Option<UnitRow>,
 ) -> Result<(), StoreFault>
     ensures { Loads T.meaning tables.old tables.new result
-        (λ s _. LoadsFirst s part.old part.new (λ footprint. HasLeaving footprint (without_history s.board) name.now)) }
+        (λ s _. IsUnitOf s loaded
+        → LoadsFirst s part.old part.new (λ footprint. HasLeaving footprint (without_history s.board) name.now)) }
 {
     part.devices = tables.devices_of(alloc, name)?;
-    load_unit(tables, part, name)
+    load_unit_once(tables, part, name, loaded)
 }
 
 /// Sees a console, and two masters where there are so many.

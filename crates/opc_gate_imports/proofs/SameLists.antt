@@ -63,26 +63,30 @@ and_reported true false c d one other h = absurd (search (rules, h))
 and_reported false b c d one other h = absurd (search (rules, h))
 
 user_reported : (u v : User) → of_user.eq-value.it u v ≡ true → same_user u v ≡ true
-user_reported u v = and_reported _ _ _ _ (name_reported u.id v.id) (and_reported _ _ _ _ (flag_reported u.special v.special) (and_reported _ _ _ _ (flag_reported u.auditor v.auditor)
-    (and_reported _ _ _ _ (flag_reported u.revoked v.revoked) (and_reported _ _ _ _ (text_reported u.digest v.digest) (flag_reported u.restricted v.restricted)))))
+user_reported u v = and_reported _ _ _ _ (name_reported u.id v.id) (and_reported _ _ _ _ (flag_reported u.special v.special)
+    (and_reported _ _ _ _ (flag_reported u.auditor v.auditor)
+    (and_reported _ _ _ _ (flag_reported u.revoked v.revoked) (and_reported _ _ _ _ (text_reported u.digest v.digest)
+    (flag_reported u.restricted v.restricted)))))
 
-row_told : (r q : Row) → of_row.eq-value.it r q ≡ true → same_row r q ≡ true
-row_told (rows.Class c a) (rows.Class d b) = and_reported _ _ _ _ (class_reported c d) (flag_reported a b)
-row_told (rows.Group n) (rows.Group m) = name_reported n m
-row_told (rows.User u) (rows.User v) = user_reported u v
-row_told (rows.Connect u g) (rows.Connect v k) = and_reported _ _ _ _ (name_reported u v) (name_reported g k)
-row_told (rows.Console n a m) (rows.Console o b k) = and_reported _ _ _ _ (name_reported n o) (and_reported _ _ _ _ (auth_reported a b) (mode_reported m k))
-row_told (rows.Profile c p u o w) (rows.Profile d q v n x) =
-    and_reported _ _ _ _ (class_reported c d) (and_reported _ _ _ _ (name_reported p q) (and_reported _ _ _ _ (level_reported u v) (and_reported _ _ _ _ (name_reported o n) (flag_reported w x))))
-row_told (rows.Permit c p e l w) (rows.Permit d q f m x) =
-    and_reported _ _ _ _ (class_reported c d) (and_reported _ _ _ _ (name_reported p q) (and_reported _ _ _ _ (name_reported e f) (and_reported _ _ _ _ (level_reported l m) (text_reported w x))))
-row_told r q = λ h. absurd (search (rules, h))
+row_reported : (r q : Row) → of_row.eq-value.it r q ≡ true → same_row r q ≡ true
+row_reported (rows.Class c a) (rows.Class d b) = and_reported _ _ _ _ (class_reported c d) (flag_reported a b)
+row_reported (rows.Group n) (rows.Group m) = name_reported n m
+row_reported (rows.User u) (rows.User v) = user_reported u v
+row_reported (rows.Connect u g) (rows.Connect v k) = and_reported _ _ _ _ (name_reported u v) (name_reported g k)
+row_reported (rows.Console n a m) (rows.Console o b k) = and_reported _ _ _ _ (name_reported n o) (and_reported _ _ _ _ (auth_reported a b) (mode_reported m k))
+row_reported (rows.Profile c p u o w) (rows.Profile d q v n x) =
+    and_reported _ _ _ _ (class_reported c d) (and_reported _ _ _ _ (name_reported p q)
+    (and_reported _ _ _ _ (level_reported u v) (and_reported _ _ _ _ (name_reported o n) (flag_reported w x))))
+row_reported (rows.Permit c p e l w) (rows.Permit d q f m x) =
+    and_reported _ _ _ _ (class_reported c d) (and_reported _ _ _ _ (name_reported p q) (and_reported _ _ _ _ (name_reported e f)
+    (and_reported _ _ _ _ (level_reported l m) (text_reported w x))))
+row_reported r q = λ h. absurd (search (rules, h))
 
 derived_itself : (r : Row) → of_row.eq-value.it r r ≡ true
 derived_itself r = search rules
 
 same_row_by_derived : (r q : Row) → of_row.eq-value.it r q ≡ same_row r q
-same_row_by_derived r q = one_truth (of_row.eq-value.it r q) (same_row r q) (row_told r q)
+same_row_by_derived r q = one_truth (of_row.eq-value.it r q) (same_row r q) (row_reported r q)
     (λ h. ap (of_row.eq-value.it r) (sym (row_is r q h)) ∙ derived_itself r)
 
 pub same_by_derived : (one other : List Row) → pointwise of_row.eq-value.it one other ≡ same_rows one other

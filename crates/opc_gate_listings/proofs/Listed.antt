@@ -51,7 +51,7 @@ whole zero xs short = absurd (omega (arith, short))
 whole (suc n) [] short = refl
 whole (suc n) (x ∷ xs) short = ap (λ l. x ∷ l) (whole n xs (omega (arith, short)))
 
--- a line tells nothing of the access list
+-- a line shows nothing of the access list
 pub bare_lines : (profiles : List Profile) → map profile_line (map bare profiles) ≡ map profile_line profiles
 bare_lines [] = refl
 bare_lines (p ∷ profiles) = ap (λ l. profile_line p ∷ l) (bare_lines profiles)

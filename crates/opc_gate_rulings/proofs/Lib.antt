@@ -2,5 +2,4 @@ pub mod Connected
 pub mod Found
 pub mod HeldIn
 pub mod Named
-pub mod OwnUsers
 pub mod Ruled

@@ -1,6 +1,8 @@
 -- What is found out of the console that asks, and of who acts there.
 use Rattle.std.specs.Prelude.{◌≡◌, ℕ, List, Result, Ok, Err}
 use Rattle.opc_board.specs.declared.rows.ConsoleRow.{ConsoleRow}
+use Rattle.opc_policy_members.specs.declared.policy.Policy.{Policy}
+use Rattle.opc_state.specs.Invariants.{IsConsoleOfStored}
 use Rattle.opc_state.specs.State.{State}
 use Rattle.opc_machine.specs.declared.outcome.Refusal.{Refusal}
 use Rattle.opc_machine.specs.Commands.{console_for}
@@ -18,3 +20,8 @@ IsConsoleFor s name (Err refusal) = console_for s name ≡ Err refusal
 abbrev pub IsRequester : State → List ℕ → Asking → Type 0
 IsRequester s name (By asking) = (console_asking s name ≡ Ok asking.console) × (asking.user ≡ acting s asking.console)
 IsRequester s name (Refused refusal) = console_asking s name ≡ Err refusal
+
+-- whoever is on where somebody asks is stored
+abbrev pub IsOfStored : Policy → Asking → Type 0
+IsOfStored p (By asking) = IsConsoleOfStored p asking.console
+IsOfStored p (Refused refusal) = Unit {0}

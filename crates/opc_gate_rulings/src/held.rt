@@ -229,9 +229,5 @@ fn highest_level_on<T: Tables>(
 fn id_of(group: &GroupName) -> EntryId
     ensures { result ≡ group.now }
 {
-    match UserId::read(group.text()) {
-        Ok(name) => EntryId::from(name),
-        // The syntax of group names is that of user ids.
-        Err(_) => unreachable!(),
-    }
+    EntryId::from(group.as_kind())
 }

@@ -2,11 +2,11 @@
 ghost use Rattle.std.specs.Prelude.{◌≡◌, ◌&&◌, IfOk, Some};
 ghost use Rattle.std.specs.Option.{is_none};
 ghost use Rattle.opc_board.specs.Invariants.{Name, console_at};
-ghost use Rattle.opc_state.specs.Asked.{Loads};
+ghost use Rattle.opc_state.specs.Asked.{Answers, Loads};
 ghost use Rattle.opc_state.specs.State.{State};
 ghost use Rattle.opc_machine.specs.Rights.{is_owner, is_special, sees_all};
 ghost use Rattle.opc_machine.specs.Rulings.{is_required, is_revoked};
-ghost use Rattle.opc_gate_rulings.specs.Requester.{IsRequester, IsConsoleFor};
+ghost use Rattle.opc_gate_rulings.specs.Requester.{IsConsoleFor, IsOfStored, IsRequester};
 
 use crate::ruling::acting_on;
 use opc_board::rows::ConsoleRow;
@@ -74,14 +74,16 @@ fn is_revoked(user: &Option<User>) -> bool
 }
 
 /// The console that asks, whose row is loaded, and who acts there. It has to be there and online; somebody has to be on
-/// where its mode is REQUIRED (E12), and whoever acts may not be revoked (E13).
+/// where its mode is REQUIRED (E12), and whoever acts may not be revoked (E13). Where a user is on who is not stored,
+/// this fails.
 pub fn requester_on<T: Tables>(
     tables: &mut T,
     alloc: Global,
     console: Option<ConsoleRow>,
 ) -> Result<Asking, StoreFault>
-    ensures { Loads T.meaning tables.old tables.new result
+    ensures asking { Loads T.meaning tables.old tables.new result
         (λ s asking. (name : Name) → console ≡ console_at s.board name → IsRequester s name asking) }
+    ensures stored { Answers T.meaning tables.old tables.new result (λ s asking. IsOfStored s.policy asking) }
 {
     let console = match console_for(console) {
         Ok(console) => console,

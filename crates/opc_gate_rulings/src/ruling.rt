@@ -5,7 +5,8 @@ ghost use Rattle.opc_names.specs.Names.{is_plain, is_resource};
 ghost use Rattle.opc_names.specs.declared.class.Class.TheVariants.{Opercmds};
 ghost use Rattle.opc_policy_members.specs.Members.{groups_of, user_of};
 ghost use Rattle.opc_policy.specs.Rulings.{ruling as policy_ruling};
-ghost use Rattle.opc_state.specs.Asked.{Loads};
+ghost use Rattle.opc_state.specs.Asked.{Answers, Loads};
+ghost use Rattle.opc_state.specs.Invariants.{IsConsoleOfStored};
 ghost use Rattle.opc_state.specs.State.{deciding_in};
 ghost use Rattle.opc_gate_rulings.specs.Held.{class_ruling};
 ghost use Rattle.opc_gate_rulings.specs.RulingBasis.{IsRulingBasis};
@@ -108,11 +109,7 @@ fn by_profile<T: Tables>(
 fn own_id(name: &ConsoleName) -> UserId
     ensures { result ≡ name.now }
 {
-    match UserId::read(name.text()) {
-        Ok(id) => id,
-        // Every console name is a valid user id.
-        Err(_) => unreachable!(),
-    }
+    name.as_kind()
 }
 
 // The user of a console's own, where it acts for one.
@@ -147,16 +144,28 @@ pub fn acting_user_on<T: Tables>(
     }
 }
 
-/// The same as a user, if one is stored.
+// The user who is on at a console. Only damaged tables lack that user. They do not say that nobody is on, so the
+// console's authority must not decide: the request is given up.
+fn user_on<T: Tables>(tables: &mut T, alloc: Global, id: &UserId) -> Result<User, StoreFault>
+    ensures { Loads T.meaning tables.old tables.new result (λ s user. user_of s.policy.users id.now ≡ Some user) }
+{
+    match tables.user(alloc, id)? {
+        Some(user) => Ok(user),
+        None => Err(StoreFault::Store),
+    }
+}
+
+/// The same as a user.
 pub(crate) fn acting_on<T: Tables>(
     tables: &mut T,
     alloc: Global,
     console: &ConsoleRow,
 ) -> Result<Option<User>, StoreFault>
-    ensures { Loads T.meaning tables.old tables.new result (λ s u. u ≡ acting s console.now) }
+    ensures acting { Loads T.meaning tables.old tables.new result (λ s u. u ≡ acting s console.now) }
+    ensures stored { Answers T.meaning tables.old tables.new result (λ s _. IsConsoleOfStored s.policy console.now) }
 {
     match console.user {
-        Some(id) => tables.user(alloc, &id),
+        Some(id) => Ok(Some(user_on(tables, alloc, &id)?)),
         None => own_user_on(tables, alloc, console),
     }
 }
@@ -173,12 +182,14 @@ pub enum RulingBasis {
 }
 
 /// How needs are ruled on at a console: who acts is loaded once, for the command and for all lines that it shows.
+/// Where a user is on who is not stored, this fails.
 pub fn ruling_basis_at<T: Tables>(
     tables: &mut T,
     alloc: Global,
     console: &ConsoleRow,
 ) -> Result<RulingBasis, StoreFault>
-    ensures { Loads T.meaning tables.old tables.new result (λ s basis. IsRulingBasis s console.now basis) }
+    ensures basis { Loads T.meaning tables.old tables.new result (λ s basis. IsRulingBasis s console.now basis) }
+    ensures stored { Answers T.meaning tables.old tables.new result (λ s _. IsConsoleOfStored s.policy console.now) }
 {
     if is_required(console.mode) && console.user.is_none() {
         return Ok(RulingBasis::Denied(Rule::LogonRequired));
@@ -217,11 +228,7 @@ pub fn ruling_on<T: Tables>(
 fn resource_of(name: &ConsoleName) -> Resource
     ensures { result ≡ name.now }
 {
-    match Resource::read(name.text()) {
-        Ok(resource) => resource,
-        // A console name is a valid resource of one qualifier.
-        Err(_) => unreachable!(),
-    }
+    name.as_kind()
 }
 
 /// The ruling on a user who logs on at a console.

@@ -20,5 +20,6 @@ returns-in-RAlter g c = record {
       (policy_outcome s (policy_changed s.board (operation.RAlter p.class p.pattern p.owner p.uacc p.warning)
       s.policy)) o))
       c.definition-profile-in-RAlter.ensures (c.ralter.ensures.answers sure s represents) in
-      subst (λ (op : Operation). IfOk c.ralter.result (λ o. IsKeyed s → IsOutcome s (state_outcome (changed s op)) o)) (sym c.in-RAlter.is) (to_state s _ _ comes);
+      subst (λ (op : Operation). IfOk c.ralter.result (λ o. IsKeyed s → IsOutcome s (state_outcome (changed s op)) o))
+      (sym c.in-RAlter.is) (to_state s _ _ comes);
 }

@@ -46,6 +46,8 @@ returns g c = record {
       let still = c.in_ok-stored.ensures.console.kept.same one s represents in
       let at : console_at s.board c.args.name ≡ Some c.in-Some.stored = sym (c.in_ok-stored.ensures.console.answers one s represents) ∙ c.in-Some.is in
       given _ _ (λ order. if_ok _ (one_change s _ _
-      (set_anew s c.args.name c.args.auth c.args.mode c.in-Some.stored order at (sym (c.in_ok-loses_master.ensures.answers sure s still order) ∙ c.if-branch.false))
-      (set_changes s c.args.name c.args.auth c.args.mode c.in-Some.stored order at (sym c.same_setting.ensures ∙ c.if-same_setting.false))) c.done_by-2.ensures);
+      (set_anew s c.args.name c.args.auth c.args.mode c.in-Some.stored order at
+      (sym (c.in_ok-loses_master.ensures.answers sure s still order) ∙ c.if-branch.false))
+      (set_changes s c.args.name c.args.auth c.args.mode c.in-Some.stored order at
+      (sym c.same_setting.ensures ∙ c.if-same_setting.false))) c.done_by-2.ensures);
 }

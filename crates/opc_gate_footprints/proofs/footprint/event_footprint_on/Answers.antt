@@ -7,5 +7,5 @@ returns g c = record {
   kept = search rules;
   answers = λ sure s represents.
       if_ok c.board_of.result (λ board is. event_footprint s c.args.event.now c.keys_of_event.result c.in_ok-part.part
-      board c.keys_of_event.ensures (c.in_ok-part.ensures.answers sure s represents) is) c.board_of.ensures;
+      board c.keys_of_event.ensures (c.in_ok-part.ensures.answers sure s represents tt) is) c.board_of.ensures;
 }

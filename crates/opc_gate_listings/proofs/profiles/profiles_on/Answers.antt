@@ -15,8 +15,9 @@ returns g c = record {
       let before = c.in_ok-lines.ensures.kept.sure sure in
       by_any_name (λ name. c.args.console ≡ console_at s.board name) (λ name. IsOutcome s (profiles_outcome s name c.args.class)) _
       (λ name at.
-      let asks : IsRequester s name (By c.in-By.requester) = subst (IsRequester s name) c.in-By.is (c.in_ok-requester.ensures.answers before s represents name at) in
-      let lines = c.in_ok-lines.ensures.answers sure s (c.in_ok-requester.ensures.kept.same before s represents) asks.1 in
+      let asks : IsRequester s name (By c.in-By.requester) = subst (IsRequester s name) c.in-By.is
+      (c.in_ok-requester.ensures.asking.answers before s represents name at) in
+      let lines = c.in_ok-lines.ensures.answers sure s (c.in_ok-requester.ensures.asking.kept.same before s represents) asks.1 in
       let comes = profiles_reported s name c.args.class c.in-By.requester.console c.in_ok-lines.lines asks.0 lines in
       subst (λ o. IfOk c.listing.result (IsOutcome s o)) (sym comes) (c.listing.ensures s));
 }

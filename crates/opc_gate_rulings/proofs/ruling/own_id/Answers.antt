@@ -1,9 +1,6 @@
-use Rattle.std.proofs.Common.{sym, ◌∙◌, rules}
-use Rattle.opc_gate_rulings.proofs.OwnUsers.{console_named}
+use Rattle.std.proofs.Common.{arith}
+use Rattle.opc_names.proofs.GroupNames.{console_names_read_as_users}
 use Rattle.opc_gate_rulings.proofs.ruling.own_id.Goals as goal
 
-pub unreachable-requires : goal.unreachable-requires
-unreachable-requires c =
-    let valid = console_named _ c.text.ensures.reads_back in
-    let fault = rw c.text.ensures.text at c.in-Err.ensures in
-    search (rules, sym valid ∙ fault)
+pub as_kind-requires : goal.as_kind-requires
+as_kind-requires c = (omega arith, (omega arith, console_names_read_as_users))

@@ -1,4 +1,6 @@
 pub mod AsciiText
+pub mod CutRows
+pub mod Cutting
 pub mod FileLemmas
 pub mod FirstFaults
 pub mod PlainText

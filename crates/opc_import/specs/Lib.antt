@@ -1,4 +1,5 @@
 pub mod Columns
+pub mod Extent
 pub mod Faults
 pub mod Fields
 pub mod Files

@@ -3,6 +3,7 @@ ghost use Rattle.std.specs.Prelude.{◌≡◌, ◌≢◌, IfOk, IfErr, Ok, Err};
 ghost use Rattle.opc_import.specs.Files.{policy_of};
 
 use crate::column::width_of;
+use crate::extent::extent_of;
 use crate::fault::ImportFault;
 use crate::kind::{MOST_ROWS, row_of};
 use crate::records::Records;
@@ -22,7 +23,7 @@ pub fn read_policy(alloc: Global, text: &str) -> Result<Vec<Row>, ImportFault>
     ensures ok { IfOk result (λ rows. policy_of text.now ≡ Ok rows.items) }
     ensures err { IfErr result (λ fault. fault ≢ ImportFault.NoMemory → policy_of text.now ≡ Err fault) }
 {
-    let mut records = Records::of(alloc, text);
+    let mut records = Records::of(alloc, extent_of(text.as_bytes()));
     let mut line = StringRecord::new(alloc);
     if !records.take_into(&mut line)? {
         return Err(BAD_HEADER);

@@ -23,14 +23,14 @@ impl<'a> Model for Records<'a> {
 }
 
 impl<'a> Records<'a> {
-    pub(crate) fn of(alloc: Global, text: &'a str) -> Records<'a>
+    pub(crate) fn of(alloc: Global, text: &'a [u8]) -> Records<'a>
         ensures { result ≡ records default_config (strip_bom text.now) }
     {
         let reader = ReaderBuilder::new()
             .has_headers(false)
             // Lengths are not checked here: a row of another length is `Columns`, with its number.
             .flexible(true)
-            .from_reader(alloc, text.as_bytes());
+            .from_reader(alloc, text);
         Records { reader }
     }
 

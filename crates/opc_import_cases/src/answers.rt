@@ -19,12 +19,13 @@ pub fn answer(alloc: Global, line: &str) -> Result<String> {
         "file" => file(alloc, &unescaped(alloc, rest)?),
         "record" => record(alloc, &unescaped(alloc, rest)?),
         "after" => after(alloc, &unescaped(alloc, rest)?),
+        "each" => each(alloc, &unescaped(alloc, rest)?),
         _ => bail!("no subject"),
     }
 }
 
 /// A fault of the text by its code; out of memory says nothing of the text, and ends the program.
-fn told(alloc: Global, fault: ImportFault) -> Result<String> {
+fn reported(alloc: Global, fault: ImportFault) -> Result<String> {
     match Fault::from(fault) {
         Fault::NoMemory => bail!("out of memory"),
         fault => Ok(format!(in alloc; "{} {fault}", fault.code())?),
@@ -38,7 +39,7 @@ fn file(alloc: Global, text: &str) -> Result<String> {
             let written = write_policy(alloc, rows.as_slice())?;
             Ok(escaped(alloc, written.as_str())?)
         }
-        Err(fault) => told(alloc, fault),
+        Err(fault) => reported(alloc, fault),
     }
 }
 
@@ -51,7 +52,7 @@ fn record(alloc: Global, text: &str) -> Result<String> {
             let line = written.lines().nth(1).context("no row")?;
             Ok(String::from_str(alloc, line)?)
         }
-        Err(fault) => told(alloc, fault),
+        Err(fault) => reported(alloc, fault),
     }
 }
 
@@ -61,7 +62,7 @@ fn after(alloc: Global, text: &str) -> Result<String> {
     let file = file_of(alloc, count.parse()?, last)?;
     match read_policy(alloc, file.as_str()) {
         Ok(rows) => Ok(format!(in alloc; "{}", rows.len())?),
-        Err(fault) => told(alloc, fault),
+        Err(fault) => reported(alloc, fault),
     }
 }
 
@@ -73,4 +74,37 @@ fn file_of(alloc: Global, count: u32, last: &str) -> Result<String, AllocError> 
     }
     file.push_str(last)?;
     Ok(file)
+}
+
+/// A file with each of its records in turn made wrong, one line for each: its kind is `x`, or its last field is missing.
+fn each(alloc: Global, text: &str) -> Result<String> {
+    let (part, good) = text.split_once(' ').context("no part")?;
+    let mut answers = String::new(alloc);
+    for number in 1..good.lines().count() {
+        if number > 1 {
+            answers.push('\n')?;
+        }
+        let wrong = with_wrong_record(alloc, good, number, part)?;
+        answers.push_str(file(alloc, wrong.as_str())?.as_str())?;
+    }
+    Ok(answers)
+}
+
+/// The file with the record of this number made wrong.
+fn with_wrong_record(alloc: Global, good: &str, number: usize, part: &str) -> Result<String> {
+    let mut wrong = String::new(alloc);
+    for (at, line) in good.lines().enumerate() {
+        if at != number {
+            wrong.push_str(line)?;
+        } else if part == "kind" {
+            let (_, fields) = line.split_once(',').context("no fields")?;
+            wrong.push_str("x,")?;
+            wrong.push_str(fields)?;
+        } else {
+            let (fields, _) = line.rsplit_once(',').context("no fields")?;
+            wrong.push_str(fields)?;
+        }
+        wrong.push('\n')?;
+    }
+    Ok(wrong)
 }

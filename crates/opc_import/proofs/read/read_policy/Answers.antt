@@ -6,7 +6,10 @@ use Rattle.opc_import.proofs.read.read_policy.Goals as goal
 pub loop-number-init : goal.loop-number-init
 loop-number-init c =
     let taken = rw c.if-not-branch.false at c.in_ok-take_into.ensures in
-    (rw c.new-rows.ensures.items (header-first _ _ _ _ (sym c.of-records.ensures ∙ taken) (sym c.width_of.ensures ∙ c.in-Some.is)), omega arith)
+    let same = rw c.as_bytes.ensures.value at c.extent_of.ensures.same in (
+      sym same ∙ rw c.new-rows.ensures.items (header-first _ _ _ _ (sym c.of-records.ensures ∙ taken) (sym c.width_of.ensures ∙ c.in-Some.is)),
+      omega arith,
+    )
 
 pub returns-then-not-branch-2-clause-ok : goal.returns-then-not-branch-2-clause-ok
 returns-then-not-branch-2-clause-ok c =

@@ -1,7 +1,8 @@
--- What is told of the reply to what is asked.
+-- What is reported of the reply to a request.
 use Rattle.std.proofs.Common.{◌≡◌, ℕ, true, false, List, Option, Result, Ok, Err, IfErr, IfOk, refl, rules}
 use Rattle.std.specs.Prelude.{Bool, if◌then◌else◌}
 use Rattle.opc_machine.specs.declared.request.Request.{Request}
+use Rattle.opc_http_head.specs.declared.origins.Origins.{Origins}
 use Rattle.opc_http_head.specs.declared.refusal.HttpRefusal.{HttpRefusal}
 use Rattle.opc_http_requests.specs.Faults as faults
 use Rattle.opc_http_requests.specs.declared.fault.ReadingFault.{ReadingFault}
@@ -12,32 +13,32 @@ use Rattle.opc_http.specs.declared.exchanging.LinkFault.{LinkFault}
 use Rattle.opc_http.specs.declared.exchanging.LinkFault.TheVariants as fault
 use Rattle.opc_http.specs.declared.exchanging.Served.{Served}
 
-module _ {T K : Type 0} (m : Meaning T) (held : K → Option (List ℕ))
+module _ (origins : Origins) {T K : Type 0} (m : Meaning T) (held : K → Option (List ℕ))
     (left : Option (List ℕ)) (before after : K) (old new : T) (moment : ℕ) where
-  -- a reply that is told is served
-  pub served : (reply : Reply) → Replies m left old new moment reply
+  -- a reply that is reported is served
+  pub served : (reply : Reply) → Replies origins m left old new moment reply
       → (res : Result Served LinkFault) → IfOk res (IsReported held reply before after)
-      → IfOk res (IsServed m held left before after old new moment)
+      → IfOk res (IsServed origins m held left before after old new moment)
   served reply replies (Ok done) reported = record { reply = reply; replies = replies; reported = reported }
   served reply replies (Err why) reported = tt
 
   -- one that is cut off leaves what its fault leaves
-  pub cut_off : (reply : Reply) → Replies m left old new moment reply
+  pub cut_off : (reply : Reply) → Replies origins m left old new moment reply
       → (why : LinkFault) → IsCutOff held reply before after why
-      → IsFaulty m held left before after old new moment why
+      → IsFaulty origins m held left before after old new moment why
   cut_off reply replies fault.Read cut = absurd cut
   cut_off reply replies (fault.Write handled) cut = record { reply = reply; replies = replies; cut_off = cut }
   cut_off reply replies (fault.NoMemory true) cut = record { reply = reply; replies = replies; cut_off = cut }
   cut_off (Ok answer) replies (fault.NoMemory false) cut = absurd (search (rules, cut.1))
   cut_off (Err refusal) replies (fault.NoMemory false) cut = (cut.0, replies.1)
 
-  pub faulty : (reply : Reply) → Replies m left old new moment reply
+  pub faulty : (reply : Reply) → Replies origins m left old new moment reply
       → (res : Result Served LinkFault) → IfErr res (IsCutOff held reply before after)
-      → IfErr res (IsFaulty m held left before after old new moment)
+      → IfErr res (IsFaulty origins m held left before after old new moment)
   faulty reply replies (Ok done) cut = tt
   faulty reply replies (Err why) cut = cut_off reply replies why cut
 
--- a reply that is cut off is not told as a failed read
+-- a reply that is cut off is not reported as a failed read
 pub not_read : {K : Type 0} (held : K → Option (List ℕ)) (reply : Reply) (before after : K)
     (res : Result Served LinkFault) → IfErr res (IsCutOff held reply before after) → is_read res ≡ false
 not_read held reply before after (Ok done) cut = refl

@@ -2,6 +2,7 @@
 use Rattle.std.specs.Prelude.{◌≡◌, ℕ, Bool, true, false, List, Option, Result, Ok, Err, IfSome, is_ok}
 use Rattle.std.specs.Io.KnownBytes.{Appends}
 use Rattle.opc_io.specs.Writes.{AppendsPrefix}
+use Rattle.opc_http_head.specs.declared.origins.Origins.{Origins}
 use Rattle.opc_http_head.specs.declared.refusal.HttpRefusal.{HttpRefusal}
 use Rattle.opc_http_requests.specs.Asked.{AsksOnly}
 use Rattle.opc_http_responses.specs.Responses.{refusal_response, response_of}
@@ -43,9 +44,10 @@ is_write (Err fault.Read) = false
 is_write (Err (fault.Write handled)) = true
 is_write (Err (fault.NoMemory handled)) = false
 
--- the bytes that the reader has left, where they are known, ask for this, and for nothing else
-abbrev pub IsAsked : Option (List ℕ) → Result Request HttpRefusal → Type 0
-IsAsked left asked = IfSome left (λ all. AsksOnly all asked)
+-- the bytes that the reader has left, where they are known, ask for this, and for nothing else, where requests are taken
+-- from there
+abbrev pub IsAsked : Origins → Option (List ℕ) → Result Request HttpRefusal → Type 0
+IsAsked origins left asked = IfSome left (λ all. AsksOnly origins all asked)
 
 module _ {K : Type 0} (held : K → Option (List ℕ)) where
   -- The response was written, whole, and this is answered.
@@ -61,19 +63,19 @@ module _ {K : Type 0} (held : K → Option (List ℕ)) where
       AppendsPrefix (held before) (held after) (reply_bytes reply) × (handled ≡ is_ok reply)
   IsCutOff reply before after (fault.NoMemory handled) = (after ≡ before) × (handled ≡ is_ok reply)
 
-module _ {T : Type 0} (m : Meaning T) where
+module _ (origins : Origins) {T : Type 0} (m : Meaning T) where
   -- The request that is asked for was handled once, with this answer: a step of the access machine. What a crash may
   -- leave goes by that answer.
   pub record IsOneStep (left : Option (List ℕ)) (old new : T) (moment : ℕ) (answer : Answer) : Type 0 where
     pub request : Request
-    pub asked : IsAsked left (Ok request)
+    pub asked : IsAsked origins left (Ok request)
     pub handled : m.is_sure new → (s : State) → m.represents old s
         → IsHandled m old new s moment (input_of request) answer
 
   -- The reply is the one to what is asked. Where that is no request, the tables are as they were.
   abbrev pub Replies : Option (List ℕ) → T → T → ℕ → Reply → Type 0
   Replies left old new moment (Ok answer) = IsOneStep left old new moment answer
-  Replies left old new moment (Err refusal) = IsAsked left (Err refusal) × (new ≡ old)
+  Replies left old new moment (Err refusal) = IsAsked origins left (Err refusal) × (new ≡ old)
 
   module _ {K : Type 0} (held : K → Option (List ℕ)) where
     -- The reply to what is asked was written, whole.

@@ -95,14 +95,14 @@ pub fn exchange<T: Tables, S: Source, K: Sink>(
     gate: &mut Gate<T>,
     moment: u64,
 ) -> Result<Served, LinkFault>
-    ensures served { IfOk result (IsServed T.meaning K.held (S.left source.old) sink.old sink.new gate.old
+    ensures served { IfOk result (IsServed routes.now T.meaning K.held (S.left source.old) sink.old sink.new gate.old
         gate.new moment) }
-    ensures fault { IfErr result (IsFaulty T.meaning K.held (S.left source.old) sink.old sink.new
+    ensures fault { IfErr result (IsFaulty routes.now T.meaning K.held (S.left source.old) sink.old sink.new
         gate.old gate.new moment) }
     ensures sure { T.meaning.is_sure gate.new → T.meaning.is_sure gate.old }
-    ensures stops { IfSome (S.left source.old) (λ all. StopsAtEnd all (S.left source.new)) }
+    ensures stops { IfSome (S.left source.old) (λ all. StopsAtEnd routes.now all (S.left source.new)) }
     ensures most { TakesAtMost 73728 (S.left source.old) (S.left source.new) }
-    ensures reads { ReadsOnly S.left S.gives MayRead source.old [] source.new }
+    ensures reads { ReadsOnly S.left S.gives (MayRead routes.now) source.old [] source.new }
     ensures read { S.has_failed source.new ≡ (if is_read result then true else S.has_failed source.old) }
     ensures write { K.has_failed sink.new ≡ (if is_write result then true else K.has_failed sink.old) }
 {

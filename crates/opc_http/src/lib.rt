@@ -4,6 +4,7 @@
 #![tactic(auto)]
 
 mod exchanging;
+pub mod laws;
 
 pub use crate::exchanging::{LinkFault, Served, exchange};
 pub use opc_http_head::routes;

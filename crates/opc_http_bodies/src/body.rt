@@ -42,7 +42,8 @@ fn value_in(alloc: Global, body: &[u8]) -> Result<Value, AskFault>
 
 /// The text of a command: an object with the one key `text`.
 pub fn command_in(alloc: Global, body: &[u8]) -> Result<KeptText, AskFault>
-    ensures { MatchResult result (λ text. command_in body.now ≡ Ok text) (λ fault. Refuses fault (command_in body.now)) }
+    ensures { MatchResult result (λ text. command_in body.now ≡ Ok text)
+        (λ fault. Refuses fault (command_in body.now)) }
 {
     let value = value_in(alloc, body)?;
     let Some(text) = text_of(&value) else {
@@ -53,7 +54,8 @@ pub fn command_in(alloc: Global, body: &[u8]) -> Result<KeptText, AskFault>
 
 /// An operation of administration: an object with exactly its keys.
 pub fn operation_in(alloc: Global, body: &[u8]) -> Result<Operation, AskFault>
-    ensures { MatchResult result (λ op. operation_in body.now ≡ Ok op) (λ fault. Refuses fault (operation_in body.now)) }
+    ensures { MatchResult result (λ op. operation_in body.now ≡ Ok op)
+        (λ fault. Refuses fault (operation_in body.now)) }
 {
     let value = value_in(alloc, body)?;
     let Some(op) = operation_of(&value) else {
@@ -64,7 +66,8 @@ pub fn operation_in(alloc: Global, body: &[u8]) -> Result<Operation, AskFault>
 
 /// The rows of a policy file.
 pub fn rows_in(alloc: Global, body: &[u8]) -> Result<Vec<Row>, AskFault>
-    ensures { MatchResult result (λ rows. rows_in body.now ≡ Ok rows.items) (λ fault. Refuses fault (rows_in body.now)) }
+    ensures { MatchResult result (λ rows. rows_in body.now ≡ Ok rows.items)
+        (λ fault. Refuses fault (rows_in body.now)) }
 {
     let Ok(text) = str::from_utf8(body) else {
         return Err(BAD_REQUEST);

@@ -33,8 +33,11 @@ abbrev pub FieldLine : Type 0
 FieldLine = List ℕ × List ℕ
 
 -- large and small letters are alike
+abbrev pub is_alike : List ℕ → List ℕ → Bool
+is_alike found text = bytes_eq (map to_ascii_lowercase found) (map to_ascii_lowercase text)
+
 abbrev pub has_name : List ℕ → FieldLine → Bool
-has_name name field = bytes_eq (map to_ascii_lowercase field.0) (map to_ascii_lowercase name)
+has_name name field = is_alike field.0 name
 
 -- the values of the fields with a name
 abbrev pub values_of : List ℕ → List FieldLine → List (List ℕ)

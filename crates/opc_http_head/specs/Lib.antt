@@ -1,4 +1,5 @@
 pub mod Framing
 pub mod Head
+pub mod Origins
 pub mod Refusals
 pub mod Routes

@@ -1,10 +1,8 @@
 //! How long the body of a request is.
 ghost use Rattle.std.specs.Prelude.{◌≡◌, All, IfErr, IfOk, IfSome, Err, Ok, length, map};
-ghost use Rattle.std.specs.Char.{to_ascii_lowercase};
 ghost use Rattle.std.specs.Option.{option_map};
-ghost use Rattle.std.specs.Str.{bytes_eq};
 ghost use Rattle.httparse.specs.Spans.{IsHeaderWithin, IsWithin, header_bytes, span_bytes};
-ghost use Rattle.opc_http_head.specs.Framing.{body_length, length_by, number_in, only, values_of};
+ghost use Rattle.opc_http_head.specs.Framing.{body_length, is_alike, length_by, number_in, only, values_of};
 
 use crate::number::number_in;
 use crate::refusal::HttpRefusal;
@@ -18,14 +16,18 @@ pub const BODY_LIMIT: u64 = 65536;
 const LENGTH_DIGITS: usize = 9;
 
 // Large and small letters are alike.
-fn is_named(found: &[u8], name: &[u8]) -> bool
-    ensures { result ≡ bytes_eq (map to_ascii_lowercase found.now) (map to_ascii_lowercase name.now) }
+pub(crate) fn is_named(found: &[u8], name: &[u8]) -> bool
+    ensures { result ≡ is_alike found.now name.now }
 {
     found.eq_ignore_ascii_case(name)
 }
 
 // Where the only field of a name has its value, if there is one.
-fn only_value(buf: &[u8], headers: &[HeaderSpan], name: &[u8]) -> Result<Option<Span>, HttpRefusal>
+pub(crate) fn only_value(
+    buf: &[u8],
+    headers: &[HeaderSpan],
+    name: &[u8],
+) -> Result<Option<Span>, HttpRefusal>
     requires { All (IsHeaderWithin (length buf.now)) headers.now }
     ensures ok { IfOk result (λ value. only (values_of name.now (map (header_bytes buf.now) headers.now)) ≡ Ok
         (option_map (span_bytes buf.now) value)) }

@@ -1,8 +1,9 @@
-//! The head of a request over HTTP: how it is read, its route, and the length of its body.
+//! The head of a request over HTTP: how it is read, whether it is taken, its route, and the length of its body.
 #![tactic(auto)]
 
 pub mod framing;
 pub mod head;
 pub mod number;
+pub mod origins;
 pub mod refusal;
 pub mod routes;

@@ -14,6 +14,8 @@ pub enum Method {
 pub enum HttpRefusal {
     /// Head, values of the path or body cannot be read, or the input ends within them.
     BadRequest,
+    /// A web page can have sent it, and that is not taken.
+    Forbidden,
     /// No route has this path.
     NotFound,
     /// The path has this method alone.

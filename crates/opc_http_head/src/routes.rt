@@ -1,7 +1,9 @@
 //! The routes.
 ghost use Rattle.std.specs.Prelude.{◌≡◌, IfOk};
 ghost use Rattle.opc_http_head.specs.Routes.{route_of, the_routes};
+ghost use Rattle.opc_http_head.specs.declared.origins.Origins.TheVariants.{Any, Only};
 
+use crate::origins::Origins;
 use matchit::{InsertError, Router};
 use std::alloc::Global;
 use std::marker::Model;
@@ -16,22 +18,21 @@ pub enum Route {
     ListAccount,
 }
 
-/// The five routes.
+/// The five routes, and from where requests are taken.
 #[derive(Drop)]
 pub struct Routes {
     router: Router<Route>,
+    origins: Origins,
 }
 
 impl Model for Routes {
     ghost use Rattle.std.specs.Prelude.{◌≡◌};
-    ghost use Rattle.matchit.specs.Rows.{RowsOf};
-    ghost use Rattle.matchit.specs.Router.{RouteOf};
     ghost use Rattle.opc_http_head.specs.Routes.{the_routes};
-    ghost use Rattle.opc_http_head.specs.declared.routes.Route.{Route};
+    ghost use Rattle.opc_http_head.specs.declared.origins.Origins.{Origins};
 
-    ghost Value = { RowsOf (RouteOf Route) };
+    ghost Value = { Origins };
 
-    ghost view = { λ routes. routes.router };
+    ghost view = { λ routes. routes.origins };
 
     ghost invariant = { λ routes. routes.router ≡ the_routes };
 }
@@ -52,14 +53,34 @@ fn router(alloc: Global) -> Result<Router<Route>, InsertError>
 }
 
 impl Routes {
-    /// The routes, unless out of memory.
+    /// The routes, unless out of memory. Requests are taken from anywhere.
     pub fn new(alloc: Global) -> Result<Self, NoMemory>
-        ensures { IfOk result (λ routes. routes ≡ the_routes) }
+        ensures { IfOk result (λ routes. routes ≡ Any) }
+    {
+        Routes::from_origins(alloc, Origins::Any)
+    }
+
+    /// The routes at a port of this computer, unless out of memory. What a web page can send is not taken.
+    pub fn strict(alloc: Global, port: u16) -> Result<Self, NoMemory>
+        ensures { IfOk result (λ routes. routes ≡ Only port) }
+    {
+        Routes::from_origins(alloc, Origins::Only(port))
+    }
+
+    fn from_origins(alloc: Global, origins: Origins) -> Result<Self, NoMemory>
+        ensures { IfOk result (λ routes. routes ≡ origins) }
     {
         match router(alloc) {
-            Ok(router) => Ok(Routes { router }),
+            Ok(router) => Ok(Routes { router, origins }),
             Err(_) => Err(NoMemory),
         }
+    }
+
+    /// From where requests are taken.
+    pub fn origins(&self) -> Origins
+        ensures { result ≡ self.now }
+    {
+        self.origins
     }
 
     /// The route of a path, if it has one.

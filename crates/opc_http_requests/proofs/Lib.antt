@@ -1,4 +1,5 @@
 pub mod Requester
+pub mod Strictness
 pub mod BodyReads
 pub mod Lengths
 pub mod MadeReads

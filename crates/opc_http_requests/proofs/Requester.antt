@@ -39,6 +39,7 @@ use Rattle.opc_http_head.specs.Head.{FoundHead, HasHead, NoHead}
 use Rattle.opc_http_head.specs.Refusals.{Refuses}
 use Rattle.opc_http_head.specs.declared.refusal.AskFault.{AskFault}
 use Rattle.opc_http_head.specs.declared.refusal.AskFault.TheVariants as asking
+use Rattle.opc_http_head.specs.declared.origins.Origins.{Origins}
 use Rattle.opc_http_head.specs.declared.refusal.HttpRefusal.{HttpRefusal}
 use Rattle.opc_http_head.specs.declared.refusal.HttpRefusal.TheVariants.{BadRequest}
 use Rattle.opc_http_requests.specs.Asked.{Asks, AsksOnly}
@@ -54,45 +55,50 @@ use Rattle.opc_http_requests.specs.declared.plan.Plan.{Plan}
 pub one-head : (all : List ℕ) (a b : RequestHead) → HasHead all a → HasHead all b → a ≡ b
 one-head all a b h k = (request_unique (take 8192 all) a b h.rest k.rest h.reads k.reads).0
 
--- and ask for one thing
-asks-one : (all : List ℕ) (r s : Result Request HttpRefusal) → Asks all r → Asks all s → s ≡ r
-asks-one all r s (inl a) (inl b) = b.1 ∙ sym a.1
-asks-one all r s (inl a) (inr b) = absurd (a.0 b.head b.has)
-asks-one all r s (inr a) (inl b) = absurd (b.0 a.head a.has)
-asks-one all r s (inr a) (inr b) =
-    b.is ∙ ap (λ (head : RequestHead). request_of head (drop (length (print_request head)) all)) (one-head all b.head a.head b.has a.has) ∙ sym a.is
+module _ (origins : Origins) where
+  -- and ask for one thing
+  asks-one : (all : List ℕ) (r s : Result Request HttpRefusal) → Asks origins all r → Asks origins all s → s ≡ r
+  asks-one all r s (inl a) (inl b) = b.1 ∙ sym a.1
+  asks-one all r s (inl a) (inr b) = absurd (a.0 b.head b.has)
+  asks-one all r s (inr a) (inl b) = absurd (b.0 a.head a.has)
+  asks-one all r s (inr a) (inr b) =
+      b.is
+      ∙ ap (λ (head : RequestHead). request_of origins head (drop (length (print_request head)) all))
+      (one-head all b.head a.head b.has a.has) ∙ sym a.is
 
-asks-only : (all : List ℕ) (r : Result Request HttpRefusal) → Asks all r → AsksOnly all r
-asks-only all r a = record { asks = a; only = λ s b. asks-one all r s a b }
+  pub asks-only : (all : List ℕ) (r : Result Request HttpRefusal) → Asks origins all r → AsksOnly origins all r
+  asks-only all r a = record { asks = a; only = λ s b. asks-one all r s a b }
 
--- no head was found
-pub asks-headless : (known : Option (List ℕ)) → IfSome known NoHead → IfSome known (λ all. AsksOnly all (Err BadRequest))
-asks-headless None h = tt
-asks-headless (Some all) h = asks-only all (Err BadRequest) (inl (h, refl))
+  -- no head was found
+  pub asks-headless : (known : Option (List ℕ)) → IfSome known NoHead → IfSome known (λ all. AsksOnly origins all (Err BadRequest))
+  asks-headless None h = tt
+  asks-headless (Some all) h = asks-only all (Err BadRequest) (inl (h, refl))
 
--- the spans tell the plan of the head that they find
-pub head-plan : (all buf : List ℕ) (headers : List HeaderSpan) (spans : RequestSpans) (f : FoundHead all buf headers spans)
-    → plan_in buf headers spans ≡ plan_of f.head.method f.head.target (map name_and_value f.head.fields)
-head-plan all buf headers spans f = rw (f.parts.method, f.parts.path, f.parts.fields) refl
+  -- the spans give the plan of the head that they find
+  pub head-plan : (all buf : List ℕ) (headers : List HeaderSpan) (spans : RequestSpans) (f : FoundHead all buf headers spans)
+      → plan_in origins buf headers spans ≡ plan_of origins f.head.method f.head.target (map name_and_value f.head.fields)
+  head-plan all buf headers spans f = rw (f.parts.method, f.parts.path, f.parts.fields) refl
 
--- the plan is a refusal
-pub asks-refused : (known : Option (List ℕ)) (buf : List ℕ) (headers : List HeaderSpan) (spans : RequestSpans) (why : HttpRefusal)
-    → IfSome known (λ all. FoundHead all buf headers spans) → plan_in buf headers spans ≡ Err why → IfSome known (λ all. AsksOnly all (Err why))
-asks-refused None buf headers spans why f e = tt
-asks-refused (Some all) buf headers spans why f e =
-    let plan = sym (head-plan all buf headers spans f) ∙ e in
-    asks-only all (Err why) (inr (record { head = f.head; has = f.has; is = rw plan refl }))
+  -- the plan is a refusal
+  pub asks-refused : (known : Option (List ℕ)) (buf : List ℕ) (headers : List HeaderSpan) (spans : RequestSpans) (why : HttpRefusal)
+      → IfSome known (λ all. FoundHead all buf headers spans) → plan_in origins buf headers spans ≡ Err why
+      → IfSome known (λ all. AsksOnly origins all (Err why))
+  asks-refused None buf headers spans why f e = tt
+  asks-refused (Some all) buf headers spans why f e =
+      let plan = sym (head-plan all buf headers spans f) ∙ e in
+      asks-only all (Err why) (inr (record { head = f.head; has = f.has; is = rw plan refl }))
 
--- the plan comes to a request or a refusal
-pub asks-planned : (known mid : Option (List ℕ)) (buf : List ℕ) (headers : List HeaderSpan) (spans : RequestSpans) (plan : Plan) (r : Result Request HttpRefusal)
-    → Consumes known mid buf → IfSome known (λ all. FoundHead all buf headers spans) → plan_in buf headers spans ≡ Ok plan
-    → IfSome mid (λ left. planned (span_bytes buf spans.path) (drop spans.len (buf ++ left)) plan ≡ r) → IfSome known (λ all. AsksOnly all r)
-asks-planned None mid buf headers spans plan r c f e p = tt
-asks-planned (Some all) None buf headers spans plan r c f e p = absurd c
-asks-planned (Some all) (Some left) buf headers spans plan r c f e p =
-    let is = sym (head-plan all buf headers spans f) ∙ e in
-    let left_is : drop spans.len (buf ++ left) ≡ drop (length (print_request f.head)) all = rw (c, f.parts.len) refl in
-    asks-only all r (inr (record { head = f.head; has = f.has; is = rw is (sym (rw (f.parts.path, left_is) at p)) }))
+  -- the plan comes to a request or a refusal
+  pub asks-planned : (known mid : Option (List ℕ)) (buf : List ℕ) (headers : List HeaderSpan) (spans : RequestSpans)
+      (plan : Plan) (r : Result Request HttpRefusal) → Consumes known mid buf → IfSome known (λ all. FoundHead all buf headers spans)
+      → plan_in origins buf headers spans ≡ Ok plan
+      → IfSome mid (λ left. planned (span_bytes buf spans.path) (drop spans.len (buf ++ left)) plan ≡ r) → IfSome known (λ all. AsksOnly origins all r)
+  asks-planned None mid buf headers spans plan r c f e p = tt
+  asks-planned (Some all) None buf headers spans plan r c f e p = absurd c
+  asks-planned (Some all) (Some left) buf headers spans plan r c f e p =
+      let is = sym (head-plan all buf headers spans f) ∙ e in
+      let left_is : drop spans.len (buf ++ left) ≡ drop (length (print_request f.head)) all = rw (c, f.parts.len) refl in
+      asks-only all r (inr (record { head = f.head; has = f.has; is = rw is (sym (rw (f.parts.path, left_is) at p)) }))
 
 -- so many bytes are no more than more
 takes-fewer : (few most : ℕ) (before after : Option (List ℕ)) → few ≤ most → TakesAtMost few before after → TakesAtMost most before after
@@ -136,7 +142,8 @@ planned-without-body None old target len plan why b = tt
 planned-without-body (Some left) old target len plan why b = rw b refl
 
 -- a fault of the request is a fault of its plan
-pub refuses-planned : (fault : AskFault) (known : Option (List ℕ)) (asked : List ℕ → Result Request HttpRefusal) (r : Result Request HttpRefusal) → Refuses fault r
+pub refuses-planned : (fault : AskFault) (known : Option (List ℕ)) (asked : List ℕ → Result Request HttpRefusal)
+    (r : Result Request HttpRefusal) → Refuses fault r
     → IfSome known (λ left. asked left ≡ r) → IfRefused (by_asking fault) (λ why. IfSome known (λ left. asked left ≡ Err why))
 refuses-planned (asking.Refused why) None asked r h e = tt
 refuses-planned (asking.Refused why) (Some left) asked r h e = e ∙ h

@@ -5,6 +5,7 @@ use Rattle.httparse.specs.Spans.{name_and_value}
 use Rattle.opc_machine.specs.declared.request.Request.{Request}
 use Rattle.opc_io.specs.Reads.{TakesAtMost}
 use Rattle.opc_http_head.specs.Head.{HasHead, MayLook, NoHead}
+use Rattle.opc_http_head.specs.declared.origins.Origins.{Origins}
 use Rattle.opc_http_head.specs.declared.refusal.HttpRefusal.{HttpRefusal}
 use Rattle.opc_http_head.specs.declared.refusal.HttpRefusal.TheVariants.{BadRequest}
 use Rattle.opc_http_requests.specs.Bodies.{MayFill}
@@ -12,48 +13,50 @@ use Rattle.opc_http_requests.specs.Plans.{plan_of}
 use Rattle.opc_http_requests.specs.Requests.{request_of}
 use Rattle.opc_http_requests.specs.declared.plan.Plan.{Plan}
 
--- the bytes have a head, and that is what it comes to
-pub record AsksByHead (all : List ℕ) (asked : Result Request HttpRefusal) : Type 0 where
-  pub head : RequestHead
-  pub has : HasHead all head
-  pub is : asked ≡ request_of head (drop (length (print_request head)) all)
-
--- what the bytes of a connection ask for: a request, or the first refusal
-abbrev pub Asks : List ℕ → Result Request HttpRefusal → Type 0
-Asks all asked = (NoHead all × (asked ≡ Err BadRequest)) ⊎ AsksByHead all asked
-
--- and nothing else
-pub record AsksOnly (all : List ℕ) (asked : Result Request HttpRefusal) : Type 0 where
-  pub asks : Asks all asked
-  pub only : (other : Result Request HttpRefusal) → Asks all other → other ≡ asked
-
 -- the length of the body that is read, if one is
 abbrev pub body_part : Result Plan HttpRefusal → ℕ
 body_part (Ok plan) = plan.length
 body_part (Err why) = 0
-
--- how many bytes head and body have; of a head that is refused no body is read
-abbrev pub request_length : RequestHead → ℕ
-request_length head = length (print_request head) + body_part
-    (plan_of head.method head.target (map name_and_value head.fields))
-
--- A read of the body may be made where its head is there and it is not, and ends with it.
-pub record MayReadBody (before : List ℕ) (count : ℕ) : Type 0 where
-  pub head : RequestHead
-  pub has : HasHead before head
-  pub body : MayFill (request_length head) before count
-
--- when a read may be made, by the bytes before it and how many it gives: to look for the head, or for the body
-abbrev pub MayRead : List ℕ → ℕ → Type 0
-MayRead before count = MayLook before count ⊎ MayReadBody before count
 
 -- how many bytes are read at most to find a head: the last read is made before its last byte is there, and gives 1,024
 -- at most
 abbrev pub looked_through : RequestHead → ℕ
 looked_through head = min 8192 (length (print_request head) + 1023)
 
--- No read goes past the end of the body, but for the last one of those that look for the head.
-pub record StopsAtEnd (all : List ℕ) (after : Option (List ℕ)) : Type 0 where
-  pub headless : NoHead all → TakesAtMost 8192 (Some all) after
-  pub headed : (head : RequestHead) → HasHead all head
-      → TakesAtMost (max (looked_through head) (request_length head)) (Some all) after
+-- where requests are taken from there
+module _ (origins : Origins) where
+  -- the bytes have a head, and that is what it comes to
+  pub record AsksByHead (all : List ℕ) (asked : Result Request HttpRefusal) : Type 0 where
+    pub head : RequestHead
+    pub has : HasHead all head
+    pub is : asked ≡ request_of origins head (drop (length (print_request head)) all)
+
+  -- what the bytes of a connection ask for: a request, or the first refusal
+  abbrev pub Asks : List ℕ → Result Request HttpRefusal → Type 0
+  Asks all asked = (NoHead all × (asked ≡ Err BadRequest)) ⊎ AsksByHead all asked
+
+  -- and nothing else
+  pub record AsksOnly (all : List ℕ) (asked : Result Request HttpRefusal) : Type 0 where
+    pub asks : Asks all asked
+    pub only : (other : Result Request HttpRefusal) → Asks all other → other ≡ asked
+
+  -- how many bytes head and body have; of a head that is refused no body is read
+  abbrev pub request_length : RequestHead → ℕ
+  request_length head = length (print_request head) + body_part
+      (plan_of origins head.method head.target (map name_and_value head.fields))
+
+  -- A read of the body may be made where its head is there and it is not, and ends with it.
+  pub record MayReadBody (before : List ℕ) (count : ℕ) : Type 0 where
+    pub head : RequestHead
+    pub has : HasHead before head
+    pub body : MayFill (request_length head) before count
+
+  -- when a read may be made, by the bytes before it and how many it gives: to look for the head, or for the body
+  abbrev pub MayRead : List ℕ → ℕ → Type 0
+  MayRead before count = MayLook before count ⊎ MayReadBody before count
+
+  -- No read goes past the end of the body, but for the last one of those that look for the head.
+  pub record StopsAtEnd (all : List ℕ) (after : Option (List ℕ)) : Type 0 where
+    pub headless : NoHead all → TakesAtMost 8192 (Some all) after
+    pub headed : (head : RequestHead) → HasHead all head
+        → TakesAtMost (max (looked_through head) (request_length head)) (Some all) after

@@ -5,7 +5,9 @@ use Rattle.httparse.specs.Spans.{header_bytes, span_bytes}
 use Rattle.httparse.specs.declared.spans.HeaderSpan.{HeaderSpan}
 use Rattle.httparse.specs.declared.spans.RequestSpans.{RequestSpans}
 use Rattle.opc_http_head.specs.Framing.{FieldLine, body_length}
+use Rattle.opc_http_head.specs.Origins.{admitted}
 use Rattle.opc_http_head.specs.Refusals.{◌>>=◌}
+use Rattle.opc_http_head.specs.declared.origins.Origins.{Origins}
 use Rattle.opc_http_head.specs.declared.refusal.Method.{Method}
 use Rattle.opc_http_head.specs.declared.refusal.Method.TheVariants.{Get, Post}
 use Rattle.opc_http_head.specs.declared.refusal.HttpRefusal.{HttpRefusal}
@@ -32,9 +34,10 @@ abbrev pub has_method : List ℕ → Route → Result Unit HttpRefusal
 has_method method route = if bytes_eq method (method_text (method_of route)) then Ok tt else Err
     (MethodNotAllowed (method_of route))
 
--- the route and the length of the body, or the first refusal
-abbrev pub plan_of : (method target : List ℕ) → (fields : List FieldLine) → Result Plan HttpRefusal
-plan_of method target fields = do
+-- the route and the length of the body, or the first refusal: that it is not taken from there comes first
+abbrev pub plan_of : Origins → (method target : List ℕ) → (fields : List FieldLine) → Result Plan HttpRefusal
+plan_of origins method target fields = do
+  _ ← admitted origins fields
   path ← path_in target
   route ← route_in path
   _ ← has_method method route
@@ -42,6 +45,6 @@ plan_of method target fields = do
   Ok (record { route = route; length = length })
 
 -- the same of the head that these bytes begin with, where the spans find its parts
-abbrev pub plan_in : List ℕ → List HeaderSpan → RequestSpans → Result Plan HttpRefusal
-plan_in buf headers spans = plan_of (span_bytes buf spans.method) (span_bytes buf spans.path)
+abbrev pub plan_in : Origins → List ℕ → List HeaderSpan → RequestSpans → Result Plan HttpRefusal
+plan_in origins buf headers spans = plan_of origins (span_bytes buf spans.method) (span_bytes buf spans.path)
     (map (header_bytes buf) (take spans.headers headers))

@@ -5,6 +5,7 @@ use Rattle.httparse.specs.Spans.{name_and_value}
 use Rattle.opc_machine.specs.declared.request.Request.{Request}
 use Rattle.opc_machine.specs.declared.request.Request.TheVariants as request
 use Rattle.opc_http_head.specs.Refusals.{◌>>=◌}
+use Rattle.opc_http_head.specs.declared.origins.Origins.{Origins}
 use Rattle.opc_http_head.specs.declared.refusal.HttpRefusal.{HttpRefusal}
 use Rattle.opc_http_head.specs.declared.refusal.HttpRefusal.TheVariants.{BadRequest}
 use Rattle.opc_http_head.specs.declared.routes.Route.{Route}
@@ -52,5 +53,6 @@ planned target left plan = do
   request_at plan.route path body
 
 -- what a head comes to, with the bytes that follow it
-abbrev pub request_of : RequestHead → List ℕ → Result Request HttpRefusal
-request_of head left = plan_of head.method head.target (map name_and_value head.fields) >>= planned head.target left
+abbrev pub request_of : Origins → RequestHead → List ℕ → Result Request HttpRefusal
+request_of origins head left =
+    plan_of origins head.method head.target (map name_and_value head.fields) >>= planned head.target left

@@ -140,12 +140,12 @@ pub fn read_request<S: Source>(
     routes: &Routes,
     source: &mut S,
 ) -> Result<Request, ReadingFault>
-    ensures asked { IfOk result (λ request. IfSome (S.left source.old) (λ all. AsksOnly all (Ok request))) }
+    ensures asked { IfOk result (λ request. IfSome (S.left source.old) (λ all. AsksOnly routes.now all (Ok request))) }
     ensures refused { IfErr result (λ fault. IfRefused fault (λ why.
-        IfSome (S.left source.old) (λ all. AsksOnly all (Err why)))) }
-    ensures stops { IfSome (S.left source.old) (λ all. StopsAtEnd all (S.left source.new)) }
+        IfSome (S.left source.old) (λ all. AsksOnly routes.now all (Err why)))) }
+    ensures stops { IfSome (S.left source.old) (λ all. StopsAtEnd routes.now all (S.left source.new)) }
     ensures most { TakesAtMost 73728 (S.left source.old) (S.left source.new) }
-    ensures reads { ReadsOnly S.left S.gives MayRead source.old [] source.new }
+    ensures reads { ReadsOnly S.left S.gives (MayRead routes.now) source.old [] source.new }
     ensures failed { S.has_failed source.new ≡ (if is_read result then true else S.has_failed source.old) }
 {
     let mut buf = Vec::new(alloc);

@@ -4,5 +4,6 @@
 pub mod ask;
 mod body;
 pub mod fault;
+pub mod laws;
 mod path;
 mod plan;

@@ -1,4 +1,4 @@
-//! What the head of a request says of its route and its body.
+//! What the head of a request says: whether it is taken, its route, and the length of its body.
 ghost use Rattle.std.specs.Prelude.{◌≡◌, ◌≤◌, All, IfOk, length, map};
 ghost use Rattle.httparse.specs.Spans.{IsHeaderWithin, IsRequestWithin, header_bytes};
 ghost use Rattle.opc_http_requests.specs.Plans.{has_method, method_of, method_text, plan_in, plan_of};
@@ -6,6 +6,7 @@ ghost use Rattle.opc_http_requests.specs.Plans.{has_method, method_of, method_te
 use crate::path::{path_in, route_in};
 use httparse::spans::{HeaderSpan, RequestSpans};
 use opc_http_head::framing::body_length;
+use opc_http_head::origins::admitted;
 use opc_http_head::refusal::{HttpRefusal, Method};
 use opc_http_head::routes::{Route, Routes};
 
@@ -55,9 +56,10 @@ fn plan_of(
     headers: &[HeaderSpan],
 ) -> Result<Plan, HttpRefusal>
     requires { All (IsHeaderWithin (length buf.now)) headers.now }
-    ensures plan { result ≡ plan_of method.now target.now (map (header_bytes buf.now) headers.now) }
+    ensures plan { result ≡ plan_of routes.now method.now target.now (map (header_bytes buf.now) headers.now) }
     ensures few { IfOk result (λ plan. plan.length ≤ 65536) }
 {
+    admitted(routes.origins(), buf, headers)?;
     let path = path_in(target)?;
     let route = route_in(routes, path)?;
     has_method(method, route)?;
@@ -73,7 +75,7 @@ pub(crate) fn plan_in(
     spans: &RequestSpans,
 ) -> Result<Plan, HttpRefusal>
     requires { IsRequestWithin buf.now headers.now spans.now }
-    ensures plan { result ≡ plan_in buf.now headers.now spans.now }
+    ensures plan { result ≡ plan_in routes.now buf.now headers.now spans.now }
     ensures few { IfOk result (λ plan. plan.length ≤ 65536) }
 {
     plan_of(

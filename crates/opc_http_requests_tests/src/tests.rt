@@ -4,3 +4,4 @@ mod cut;
 mod heads;
 mod reading;
 mod refusals;
+mod strict;

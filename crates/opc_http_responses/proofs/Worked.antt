@@ -12,7 +12,7 @@ use Rattle.opc_terms.specs.declared.rule.Rule.TheVariants.{Profile}
 use Rattle.opc_machine.specs.declared.request.Answer.{Answer}
 use Rattle.opc_machine.specs.declared.request.Answer.TheVariants.{Done, Refused}
 use Rattle.opc_http_head.specs.declared.refusal.Method.TheVariants.{Post}
-use Rattle.opc_http_head.specs.declared.refusal.HttpRefusal.TheVariants.{MethodNotAllowed, BadRow}
+use Rattle.opc_http_head.specs.declared.refusal.HttpRefusal.TheVariants.{Forbidden, MethodNotAllowed, BadRow}
 use Rattle.opc_http_responses.specs.Bodies.{answer_body, refusal_body}
 use Rattle.opc_http_responses.specs.Responses.{refusal_response, response_of}
 use Rattle.opc_http_responses.specs.Statuses.{fault_status, phrase}
@@ -46,6 +46,11 @@ pub whole_other_method : refusal_response (MethodNotAllowed Post) ≡ codes
     "HTTP/1.1 405 Method Not Allowed\r\nContent-Type: application/json\r\nContent-Length: 73\r\nAllow: POST\r\nConnection: close\r\n\r\n{\"code\":\"H405\",\"rule\":\"-\",\"status\":\"refused\",\"text\":\"Method Not Allowed\"}"
 unfolding serde_json_on_literals digits phrase
 whole_other_method = refl
+
+pub whole_forbidden : refusal_response Forbidden ≡ codes
+    "HTTP/1.1 403 Forbidden\r\nContent-Type: application/json\r\nContent-Length: 64\r\nConnection: close\r\n\r\n{\"code\":\"H403\",\"rule\":\"-\",\"status\":\"refused\",\"text\":\"Forbidden\"}"
+unfolding serde_json_on_literals digits phrase
+whole_forbidden = refl
 
 pub body_of_bad_row : refusal_body (BadRow 3 why.Name) ≡ codes "{\"code\":\"E60\",\"rule\":\"-\",\"status\":\"refused\",\"text\":\"RowFault 3 Name\"}"
 unfolding serde_json_on_literals digits

@@ -12,6 +12,7 @@ use Rattle.opc_machine.specs.declared.request.Answer.TheVariants.{Done, Refused}
 use Rattle.opc_http_head.specs.declared.refusal.HttpRefusal.{HttpRefusal}
 use Rattle.opc_http_head.specs.declared.refusal.HttpRefusal.TheVariants.{
   BadRequest,
+  Forbidden,
   NotFound,
   MethodNotAllowed,
   TooLarge,
@@ -51,6 +52,7 @@ status_body status = compact_text (refused_value (codes "H" ++ decimal status) (
 abbrev pub refusal_body : HttpRefusal → List ℕ
 refusal_body (BadRow row why) = answer_body (Refused (RowFault row why) None)
 refusal_body BadRequest = status_body (refusal_status BadRequest)
+refusal_body Forbidden = status_body (refusal_status Forbidden)
 refusal_body NotFound = status_body (refusal_status NotFound)
 refusal_body (MethodNotAllowed method) = status_body (refusal_status (MethodNotAllowed method))
 refusal_body TooLarge = status_body (refusal_status TooLarge)

@@ -6,6 +6,7 @@ use Rattle.opc_http_head.specs.declared.refusal.Method.TheVariants.{Get, Post}
 use Rattle.opc_http_head.specs.declared.refusal.HttpRefusal.{HttpRefusal}
 use Rattle.opc_http_head.specs.declared.refusal.HttpRefusal.TheVariants.{
   BadRequest,
+  Forbidden,
   NotFound,
   MethodNotAllowed,
   TooLarge,
@@ -49,6 +50,7 @@ response_of answer = response_text (status_of answer) None (answer_body answer)
 abbrev pub allowed : HttpRefusal → Option Method
 allowed (MethodNotAllowed method) = Some method
 allowed BadRequest = None
+allowed Forbidden = None
 allowed NotFound = None
 allowed TooLarge = None
 allowed (BadRow row why) = None

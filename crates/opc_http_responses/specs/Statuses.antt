@@ -10,6 +10,7 @@ use Rattle.opc_machine.specs.declared.request.Answer.TheVariants.{Done, Refused}
 use Rattle.opc_http_head.specs.declared.refusal.HttpRefusal.{HttpRefusal}
 use Rattle.opc_http_head.specs.declared.refusal.HttpRefusal.TheVariants.{
   BadRequest,
+  Forbidden,
   NotFound,
   MethodNotAllowed,
   TooLarge,
@@ -40,6 +41,7 @@ status_of (Refused fault rule) = fault_status fault
 
 abbrev pub refusal_status : HttpRefusal → ℕ
 refusal_status BadRequest = 400
+refusal_status Forbidden = 403
 refusal_status NotFound = 404
 refusal_status (MethodNotAllowed method) = 405
 refusal_status TooLarge = 413

@@ -71,6 +71,7 @@ pub(crate) fn refusal_status(refusal: &HttpRefusal) -> StatusCode
 {
     match *refusal {
         HttpRefusal::BadRequest => StatusCode::BAD_REQUEST,
+        HttpRefusal::Forbidden => StatusCode::FORBIDDEN,
         HttpRefusal::NotFound => StatusCode::NOT_FOUND,
         HttpRefusal::MethodNotAllowed(_) => StatusCode::METHOD_NOT_ALLOWED,
         HttpRefusal::TooLarge => StatusCode::PAYLOAD_TOO_LARGE,

@@ -14,6 +14,7 @@ use Rattle.std.proofs.Common.{
   length,
   take,
   get_or,
+  None,
   Ok,
   Err,
   true,
@@ -41,16 +42,17 @@ use Rattle.opc_machine.specs.declared.request.Answer.{Answer}
 use Rattle.opc_machine.specs.Inputs.{input_of}
 use Rattle.opc_gate.specs.Handling.{IsHandled, IsRun}
 use Rattle.opc_gate.proofs.Running.{run_more}
+use Rattle.opc_http_connections.specs.Links.{Link}
+use Rattle.opc_http_head.specs.declared.origins.Origins.{Origins}
 use Rattle.opc_http.specs.Exchange.{IsFaulty, IsServed as IsReplyServed, IsUnserved, Replies, Reply}
 use Rattle.opc_http.specs.declared.exchanging.LinkFault.{LinkFault}
 use Rattle.opc_http.specs.declared.exchanging.LinkFault.TheVariants as fault
 use Rattle.opc_http.specs.declared.exchanging.Served.{Served}
 use Rattle.opc_http_serve.specs.declared.clock.TheConstants.{LAST_MOMENT}
 use Rattle.opc_http_serve.specs.Handled.{AreHandled, Handled, IsConversation, IsExchange, IsReplied, IsRunOf, RepliesOnce, handled_with, none_handled}
-use Rattle.opc_http_serve.specs.Arriving.{Arrives, IsArrival}
+use Rattle.opc_http_serve.specs.Arriving.{Arrives, IsLost}
 use Rattle.opc_http_serve.specs.Moments.{is_before_1970, moment_of}
-use Rattle.opc_http_serve.specs.Serving.{AreServed, IsCutShort, IsServed, ServesAll, ServesClients}
-use Rattle.opc_http_serve.specs.declared.arrival.Arrival.{Arrival}
+use Rattle.opc_http_serve.specs.Serving.{AreServed, IsClient, IsCutShort, IsTurn, ServesAll, ServesClients}
 use Rattle.opc_http_serve.specs.declared.arrival.ServeFault.{ServeFault}
 use Rattle.opc_http_serve.specs.declared.arrival.ServeFault.TheVariants as why
 
@@ -73,58 +75,76 @@ low (Err error) = zero_or_error (is_before_1970 (error_kind error)) error
 within : (reading : Result Duration Error) (moment : ℕ) → moment_of reading ≡ Ok moment → moment ≤ LAST_MOMENT
 within reading moment e = IfOk-at_ok (λ m. m ≤ LAST_MOMENT) e (low reading)
 
--- one more client was served
-module _ {C G D : Type 0} (limits : C → Duration → Bool → Type 0) (remaining contents : C → Option (List ℕ))
-    (made : G → Option (List ℕ) → ℕ → Option (List ℕ) → Option (List ℕ) → Result Served LinkFault → G → Type 0) (timeout : Option Duration)
-    (accepts : D → Result (C × C) Error → D → Type 0) (clock_says : D → Result Duration Error → D → Type 0) (first : D) (old : G) where
-  pub one_served : (n : ℕ) (met last : D) (was new : G) (came gone : Arrival C)
-      → AreServed limits remaining contents made timeout accepts clock_says first old n met was
-      → IsArrival accepts clock_says met came last → IsServed limits remaining contents made timeout came gone was new
-      → AreServed limits remaining contents made timeout accepts clock_says first old (n + 1) last new
-  one_served n met last was new came gone are arrival served =
-      subst (λ m. AreServed limits remaining contents made timeout accepts clock_says first old m last new)
-      (sym (next n)) (met, was, came, gone, are, arrival, served)
+-- one more connection came
+module _ {C K G D : Type 0} (link : Link C K) (origins : Origins)
+    (made : G → Option (List ℕ) → ℕ → Option (List ℕ) → Option (List ℕ) → Result Served LinkFault → G → Type 0)
+    (accepts : D → Result (Option (C × C)) Error → D → Type 0) (clock_says : D → Result Duration Error → D → Type 0) (timer : K)
+    (timeout : Option Duration) (first : D) (old : G) where
+  pub one_served : (n : ℕ) (met last : D) (was new : G)
+      → AreServed link origins made accepts clock_says timer timeout first old n met was
+      → IsTurn link origins made accepts clock_says timer timeout met was last new
+      → AreServed link origins made accepts clock_says timer timeout first old (n + 1) last new
+  one_served n met last was new are turn =
+      subst (λ m. AreServed link origins made accepts clock_says timer timeout first old m last new) (sym (next n)) (met, was, are, turn)
 
   -- wherever they came from
-  anyhow : (n : ℕ) (last : D) (new : G) → AreServed limits remaining contents made timeout accepts clock_says first old n last new
-      → ServesAll limits remaining contents made timeout old n new
-  anyhow zero last new are = (refl, are.1)
-  anyhow (suc n) last new (met, was, came, gone, are, arrival, served) = (
-    tt,
-    was,
-    came,
-    gone,
-    anyhow n met was are,
-    record {
-      reading = arrival.reading;
-      dated = record { mid = tt; accepted = tt; said = tt };
-      moment = arrival.moment;
-    },
-    served,
-  )
+  module _ (comes : Result (Option (C × C)) Error → Type 0) (seen : (a : D) (handles : Result (Option (C × C)) Error) (b : D) → accepts a handles b → comes handles) where
+    lost : (met last : D) → IsLost accepts met last → IsLost {D = ⊤} (λ _ handles _. comes handles) tt tt
+    lost met last (inl none) = inl (seen met (Ok None) last none)
+    lost met last (inr (error, failed, passes)) = inr (error, seen met (Err error) last failed, passes)
 
-  none_came : (f : ServeFault) (met last : D) → Arrives accepts clock_says met (Err f) last → Arrives {D = ⊤} {C = C} (λ _ _ _. ⊤) (λ _ _ _. ⊤) tt (Err f) tt
-  none_came (why.Accept error) met last h = tt
-  none_came (why.Clock error) met last h = record {
-    reader = h.reader;
-    writer = h.writer;
-    reading = h.reading;
-    dated = record { mid = tt; accepted = tt; said = tt };
-    failed = h.failed;
-  }
+    turn_anywhere : (met last : D) (was new : G) → IsTurn link origins made accepts clock_says timer timeout met was last new
+        → IsTurn link origins made {D = ⊤} (λ _ handles _. comes handles) (λ _ _ _. ⊤) timer timeout tt was tt new
+    turn_anywhere met last was new (inl client) = inl (record {
+      came = client.came;
+      gone = client.gone;
+      arrival = record {
+        reading = client.arrival.reading;
+        dated = record { mid = tt; accepted = seen met _ client.arrival.dated.mid client.arrival.dated.accepted; said = tt };
+        moment = client.arrival.moment;
+        due = client.arrival.due;
+        both = client.arrival.both;
+        read_by = client.arrival.read_by;
+        written_by = client.arrival.written_by;
+      };
+      served = client.served;
+    })
+    turn_anywhere met last was new (inr (none, idle)) = inr (lost met last none, idle)
 
-  pub from_anywhere : {A : Type 0} (count : ℕ) (last : D) (new : G) (end : Result A ServeFault)
-      → OnOk end (AreServed limits remaining contents made timeout accepts clock_says first old count last new)
-      → IfErr end (λ f. IsCutShort limits remaining contents made timeout accepts clock_says first old count f last new)
-      → ServesClients limits remaining contents made timeout old count end new
-  from_anywhere count last new (Ok a) are cut = anyhow count last new are
-  from_anywhere count last new (Err f) are cut = record {
-    done = cut.done;
-    fewer = cut.fewer;
-    met = tt;
-    served = anyhow cut.done cut.met new cut.served;
-    failed = none_came f cut.met last cut.failed;
-  }
+    anyhow : (n : ℕ) (last : D) (new : G) → AreServed link origins made accepts clock_says timer timeout first old n last new
+        → ServesAll link origins made comes timer timeout old n new
+    anyhow zero last new are = (refl, are.1)
+    anyhow (suc n) last new (met, was, are, turn) = (tt, was, anyhow n met was are, turn_anywhere met last was new turn)
+
+    none_came : (f : ServeFault) (met last : D) → Arrives accepts clock_says link.shows timer timeout met (Err f) last
+        → Arrives {D = ⊤} (λ _ handles _. comes handles) (λ _ _ _. ⊤) link.shows timer timeout tt (Err f) tt
+    none_came (why.Accept error) met last (failed, lasting) = (seen met (Err error) last failed, lasting)
+    none_came (why.Clock error) met last (inl h) = inl (record {
+      reader = h.reader;
+      writer = h.writer;
+      accepted = seen met _ last h.accepted;
+      failed = h.failed;
+    })
+    none_came (why.Clock error) met last (inr h) = inr (record {
+      reader = h.reader;
+      writer = h.writer;
+      reading = h.reading;
+      dated = record { mid = tt; accepted = seen met _ h.dated.mid h.dated.accepted; said = tt };
+      failed = h.failed;
+    })
+
+    pub from_anywhere : {A : Type 0} (count : ℕ) (last : D) (new : G) (end : Result A ServeFault)
+        → OnOk end (AreServed link origins made accepts clock_says timer timeout first old count last new)
+        → IfErr end (λ f. IsCutShort link origins made accepts clock_says timer timeout first old count f last new)
+        → ServesClients link origins made comes timer timeout old count end new
+    from_anywhere count last new (Ok a) are cut = anyhow count last new are
+    from_anywhere count last new (Err f) are cut = record {
+      done = cut.done;
+      fewer = cut.fewer;
+      met = tt;
+      served = anyhow cut.done cut.met new cut.served;
+      failed = none_came f cut.met last cut.failed;
+    }
 
 module _ {T : Type 0} (m : Meaning T) where
   begins : (now : T) → IsRunOf m now now none_handled
@@ -176,101 +196,121 @@ module _ {T : Type 0} (m : Meaning T) where
     idle = λ none. absurd (some_one handled.requests (moment, request) none);
   }
 
+module _ (origins : Origins) {T : Type 0} (m : Meaning T) where
   -- what an exchange adds to what was handled, by what is replied in it
   module _ (old mid new : T) (handled : Handled) (left : Option (List ℕ)) (moment : ℕ) (low : moment ≤ LAST_MOMENT) (sure : m.is_sure new → m.is_sure mid)
       (run : IsRunOf m old mid handled) where
-    by_reply : (reply : Reply) → Replies m left mid new moment reply
-        → (more : Handled) × IsReplied left handled more moment reply × IsRunOf m old new more
+    by_reply : (reply : Reply) → Replies origins m left mid new moment reply
+        → (more : Handled) × IsReplied origins left handled more moment reply × IsRunOf m old new more
     by_reply (Ok answer) one = (
       handled_with handled moment one.request answer,
       (one.request, one.asked, refl),
-      one_more old mid new handled moment one.request answer low sure one.handled run,
+      one_more m old mid new handled moment one.request answer low sure one.handled run,
     )
-    by_reply (Err refusal) none = (handled, (none.0, refl), none_more old mid new handled none.1 run)
+    by_reply (Err refusal) none = (handled, (none.0, refl), none_more m old mid new handled none.1 run)
 
     module _ (before after : Option (List ℕ)) where
-      replied : (served : Served) → IsReplyServed m (λ held. held) left before after mid new moment served
-          → (more : Handled) × RepliesOnce handled left moment before after (Ok served) more × IsRunOf m old new more
+      replied : (served : Served) → IsReplyServed origins m (λ held. held) left before after mid new moment served
+          → (more : Handled) × RepliesOnce origins handled left moment before after (Ok served) more × IsRunOf m old new more
       replied served one = let r = by_reply one.reply one.replies in (r.0, record { reply = one.reply; replied = r.1; written = one.reported }, r.2)
 
-      cut_off : (f : LinkFault) → IsUnserved m (λ held. held) left before after mid new moment f
-          → (more : Handled) × RepliesOnce handled left moment before after (Err f) more × IsRunOf m old new more
+      cut_off : (f : LinkFault) → IsUnserved origins m (λ held. held) left before after mid new moment f
+          → (more : Handled) × RepliesOnce origins handled left moment before after (Err f) more × IsRunOf m old new more
       cut_off f one = let r = by_reply one.reply one.replies in (r.0, record { reply = one.reply; replied = r.1; written = one.cut_off }, r.2)
 
-      broken : (f : LinkFault) → IsFaulty m (λ held. held) left before after mid new moment f
-          → (more : Handled) × IsConversation handled left moment before after (Err f) more × IsRunOf m old new more
-      broken fault.Read h = (handled, (h.0, refl), none_more old mid new handled h.1 run)
+      broken : (f : LinkFault) → IsFaulty origins m (λ held. held) left before after mid new moment f
+          → (more : Handled) × IsConversation origins handled left moment before after (Err f) more × IsRunOf m old new more
+      broken fault.Read h = (handled, (h.0, refl), none_more m old mid new handled h.1 run)
       broken (fault.Write said) h = cut_off (fault.Write said) h
-      broken (fault.NoMemory false) h = (handled, (h.0, refl), none_more old mid new handled h.1 run)
+      broken (fault.NoMemory false) h = (handled, (h.0, refl), none_more m old mid new handled h.1 run)
       broken (fault.NoMemory true) h = cut_off (fault.NoMemory true) h
 
-      exchanged : (ended : Result Served LinkFault) → IsExchange m mid left moment before after ended new
-          → (more : Handled) × IsConversation handled left moment before after ended more × IsRunOf m old new more
+      exchanged : (ended : Result Served LinkFault) → IsExchange origins m mid left moment before after ended new
+          → (more : Handled) × IsConversation origins handled left moment before after ended more × IsRunOf m old new more
       exchanged (Ok served) one = replied served one.served
       exchanged (Err f) one = broken f one.fault
 
   -- what clients that came and were served make of the tables
-  module _ {C : Type 0} (limits : C → Duration → Bool → Type 0) (remaining contents : C → Option (List ℕ)) (timeout : Option Duration) where
-    served_one : (came gone : Arrival C) (old mid new : T) (handled : Handled) → came.moment ≤ LAST_MOMENT
-        → IsServed limits remaining contents (IsExchange m) timeout came gone mid new
+  module _ {C K D : Type 0} (link : Link C K) (accepts : D → Result (Option (C × C)) Error → D → Type 0)
+      (clock_says : D → Result Duration Error → D → Type 0) (timer : K) (timeout : Option Duration) where
+    client : (met last : D) (old mid new : T) (handled : Handled)
+        → IsClient link origins (IsExchange origins m) accepts clock_says timer timeout met mid last new
         → IsRunOf m old mid handled
-        → (more : Handled) × IsServed limits remaining contents IsConversation timeout came gone handled more
+        → (more : Handled) × IsClient link origins (IsConversation origins) accepts clock_says timer timeout met handled last more
         × IsRunOf m old new more × (m.is_sure new → m.is_sure mid)
-    served_one came gone old mid new handled low (inl one) run =
-        let r = exchanged old mid new handled _ came.moment low one.made.sure run _ _ one.ended one.made in
-        (r.0, inl (record { limited = one.limited; ended = one.ended; made = r.1 }), r.2, one.made.sure)
-    served_one came gone old mid new handled low (inr none) run = (
-      handled,
-      inr (record {
-        failed = none.failed;
-        same = none.same;
-        idle = refl;
-      }),
-      none_more old mid new handled none.idle run,
-      λ sure. subst m.is_sure none.idle sure,
-    )
+    client met last old mid new handled one run =
+        let served = one.served in
+        let low = within one.arrival.reading one.came.moment one.arrival.moment in
+        let r = exchanged old mid new handled _ one.came.moment low served.made.sure run _ _ served.ended served.made in (
+          r.0,
+          record {
+            came = one.came;
+            gone = one.gone;
+            arrival = one.arrival;
+            served = record {
+              ended = served.ended;
+              made = r.1;
+              last = served.last;
+              read = served.read;
+              drained = served.drained;
+            };
+          },
+          r.2,
+          served.made.sure,
+        )
 
-    module _ {D : Type 0} (accepts : D → Result (C × C) Error → D → Type 0) (clock_says : D → Result Duration Error → D → Type 0) (first : D) (old : T) where
+    turn : (met last : D) (old mid new : T) (handled : Handled)
+        → IsTurn link origins (IsExchange origins m) accepts clock_says timer timeout met mid last new
+        → IsRunOf m old mid handled
+        → (more : Handled) × IsTurn link origins (IsConversation origins) accepts clock_says timer timeout met handled last more
+        × IsRunOf m old new more × (m.is_sure new → m.is_sure mid)
+    turn met last old mid new handled (inl one) run =
+        let r = client met last old mid new handled one run in
+        (r.0, inl r.1, r.2, r.3)
+    turn met last old mid new handled (inr (lost, idle)) run =
+        (handled, inr (lost, refl), none_more m old mid new handled idle run, λ sure. subst m.is_sure idle sure)
+
+    module _ (first : D) (old : T) where
       handled_for : (n : ℕ) (last : D) (new : T)
-          → AreServed limits remaining contents (IsExchange m) timeout accepts clock_says
-          first old n last new
-          → (handled : Handled) × AreServed limits remaining contents IsConversation timeout accepts clock_says first none_handled n last handled
+          → AreServed link origins (IsExchange origins m) accepts clock_says timer timeout first old n last new
+          → (handled : Handled) × AreServed link origins (IsConversation origins) accepts clock_says timer timeout first none_handled n last handled
           × IsRunOf m old new handled × (m.is_sure new → m.is_sure old)
-      handled_for zero last new are = (none_handled, (are.0, refl), none_more old old new none_handled are.1 (begins old), λ sure. subst m.is_sure are.1 sure)
-      handled_for (suc n) last new (met, was, came, gone, are, arrival, served) =
+      handled_for zero last new are = (none_handled, (are.0, refl), none_more m old old new none_handled are.1 (begins m old), λ sure. subst m.is_sure are.1 sure)
+      handled_for (suc n) last new (met, was, are, one) =
           let before = handled_for n met was are in
-          let one = served_one came gone old was new before.0 (within arrival.reading came.moment arrival.moment) served before.2 in
-          (one.0, (met, before.0, came, gone, before.1, arrival, one.1), one.2, λ sure. before.3 (one.3 sure))
+          let more = turn met last old was new before.0 one before.2 in
+          (more.0, (met, before.0, before.1, more.1), more.2, λ sure. before.3 (more.3 sure))
 
-      module _ {A : Type 0} (count : ℕ) (last : D) (new : T) where
+      module _ (comes : Result (Option (C × C)) Error → Type 0) (seen : (a : D) (handles : Result (Option (C × C)) Error) (b : D) → accepts a handles b → comes handles)
+          {A : Type 0} (count : ℕ) (last : D) (new : T) where
         pub all_handled : (end : Result A ServeFault)
-            → OnOk end (AreServed limits remaining contents (IsExchange m) timeout accepts clock_says first old count last new)
-            → IfErr end (λ f. IsCutShort limits remaining contents (IsExchange m) timeout
-            accepts clock_says first old count f last new)
-            → AreHandled m limits remaining contents timeout old new count end
+            → OnOk end (AreServed link origins (IsExchange origins m) accepts clock_says timer timeout first old count last new)
+            → IfErr end (λ f. IsCutShort link origins (IsExchange origins m) accepts clock_says timer timeout first old count f last new)
+            → AreHandled origins m link comes timeout old new count end
         all_handled (Ok a) are cut =
             let h = handled_for count last new are in record {
               handled = h.0;
-              served = anyhow limits remaining contents IsConversation timeout accepts clock_says first none_handled count last h.0 h.1;
+              timer = timer;
+              served = anyhow link origins (IsConversation origins) accepts clock_says timer timeout first none_handled comes seen count last h.0 h.1;
               run = h.2;
             }
         all_handled (Err f) are cut =
             let h = handled_for cut.done cut.met new cut.served in record {
               handled = h.0;
+              timer = timer;
               served = record {
                 done = cut.done;
                 fewer = cut.fewer;
                 met = tt;
-                served = anyhow limits remaining contents IsConversation timeout accepts clock_says first none_handled cut.done cut.met h.0 h.1;
-                failed = none_came limits remaining contents IsConversation timeout accepts clock_says first none_handled f cut.met last cut.failed;
+                served = anyhow link origins (IsConversation origins) accepts clock_says timer timeout first none_handled comes seen cut.done cut.met h.0 h.1;
+                failed = none_came link origins (IsConversation origins) accepts clock_says timer timeout first none_handled comes seen f cut.met last cut.failed;
               };
               run = h.2;
             }
 
-        pub sure : (end : Result A ServeFault)
-            → OnOk end (AreServed limits remaining contents (IsExchange m) timeout accepts clock_says first old count last new)
-            → IfErr end (λ f. IsCutShort limits remaining contents (IsExchange m) timeout
-            accepts clock_says first old count f last new)
-            → m.is_sure new → m.is_sure old
-        sure (Ok a) are cut = (handled_for count last new are).3
-        sure (Err f) are cut = (handled_for cut.done cut.met new cut.served).3
+      pub sure : {A : Type 0} (count : ℕ) (last : D) (new : T) (end : Result A ServeFault)
+          → OnOk end (AreServed link origins (IsExchange origins m) accepts clock_says timer timeout first old count last new)
+          → IfErr end (λ f. IsCutShort link origins (IsExchange origins m) accepts clock_says timer timeout first old count f last new)
+          → m.is_sure new → m.is_sure old
+      sure count last new (Ok a) are cut = (handled_for count last new are).3
+      sure count last new (Err f) are cut = (handled_for cut.done cut.met new cut.served).3

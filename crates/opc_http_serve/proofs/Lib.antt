@@ -1,2 +1,1 @@
 pub mod Clients
-mod Limits

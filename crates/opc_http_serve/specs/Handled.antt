@@ -1,12 +1,15 @@
 -- What clients, served one after another, make of the tables.
-use Rattle.std.specs.Prelude.{◌≡◌, ◌≤◌, ◌++◌, ◌∷◌, ℕ, Bool, true, false, List, [], Option, Result, Ok, Err, IfErr, IfOk}
+use Rattle.std.specs.Prelude.{◌≡◌, ◌≤◌, ◌++◌, ◌∷◌, ℕ, true, false, List, [], Option, Result, Ok, Err, IfErr, IfOk}
 use Rattle.std.specs.List.{All}
+use Rattle.std.specs.declared.io.Error.{Error}
 use Rattle.std.specs.declared.time.Duration.{Duration}
+use Rattle.opc_http_connections.specs.Links.{Link}
 use Rattle.opc_state.specs.Meaning.{Meaning}
 use Rattle.opc_state.specs.State.{State}
 use Rattle.opc_machine.specs.declared.request.Request.{Request}
 use Rattle.opc_machine.specs.declared.request.Answer.{Answer}
 use Rattle.opc_gate.specs.Handling.{IsRun}
+use Rattle.opc_http_head.specs.declared.origins.Origins.{Origins}
 use Rattle.opc_http.specs.Exchange.{IsAsked, IsCutOff, IsFaulty, IsServed, IsReported, Reply}
 use Rattle.opc_http.specs.declared.exchanging.LinkFault.{LinkFault}
 use Rattle.opc_http.specs.declared.exchanging.LinkFault.TheVariants as fault
@@ -32,10 +35,10 @@ handled_with handled moment request answer = record {
 
 -- The reply is the answer to the request that is asked for, which is the one more that was handled. Or it refuses what
 -- is asked, and there is no more.
-abbrev pub IsReplied : (left : Option (List ℕ)) → (old new : Handled) → ℕ → Reply → Type 0
-IsReplied left old new moment (Ok answer) =
-    (request : Request) × IsAsked left (Ok request) × (new ≡ handled_with old moment request answer)
-IsReplied left old new moment (Err refusal) = IsAsked left (Err refusal) × (new ≡ old)
+abbrev pub IsReplied : Origins → (left : Option (List ℕ)) → (old new : Handled) → ℕ → Reply → Type 0
+IsReplied origins left old new moment (Ok answer) =
+    (request : Request) × IsAsked origins left (Ok request) × (new ≡ handled_with old moment request answer)
+IsReplied origins left old new moment (Err refusal) = IsAsked origins left (Err refusal) × (new ≡ old)
 
 -- What is written more is the response of a reply, or a part of it.
 abbrev pub IsWritten : Reply → (before after : Option (List ℕ)) → Result Served LinkFault → Type 0
@@ -43,33 +46,26 @@ IsWritten reply before after (Ok served) = IsReported (λ held. held) reply befo
 IsWritten reply before after (Err fault) = IsCutOff (λ held. held) reply before after fault
 
 -- A reply was come to, and its response written, or a part of it.
-pub record RepliesOnce (old : Handled) (left : Option (List ℕ)) (moment : ℕ) (before after : Option (List ℕ))
-    (ended : Result Served LinkFault) (new : Handled) : Type 0 where
+pub record RepliesOnce (origins : Origins) (old : Handled) (left : Option (List ℕ)) (moment : ℕ)
+    (before after : Option (List ℕ)) (ended : Result Served LinkFault) (new : Handled) : Type 0 where
   pub reply : Reply
-  pub replied : IsReplied left old new moment reply
+  pub replied : IsReplied origins left old new moment reply
   pub written : IsWritten reply before after ended
 
 -- An exchange, by what was handled in it: a reply was come to; or the reader failed or there was no memory, nothing was
 -- handled, and nothing written.
-abbrev pub IsConversation : (old : Handled) → (left : Option (List ℕ)) → ℕ → (before after : Option (List ℕ))
+abbrev pub IsConversation : Origins → (old : Handled) → (left : Option (List ℕ)) → ℕ → (before after : Option (List ℕ))
     → Result Served LinkFault → (new : Handled) → Type 0
-IsConversation old left moment before after (Err fault.Read) new = (after ≡ before) × (new ≡ old)
-IsConversation old left moment before after (Err (fault.NoMemory false)) new = (after ≡ before) × (new ≡ old)
-IsConversation old left moment before after (Err (fault.NoMemory true)) new =
-    RepliesOnce old left moment before after (Err (fault.NoMemory true)) new
-IsConversation old left moment before after (Err (fault.Write handled)) new =
-    RepliesOnce old left moment before after (Err (fault.Write handled)) new
-IsConversation old left moment before after (Ok served) new = RepliesOnce old left moment before after (Ok served) new
+IsConversation origins old left moment before after (Err fault.Read) new = (after ≡ before) × (new ≡ old)
+IsConversation origins old left moment before after (Err (fault.NoMemory false)) new = (after ≡ before) × (new ≡ old)
+IsConversation origins old left moment before after (Err (fault.NoMemory true)) new =
+    RepliesOnce origins old left moment before after (Err (fault.NoMemory true)) new
+IsConversation origins old left moment before after (Err (fault.Write handled)) new =
+    RepliesOnce origins old left moment before after (Err (fault.Write handled)) new
+IsConversation origins old left moment before after (Ok served) new =
+    RepliesOnce origins old left moment before after (Ok served) new
 
 module _ {T : Type 0} (m : Meaning T) where
-  -- An exchange over tables: what was left of the reader's bytes was asked for and handled, and what the writer holds
-  -- more is the reply, or a part of it.
-  pub record IsExchange (old : T) (left : Option (List ℕ)) (moment : ℕ) (before after : Option (List ℕ))
-      (ended : Result Served LinkFault) (new : T) : Type 0 where
-    pub served : IfOk ended (IsServed m (λ held. held) left before after old new moment)
-    pub fault : IfErr ended (IsFaulty m (λ held. held) left before after old new moment)
-    pub sure : m.is_sure new → m.is_sure old
-
   -- What was handled is a run of the machine, at moments that may be ones. Where nothing was, nothing changed.
   pub record IsRunOf (old new : T) (handled : Handled) : Type 0 where
     pub moments : All (λ (r : ℕ × Request). r.0 ≤ LAST_MOMENT) handled.requests
@@ -77,12 +73,22 @@ module _ {T : Type 0} (m : Meaning T) where
         → IsRun m old new s handled.requests handled.answers
     pub idle : handled.requests ≡ [] → new ≡ old
 
-  module _ {C : Type 0} (limits : C → Duration → Bool → Type 0) (remaining contents : C → Option (List ℕ))
+module _ (origins : Origins) {T : Type 0} (m : Meaning T) where
+  -- An exchange over tables: what was left of the reader's bytes was asked for and handled, and what the writer holds
+  -- more is the reply, or a part of it.
+  pub record IsExchange (old : T) (left : Option (List ℕ)) (moment : ℕ) (before after : Option (List ℕ))
+      (ended : Result Served LinkFault) (new : T) : Type 0 where
+    pub served : IfOk ended (IsServed origins m (λ held. held) left before after old new moment)
+    pub fault : IfErr ended (IsFaulty origins m (λ held. held) left before after old new moment)
+    pub sure : m.is_sure new → m.is_sure old
+
+  module _ {C K : Type 0} (link : Link C K) (comes : Result (Option (C × C)) Error → Type 0)
       (timeout : Option Duration) where
-    -- What so many clients make of the tables. Each had one exchange at most, over its connection and at its moment; or
-    -- fewer had, and then none could be taken. The requests that were handled are those that they asked, their answers
-    -- those that they were replied, and both are a run of the machine.
+    -- What so many connections make of the tables. Each client had one exchange, over its connection and at its moment,
+    -- for so long a time by some clock; or fewer had, and then none could be taken. The requests that were handled are
+    -- those that they asked, their answers those that they were replied, and both are a run of the machine.
     pub record AreHandled {A : Type 0} (old new : T) (count : ℕ) (end : Result A ServeFault) : Type 0 where
       pub handled : Handled
-      pub served : ServesClients limits remaining contents IsConversation timeout none_handled count end handled
-      pub run : IsRunOf old new handled
+      pub timer : K
+      pub served : ServesClients link origins (IsConversation origins) comes timer timeout none_handled count end handled
+      pub run : IsRunOf m old new handled

@@ -1,4 +1,5 @@
 pub mod Moments
+pub mod Passing
 pub mod Arriving
 pub mod Serving
 pub mod Handled

@@ -3,76 +3,87 @@ use Rattle.std.specs.Prelude.{
   ◌≡◌,
   ◌<◌,
   ◌⊎◌,
+  ◌+◌,
+  ◌*◌,
   ℕ,
   zero,
   suc,
-  Bool,
-  true,
-  false,
   List,
+  [],
   Option,
   Result,
   Ok,
   Err,
-  IfSome,
-  IsSomeAnd,
   ⊤,
 }
 use Rattle.std.specs.declared.io.Error.{Error}
 use Rattle.std.specs.declared.time.Duration.{Duration}
+use Rattle.opc_io.specs.Reads.{ReadsOnly, TakesAtMost}
+use Rattle.opc_http_connections.specs.Links.{Link}
+use Rattle.opc_http_connections.specs.Timed.{IsReadInTime}
+use Rattle.opc_http_connections.specs.declared.timed.Timed.{Timed}
+use Rattle.opc_http_head.specs.declared.origins.Origins.{Origins}
+use Rattle.opc_http_requests.specs.Asked.{MayRead}
 use Rattle.opc_http.specs.declared.exchanging.LinkFault.{LinkFault}
 use Rattle.opc_http.specs.declared.exchanging.Served.{Served}
 use Rattle.opc_http_serve.specs.declared.arrival.Arrival.{Arrival}
 use Rattle.opc_http_serve.specs.declared.arrival.ServeFault.{ServeFault}
-use Rattle.opc_http_serve.specs.Arriving.{Arrives, IsArrival}
+use Rattle.opc_http_serve.specs.Arriving.{Arrives, IsArrival, IsLost}
 
-module _ {C G : Type 0} (limits : C → Duration → Bool → Type 0) (remaining contents : C → Option (List ℕ))
+module _ {C K G : Type 0} (link : Link C K) (origins : Origins)
     (exchanged : G → Option (List ℕ) → ℕ → Option (List ℕ) → Option (List ℕ) → Result Served LinkFault → G → Type 0)
-    (timeout : Option Duration) where
-  -- One exchange was made over the client's connection, at its moment, and nothing else was written to it. Where a
-  -- timeout is given, waits were limited to it.
-  pub record IsExchanged (came gone : Arrival C) (old new : G) : Type 0 where
-    pub limited : IfSome timeout (λ longest. limits came.reader.inner longest true)
-    pub ended : Result Served LinkFault
-    pub made : exchanged old (remaining came.reader.inner) came.moment (contents came.writer.inner)
-        (contents gone.writer.inner) ended new
+  where
+    -- One exchange was made over the client's connection, at its moment, and nothing else was written to it. It read
+    -- nothing but by its deadline, and only what it asked for; then a little more was read away.
+    pub record IsServed (came gone : Arrival C K) (old new : G) : Type 0 where
+      pub ended : Result Served LinkFault
+      pub made : exchanged old (link.remaining came.reader.handle) came.moment (link.contents came.writer.handle)
+          (link.contents gone.writer.handle) ended new
+      pub last : Timed C K
+      pub read : ReadsOnly (λ (t : Timed C K). link.remaining t.handle)
+          (λ (t : Timed C K) given after. IsReadInTime link.limits link.shows link.reads link.remaining t given after)
+          (MayRead origins) came.reader [] last
+      pub drained : TakesAtMost (32 * 32_768) (link.remaining last.handle) (link.remaining gone.reader.handle)
 
-  -- Waits were to be limited and could not be. Nothing was done.
-  pub record IsUnlimited (came gone : Arrival C) (old new : G) : Type 0 where
-    pub failed : IsSomeAnd timeout (λ longest. limits came.reader.inner longest false)
-    pub same : gone ≡ came
-    pub idle : new ≡ old
+    module _ {D : Type 0} (accepts : D → Result (Option (C × C)) Error → D → Type 0)
+        (clock_says : D → Result Duration Error → D → Type 0) (timer : K) (timeout : Option Duration) where
+      -- A client came, whose exchange has so long a time, and was served.
+      pub record IsClient (met : D) (was : G) (last : D) (new : G) : Type 0 where
+        pub came : Arrival C K
+        pub gone : Arrival C K
+        pub arrival : IsArrival accepts clock_says link.shows timer timeout met came last
+        pub served : IsServed came gone was new
 
-  -- What serving a client is.
-  abbrev pub IsServed : (came gone : Arrival C) → (old new : G) → Type 0
-  IsServed came gone old new = IsExchanged came gone old new ⊎ IsUnlimited came gone old new
+      -- A client was served, or a connection came to nothing, and nothing was done.
+      abbrev pub IsTurn : (met : D) → (was : G) → (last : D) → (new : G) → Type 0
+      IsTurn met was last new = IsClient met was last new ⊎ (IsLost accepts met last × (new ≡ was))
 
-  module _ {D : Type 0} (accepts : D → Result (C × C) Error → D → Type 0)
-      (clock_says : D → Result Duration Error → D → Type 0) (first : D) (old : G) where
-    -- So many clients came and were served, in the order in which they came.
-    abbrev pub AreServed : ℕ → D → G → Type 0
-    AreServed zero last new = (last ≡ first) × (new ≡ old)
-    AreServed (suc n) last new =
-        (met : D) × (was : G) × (came : Arrival C) × (gone : Arrival C)
-        × AreServed n met was × IsArrival accepts clock_says met came last × IsServed came gone was new
+      module _ (first : D) (old : G) where
+        -- So many connections came, and their clients were served in the order in which they came.
+        abbrev pub AreServed : ℕ → D → G → Type 0
+        AreServed zero last new = (last ≡ first) × (new ≡ old)
+        AreServed (suc n) last new = (met : D) × (was : G) × AreServed n met was × IsTurn met was last new
 
-    -- Some were, and then no client came.
-    pub record IsCutShort (count : ℕ) (fault : ServeFault) (last : D) (new : G) : Type 0 where
-      pub done : ℕ
-      pub fewer : done < count
-      pub met : D
-      pub served : AreServed done met new
-      pub failed : Arrives accepts clock_says met (Err fault) last
+        -- Some were, and then none could be taken.
+        pub record IsCutShort (count : ℕ) (fault : ServeFault) (last : D) (new : G) : Type 0 where
+          pub done : ℕ
+          pub fewer : done < count
+          pub met : D
+          pub served : AreServed done met new
+          pub failed : Arrives accepts clock_says link.shows timer timeout met (Err fault) last
 
-  -- So many clients were served, wherever they came from.
-  abbrev pub ServesAll : G → ℕ → G → Type 0
-  ServesAll old count new = AreServed {D = ⊤} (λ _ _ _. ⊤) (λ _ _ _. ⊤) tt old count tt new
+    -- Connections came as is said here, wherever from.
+    module _ (comes : Result (Option (C × C)) Error → Type 0) (timer : K) (timeout : Option Duration) where
+      -- So many clients were served.
+      abbrev pub ServesAll : G → ℕ → G → Type 0
+      ServesAll old count new = AreServed {D = ⊤} (λ _ handles _. comes handles) (λ _ _ _. ⊤) timer timeout tt old count tt new
 
-  -- Fewer were, and then none could be taken.
-  abbrev pub ServesFewer : G → ℕ → ServeFault → G → Type 0
-  ServesFewer old count fault new = IsCutShort {D = ⊤} (λ _ _ _. ⊤) (λ _ _ _. ⊤) tt old count fault tt new
+      -- Fewer were, and then none could be taken.
+      abbrev pub ServesFewer : G → ℕ → ServeFault → G → Type 0
+      ServesFewer old count fault new =
+          IsCutShort {D = ⊤} (λ _ handles _. comes handles) (λ _ _ _. ⊤) timer timeout tt old count fault tt new
 
-  -- What serving so many clients comes to.
-  abbrev pub ServesClients : {A : Type 0} → G → ℕ → Result A ServeFault → G → Type 0
-  ServesClients old count (Ok all) new = ServesAll old count new
-  ServesClients old count (Err fault) new = ServesFewer old count fault new
+      -- What serving so many clients comes to.
+      abbrev pub ServesClients : {A : Type 0} → G → ℕ → Result A ServeFault → G → Type 0
+      ServesClients old count (Ok all) new = ServesAll old count new
+      ServesClients old count (Err fault) new = ServesFewer old count fault new

@@ -1,43 +1,42 @@
 //! The door of the program: a listener and a clock.
 ghost use Rattle.std.specs.Prelude.{⊤};
+ghost use Rattle.opc_http_connections.specs.Links.{Comes};
 
 use crate::arrivals::Arrivals;
-use crate::connection::Connection;
+use opc_http_connections::connection::Connection;
+use opc_http_connections::listener::Listener;
 use std::io;
-use std::net::{OpenListener, OpenStream};
 use std::rt::Clock;
 use std::time::Duration;
 
 /// Clients come to a listener.
 #[derive(Drop)]
-pub struct Acceptor<'a, C: Clock, L: OpenListener> {
-    clock: &'a C,
+pub struct Acceptor<'a, H: Clock, L: Listener> {
+    clock: &'a H,
     listener: &'a L,
 }
 
-impl<'a, C: Clock, L: OpenListener> Acceptor<'a, C, L> {
-    pub fn new(clock: &'a C, listener: &'a L) -> Self {
+impl<'a, H: Clock, L: Listener> Acceptor<'a, H, L> {
+    pub fn new(clock: &'a H, listener: &'a L) -> Self {
         Acceptor { clock, listener }
     }
 }
 
-impl<C: Clock, L: OpenListener> Arrivals for Acceptor<'_, C, L>
-where
-    L::Stream: Connection,
-{
-    type Connection = L::Stream;
+impl<H: Clock, L: Listener> Arrivals for Acceptor<'_, H, L> {
+    type Connection = L::Client;
 
-    ghost accepts = { λ _ _ _. ⊤ };
+    ghost accepts = { λ _ handles _. Comes L.accepts L.Client.clones handles };
 
     ghost clock_says = { λ _ _ _. ⊤ };
 
-    fn accept(&mut self) -> io::Result<(L::Stream, L::Stream)> {
+    fn accept(&mut self) -> io::Result<Option<(L::Client, L::Client)>> {
         // One handle to read and one to write. Each is owned, so the clauses of `Read` and `Write` say what was read
-        // and written; by one shared reference nothing could be said of what is written. Without a second handle the
-        // connection is not accepted.
-        let (reader, _) = self.listener.accept()?;
-        let writer = reader.try_clone()?;
-        Ok((reader, writer))
+        // and written; by one shared reference nothing could be said of what is written.
+        let reader = self.listener.accept_client()?;
+        match reader.another() {
+            Ok(writer) => Ok(Some((reader, writer))),
+            Err(_) => Ok(None),
+        }
     }
 
     fn since_1970(&mut self) -> io::Result<Duration> {

@@ -1,6 +1,6 @@
 //! A client that came, or why none did.
 
-use opc_io::watched::Watched;
+use opc_http_connections::timed::Timed;
 use std::io;
 use thiserror::Error;
 
@@ -13,10 +13,11 @@ pub enum ServeFault {
     Clock(io::Error),
 }
 
-/// A client that came: its connection, by a handle to read and one to write, and when.
+/// A client that came: its connection, by a handle to read and one to write, each with the deadline of the exchange, and
+/// when.
 #[derive(Drop)]
-pub struct Arrival<C> {
-    pub reader: Watched<C>,
-    pub writer: Watched<C>,
+pub struct Arrival<'a, C, K> {
+    pub reader: Timed<'a, C, K>,
+    pub writer: Timed<'a, C, K>,
     pub moment: u64,
 }

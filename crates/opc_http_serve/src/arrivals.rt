@@ -1,16 +1,18 @@
 //! Clients that come, one after another.
-ghost use Rattle.opc_http_serve.specs.Arriving.{Arrives};
+ghost use Rattle.opc_http_serve.specs.Arriving.{Accepts, Arrives};
 
 use crate::arrival::{Arrival, ServeFault};
 use crate::clock::moment_of;
-use crate::connection::Connection;
-use opc_io::watched::Watched;
+use crate::passing::is_passing;
+use opc_http_connections::connection::Connection;
+use opc_http_connections::timed::Timed;
+use opc_http_connections::timer::{Timer, deadline_after};
 use std::io;
 use std::time::Duration;
 
 /// Where clients come from, and the clock there.
 pub trait Arrivals {
-    ghost use Rattle.std.specs.Prelude.{Result};
+    ghost use Rattle.std.specs.Prelude.{Option, Result};
     ghost use Rattle.std.specs.declared.io.Error.{Error};
     ghost use Rattle.std.specs.declared.time.Duration.{Duration};
 
@@ -18,32 +20,54 @@ pub trait Arrivals {
 
     /// That a client came, with a handle to read its connection and one to write it, or why none did. What a function
     /// over any arrivals says by it can only be shown by the calls that the function makes.
-    ghost accepts: { Self → Result (Self.Connection × Self.Connection) Error → Self → Type 0 };
+    ghost accepts: { Self → Result (Option (Self.Connection × Self.Connection)) Error → Self → Type 0 };
 
     /// That the clock was read, and what it said.
     ghost clock_says: { Self → Result Duration Error → Self → Type 0 };
 
-    fn accept(&mut self) -> io::Result<(Self::Connection, Self::Connection)>
+    /// The handles of the next connection; none where it can't have two.
+    fn accept(&mut self) -> io::Result<Option<(Self::Connection, Self::Connection)>>
         ensures { accepts self.old result self.new };
 
     fn since_1970(&mut self) -> io::Result<Duration>
         ensures { clock_says self.old result self.new };
 }
 
-/// Takes the next client, at the moment when it came.
-pub fn next<A: Arrivals>(arrivals: &mut A) -> Result<Arrival<A::Connection>, ServeFault>
-    ensures { Arrives A.accepts A.clock_says arrivals.old result arrivals.new }
+/// The handles of the next connection; none where it came to nothing by a fault that passes.
+fn accepted<A: Arrivals>(
+    arrivals: &mut A,
+) -> Result<Option<(A::Connection, A::Connection)>, ServeFault>
+    ensures { Accepts A.accepts arrivals.old result arrivals.new }
 {
-    let (reader, writer) = match arrivals.accept() {
-        Ok(handles) => handles,
-        Err(error) => return Err(ServeFault::Accept(error)),
+    match arrivals.accept() {
+        Ok(handles) => Ok(handles),
+        Err(error) if is_passing(&error) => Ok(None),
+        Err(error) => Err(ServeFault::Accept(error)),
+    }
+}
+
+/// Takes the next client, at the moment when it came, with the time that its exchange has from then on. There is none
+/// where its connection came to nothing.
+pub fn next<'a, A: Arrivals, K: Timer>(
+    timer: &'a K,
+    arrivals: &mut A,
+    timeout: Option<Duration>,
+) -> Result<Option<Arrival<'a, A::Connection, K>>, ServeFault>
+    ensures { Arrives A.accepts A.clock_says K.shows timer.entry.now timeout arrivals.old result arrivals.new }
+{
+    let Some((reader, writer)) = accepted(arrivals)? else {
+        return Ok(None);
+    };
+    let deadline = match deadline_after(timer, timeout) {
+        Ok(deadline) => deadline,
+        Err(error) => return Err(ServeFault::Clock(error)),
     };
     match moment_of(arrivals.since_1970()) {
-        Ok(moment) => Ok(Arrival {
-            reader: Watched::new(reader),
-            writer: Watched::new(writer),
+        Ok(moment) => Ok(Some(Arrival {
+            reader: Timed::new(reader, timer, deadline),
+            writer: Timed::new(writer, timer, deadline),
             moment,
-        }),
+        })),
         Err(error) => Err(ServeFault::Clock(error)),
     }
 }

@@ -1,4 +1,7 @@
 //! What serves a client.
+ghost use Rattle.std.specs.Prelude.{[]};
+ghost use Rattle.opc_io.specs.Reads.{ReadsOnly};
+ghost use Rattle.opc_http_requests.specs.Asked.{MayRead};
 ghost use Rattle.opc_http_serve.specs.Handled.{IsExchange};
 
 use opc_gate::gate::Gate;
@@ -12,14 +15,15 @@ use std::alloc::Global;
 /// What serves one client after another, each by one exchange.
 pub trait Exchanges {
     ghost use Rattle.std.specs.Prelude.{ℕ, List, Option, Result};
+    ghost use Rattle.opc_http_head.specs.declared.origins.Origins.{Origins};
     ghost use Rattle.opc_http.specs.declared.exchanging.LinkFault.{LinkFault};
     ghost use Rattle.opc_http.specs.declared.exchanging.Served.{Served};
 
-    /// That an exchange was made: with what the reader had left, at this moment, with what the writer held before it
-    /// and after it, and how it ended. What a function over any of these says by it can only be shown by such an
+    /// That an exchange was made, where requests are taken from there: with what the reader had left, at this moment,
+    /// with what the writer held before it and after it, and how it ended. What a function over any of these says by it can only be shown by such an
     /// exchange.
-    ghost exchanged: { Self → Option (List ℕ) → ℕ → Option (List ℕ) → Option (List ℕ) → Result Served LinkFault → Self
-        → Type 0 };
+    ghost exchanged: { Origins → Self → Option (List ℕ) → ℕ → Option (List ℕ) → Option (List ℕ)
+        → Result Served LinkFault → Self → Type 0 };
 
     fn serve_one<S: Source, K: Sink>(
         &mut self,
@@ -29,11 +33,13 @@ pub trait Exchanges {
         sink: &mut K,
         moment: u64,
     ) -> Result<Served, LinkFault>
-        ensures { exchanged self.old (S.left source.old) moment (K.held sink.old) (K.held sink.new) result self.new };
+        ensures exchanged { exchanged routes.now self.old (S.left source.old) moment (K.held sink.old) (K.held sink.new) result
+            self.new }
+        ensures reads { ReadsOnly S.left S.gives (MayRead routes.now) source.old [] source.new };
 }
 
 impl<T: Tables> Exchanges for Gate<T> {
-    ghost exchanged = { λ old left moment before after result new. IsExchange T.meaning old left moment
+    ghost exchanged = { λ origins old left moment before after result new. IsExchange origins T.meaning old left moment
         before after result new };
 
     fn serve_one<S: Source, K: Sink>(

@@ -5,7 +5,6 @@ pub mod acceptor;
 pub mod arrival;
 pub mod arrivals;
 pub mod clock;
-pub mod connection;
-mod drain;
 pub mod exchanges;
+pub mod passing;
 pub mod serving;

@@ -1,47 +1,35 @@
 //! Clients served one after another.
-ghost use Rattle.std.specs.Prelude.{◌≡◌, IfErr, IfSome, IsSomeAnd, OnOk, false, true};
+ghost use Rattle.std.specs.Prelude.{◌≡◌, Err, IfErr, OnErr, OnOk};
+ghost use Rattle.opc_http_connections.specs.Links.{Comes, link_of};
+ghost use Rattle.opc_http_serve.specs.Arriving.{Arrives};
 ghost use Rattle.opc_http_serve.specs.Handled.{AreHandled, IsExchange};
-ghost use Rattle.opc_http_serve.specs.Serving.{AreServed, IsCutShort, IsServed, ServesClients};
+ghost use Rattle.opc_http_serve.specs.Serving.{AreServed, IsCutShort, IsServed, IsTurn, ServesClients};
 
 use crate::acceptor::Acceptor;
 use crate::arrival::{Arrival, ServeFault};
 use crate::arrivals::{Arrivals, next};
-use crate::connection::Connection;
-use crate::drain::drain;
 use crate::exchanges::Exchanges;
 use opc_gate::gate::Gate;
+use opc_http_connections::connection::Connection;
+use opc_http_connections::drain::drain;
+use opc_http_connections::listener::Listener;
+use opc_http_connections::timer::Timer;
 use opc_http_head::routes::Routes;
 use opc_state::tables::Tables;
 use std::alloc::Global;
-use std::net::OpenListener;
 use std::rt::Clock;
 use std::time::Duration;
 
-/// Limits how long a client is waited for, if that is wanted; whether that could be done.
-fn limit<C: Connection>(client: &C, timeout: Option<Duration>) -> bool
-    ensures limited { result ≡ true → IfSome timeout (λ longest. C.limits client.now longest true) }
-    ensures unlimited { result ≡ false → IsSomeAnd timeout (λ longest. C.limits client.now longest false) }
-{
-    match timeout {
-        Some(longest) => client.limit_waits(longest).is_ok(),
-        None => true,
-    }
-}
-
-/// One exchange with a client, and the end of its connection. A peer whose silence was to be limited and can't be is
-/// not waited for.
-fn serve_client<C: Connection, X: Exchanges>(
+/// One exchange with a client, and the end of its connection.
+fn serve_client<C: Connection, K: Timer, X: Exchanges>(
     alloc: Global,
-    client: &mut Arrival<C>,
-    timeout: Option<Duration>,
+    client: &mut Arrival<'_, C, K>,
     routes: &Routes,
     gate: &mut X,
 )
-    ensures { IsServed C.limits C.remaining C.contents X.exchanged timeout client.old client.new gate.old gate.new }
+    ensures { IsServed (link_of C.limits K.shows C.reads C.remaining C.contents) routes.now (X.exchanged routes.now) client.old client.new gate.old
+        gate.new }
 {
-    if !limit(&client.reader.inner, timeout) {
-        return;
-    }
     let moment = client.moment;
     let served = gate.serve_one(
         alloc,
@@ -55,31 +43,54 @@ fn serve_client<C: Connection, X: Exchanges>(
     }
 }
 
-/// Serves so many clients, one after another. A fault of a link ends that client's exchange alone. Where a client can't
-/// be taken, serving ends.
-pub fn serve<A: Arrivals, X: Exchanges>(
+/// Serves the next client, whose exchange has so long a time in all. A connection that came to nothing counts as one.
+fn serve_next<A: Arrivals, K: Timer, X: Exchanges>(
     alloc: Global,
+    timer: &K,
+    arrivals: &mut A,
+    timeout: Option<Duration>,
+    routes: &Routes,
+    gate: &mut X,
+) -> Result<(), ServeFault>
+    ensures turn { OnOk result (IsTurn (link_of A.Connection.limits K.shows A.Connection.reads A.Connection.remaining
+        A.Connection.contents) routes.now (X.exchanged routes.now) A.accepts A.clock_says timer.now timeout arrivals.old gate.old arrivals.new
+        gate.new) }
+    ensures none { IfErr result (λ fault. Arrives A.accepts A.clock_says K.shows timer.now timeout arrivals.old
+        (Err fault) arrivals.new) }
+    ensures idle { OnErr result (gate.new ≡ gate.old) }
+{
+    if let Some(mut client) = next(timer, arrivals, timeout)? {
+        serve_client(alloc, &mut client, routes, gate);
+    }
+    Ok(())
+}
+
+/// Serves so many connections, one after another. A fault of a link ends that client's exchange alone. Where none can be
+/// accepted, serving ends.
+pub fn serve<A: Arrivals, K: Timer, X: Exchanges>(
+    alloc: Global,
+    timer: &K,
     arrivals: &mut A,
     count: u32,
     timeout: Option<Duration>,
     routes: &Routes,
     gate: &mut X,
 ) -> Result<(), ServeFault>
-    ensures done { OnOk result (AreServed A.Connection.limits A.Connection.remaining A.Connection.contents X.exchanged
-        timeout A.accepts A.clock_says arrivals.old gate.old count arrivals.new gate.new) }
-    ensures ended { IfErr result (λ fault. IsCutShort A.Connection.limits A.Connection.remaining
-        A.Connection.contents X.exchanged
-        timeout A.accepts A.clock_says arrivals.old gate.old count fault arrivals.new gate.new) }
+    ensures done { OnOk result (AreServed (link_of A.Connection.limits K.shows A.Connection.reads A.Connection.remaining
+        A.Connection.contents) routes.now (X.exchanged routes.now) A.accepts A.clock_says timer.now timeout arrivals.old gate.old count
+        arrivals.new gate.new) }
+    ensures ended { IfErr result (λ fault. IsCutShort (link_of A.Connection.limits K.shows A.Connection.reads
+        A.Connection.remaining A.Connection.contents) routes.now (X.exchanged routes.now) A.accepts A.clock_says timer.now timeout arrivals.old
+        gate.old count fault arrivals.new gate.new) }
 {
-    for _client in 0..count {
-        let mut client = next(arrivals)?;
-        serve_client(alloc, &mut client, timeout, routes, gate);
+    for _connection in 0..count {
+        serve_next(alloc, timer, arrivals, timeout, routes, gate)?;
     }
     Ok(())
 }
 
 /// Serves so many clients that come to a listener.
-pub fn serve_on<H: AllocGlobal + Clock, L: OpenListener, T: Tables>(
+pub fn serve_on<H: AllocGlobal + Clock, L: Listener, T: Tables>(
     rt: &H,
     listener: &L,
     count: u32,
@@ -87,14 +98,12 @@ pub fn serve_on<H: AllocGlobal + Clock, L: OpenListener, T: Tables>(
     routes: &Routes,
     gate: &mut Gate<T>,
 ) -> Result<(), ServeFault>
-where
-    L::Stream: Connection,
     ensures sure { T.meaning.is_sure gate.new → T.meaning.is_sure gate.old }
-    ensures handled { AreHandled T.meaning L.Stream.limits L.Stream.remaining L.Stream.contents
-        timeout gate.old gate.new count result }
-    ensures served { ServesClients L.Stream.limits L.Stream.remaining L.Stream.contents
-        (IsExchange T.meaning) timeout gate.old count result gate.new }
+    ensures handled { AreHandled routes.now T.meaning (link_of L.Client.limits ⟦<H as Timer>⟧.shows L.Client.reads L.Client.remaining
+        L.Client.contents) (Comes L.accepts L.Client.clones) timeout gate.old gate.new count result }
+    ensures served { ServesClients (link_of L.Client.limits ⟦<H as Timer>⟧.shows L.Client.reads L.Client.remaining L.Client.contents)
+        routes.now (IsExchange routes.now T.meaning) (Comes L.accepts L.Client.clones) rt.now timeout gate.old count result gate.new }
 {
     let mut door = Acceptor::new(rt, listener);
-    serve(rt.alloc(), &mut door, count, timeout, routes, gate)
+    serve(rt.alloc(), rt, &mut door, count, timeout, routes, gate)
 }

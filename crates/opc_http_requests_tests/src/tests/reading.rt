@@ -61,11 +61,31 @@ pub(super) fn asked<R: Read + Drop>(
     alloc: Global,
     reader: R,
 ) -> Result<Result<String, ReadingFault>, AllocError> {
-    let Ok(routes) = Routes::new(alloc) else {
-        return Err(AllocError);
-    };
+    match Routes::new(alloc) {
+        Ok(routes) => asked_by(alloc, &routes, reader),
+        Err(_) => Err(AllocError),
+    }
+}
+
+/// The same of a strict service at a port.
+pub(super) fn asked_strictly<R: Read + Drop>(
+    alloc: Global,
+    port: u16,
+    reader: R,
+) -> Result<Result<String, ReadingFault>, AllocError> {
+    match Routes::strict(alloc, port) {
+        Ok(routes) => asked_by(alloc, &routes, reader),
+        Err(_) => Err(AllocError),
+    }
+}
+
+fn asked_by<R: Read + Drop>(
+    alloc: Global,
+    routes: &Routes,
+    reader: R,
+) -> Result<Result<String, ReadingFault>, AllocError> {
     let mut source = Watched::new(reader);
-    match read_request(alloc, &routes, &mut source) {
+    match read_request(alloc, routes, &mut source) {
         Ok(request) => Ok(Ok(reported(alloc, &request)?)),
         Err(ReadingFault::NoMemory) => Err(AllocError),
         Err(fault) => Ok(Err(fault)),

@@ -6,7 +6,7 @@ use Rattle.opc_http.proofs.exchanging.exchange.Goals as goal
 
 pub returns-in-Ok-clause-served : goal.returns-in-Ok-clause-served
 returns-in-Ok-clause-served g c =
-    served _ _ _ _ _ _ _ _ (Ok c.handle.result) (record {
+    served c.args.routes.now _ _ _ _ _ _ _ _ (Ok c.handle.result) (record {
       request = c.in-Ok.request;
       asked = c.in-Ok.ensures.asked;
       handled = c.handle.ensures.handled;
@@ -14,7 +14,7 @@ returns-in-Ok-clause-served g c =
 
 pub returns-in-Ok-clause-fault : goal.returns-in-Ok-clause-fault
 returns-in-Ok-clause-fault g c =
-    faulty _ _ _ _ _ _ _ _ (Ok c.handle.result) (record {
+    faulty c.args.routes.now _ _ _ _ _ _ _ _ (Ok c.handle.result) (record {
       request = c.in-Ok.request;
       asked = c.in-Ok.ensures.asked;
       handled = c.handle.ensures.handled;
@@ -22,8 +22,8 @@ returns-in-Ok-clause-fault g c =
 
 pub returns-in-Err-Refused-clause-fault : goal.returns-in-Err-Refused-clause-fault
 returns-in-Err-Refused-clause-fault g c =
-    faulty _ _ _ _ _ _ _ _ (Err c.in-Err-Refused.refusal) (
-      subst (λ fault. IfRefused fault (λ why. IsAsked (g.S.Source.left c.args.source.now) (Err why)))
+    faulty c.args.routes.now _ _ _ _ _ _ _ _ (Err c.in-Err-Refused.refusal) (
+      subst (λ fault. IfRefused fault (λ why. IsAsked c.args.routes.now (g.S.Source.left c.args.source.now) (Err why)))
           c.in-Err-Refused.field-0-is c.in-Err-Refused.ensures.refused,
       refl,
     ) c.send_refusal.result

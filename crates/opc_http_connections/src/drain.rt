@@ -1,0 +1,68 @@
+//! The end of a response.
+ghost use Rattle.std.specs.Prelude.{◌+◌, ◌*◌, ◌≤◌, length};
+ghost use Rattle.opc_io.specs.Reads.{TakesAtMost};
+
+use crate::connection::Connection;
+use crate::timed::Timed;
+use crate::timer::Timer;
+use opc_io::source::Source;
+use std::net::Shutdown;
+use std::time::Duration;
+
+/// The most bytes of each read of what a peer sent beyond what was asked for.
+const CHUNK: usize = 32_768;
+
+/// The most bytes of the first of them, and the most reads after it.
+const LITTLE: usize = 64;
+
+const MORE_READS: u32 = 31;
+
+/// The most seconds that all of them wait.
+const WAIT: u64 = 1;
+
+/// Reads once and forgets it; whether more may follow.
+fn drain_some<S: Source>(source: &mut S, chunk: &mut [u8]) -> bool
+    requires { length chunk.old ≤ CHUNK }
+    ensures { TakesAtMost CHUNK (S.left source.old) (S.left source.new) }
+{
+    match source.read(chunk) {
+        Ok(n) => n > 0,
+        Err(_) => false,
+    }
+}
+
+/// Reads on and forgets it, to the end or to the limit.
+fn drain_more<S: Source>(source: &mut S)
+    ensures { TakesAtMost (MORE_READS * CHUNK) (S.left source.old) (S.left source.new) }
+{
+    let mut chunk = [0u8; CHUNK];
+    for _read in 0..MORE_READS {
+        if !drain_some(source, &mut chunk) {
+            return;
+        }
+    }
+}
+
+/// The same from the first read on. Most peers send nothing more, so room for a large read is made only where a small
+/// one was filled in part.
+fn drain_rest<S: Source>(source: &mut S)
+    ensures { TakesAtMost (CHUNK + MORE_READS * CHUNK) (S.left source.old) (S.left source.new) }
+{
+    let mut little = [0u8; LITTLE];
+    if drain_some(source, &mut little) {
+        drain_more(source);
+    }
+}
+
+/// Ends a response: shuts down our half, and reads away what the peer still sends, in few reads, for a short time and
+/// not past the deadline. Otherwise the system would reset a connection that has bytes to read, and the peer might lose
+/// the response.
+pub fn drain<C: Connection, K: Timer>(reader: &mut Timed<'_, C, K>)
+    ensures { TakesAtMost (CHUNK + MORE_READS * CHUNK) (C.remaining reader.old.handle) (C.remaining reader.new.handle) }
+{
+    let shut = reader.handle.shutdown(Shutdown::Write);
+    let hurried = reader.hurry(Duration::from_secs(WAIT));
+    if shut.is_ok() && hurried.is_ok() {
+        drain_rest(reader);
+    }
+}

@@ -1,0 +1,57 @@
+//! The clock by which deadlines are kept.
+ghost use Rattle.std.specs.Prelude.{◌≡◌, ◌≤◌, ◌<◌, ◌+◌, Err, IfErr, IfOk, IsSomeAnd};
+ghost use Rattle.std.specs.Duration.{as_nanos};
+ghost use Rattle.std.specs.IoError.{error_kind};
+ghost use Rattle.opc_http_connections.specs.Timed.{IsDue};
+
+use std::io;
+use std::io::ErrorKind;
+use std::rt::Clock;
+use std::time::Duration;
+
+/// A clock whose time does not go back: the time since a start of its own.
+pub trait Timer {
+    ghost use Rattle.std.specs.Prelude.{Result};
+    ghost use Rattle.std.specs.declared.io.Error.{Error};
+    ghost use Rattle.std.specs.declared.time.Duration.{Duration};
+
+    /// That the clock was read, and what it showed. What a function over any timer says by it can only be shown by such
+    /// a reading.
+    ghost shows: { Self → Result Duration Error → Type 0 };
+
+    fn time(&self) -> io::Result<Duration>
+        ensures { shows self.now result };
+}
+
+// Of a clock of the system no clause says that it was read.
+impl<H: Clock> Timer for H {
+    ghost use Rattle.std.specs.Prelude.{⊤};
+
+    ghost shows = { λ _ _. ⊤ };
+
+    fn time(&self) -> io::Result<Duration> {
+        self.monotonic()
+    }
+}
+
+/// The end of a time that begins now; none where there is no limit.
+pub fn deadline_after<K: Timer>(timer: &K, limit: Option<Duration>) -> io::Result<Option<Duration>>
+    ensures due { IfOk result (λ deadline. IsDue K.shows timer.now limit deadline) }
+    ensures failed { IfErr result (λ error. IsSomeAnd limit (λ _. K.shows timer.now (Err error))) }
+{
+    match limit {
+        Some(time) => Ok(Some(timer.time()?.saturating_add(time))),
+        None => Ok(None),
+    }
+}
+
+/// What is left until a deadline at a time before it, or that it is over.
+pub(crate) fn left_until(deadline: Duration, time: Duration) -> io::Result<Duration>
+    ensures left { IfOk result (λ left. (as_nanos time + as_nanos left ≡ as_nanos deadline) × (0 < as_nanos left)) }
+    ensures over { IfErr result (λ error. (as_nanos deadline ≤ as_nanos time) × (error_kind error ≡ ErrorKind.TimedOut)) }
+{
+    match deadline.checked_sub(time) {
+        Some(left) if !left.is_zero() => Ok(left),
+        _ => Err(io::Error::from(ErrorKind::TimedOut)),
+    }
+}

@@ -1,0 +1,83 @@
+//! Connections by the path of a Unix socket.
+ghost use Rattle.std.specs.Prelude.{⊤};
+
+use crate::connection::Connection;
+use crate::listener::Listener;
+use std::io;
+use std::io::{Read, Write};
+use std::net::{OpenStream, Shutdown};
+use std::os::unix::net::{UnixListener, UnixStream};
+use std::time::Duration;
+
+/// A handle of a connection by a Unix socket.
+#[derive(Drop)]
+pub struct UnixClient {
+    pub stream: UnixStream,
+}
+
+impl Read for UnixClient {
+    fn read(&mut self, buf: &mut [u8]) -> io::Result<usize> {
+        self.stream.read(buf)
+    }
+}
+
+impl Write for UnixClient {
+    fn write(&mut self, bytes: &[u8]) -> io::Result<usize> {
+        self.stream.write(bytes)
+    }
+
+    fn flush(&mut self) -> io::Result<()> {
+        self.stream.flush()
+    }
+}
+
+impl OpenStream for UnixClient {
+    fn shutdown(&self, how: Shutdown) -> io::Result<()> {
+        self.stream.shutdown(how)
+    }
+
+    fn set_read_timeout(&self, longest: Option<Duration>) -> io::Result<()> {
+        self.stream.set_read_timeout(longest)
+    }
+
+    fn set_write_timeout(&self, longest: Option<Duration>) -> io::Result<()> {
+        self.stream.set_write_timeout(longest)
+    }
+
+    fn try_clone(&self) -> io::Result<UnixClient> {
+        let stream = self.stream.try_clone()?;
+        Ok(UnixClient { stream })
+    }
+}
+
+impl Connection for UnixClient {
+    ghost limits = { λ _ _ _. ⊤ };
+
+    ghost clones = { λ _ _. ⊤ };
+
+    fn limit_waits(&self, longest: Duration) -> io::Result<()> {
+        self.set_read_timeout(Some(longest))?;
+        self.set_write_timeout(Some(longest))
+    }
+
+    fn another(&self) -> io::Result<UnixClient> {
+        self.try_clone()
+    }
+}
+
+/// A listener at the path of a Unix socket.
+#[derive(Drop)]
+pub struct UnixDoor {
+    pub listener: UnixListener,
+}
+
+impl Listener for UnixDoor {
+    type Client = UnixClient;
+
+    ghost accepts = { λ _ _. ⊤ };
+
+    fn accept_client(&self) -> io::Result<UnixClient> {
+        let (stream, _) = self.listener.accept()?;
+        Ok(UnixClient { stream })
+    }
+}

@@ -1,0 +1,37 @@
+-- What strictness means to those who run a service.
+use Rattle.std.specs.Prelude.{◌≡◌, ℕ, true, false, List, map, Result, Ok, Err}
+use Rattle.httparse.specs.Grammar.{RequestHead}
+use Rattle.httparse.specs.Spans.{name_and_value}
+use Rattle.opc_machine.specs.declared.request.Request.{Request}
+use Rattle.opc_http_head.specs.Head.{HasHead}
+use Rattle.opc_http_head.specs.Origins.{is_local}
+use Rattle.opc_http_head.specs.declared.origins.Origins.TheVariants.{Any, Only}
+use Rattle.opc_http_head.specs.declared.refusal.HttpRefusal.{HttpRefusal}
+use Rattle.opc_http_head.specs.declared.refusal.HttpRefusal.TheVariants.{Forbidden}
+use Rattle.opc_http_requests.specs.Asked.{AsksOnly}
+
+-- The bytes have a head that no web page sent, by its fields, and that is for what is served at the port; or a head that
+-- does not say so.
+pub record IsFromHere (port : ℕ) (all : List ℕ) : Type 0 where
+  pub head : RequestHead
+  pub has : HasHead all head
+  pub is : is_local port (map name_and_value head.fields) ≡ true
+
+pub record MayBeFromPage (port : ℕ) (all : List ℕ) : Type 0 where
+  pub head : RequestHead
+  pub has : HasHead all head
+  pub is : is_local port (map name_and_value head.fields) ≡ false
+
+-- What a web page may have sent is forbidden.
+abbrev pub WebPagesAreForbidden : Type 0
+WebPagesAreForbidden = (port : ℕ) (all : List ℕ) → MayBeFromPage port all → AsksOnly (Only port) all (Err Forbidden)
+
+-- What is asked for is from here.
+abbrev pub WhatIsAskedIsFromHere : Type 0
+WhatIsAskedIsFromHere = (port : ℕ) (all : List ℕ) (request : Request)
+    → AsksOnly (Only port) all (Ok request) → IsFromHere port all
+
+-- What is from here asks for what it asks for without strictness.
+abbrev pub AsksForTheSame : Type 0
+AsksForTheSame = (port : ℕ) (all : List ℕ) (asked : Result Request HttpRefusal) → IsFromHere port all
+    → AsksOnly Any all asked → AsksOnly (Only port) all asked

@@ -1,3 +1,4 @@
 pub mod StoreTablesLemmas
 mod Older
+mod Refusing
 mod StoreLawsLemmas

@@ -9,7 +9,7 @@ use Rattle.opc_store_schema.specs.Represented.{AreTablesOf}
 use Rattle.opc_store_schema.proofs.Decoded.{one_state}
 use Rattle.opc_store_schema.proofs.Opened.{alone_from}
 use Rattle.opc_store.specs.StoreTables.{store_meaning}
-use Rattle.opc_store.specs.StoreLaws.{LeavesTables, LeavesWhatIsThere, ShutTablesGiveNothing, ShutTablesTellNothing}
+use Rattle.opc_store.specs.StoreLaws.{LeavesTables, LeavesWhatIsThere, ShutTablesGiveNothing, ShutTablesReturnNothing}
 
 module _ {S : Type 0} (g : Ghosts S) where
   pub leaves_tables : LeavesTables g (store_meaning g)
@@ -30,7 +30,7 @@ module _ {S : Type 0} (g : Ghosts S) where
   shut_give_nothing V E old new (Ok v) looks clean shut = absurd (shut (looks.was_open clean (looks.opened clean)))
   shut_give_nothing V E old new (Err e) looks clean shut = (refl, λ is_open. shut (looks.was_open clean is_open))
 
-  pub shut_tell_nothing : (V W E : Type 0) → ShutTablesTellNothing g V W E
-  shut_tell_nothing V W E old new (Ok v) part asked answers clean shut s t differ =
+  pub shut_return_nothing : (V W E : Type 0) → ShutTablesReturnNothing g V W E
+  shut_return_nothing V W E old new (Ok v) part asked answers clean shut s t differ =
       absurd (differ (sym (answers clean s (λ is_open. absurd (shut is_open))) ∙ answers clean t (λ is_open. absurd (shut is_open))))
-  shut_tell_nothing V W E old new (Err e) part asked answers clean shut s t differ = refl
+  shut_return_nothing V W E old new (Err e) part asked answers clean shut s t differ = refl

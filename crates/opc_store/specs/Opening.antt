@@ -15,6 +15,7 @@ use Rattle.std.specs.Prelude.{
   IfSome,
   IsTrue,
   IsFalse,
+  not,
 }
 use Rattle.sqlite_disk.specs.declared.Disk as disk
 use Rattle.sqlite_disk.specs.declared.Files.{Files}
@@ -42,7 +43,7 @@ use Rattle.opc_store_old_tables.specs.Old.{AreOldTablesOf}
 use Rattle.opc_store_old_tables.specs.Tables.{Older}
 use Rattle.opc_store_schema.specs.Changes.{fault_of}
 use Rattle.opc_store_schema.specs.Making.{AreMadeOver}
-use Rattle.opc_store_schema.specs.Represented.{AreTablesOf}
+use Rattle.opc_store_schema.specs.Represented.{AreTablesOf, made_version}
 use Rattle.opc_store_schema.specs.Ours.{has_our_name, NamesVersion, version_query}
 
 -- a log and a database file in which nothing is written
@@ -78,13 +79,13 @@ WasOlder {S} g old = (asked : Held S) × (version : ℕ) × NamesVersion version
 
 -- asked for its version, it named this one, or an older one before it was copied
 abbrev pub IsKnown : {S : Type 0} → Ghosts S → State → State → Type 0
-IsKnown g old new = NamesVersion 3 old new ⊎ WasOlder g old
+IsKnown g old new = NamesVersion made_version old new ⊎ WasOlder g old
 
 -- Why a database with names of ours is not opened: its version is none that is known, or it cannot be asked for it, or
 -- it is out of memory, or its tables are older and the copy fails.
 abbrev pub IsRefused : {S : Type 0} → Ghosts S → OpenFault → State → State → Type 0
 IsRefused g returned old new =
-    ((version : ℕ) × NamesVersion version old new × (¬ IsOlder version) × (version ≢ 3)
+    ((version : ℕ) × NamesVersion version old new × (¬ IsOlder version) × (version ≢ made_version)
     × (returned ≡ fault.NotOurs version))
     ⊎ (((error : Error) × FailsToQuery version_query [] old new error × (returned ≡ unasked error))
     ⊎ ((returned ≡ fault.NoMemory) ⊎ ((returned ≡ fault.Store) × WasOlder g old)))
@@ -103,17 +104,21 @@ MayLeave g old db =
     × ((version : Older) (s : TheState) → AreOldTablesOf version (state g old).now.trees s → AreTablesOf db s))
 
 -- What the files held was opened, and a store adopted it.
-pub record Adopts {S : Type 0} (g : Ghosts S) (image : Image) (opened adopted : Held S) : Type 0 where
+pub record Adopts {S : Type 0} (g : Ghosts S) (image : Image) (are_made : Bool) (opened adopted : Held S) : Type
+    0 where
   pub opens : Opens (state g opened) × IsLive (state g opened)
   pub found : FindsIn image (state g opened)
   -- with a name of ours it named a version that is known
   pub known : IsTrue (has_our_name opened.schema) → IsKnown g (state g opened) (state g adopted)
-  -- without one it got the tables
+  -- without one it got the tables,
   pub made : IsFalse (has_our_name opened.schema) → AreMadeOver g opened (state g adopted).now.trees
+  -- and only then they count as made now
+  pub counts : are_made ≡ not (has_our_name opened.schema)
 
--- A store stands over what files held.
-abbrev pub IsAdopted : {D : Type 0} {g : disk.Ghosts D} → Image → Held (FileStore D g) → Type 0
-IsAdopted {D = D} {g = g} image store = (opened : Held (FileStore D g)) × Adopts over_files image opened store
+-- A store stands over what files held, and its tables were made now or not.
+abbrev pub IsAdopted : {D : Type 0} {g : disk.Ghosts D} → Image → Bool → Held (FileStore D g) → Type 0
+IsAdopted {D = D} {g = g} image are_made store =
+    (opened : Held (FileStore D g)) × Adopts over_files image are_made opened store
 
 -- A crash leaves what is there.
 abbrev pub LeavesItself : State → Type 0

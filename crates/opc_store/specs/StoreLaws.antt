@@ -40,8 +40,8 @@ module _ {S : Type 0} (g : Ghosts S) where
       → IsShut g old → IsErr result × IsShut g new
 
   -- and so does what it answers, where two states differ in what is asked: closed tables count as those of both.
-  abbrev pub ShutTablesTellNothing : (V W E : Type 0) → Type 0
-  ShutTablesTellNothing V W E =
+  abbrev pub ShutTablesReturnNothing : (V W E : Type 0) → Type 0
+  ShutTablesReturnNothing V W E =
       (old new : Held S) (result : Result V E) (part : V → W) (asked : State → W)
       → Answers (store_meaning g) old new result (λ s v. part v ≡ asked s)
       → IsSure g new → IsShut g old → (s t : State) → asked s ≢ asked t → IsErr result

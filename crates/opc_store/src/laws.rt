@@ -5,7 +5,7 @@ ghost use Rattle.opc_store.specs.StoreLaws.{
   LeavesTables,
   LeavesWhatIsThere,
   ShutTablesGiveNothing,
-  ShutTablesTellNothing,
+  ShutTablesReturnNothing,
 };
 
 use crate::store::Store;
@@ -33,5 +33,5 @@ pub fn a_store_has_the_profiles_of_its_state<S: Alter>()
 /// Once a fault of the disk has closed the tables, each load answers a fault, and they stay closed.
 pub fn closed_tables_answer_nothing<S: Alter, V, W, E>()
     ensures keeps { ShutTablesGiveNothing S.Store V E }
-    ensures answers { ShutTablesTellNothing S.Store V W E }
+    ensures answers { ShutTablesReturnNothing S.Store V W E }
 {}

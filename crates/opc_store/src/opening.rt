@@ -1,5 +1,5 @@
 //! Opening and closing.
-ghost use Rattle.std.specs.Prelude.{◌≡◌, ◌⊎◌, false, IfOk, IfErr, IsTrue, IsFalse};
+ghost use Rattle.std.specs.Prelude.{◌≡◌, ◌⊎◌, Bool, false, IfOk, IfErr, IsTrue, IsFalse};
 ghost use Rattle.sqlite.specs.Held.{state};
 ghost use Rattle.sqlite.specs.Closing.{IsCopied};
 ghost use Rattle.sqlite_std_file.specs.File.{IsFresh};
@@ -24,6 +24,7 @@ ghost use Rattle.opc_store.specs.Opening.{
   IsAdopted,
   IsNoVersion,
   IsRefused,
+  IsNotOpened,
   LeavesItself,
   MayLeave,
   FailsAtPath,
@@ -31,20 +32,23 @@ ghost use Rattle.opc_store.specs.Opening.{
 ghost use Rattle.opc_store.specs.declared.opening.OpenFault.TheVariants as TheFault;
 
 use crate::store::Store;
+use opc_store_file::site::prepare;
 use opc_store_migration::migrate::migrate_on;
 use opc_store_schema::faults::fault;
 use opc_store_schema::making::make_tables;
 use opc_store_schema::names::has_our_name;
-use opc_store_schema::version::version_on;
+use opc_store_schema::version::{VERSION, version_on};
 use opc_terms::fault::Fault;
 use opc_terms::store_fault::StoreFault;
-use sqlite::{Alter, Connection, Error, FileFrom, FileStore, Files, Start, Wary};
-use sqlite_disk::Disk;
+use sqlite::{Alter, Connection, Error, ErrorCode, FileFrom, FileStore, Files, Start, Wary};
+use sqlite_disk::{Disk, is_no_room};
 use std::alloc::Global;
+use std::io;
+use std::io::ErrorKind;
 use thiserror::Error;
 
-/// The version of the tables.
-const VERSION: u64 = 3;
+/// The version of our tables, as it is read.
+const OURS: u64 = VERSION as u64;
 
 /// Why a database is not opened.
 #[derive(Clone, Copy, Debug, PartialEq, Eq, Error)]
@@ -83,6 +87,54 @@ impl From<OpenFault> for Fault {
             OpenFault::NoMemory => Fault::NoMemory,
             OpenFault::Store => Fault::Store,
             OpenFault::NotOurs(version) => Fault::NotOurs { version },
+        }
+    }
+}
+
+/// Why a database file at a path is not opened.
+#[derive(Clone, Copy, Debug, PartialEq, Eq)]
+pub struct NotOpened {
+    pub fault: OpenFault,
+    /// A write met a full disk.
+    pub is_full: bool,
+}
+
+impl NotOpened {
+    /// The system refused the file.
+    fn by_system(error: io::Error) -> Self
+        ensures { IsNoVersion result.fault }
+    {
+        let fault = match error.kind() {
+            ErrorKind::OutOfMemory => OpenFault::NoMemory,
+            _ => OpenFault::Store,
+        };
+        NotOpened {
+            fault,
+            is_full: is_no_room(&error),
+        }
+    }
+
+    /// The files were not opened as a database.
+    fn by_files(error: Error) -> Self
+        ensures { result.fault ≡ open_fault error }
+    {
+        let is_full = match &error {
+            Error::SqliteFailure(ErrorCode::DiskFull) => true,
+            _ => false,
+        };
+        NotOpened {
+            fault: open_fault(error),
+            is_full,
+        }
+    }
+
+    /// What the files held was not adopted.
+    fn by_tables<D: Disk + Drop>(fault: OpenFault, conn: Connection<FileStore<D>>) -> Self
+        ensures { result.fault ≡ fault }
+    {
+        NotOpened {
+            fault,
+            is_full: conn.into_store().tally().refused > 0,
         }
     }
 }
@@ -169,7 +221,7 @@ impl<S: Alter> Store<S> {
             };
         }
         match version_on(&mut conn) {
-            Ok(VERSION) => {
+            Ok(OURS) => {
                 let _settled = conn.is_autocommit();
                 Ok(Store { conn, alloc })
             }
@@ -182,28 +234,66 @@ impl<S: Alter> Store<S> {
 
 impl<S: Start> Store<FileStore<FileFrom<S>>> {
     /// Opens the database file at a path, or makes it, and adopts it as `open_files` does. `start` stands for what the
-    /// files hold, and says what a torn write may leave. After a fault the files were not opened, or what they held was
-    /// not adopted and a crash may leave what `open_files` says. `NotOurs` is answered only of what was opened.
-    pub fn open_at(rt: &HostRuntime, path: &str, start: S) -> Result<Self, OpenFault>
-        ensures found { IfOk result (λ store. HasCleanDisk (file_state store) → (db : Trees)
-            → HoldsDatabase (image_at S.Start) db → (s : _) → AreTablesOf db s → Represents (file_state store).now s) }
-        ensures copied { IfOk result (λ store. HasCleanDisk (file_state store) → (db : Trees)
+    /// files hold, and says what a torn write may leave. Returns the store, and whether its tables were made now. After
+    /// a fault the files were not opened, or what they held was not adopted and a crash may leave what `open_files`
+    /// says. `NotOurs` is answered only of what was opened. A new file is its owner's alone, and a refused opening
+    /// leaves no file that it made and nobody needs.
+    pub fn open_at(rt: &HostRuntime, path: &str, start: S) -> Result<(Self, bool), NotOpened>
+        ensures found { IfOk result (λ opened. HasCleanDisk (file_state opened.0) → (db : Trees)
+            → HoldsDatabase (image_at S.Start) db → (s : _) → AreTablesOf db s
+            → Represents (file_state opened.0).now s) }
+        ensures copied { IfOk result (λ opened. HasCleanDisk (file_state opened.0) → (db : Trees)
             → HoldsDatabase (image_at S.Start) db → (version : _) → (s : _) → AreOldTablesOf version db s
-            → Represents (file_state store).now s) }
-        ensures made { IfOk result (λ store. HasCleanDisk (file_state store) → (trees : Trees)
+            → Represents (file_state opened.0).now s) }
+        ensures made { IfOk result (λ opened. HasCleanDisk (file_state opened.0) → (trees : Trees)
             × AreFoundIn (image_at S.Start) trees
-            × (Lists (trees catalog_tree) no_schema → Represents (file_state store).now empty)) }
-        ensures settled { IfOk result (λ store. LeavesItself (file_state store)) }
-        ensures adopted { IfOk result (λ store. HasCleanDisk (file_state store) → IsAdopted (image_at S.Start) store) }
-        ensures failed { FailsAtPath IsFresh (image_at S.Start) result }
+            × (Lists (trees catalog_tree) no_schema → Represents (file_state opened.0).now empty)) }
+        ensures settled { IfOk result (λ opened. LeavesItself (file_state opened.0)) }
+        ensures adopted { IfOk result (λ opened. HasCleanDisk (file_state opened.0)
+            → IsAdopted (image_at S.Start) opened.1 opened.0) }
+        ensures failed { IfErr result (λ refused. IsNotOpened ⟦<FileFrom<S> as Disk>⟧ IsFresh (image_at S.Start)
+            refused.fault) }
+    {
+        let site = match prepare(rt, path) {
+            Ok(site) => site,
+            Err(error) => return Err(NotOpened::by_system(error)),
+        };
+        match Store::open_prepared(rt, path, start) {
+            Ok(opened) => Ok(opened),
+            Err(refused) => {
+                if let Some(site) = site {
+                    site.tidy(rt);
+                }
+                Err(refused)
+            }
+        }
+    }
+
+    /// The same, where the file has been made.
+    fn open_prepared(rt: &HostRuntime, path: &str, start: S) -> Result<(Self, bool), NotOpened>
+        ensures found { IfOk result (λ opened. HasCleanDisk (file_state opened.0) → (db : Trees)
+            → HoldsDatabase (image_at S.Start) db → (s : _) → AreTablesOf db s
+            → Represents (file_state opened.0).now s) }
+        ensures copied { IfOk result (λ opened. HasCleanDisk (file_state opened.0) → (db : Trees)
+            → HoldsDatabase (image_at S.Start) db → (version : _) → (s : _) → AreOldTablesOf version db s
+            → Represents (file_state opened.0).now s) }
+        ensures made { IfOk result (λ opened. HasCleanDisk (file_state opened.0) → (trees : Trees)
+            × AreFoundIn (image_at S.Start) trees
+            × (Lists (trees catalog_tree) no_schema → Represents (file_state opened.0).now empty)) }
+        ensures settled { IfOk result (λ opened. LeavesItself (file_state opened.0)) }
+        ensures adopted { IfOk result (λ opened. HasCleanDisk (file_state opened.0)
+            → IsAdopted (image_at S.Start) opened.1 opened.0) }
+        ensures failed { IfErr result (λ refused. IsNotOpened ⟦<FileFrom<S> as Disk>⟧ IsFresh (image_at S.Start)
+            refused.fault) }
     {
         let conn = match Connection::open_from(rt, path, false, start) {
             Ok(conn) => conn,
-            Err((error, _)) => return Err(open_fault(error)),
+            Err((error, _)) => return Err(NotOpened::by_files(error)),
         };
+        let is_made = !has_our_name(conn.schema());
         match Store::open_files(rt.alloc(), conn) {
-            Ok(store) => Ok(store),
-            Err((fault, _)) => Err(fault),
+            Ok(store) => Ok((store, is_made)),
+            Err((fault, conn)) => Err(NotOpened::by_tables(fault, conn)),
         }
     }
 }
@@ -222,10 +312,14 @@ impl Store<FileStore<FileFrom<Wary>>> {
             × AreFoundIn new_files trees
             × (Lists (trees catalog_tree) no_schema → Represents (file_state store).now empty)) }
         ensures settled { IfOk result (λ store. LeavesItself (file_state store)) }
-        ensures adopted { IfOk result (λ store. HasCleanDisk (file_state store) → IsAdopted new_files store) }
+        ensures adopted { IfOk result (λ store. HasCleanDisk (file_state store) → (made : Bool)
+            × IsAdopted new_files made store) }
         ensures failed { FailsAtPath IsFresh new_files result }
     {
-        Store::open_at(rt, path, Wary)
+        match Store::open_at(rt, path, Wary) {
+            Ok((store, _)) => Ok(store),
+            Err(refused) => Err(refused.fault),
+        }
     }
 }
 

@@ -13,8 +13,8 @@ use Rattle.sqlite_sql.specs.declared.ops.BinaryOp.TheVariants.{Compare}
 use Rattle.sqlite_sql.specs.declared.ops.CompareOp.TheVariants.{Eq}
 use Rattle.sqlite_value.specs.Keys.{ascending}
 use Rattle.sqlite_value.specs.declared.keys.Collation.TheVariants.{Binary}
-use Rattle.opc_store_sql.proofs.Asked.{Asked, IsAsked, by_columns, columns, told, told_all}
-use Rattle.opc_store_sql.proofs.Fixed.{told_fixed}
+use Rattle.opc_store_sql.proofs.Asked.{Asked, IsAsked, by_columns, columns, returned, returned_all}
+use Rattle.opc_store_sql.proofs.Fixed.{returned_fixed}
 use Rattle.opc_store_sql.proofs.Keyed.{same_columns}
 use Rattle.opc_store_sql.proofs.Sets.{text_total}
 use Rattle.opc_store_sql.proofs.Values.{same_texts, and_true}
@@ -44,10 +44,10 @@ pub consoles_asked : IsAsked consoles
 unfolding understood everything
 consoles_asked = record { selects = refl; unlisted = refl; plain = (refl, refl); shows = λ schema base. refl }
 
-pub consoles_told : (old new : SqlState) (s : State) → Represents old.now s → (rows : List Row)
+pub consoles_returned : (old new : SqlState) (s : State) → Represents old.now s → (rows : List Row)
     → Shown consoles.text [] old new rows → rows ≡ map console_row s.board.consoles
-consoles_told old new s was =
-    told_all consoles [] refl console_row console_cmp (λ _. refl) (λ x y h. rw (value_cmp-Text x.name y.name, h))
+consoles_returned old new s was =
+    returned_all consoles [] refl console_row console_cmp (λ _. refl) (λ x y h. rw (value_cmp-Text x.name y.name, h))
     (λ _. refl) consoles_asked old new was.rows.schema s.board.consoles was.ordered.consoles was.rows.holds.consoles
 
 -- ---- that of a name
@@ -59,11 +59,11 @@ pub console_asked : IsAsked console
 unfolding understood everything
 console_asked = record { selects = refl; unlisted = refl; plain = (refl, refl); shows = λ schema base. refl }
 
-pub console_told : (old new : SqlState) (s : State) → Represents old.now s → (name : List ℕ) (rows : List Row)
+pub console_returned : (old new : SqlState) (s : State) → Represents old.now s → (name : List ℕ) (rows : List Row)
     → Shown console.text (Text name ∷ []) old new rows
     → rows ≡ map console_row (filter (λ (c : ConsoleRow). bytes_eq c.name name) s.board.consoles)
-console_told old new s was name =
-    told console (Text name ∷ []) refl console_row console_cmp (λ _. refl)
+console_returned old new s was name =
+    returned console (Text name ∷ []) refl console_row console_cmp (λ _. refl)
     (λ x y h. rw (value_cmp-Text x.name y.name, h)) (λ c. bytes_eq c.name name)
     (λ c. and_true _ ∙ same_texts c.name name) console_asked old new was.rows.schema s.board.consoles
     was.ordered.consoles was.rows.holds.consoles
@@ -85,10 +85,10 @@ consoles_of_asked = record { selects = refl; unlisted = refl; plain = (refl, ref
 abbrev with_user : List ℕ → ConsoleRow → Row
 with_user user c = console_row (record c { user = Some user })
 
-pub consoles_of_told : (old new : SqlState) (s : State) → Represents old.now s → (user : List ℕ) (rows : List Row)
+pub consoles_of_returned : (old new : SqlState) (s : State) → Represents old.now s → (user : List ℕ) (rows : List Row)
     → Shown consoles_of.text (Text user ∷ []) old new rows → rows ≡ map console_row (consoles_of_user s.board user)
-consoles_of_told old new s was user rows h =
-    told_fixed consoles_of (Text user ∷ []) refl console_row (with_user user) console_cmp (λ _. refl)
+consoles_of_returned old new s was user rows h =
+    returned_fixed consoles_of (Text user ∷ []) refl console_row (with_user user) console_cmp (λ _. refl)
     (λ x y h. rw (value_cmp-Text user user, tied_itself text_total user, value_cmp-Text x.name y.name, h))
     (λ c. is_holder user c.user) (λ c. and_true _ ∙ equals_holder user c.user)
     (λ c h. ap (λ (u : Option (List ℕ)). console_row (record c { user = u })) (the_holder user c.user h))

@@ -25,7 +25,7 @@ use Rattle.opc_store_schema.specs.Placed.{consoles_at}
 use Rattle.opc_store_schema.specs.Represented.{Represents, Tabulates, console_row}
 use Rattle.opc_store_schema.proofs.Cast.{cast_text_or_null}
 use Rattle.opc_store_schema.proofs.Keys.{console_total}
-use Rattle.opc_store_schema.proofs.Ordered.{with_console_ordered, without_console_ordered}
+use Rattle.opc_store_schema.proofs.OrderedBoard.{with_console_ordered, without_console_ordered}
 use Rattle.opc_store_schema.proofs.OtherTables.{with_consoles as spares_consoles}
 
 abbrev pub consoles : Keyed ConsoleRow

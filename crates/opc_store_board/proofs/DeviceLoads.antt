@@ -13,8 +13,8 @@ use Rattle.sqlite_sql.specs.declared.ops.BinaryOp.TheVariants.{Compare}
 use Rattle.sqlite_sql.specs.declared.ops.CompareOp.TheVariants.{Eq}
 use Rattle.sqlite_value.specs.Keys.{ascending}
 use Rattle.sqlite_value.specs.declared.keys.Collation.TheVariants.{Binary}
-use Rattle.opc_store_sql.proofs.Asked.{Asked, IsAsked, by_columns, columns, told, told_all}
-use Rattle.opc_store_sql.proofs.Fixed.{told_fixed}
+use Rattle.opc_store_sql.proofs.Asked.{Asked, IsAsked, by_columns, columns, returned, returned_all}
+use Rattle.opc_store_sql.proofs.Fixed.{returned_fixed}
 use Rattle.opc_store_sql.proofs.Keyed.{same_columns}
 use Rattle.opc_store_sql.proofs.Sets.{text_total}
 use Rattle.opc_store_sql.proofs.Values.{same_texts, and_true}
@@ -44,10 +44,10 @@ pub devices_asked : IsAsked devices
 unfolding understood everything
 devices_asked = record { selects = refl; unlisted = refl; plain = (refl, refl); shows = λ schema base. refl }
 
-pub devices_told : (old new : SqlState) (s : State) → Represents old.now s → (rows : List Row)
+pub devices_returned : (old new : SqlState) (s : State) → Represents old.now s → (rows : List Row)
     → Shown devices.text [] old new rows → rows ≡ map device_row s.board.devices
-devices_told old new s was =
-    told_all devices [] refl device_row device_cmp (λ _. refl) (λ x y h. rw (value_cmp-Text x.number y.number, h))
+devices_returned old new s was =
+    returned_all devices [] refl device_row device_cmp (λ _. refl) (λ x y h. rw (value_cmp-Text x.number y.number, h))
     (λ _. refl) devices_asked old new was.rows.schema s.board.devices was.ordered.devices was.rows.holds.devices
 
 -- ---- that of a number
@@ -59,11 +59,11 @@ pub device_asked : IsAsked device
 unfolding understood everything
 device_asked = record { selects = refl; unlisted = refl; plain = (refl, refl); shows = λ schema base. refl }
 
-pub device_told : (old new : SqlState) (s : State) → Represents old.now s → (number : List ℕ) (rows : List Row)
+pub device_returned : (old new : SqlState) (s : State) → Represents old.now s → (number : List ℕ) (rows : List Row)
     → Shown device.text (Text number ∷ []) old new rows
     → rows ≡ map device_row (filter (λ (d : DeviceRow). bytes_eq d.number number) s.board.devices)
-device_told old new s was number =
-    told device (Text number ∷ []) refl device_row device_cmp (λ _. refl)
+device_returned old new s was number =
+    returned device (Text number ∷ []) refl device_row device_cmp (λ _. refl)
     (λ x y h. rw (value_cmp-Text x.number y.number, h)) (λ d. bytes_eq d.number number)
     (λ d. and_true _ ∙ same_texts d.number number) device_asked old new was.rows.schema s.board.devices
     was.ordered.devices was.rows.holds.devices
@@ -85,10 +85,10 @@ devices_of_asked = record { selects = refl; unlisted = refl; plain = (refl, refl
 abbrev held : List ℕ → DeviceRow → Row
 held unit d = device_row (record d { unit = Some unit })
 
-pub devices_of_told : (old new : SqlState) (s : State) → Represents old.now s → (unit : List ℕ) (rows : List Row)
+pub devices_of_returned : (old new : SqlState) (s : State) → Represents old.now s → (unit : List ℕ) (rows : List Row)
     → Shown devices_of.text (Text unit ∷ []) old new rows → rows ≡ map device_row (devices_of_unit s.board unit)
-devices_of_told old new s was unit rows h =
-    told_fixed devices_of (Text unit ∷ []) refl device_row (held unit) device_cmp (λ _. refl)
+devices_of_returned old new s was unit rows h =
+    returned_fixed devices_of (Text unit ∷ []) refl device_row (held unit) device_cmp (λ _. refl)
     (λ x y h. rw (value_cmp-Text unit unit, tied_itself text_total unit, value_cmp-Text x.number y.number, h))
     (λ d. is_holder unit d.unit) (λ d. and_true _ ∙ equals_holder unit d.unit)
     (λ d h. ap (λ (u : Option (List ℕ)). device_row (record d { unit = u })) (the_holder unit d.unit h))

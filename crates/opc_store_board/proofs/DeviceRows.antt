@@ -23,7 +23,7 @@ use Rattle.opc_store_schema.specs.Placed.{devices_at}
 use Rattle.opc_store_schema.specs.Represented.{Represents, Tabulates, device_row}
 use Rattle.opc_store_schema.proofs.Cast.{cast_text_or_null}
 use Rattle.opc_store_schema.proofs.Keys.{device_total}
-use Rattle.opc_store_schema.proofs.Ordered.{with_device_ordered, without_device_ordered}
+use Rattle.opc_store_schema.proofs.OrderedBoard.{with_device_ordered, without_device_ordered}
 use Rattle.opc_store_schema.proofs.OtherTables.{with_devices as spares_devices}
 
 abbrev pub devices : Keyed DeviceRow

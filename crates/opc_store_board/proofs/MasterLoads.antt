@@ -15,7 +15,7 @@ use Rattle.sqlite_value.proofs.OrderLemmas.{value_cmp-Text}
 use Rattle.sqlite_value.specs.Keys.{ascending}
 use Rattle.sqlite_value.specs.declared.keys.Collation.TheVariants.{Binary}
 use Rattle.opc_store_sql.proofs.Asked.{Asked, IsPaged, by_columns}
-use Rattle.opc_store_sql.proofs.Fixed.{told_fixed_first}
+use Rattle.opc_store_sql.proofs.Fixed.{returned_fixed_first}
 use Rattle.opc_store_sql.proofs.Numbered.{number_cmp}
 use Rattle.opc_store_sql.proofs.Values.{equal_numbers}
 use Rattle.opc_names.specs.declared.auth.Auth.{Auth}
@@ -86,10 +86,10 @@ same_master c h =
     let both = and_parts c.online (is_master_auth c.auth) h in
     ap₂ (λ (a : Auth) (online : Bool). console_row (record c { auth = a; online = online })) (the_master c.auth both.1) (sym both.0)
 
-pub masters_told : (old new : SqlState) (s : State) → Represents old.now s → (rows : List Row)
+pub masters_returned : (old new : SqlState) (s : State) → Represents old.now s → (rows : List Row)
     → Shown masters.text [] old new rows → rows ≡ map console_row (take 2 (masters_of s.board))
-masters_told old new s was rows h =
-    told_fixed_first masters [] refl console_row mastering console_cmp (λ _. refl)
+masters_returned old new s was rows h =
+    returned_fixed_first masters [] refl console_row mastering console_cmp (λ _. refl)
     (λ x y h. rw (number_cmp 2 2, number_cmp 1 1, value_cmp-Text x.name y.name, h))
     is_master (λ c. ap₂ (λ (a b : Bool). a && (b && true)) (equal_numbers (auth_number c.auth) 2 ∙ is_two c.auth)
     (is_one c.online) ∙ swapped (is_master_auth c.auth) c.online) same_master

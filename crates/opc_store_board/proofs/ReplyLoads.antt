@@ -9,7 +9,7 @@ use Rattle.sqlite_tied.specs.Compute.{everything}
 use Rattle.sqlite_sql.specs.declared.ops.BinaryOp.TheVariants.{Compare}
 use Rattle.sqlite_sql.specs.declared.ops.CompareOp.TheVariants.{Eq}
 use Rattle.sqlite_value.specs.declared.keys.Collation.TheVariants.{Binary}
-use Rattle.opc_store_sql.proofs.Asked.{Asked, IsAsked, by_columns, told_numbers, told_all_numbers}
+use Rattle.opc_store_sql.proofs.Asked.{Asked, IsAsked, by_columns, returned_numbers, returned_all_numbers}
 use Rattle.opc_store_sql.proofs.Numbered.{number_cmp}
 use Rattle.opc_store_sql.proofs.Values.{equal_numbers, and_true}
 use Rattle.opc_board.specs.declared.rows.ReplyRow.{ReplyRow}
@@ -35,10 +35,10 @@ pub replies_asked : IsAsked replies
 unfolding understood everything
 replies_asked = record { selects = refl; unlisted = refl; plain = (refl, refl); shows = λ schema base. refl }
 
-pub replies_told : (old new : SqlState) (s : State) → Represents old.now s → (rows : List Row)
+pub replies_returned : (old new : SqlState) (s : State) → Represents old.now s → (rows : List Row)
     → Shown replies.text [] old new rows → rows ≡ map reply_shown s.board.replies
-replies_told old new s was =
-    told_all_numbers replies [] reply_row reply_cmp (λ x y h. rw (number_cmp x.id y.id, h)) (λ _. refl) replies_asked
+replies_returned old new s was =
+    returned_all_numbers replies [] reply_row reply_cmp (λ x y h. rw (number_cmp x.id y.id, h)) (λ _. refl) replies_asked
     old new was.rows.schema s.board.replies was.ordered.replies was.rows.holds.replies
 
 -- ---- that of a number
@@ -50,10 +50,10 @@ pub reply_asked : IsAsked reply
 unfolding understood everything
 reply_asked = record { selects = refl; unlisted = refl; plain = (refl, refl); shows = λ schema base. refl }
 
-pub reply_told : (old new : SqlState) (s : State) → Represents old.now s → (id : ℕ) (rows : List Row)
+pub reply_returned : (old new : SqlState) (s : State) → Represents old.now s → (id : ℕ) (rows : List Row)
     → Shown reply.text (Int (pos id) ∷ []) old new rows
     → rows ≡ map reply_shown (filter (λ (r : ReplyRow). r.id == id) s.board.replies)
-reply_told old new s was id =
-    told_numbers reply (Int (pos id) ∷ []) reply_row reply_cmp (λ x y h. rw (number_cmp x.id y.id, h)) (λ r. r.id == id)
+reply_returned old new s was id =
+    returned_numbers reply (Int (pos id) ∷ []) reply_row reply_cmp (λ x y h. rw (number_cmp x.id y.id, h)) (λ r. r.id == id)
     (λ r. and_true _ ∙ equal_numbers r.id id) reply_asked old new was.rows.schema s.board.replies
     was.ordered.replies was.rows.holds.replies

@@ -7,7 +7,7 @@ use Rattle.sqlite.specs.Listing.{understood}
 use Rattle.sqlite.specs.State.{State as SqlState, Shown}
 use Rattle.sqlite_tied.specs.Compute.{everything}
 use Rattle.sqlite_value.proofs.OrderLemmas.{value_cmp-Text}
-use Rattle.opc_store_sql.proofs.Asked.{Asked, IsAsked, by_columns, columns, told, told_all}
+use Rattle.opc_store_sql.proofs.Asked.{Asked, IsAsked, by_columns, columns, returned, returned_all}
 use Rattle.opc_store_sql.proofs.Keyed.{same_columns}
 use Rattle.opc_store_sql.proofs.Values.{same_texts, and_true}
 use Rattle.opc_board.specs.declared.rows.UnitRow.{UnitRow}
@@ -33,10 +33,10 @@ pub units_asked : IsAsked units
 unfolding understood everything
 units_asked = record { selects = refl; unlisted = refl; plain = (refl, refl); shows = λ schema base. refl }
 
-pub units_told : (old new : SqlState) (s : State) → Represents old.now s → (rows : List Row)
+pub units_returned : (old new : SqlState) (s : State) → Represents old.now s → (rows : List Row)
     → Shown units.text [] old new rows → rows ≡ map unit_row s.board.units
-units_told old new s was =
-    told_all units [] refl unit_row unit_cmp (λ _. refl) (λ x y h. rw (value_cmp-Text x.name y.name, h)) (λ _. refl)
+units_returned old new s was =
+    returned_all units [] refl unit_row unit_cmp (λ _. refl) (λ x y h. rw (value_cmp-Text x.name y.name, h)) (λ _. refl)
     units_asked old new was.rows.schema s.board.units was.ordered.units was.rows.holds.units
 
 -- ---- that of a name
@@ -48,10 +48,10 @@ pub unit_asked : IsAsked unit
 unfolding understood everything
 unit_asked = record { selects = refl; unlisted = refl; plain = (refl, refl); shows = λ schema base. refl }
 
-pub unit_told : (old new : SqlState) (s : State) → Represents old.now s → (name : List ℕ) (rows : List Row)
+pub unit_returned : (old new : SqlState) (s : State) → Represents old.now s → (name : List ℕ) (rows : List Row)
     → Shown unit.text (Text name ∷ []) old new rows
     → rows ≡ map unit_row (filter (λ (u : UnitRow). bytes_eq u.name name) s.board.units)
-unit_told old new s was name =
-    told unit (Text name ∷ []) refl unit_row unit_cmp (λ _. refl) (λ x y h. rw (value_cmp-Text x.name y.name, h))
+unit_returned old new s was name =
+    returned unit (Text name ∷ []) refl unit_row unit_cmp (λ _. refl) (λ x y h. rw (value_cmp-Text x.name y.name, h))
     (λ u. bytes_eq u.name name) (λ u. and_true _ ∙ same_texts u.name name) unit_asked old new was.rows.schema
     s.board.units was.ordered.units was.rows.holds.units

@@ -24,7 +24,7 @@ use Rattle.opc_store_schema.specs.Placed.{units_at}
 use Rattle.opc_store_schema.specs.Represented.{Represents, Tabulates, unit_row}
 use Rattle.opc_store_schema.proofs.Cast.{cast_text_or_null}
 use Rattle.opc_store_schema.proofs.Keys.{unit_total}
-use Rattle.opc_store_schema.proofs.Ordered.{with_unit_ordered, without_unit_ordered}
+use Rattle.opc_store_schema.proofs.OrderedBoard.{with_unit_ordered, without_unit_ordered}
 use Rattle.opc_store_schema.proofs.OtherTables.{with_units as spares_units}
 
 abbrev pub units : Keyed UnitRow

@@ -107,10 +107,10 @@ pub numbered_long : (n : ℕ) (xs : List AccountRow) → length (enumerate_from 
 numbered_long n [] = refl
 numbered_long n (x ∷ xs) = ap suc (numbered_long (n + 1) xs)
 
-pub account_told : (old new : SqlState) (s : State) → Represents old.now s → (last count : ℕ) (rows : List Row)
+pub account_returned : (old new : SqlState) (s : State) → Represents old.now s → (last count : ℕ) (rows : List Row)
     → Shown account.text (page_params last count) old new rows
     → rows ≡ map numbered_shown (take count (drop last (numbered s.account)))
-account_told old new s was last count rows h =
+account_returned old new s was last count rows h =
     let params = page_params last count in
     let xs = s.account in
     let it = pages account params (col 0 1) account_asked old new was.rows.schema rows h in

@@ -13,7 +13,7 @@ use Rattle.opc_state.specs.Changes.{with_account_row}
 use Rattle.opc_store_schema.specs.Tables.{the_schema}
 use Rattle.opc_store_schema.specs.Placed.{account_at}
 use Rattle.opc_store_schema.specs.Represented.{Represents, contents_of, account_values}
-use Rattle.opc_store_schema.proofs.Ordered.{account_ordered}
+use Rattle.opc_store_schema.proofs.OrderedBoard.{account_ordered}
 use Rattle.opc_store_schema.proofs.OtherTables.{with_account as spares_account}
 
 abbrev pub account : History AccountRow

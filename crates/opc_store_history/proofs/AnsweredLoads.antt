@@ -4,7 +4,7 @@ use Rattle.sqlite.specs.Order.{Row}
 use Rattle.sqlite.specs.Listing.{understood}
 use Rattle.sqlite.specs.State.{State as SqlState, Shown}
 use Rattle.sqlite_tied.specs.Compute.{everything}
-use Rattle.opc_store_sql.proofs.Asked.{Asked, IsAsked, by_columns, columns, told_places}
+use Rattle.opc_store_sql.proofs.Asked.{Asked, IsAsked, by_columns, columns, returned_places}
 use Rattle.opc_store_sql.proofs.Numbered.{number_cmp}
 use Rattle.opc_state.specs.State.{State}
 use Rattle.opc_store_schema.specs.Placed.{answered_at}
@@ -25,8 +25,8 @@ pub answered_asked : IsAsked answered
 unfolding understood everything
 answered_asked = record { selects = refl; unlisted = refl; plain = (refl, refl); shows = λ schema base. refl }
 
-pub answered_told : (old new : SqlState) (s : State) → Represents old.now s → (rows : List Row)
+pub answered_returned : (old new : SqlState) (s : State) → Represents old.now s → (rows : List Row)
     → Shown answered.text [] old new rows → rows ≡ map reply_shown s.board.answered
-answered_told old new s was =
-    told_places answered [] answered_values reply_shown (λ _. refl) (λ p q h. rw (number_cmp p.0 q.0, h)) (λ _. refl)
+answered_returned old new s was =
+    returned_places answered [] answered_values reply_shown (λ _. refl) (λ p q h. rw (number_cmp p.0 q.0, h)) (λ _. refl)
     answered_asked old new was.rows.schema s.board.answered was.rows.holds.answered

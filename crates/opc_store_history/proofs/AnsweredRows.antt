@@ -11,7 +11,7 @@ use Rattle.opc_state.specs.Changes.{with_answered}
 use Rattle.opc_store_schema.specs.Tables.{the_schema}
 use Rattle.opc_store_schema.specs.Placed.{answered_at}
 use Rattle.opc_store_schema.specs.Represented.{Represents, contents_of, answered_values}
-use Rattle.opc_store_schema.proofs.Ordered.{answered_ordered}
+use Rattle.opc_store_schema.proofs.OrderedBoard.{answered_ordered}
 use Rattle.opc_store_schema.proofs.OtherTables.{with_answered as spares_answered}
 
 abbrev pub answered : History ReplyRow

@@ -10,7 +10,7 @@ use Rattle.sqlite_sql.specs.declared.ops.BinaryOp.TheVariants.{Compare}
 use Rattle.sqlite_sql.specs.declared.ops.CompareOp.TheVariants.{Eq}
 use Rattle.sqlite_value.specs.declared.keys.Collation.TheVariants.{Binary}
 use Rattle.sqlite_tied.specs.Compute.{everything}
-use Rattle.opc_store_sql.proofs.Asked.{Asked, IsAsked, by_columns, columns, told_numbers}
+use Rattle.opc_store_sql.proofs.Asked.{Asked, IsAsked, by_columns, columns, returned_numbers}
 use Rattle.opc_store_sql.proofs.Numbered.{number_cmp}
 use Rattle.opc_store_sql.proofs.Values.{equal_numbers, and_true}
 use Rattle.opc_store_sql.proofs.Parts.{found_one}
@@ -43,11 +43,11 @@ batch_asked = record { selects = refl; unlisted = refl; plain = (refl, refl); sh
 abbrev pub batch_shown : Batch → Row
 batch_shown b = Text (policy_text b.rows) ∷ []
 
-pub batch_told : (old new : SqlState) (s : State) → Represents old.now s → (number : ℕ) (rows : List Row)
+pub batch_returned : (old new : SqlState) (s : State) → Represents old.now s → (number : ℕ) (rows : List Row)
     → Shown batch.text (Int (pos number) ∷ []) old new rows
     → rows ≡ map batch_shown (filter (λ (b : Batch). b.number == number) s.batches)
-batch_told old new s was number =
-    told_numbers batch (Int (pos number) ∷ []) batch_row batch_cmp (λ x y h. rw (number_cmp x.number y.number, h))
+batch_returned old new s was number =
+    returned_numbers batch (Int (pos number) ∷ []) batch_row batch_cmp (λ x y h. rw (number_cmp x.number y.number, h))
     (λ b. b.number == number) (λ b. and_true _ ∙ equal_numbers b.number number) batch_asked old new was.rows.schema
     s.batches was.ordered.batches was.rows.holds.batches
 

@@ -10,7 +10,7 @@ use Rattle.opc_state.specs.Changes.{with_log}
 use Rattle.opc_store_schema.specs.Tables.{the_schema}
 use Rattle.opc_store_schema.specs.Placed.{log_at}
 use Rattle.opc_store_schema.specs.Represented.{Represents, contents_of, log_values}
-use Rattle.opc_store_schema.proofs.Ordered.{log_ordered}
+use Rattle.opc_store_schema.proofs.OrderedBoard.{log_ordered}
 use Rattle.opc_store_schema.proofs.OtherTables.{with_log as spares_log}
 
 abbrev pub log : History (List ℕ)

@@ -11,7 +11,7 @@ use Rattle.opc_state.specs.Changes.{with_messages}
 use Rattle.opc_store_schema.specs.Tables.{the_schema}
 use Rattle.opc_store_schema.specs.Placed.{messages_at}
 use Rattle.opc_store_schema.specs.Represented.{Represents, contents_of, message_values}
-use Rattle.opc_store_schema.proofs.Ordered.{messages_ordered}
+use Rattle.opc_store_schema.proofs.OrderedBoard.{messages_ordered}
 use Rattle.opc_store_schema.proofs.OtherTables.{with_messages as spares_messages}
 
 abbrev pub messages : History MessageRow

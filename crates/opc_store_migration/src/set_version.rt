@@ -10,6 +10,7 @@ ghost use Rattle.opc_store_schema.specs.Represented.{Represents};
 ghost use Rattle.opc_store_old_tables.specs.Old.{IsOldState};
 ghost use Rattle.opc_store_migration.specs.Between.{between, emptied};
 
+use opc_store_schema::version::VERSION;
 use opc_store_sql::run;
 use sqlite::{Alter, Error, Transaction, params};
 
@@ -23,7 +24,7 @@ pub fn set_version<S: Alter>(tx: &mut Transaction<'_, S>) -> Result<(), Error>
         → Represents (state S.Store tx.new.conn.now).now (emptied s)) }
 {
     run(tx, "DELETE FROM meta", &[])?;
-    run(tx, "INSERT INTO meta VALUES (?1)", params![3u32])?;
+    run(tx, "INSERT INTO meta VALUES (?1)", params![VERSION])?;
     run(tx, "DELETE FROM batches", &[])?;
     Ok(())
 }

@@ -29,7 +29,7 @@ use Rattle.sqlite.specs.Order.{Row}
 use Rattle.sqlite.specs.Listing.{understood}
 use Rattle.sqlite.specs.State.{State as SqlState, Shown}
 use Rattle.sqlite_tied.specs.Compute.{everything}
-use Rattle.opc_store_sql.proofs.Asked.{Asked, IsAsked, by_columns, columns, told_all_numbers}
+use Rattle.opc_store_sql.proofs.Asked.{Asked, IsAsked, by_columns, columns, returned_all_numbers}
 use Rattle.opc_store_sql.proofs.Numbered.{number_cmp}
 use Rattle.opc_state.specs.Members.{batch_cmp}
 use Rattle.opc_state.specs.State.{State}
@@ -53,11 +53,11 @@ unfolding understood everything
 batches_asked First = record { selects = refl; unlisted = refl; plain = (refl, refl); shows = λ schema base. refl }
 batches_asked Second = record { selects = refl; unlisted = refl; plain = (refl, refl); shows = λ schema base. refl }
 
-pub batches_told : (version : Older) (old new : SqlState) (s : State) (was : RepresentsOld version old.now s)
+pub batches_returned : (version : Older) (old new : SqlState) (s : State) (was : RepresentsOld version old.now s)
     → (rows : List Row) → Shown (batches version).text [] old new rows → rows ≡ map (batch_shown was.text_of) s.batches
-batches_told version old new s was rows h =
+batches_returned version old new s was rows h =
     let has = held version old.now s was in
-    told_all_numbers (batches version) [] (old_batch_row was.text_of) batch_cmp
+    returned_all_numbers (batches version) [] (old_batch_row was.text_of) batch_cmp
     (λ x y h. rw (number_cmp x.number y.number, h)) (λ _. refl) (batches_asked version) old new has.schema s.batches
     was.state.batches has.batches rows h
 

@@ -5,7 +5,7 @@ use Rattle.sqlite.specs.Listing.{understood}
 use Rattle.sqlite.specs.State.{State as SqlState, Shown}
 use Rattle.sqlite_tied.specs.Compute.{everything}
 use Rattle.sqlite_value.proofs.OrderLemmas.{value_cmp-Text}
-use Rattle.opc_store_sql.proofs.Asked.{Asked, IsAsked, by_columns, columns, then_less, told_all}
+use Rattle.opc_store_sql.proofs.Asked.{Asked, IsAsked, by_columns, columns, then_less, returned_all}
 use Rattle.opc_policy_members.specs.Members.{name_cmp, connect_cmp}
 use Rattle.opc_state.specs.State.{State}
 use Rattle.opc_store_schema.specs.Represented.{connect_row}
@@ -28,11 +28,11 @@ unfolding understood everything
 connects_asked First = record { selects = refl; unlisted = refl; plain = (refl, refl); shows = λ schema base. refl }
 connects_asked Second = record { selects = refl; unlisted = refl; plain = (refl, refl); shows = λ schema base. refl }
 
-pub connects_told : (version : Older) (old new : SqlState) (s : State) → RepresentsOld version old.now s
+pub connects_returned : (version : Older) (old new : SqlState) (s : State) → RepresentsOld version old.now s
     → (rows : List Row) → Shown (connects version).text [] old new rows → rows ≡ map connect_row s.policy.connects
-connects_told version old new s was rows h =
+connects_returned version old new s was rows h =
     let has = held version old.now s was in
-    told_all (connects version) [] refl connect_row connect_cmp (λ _. refl)
+    returned_all (connects version) [] refl connect_row connect_cmp (λ _. refl)
     (λ x y h. rw (value_cmp-Text x.user y.user, value_cmp-Text x.group y.group)
     (then_less (name_cmp x.user y.user) (name_cmp x.group y.group) h)) (λ _. refl)
     (connects_asked version) old new has.schema s.policy.connects was.state.ordered.connects has.connects rows h

@@ -13,7 +13,7 @@ use Rattle.sqlite_tied.specs.Compute.{everything}
 use Rattle.sqlite_value.proofs.OrderLemmas.{value_cmp-Text}
 use Rattle.sqlite_keyed.proofs.ListLemmas.{all_both, filter-map, filter_same}
 use Rattle.opc_store_sql.specs.Order.{Rises}
-use Rattle.opc_store_sql.proofs.Asked.{Asked, IsAsked, by_columns, columns, told_part_shown}
+use Rattle.opc_store_sql.proofs.Asked.{Asked, IsAsked, by_columns, columns, returned_part_shown}
 use Rattle.opc_store_sql.proofs.Keyed.{same_columns}
 use Rattle.opc_store_sql.proofs.Parts.{found_one}
 use Rattle.opc_names.specs.declared.class.Class.{Class}
@@ -136,10 +136,10 @@ module _ (version : Older) (old new : SqlState) (s : State) (was : RepresentsOld
       ∙ (ap (map cut) (list_rows (with_batches [] s) was.state.ordered class pattern)
       ∙ cut_list class pattern list))
 
-  pub entries_told : (rows : List Row) → Shown (entries version).text (profile_key class pattern) old new rows → rows ≡ map (entry_row class pattern) list
-  entries_told rows h =
+  pub entries_returned : (rows : List Row) → Shown (entries version).text (profile_key class pattern) old new rows → rows ≡ map (entry_row class pattern) list
+  entries_returned rows h =
       let has = held version old.now s was in
-      told_part_shown (entries version) (profile_key class pattern) refl (old_entry_row class pattern)
+      returned_part_shown (entries version) (profile_key class pattern) refl (old_entry_row class pattern)
       (shown class pattern) id_cmp (λ _. refl)
       (λ x y less. rw (value_cmp-Text x.id y.id) (then_nothing (name_cmp x.id y.id) less))
       (entries_asked version) old new has.schema (flat_map old_entry_rows s.policy.profiles) list

@@ -15,7 +15,7 @@ use Rattle.sqlite_keyed.proofs.ListLemmas.{ascending_weaker}
 use Rattle.sqlite_keyed.proofs.SortLemmas.{HasNoTies, IsPermutation-sort_by}
 use Rattle.opc_store_sql.specs.Order.{Rises}
 use Rattle.opc_store_sql.specs.Rows.{HasRows}
-use Rattle.opc_store_sql.proofs.Asked.{Asked, IsAsked, by_columns, columns, query, tells, then_less, told_all_shown}
+use Rattle.opc_store_sql.proofs.Asked.{Asked, IsAsked, by_columns, columns, query, returns, then_less, returned_all_shown}
 use Rattle.opc_store_sql.proofs.PutAll.{put_all, put_rises, all_same}
 use Rattle.opc_store_sql.proofs.Rows.{all_along}
 use Rattle.opc_store_sql.proofs.Sorting.{in_order, no_ties}
@@ -100,13 +100,13 @@ module _ (ps : List Profile) (up : Rises profile_cmp ps) where
 
 -- ---- what is read
 
-shows_definition : (version : Older) (p : Profile) → (tells (profiles version) [] (Null ∷ old_profile_row version p)).1 ≡ definition_row p
+shows_definition : (version : Older) (p : Profile) → (returns (profiles version) [] (Null ∷ old_profile_row version p)).1 ≡ definition_row p
 shows_definition First p = refl
 shows_definition Second p = refl
 
 shows_order : (version : Older) (p q : Profile) → text_order p q ≡ Less
-    → output_cmp (query (profiles version)) (tells (profiles version) [] (Null ∷ old_profile_row version p))
-    (tells (profiles version) [] (Null ∷ old_profile_row version q)) ≡ Less
+    → output_cmp (query (profiles version)) (returns (profiles version) [] (Null ∷ old_profile_row version p))
+    (returns (profiles version) [] (Null ∷ old_profile_row version q)) ≡ Less
 shows_order First p q h =
     rw (value_cmp-Text (class_text p.class) (class_text q.class), value_cmp-Text p.pattern q.pattern)
     (then_less (name_cmp (class_text p.class) (class_text q.class)) (name_cmp p.pattern q.pattern) h)
@@ -114,10 +114,10 @@ shows_order Second p q h =
     rw (value_cmp-Text (class_text p.class) (class_text q.class), value_cmp-Text p.pattern q.pattern)
     (then_less (name_cmp (class_text p.class) (class_text q.class)) (name_cmp p.pattern q.pattern) h)
 
-pub profiles_told : (version : Older) (old new : SqlState) (s : State) → RepresentsOld version old.now s
+pub profiles_returned : (version : Older) (old new : SqlState) (s : State) → RepresentsOld version old.now s
     → (rows : List Row) → Shown (profiles version).text [] old new rows
     → rows ≡ map definition_row (by_text s.policy.profiles)
-profiles_told version old new s was rows h =
+profiles_returned version old new s was rows h =
     let has = held version old.now s was in
     let ps = s.policy.profiles in
     let moved : HasRows (map (old_profile_row version) (by_text ps)) (old.now.trees (old_at version 15).tree) =
@@ -126,6 +126,6 @@ profiles_told version old new s was rows h =
           (IsPermutation-sym _ _ (same_profiles ps was.state.ordered.profiles))) has.profiles.each;
       kept = has.profiles.kept;
     } in
-    told_all_shown (profiles version) [] refl (old_profile_row version) definition_row text_order
+    returned_all_shown (profiles version) [] refl (old_profile_row version) definition_row text_order
     (shows_definition version) (shows_order version) (λ _. refl) (profiles_asked version) old new has.schema
     (by_text ps) (texts_rise ps was.state.ordered.profiles) moved rows h

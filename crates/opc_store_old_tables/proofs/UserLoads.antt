@@ -8,7 +8,7 @@ use Rattle.sqlite.specs.Listing.{understood}
 use Rattle.sqlite.specs.State.{State as SqlState, Shown}
 use Rattle.sqlite_tied.specs.Compute.{everything}
 use Rattle.sqlite_value.proofs.OrderLemmas.{value_cmp-Text}
-use Rattle.opc_store_sql.proofs.Asked.{Asked, IsAsked, by_columns, columns, told_all_shown}
+use Rattle.opc_store_sql.proofs.Asked.{Asked, IsAsked, by_columns, columns, returned_all_shown}
 use Rattle.opc_policy_members.specs.declared.user.User.{User}
 use Rattle.opc_policy_members.specs.Members.{user_cmp}
 use Rattle.opc_state.specs.State.{State}
@@ -40,11 +40,11 @@ all_shown : (us : List User) → AllByRecursion IsUnrestricted us → map shown 
 all_shown [] h = refl
 all_shown (u ∷ us) h = ap₂ (λ (r : Row) (l : List Row). r ∷ l) (ap (λ (b : Bool). user_row (record u { restricted = b })) (sym h.0)) (all_shown us h.1)
 
-pub users_told : (version : Older) (old new : SqlState) (s : State) → RepresentsOld version old.now s
+pub users_returned : (version : Older) (old new : SqlState) (s : State) → RepresentsOld version old.now s
     → (rows : List Row) → Shown (users version).text [] old new rows → rows ≡ map user_row s.policy.users
-users_told version old new s was rows h =
+users_returned version old new s was rows h =
     let has = held version old.now s was in
-    told_all_shown (users version) [] refl old_user_row shown user_cmp (λ _. refl)
+    returned_all_shown (users version) [] refl old_user_row shown user_cmp (λ _. refl)
     (λ x y h. rw (value_cmp-Text x.id y.id, h)) (λ _. refl) (users_asked version) old new has.schema s.policy.users
     was.state.ordered.users has.usr rows h
     ∙ all_shown s.policy.users was.state.users

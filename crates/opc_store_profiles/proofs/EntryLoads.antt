@@ -45,9 +45,9 @@ use Rattle.sqlite_keyed.proofs.ListLemmas.{all_both, all_weaker, ascending-filte
 use Rattle.sqlite_tied.specs.Compute.{everything}
 use Rattle.sqlite_value.proofs.OrderLemmas.{value_cmp-Text}
 use Rattle.opc_store_sql.specs.Order.{Rises}
-use Rattle.opc_store_sql.proofs.Asked.{Asked, IsAsked, IsPaged, by_columns, columns, told_part}
+use Rattle.opc_store_sql.proofs.Asked.{Asked, IsAsked, IsPaged, by_columns, columns, returned_part}
 use Rattle.opc_store_sql.proofs.Keyed.{same_columns}
-use Rattle.opc_store_sql.proofs.Limited.{any_flat_map, any_map, one_row, part_first, told_any}
+use Rattle.opc_store_sql.proofs.Limited.{any_flat_map, any_map, one_row, part_first, returned_any}
 use Rattle.opc_store_sql.proofs.Parts.{found_one, none_picked}
 use Rattle.opc_store_sql.proofs.Values.{and_true, same_texts}
 use Rattle.opc_names.specs.declared.class.Class.{Class}
@@ -175,11 +175,11 @@ module _ (s : State) (ordered : IsOrdered s) (class : Class) (pattern : List ℕ
 
 -- ---- the whole list
 
-pub entries_told : (old new : SqlState) (s : State) → Represents old.now s
+pub entries_returned : (old new : SqlState) (s : State) → Represents old.now s
     → (class : Class) (pattern : List ℕ) (rows : List Row) → Shown entries.text (profile_key class pattern) old new rows
     → rows ≡ map (entry_row class pattern) (access_list s.policy class pattern)
-entries_told old new s was class pattern =
-    told_part entries (profile_key class pattern) refl (entry_row class pattern) column_cmp (λ _. refl)
+entries_returned old new s was class pattern =
+    returned_part entries (profile_key class pattern) refl (entry_row class pattern) column_cmp (λ _. refl)
     (λ x y less. rw (value_cmp-Text x.id y.id, value_cmp-Text (or_empty x.when) (or_empty y.when))
     (then_less (name_cmp x.id y.id) (name_cmp (or_empty x.when) (or_empty y.when)) less))
     entries_asked old new was.rows.schema (flat_map entry_rows s.policy.profiles) (access_list s.policy class pattern)
@@ -197,11 +197,11 @@ pub first_entries_asked : IsPaged first_entries (col 0 2)
 unfolding understood everything
 first_entries_asked = record { selects = refl; unlisted = refl; plain = (refl, refl); shows = λ schema base. refl }
 
-pub first_entries_told : (old new : SqlState) (s : State) → Represents old.now s
+pub first_entries_returned : (old new : SqlState) (s : State) → Represents old.now s
     → (class : Class) (pattern : List ℕ) (most : ℕ) (rows : List Row)
     → Shown first_entries.text (Text (class_text class) ∷ Text pattern ∷ Int (pos most) ∷ []) old new rows
     → rows ≡ map (entry_row class pattern) (take most (access_list s.policy class pattern))
-first_entries_told old new s was class pattern most rows h =
+first_entries_returned old new s was class pattern most rows h =
     part_first first_entries (Text (class_text class) ∷ Text pattern ∷ Int (pos most) ∷ []) refl (entry_row class pattern) column_cmp (λ _. refl)
     (λ x y less. rw (value_cmp-Text x.id y.id, value_cmp-Text (or_empty x.when) (or_empty y.when))
     (then_less (name_cmp x.id y.id) (name_cmp (or_empty x.when) (or_empty y.when)) less)) (col 0 2)
@@ -222,15 +222,15 @@ pub entry_asked : IsAsked entry
 unfolding understood everything
 entry_asked = record { selects = refl; unlisted = refl; plain = (refl, refl); shows = λ schema base. refl }
 
-pub entry_told : (old new : SqlState) (s : State) → Represents old.now s
+pub entry_returned : (old new : SqlState) (s : State) → Represents old.now s
     → (class : Class) (pattern id : List ℕ) (when : Option (List ℕ)) → when ≢ Some [] → (rows : List Row)
     → Shown entry.text (entry_key class pattern id (or_empty when)) old new rows
     → rows ≡ map (entry_row class pattern) (filter (is_for when id) (access_list s.policy class pattern))
-entry_told old new s was class pattern id when named rows h =
+entry_returned old new s was class pattern id when named rows h =
     let es = access_list s.policy class pattern in
     let mine = is_at id (or_empty when) in
     let list = list_ordered s was.ordered class pattern in
-    told_part entry (entry_key class pattern id (or_empty when)) refl (entry_row class pattern) column_cmp (λ _. refl)
+    returned_part entry (entry_key class pattern id (or_empty when)) refl (entry_row class pattern) column_cmp (λ _. refl)
     (λ x y less. rw (value_cmp-Text x.id y.id, value_cmp-Text (or_empty x.when) (or_empty y.when))
     (then_less (name_cmp x.id y.id) (name_cmp (or_empty x.when) (or_empty y.when)) less))
     entry_asked old new was.rows.schema (flat_map entry_rows s.policy.profiles) (filter mine es)
@@ -252,11 +252,11 @@ pub any_entry_asked : IsPaged any_entry one_row
 unfolding understood everything
 any_entry_asked = record { selects = refl; unlisted = refl; plain = (refl, refl); shows = λ schema base. refl }
 
-pub any_entry_told : (old new : SqlState) (s : State) → Represents old.now s → (id : List ℕ) (rows : List Row)
+pub any_entry_returned : (old new : SqlState) (s : State) → Represents old.now s → (id : List ℕ) (rows : List Row)
     → Shown any_entry.text (Text id ∷ []) old new rows
     → not (length rows == 0) ≡ list_any (loads.has_entry id) s.policy.profiles
-any_entry_told old new s was id rows h =
-    told_any any_entry (Text id ∷ []) refl any_entry_asked old new was.rows.schema (flat_map entry_rows s.policy.profiles) was.rows.holds.entries rows h
+any_entry_returned old new s was id rows h =
+    returned_any any_entry (Text id ∷ []) refl any_entry_asked old new was.rows.schema (flat_map entry_rows s.policy.profiles) was.rows.holds.entries rows h
     ∙ any_flat_map _ entry_rows (loads.has_entry id)
     (λ p. any_map _ (entry_row p.class p.pattern) (λ (e : Entry). bytes_eq e.id id)
     (λ e. and_true _ ∙ same_texts e.id id) p.entries) s.policy.profiles

@@ -71,7 +71,7 @@ use Rattle.sqlite_keyed.proofs.ListLemmas.{
 }
 use Rattle.sqlite_keyed.proofs.SortLemmas.{sorted_unique}
 use Rattle.opc_store_sql.specs.Order.{text_cmp}
-use Rattle.opc_store_sql.proofs.Asked.{Asked, IsAsked, answers, by_columns, columns, passes_values, picks, query, shows_values, tells, then_less}
+use Rattle.opc_store_sql.proofs.Asked.{Asked, IsAsked, answers, by_columns, columns, passes_values, picks, query, shows_values, returns, then_less}
 use Rattle.opc_store_sql.proofs.Keyed.{same_columns}
 use Rattle.opc_store_sql.proofs.Queries.{answered, passes, shown}
 use Rattle.opc_store_sql.proofs.Rows.{all_along}
@@ -188,7 +188,7 @@ classes_same Console Opercmds h = absurd cc
 classes_same Opercmds Console h = absurd cc
 classes_same Opercmds Opercmds h = refl
 
--- ---- the rows that are told
+-- ---- the rows that are returned
 
 module _ (s : State) (ordered : IsOrdered s) (class : Class) where
   abbrev ps : List Profile
@@ -200,28 +200,28 @@ module _ (s : State) (ordered : IsOrdered s) (class : Class) where
   abbrev is_picked : Row → Bool
   is_picked v = picks lists (class_params class) (Null ∷ v)
 
-  abbrev told : Row → Output
-  told v = tells lists (class_params class) (Null ∷ v)
+  abbrev returned : Row → Output
+  returned v = returns lists (class_params class) (Null ∷ v)
 
   abbrev cmp : Output → Output → Ordering
   cmp = output_cmp (query lists)
 
   -- an output of the query: by its pattern first, and shown as it is
-  abbrev IsTold : Output → Type 0
-  IsTold o = column o.0 0 ≡ Text (pattern_in o.1)
+  abbrev IsReturned : Output → Type 0
+  IsReturned o = column o.0 0 ≡ Text (pattern_in o.1)
 
-  told_rows : AllByRecursion (λ v. IsTold (told v)) have
-  told_rows = all-flat_map (λ v. IsTold (told v)) entry_rows ps (all_each ps)
+  returned_rows : AllByRecursion (λ v. IsReturned (returned v)) have
+  returned_rows = all-flat_map (λ v. IsReturned (returned v)) entry_rows ps (all_each ps)
     where
-      all_each : (qs : List Profile) → AllByRecursion (λ p. AllByRecursion (λ v. IsTold (told v)) (entry_rows p)) qs
+      all_each : (qs : List Profile) → AllByRecursion (λ p. AllByRecursion (λ v. IsReturned (returned v)) (entry_rows p)) qs
       all_each [] = tt
-      all_each (q ∷ qs) = (all-map (λ v. IsTold (told v)) (entry_row q.class q.pattern) (λ e. refl) q.entries, all_each qs)
+      all_each (q ∷ qs) = (all-map (λ v. IsReturned (returned v)) (entry_row q.class q.pattern) (λ e. refl) q.entries, all_each qs)
 
-  by_pattern : (a b : Output) → IsTold a → IsTold b → is_gt (cmp a b) ≡ false → is_gt (text_cmp (pattern_in a.1) (pattern_in b.1)) ≡ false
+  by_pattern : (a b : Output) → IsReturned a → IsReturned b → is_gt (cmp a b) ≡ false → is_gt (text_cmp (pattern_in a.1) (pattern_in b.1)) ≡ false
   by_pattern a b ta tb most =
       sym (ap is_gt (ap₂ value_cmp ta tb ∙ value_cmp-Text (pattern_in a.1) (pattern_in b.1))) ∙ first_most (value_cmp (column a.0 0) (column b.0 0)) _ most
 
-  module _ (ordered_outputs : List Output) (same : IsPermutation (map told (filter is_picked have)) ordered_outputs)
+  module _ (ordered_outputs : List Output) (same : IsPermutation (map returned (filter is_picked have)) ordered_outputs)
       (sorted : IsSorted cmp ordered_outputs) where
     abbrev rows : List Row
     rows = map (λ (o : Output). o.1) ordered_outputs
@@ -229,19 +229,19 @@ module _ (s : State) (ordered : IsOrdered s) (class : Class) where
     in_order : IsAscending (λ a b. is_gt (cmp a b) ≡ false) ordered_outputs
     in_order = ascends cmp (output_cmp_total (query lists)) ordered_outputs sorted
 
-    are_told : AllByRecursion IsTold ordered_outputs
-    are_told = all_along IsTold _ ordered_outputs same
-        (all_map IsTold told (filter is_picked have) (all-filter (λ v. IsTold (told v)) is_picked have told_rows))
+    are_returned : AllByRecursion IsReturned ordered_outputs
+    are_returned = all_along IsReturned _ ordered_outputs same
+        (all_map IsReturned returned (filter is_picked have) (all-filter (λ v. IsReturned (returned v)) is_picked have returned_rows))
 
     by_patterns : AreByPattern rows
-    by_patterns = ascending-map _ (λ (o : Output). o.1) ordered_outputs (ascending_of IsTold _ _ by_pattern ordered_outputs are_told in_order)
+    by_patterns = ascending-map _ (λ (o : Output). o.1) ordered_outputs (ascending_of IsReturned _ _ by_pattern ordered_outputs are_returned in_order)
 
     module _ (p : Profile) (here : profile_of ps p.class p.pattern ≡ Some p) (mine : p.class ≡ class) (list : IsAccessList p.entries) where
       abbrev of_output : Output → Bool
       of_output o = is_of p.pattern o.1
 
-      abbrev told_entry : Entry → Output
-      told_entry e = told (entry_row p.class p.pattern e)
+      abbrev returned_entry : Entry → Output
+      returned_entry e = returned (entry_row p.class p.pattern e)
 
       same_test : (q : Profile)
           → ((is_true (binary (Compare Eq Binary) (Text (class_text q.class)) (Text (class_text class))) && true) && bytes_eq q.pattern p.pattern)
@@ -254,28 +254,28 @@ module _ (s : State) (ordered : IsOrdered s) (class : Class) where
           (binary (Compare Eq Binary) (Text (class_text q.class)) (Text (class_text k)))) (sym mine))
           (sym (same_texts q.pattern p.pattern))
 
-      same_tests : AllByRecursion (λ v. (is_picked v && of_output (told v)) ≡ has_profile p.class p.pattern v) have
-      same_tests = all-flat_map (λ v. (is_picked v && of_output (told v)) ≡ has_profile p.class p.pattern v) entry_rows ps (all_each ps)
+      same_tests : AllByRecursion (λ v. (is_picked v && of_output (returned v)) ≡ has_profile p.class p.pattern v) have
+      same_tests = all-flat_map (λ v. (is_picked v && of_output (returned v)) ≡ has_profile p.class p.pattern v) entry_rows ps (all_each ps)
         where
           all_each : (qs : List Profile)
               → AllByRecursion (λ q. AllByRecursion
-              (λ v. (is_picked v && of_output (told v)) ≡ has_profile p.class p.pattern v) (entry_rows q)) qs
+              (λ v. (is_picked v && of_output (returned v)) ≡ has_profile p.class p.pattern v) (entry_rows q)) qs
           all_each [] = tt
           all_each (q ∷ qs) = (
-            all-map (λ v. (is_picked v && of_output (told v)) ≡ has_profile p.class p.pattern v)
+            all-map (λ v. (is_picked v && of_output (returned v)) ≡ has_profile p.class p.pattern v)
                 (entry_row q.class q.pattern) (λ e. same_test q) q.entries,
             all_each qs,
           )
 
-      picked : filter of_output (map told (filter is_picked have)) ≡ map told_entry p.entries
+      picked : filter of_output (map returned (filter is_picked have)) ≡ map returned_entry p.entries
       picked =
-          filter-map of_output told (filter is_picked have)
-          ∙ (ap (map told) (filter_twice (λ v. of_output (told v)) is_picked have
+          filter-map of_output returned (filter is_picked have)
+          ∙ (ap (map returned) (filter_twice (λ v. of_output (returned v)) is_picked have
           ∙ (filter_on _ _ have same_tests
           ∙ list_hit p.class p.pattern ps p (split p.class p.pattern ps p ordered.profiles here)))
-          ∙ map-map told (entry_row p.class p.pattern) p.entries)
+          ∙ map-map returned (entry_row p.class p.pattern) p.entries)
 
-      rises : (e f : Entry) → column_cmp e f ≡ Less → cmp (told_entry e) (told_entry f) ≡ Less
+      rises : (e f : Entry) → column_cmp e f ≡ Less → cmp (returned_entry e) (returned_entry f) ≡ Less
       rises e f less =
           rw (
             value_cmp-Text p.pattern p.pattern,
@@ -285,20 +285,20 @@ module _ (s : State) (ordered : IsOrdered s) (class : Class) where
           )
           (then_less (text_cmp e.id f.id) (text_cmp (or_empty e.when) (or_empty f.when)) less)
 
-      strict : IsAscending (λ a b. cmp a b ≡ Less) (map told_entry p.entries)
-      strict = ascending-map (λ a b. cmp a b ≡ Less) told_entry p.entries
+      strict : IsAscending (λ a b. cmp a b ≡ Less) (map returned_entry p.entries)
+      strict = ascending-map (λ a b. cmp a b ≡ Less) returned_entry p.entries
           (ascending_weaker (λ e f. column_cmp e f ≡ Less) _ rises p.entries (columns_rise p.entries list))
 
-      its_outputs : filter of_output ordered_outputs ≡ map told_entry p.entries
+      its_outputs : filter of_output ordered_outputs ≡ map returned_entry p.entries
       its_outputs =
-          sorted_unique cmp (output_cmp_total (query lists)) (map told_entry p.entries) (filter of_output ordered_outputs) strict
+          sorted_unique cmp (output_cmp_total (query lists)) (map returned_entry p.entries) (filter of_output ordered_outputs) strict
           (subst (λ (l : List Output). IsPermutation l (filter of_output ordered_outputs)) picked (IsPermutation-filter of_output _ _ same))
           (sorts cmp (output_cmp_total (query lists)) (filter of_output ordered_outputs) (ascending-filter _ of_output ordered_outputs in_order))
 
       its_rows : HasList rows p
       its_rows = (
         filter-map (is_of p.pattern) (λ (o : Output). o.1) ordered_outputs
-            ∙ (ap (map (λ (o : Output). o.1)) its_outputs ∙ (map-map (λ (o : Output). o.1) told_entry p.entries ∙ map_same _ _ (λ e. refl) p.entries)),
+            ∙ (ap (map (λ (o : Output). o.1)) its_outputs ∙ (map-map (λ (o : Output). o.1) returned_entry p.entries ∙ map_same _ _ (λ e. refl) p.entries)),
         list,
       )
 
@@ -323,15 +323,15 @@ module _ (s : State) (ordered : IsOrdered s) (class : Class) where
       × IsAccessList p.entries) (λ p a b. (a.0, classes_same p.class class b, a.1)) (of_class class ps) both
       (all_pass test ps)
 
-pub lists_told : (old new : SqlState) (s : State) → Represents old.now s → (class : Class) (rows : List Row)
+pub lists_returned : (old new : SqlState) (s : State) → Represents old.now s → (class : Class) (rows : List Row)
     → Shown lists.text (class_params class) old new rows → HaveLists rows (of_class class s.policy.profiles)
-lists_told old new s was class rows h =
+lists_returned old new s was class rows h =
     let params = class_params class in
     let db = old.now.trees in
     let answer = answered lists.tree lists.tests lists.project lists.order db params old.now.schema rows
     (answers the_schema lists.text (query lists) lists_asked params old new was.rows.schema rows h) in
     let values = λ (r : Row). drop 1 r in
-    let told_by = told s was.ordered class in
+    let returned_by = returned s was.ordered class in
     let test = is_picked s was.ordered class in
     let stored_rows : List Row = flat_map entry_rows s.policy.profiles in
     let hits : List Row = filter (passes lists.tree lists.tests lists.project lists.order db params) (db lists.tree) in
@@ -340,10 +340,10 @@ lists_told old new s was class rows h =
     let mine : IsPermutation (filter test stored_rows) (map values hits) =
     subst (λ (l : List Row). IsPermutation (filter test stored_rows) l) kept
     (IsPermutation-filter test _ _ was.rows.holds.entries.each) in
-    let theirs : map told_by (map values hits) ≡ map (shown lists.tree lists.tests lists.project lists.order db params)
-    hits = map-map told_by values hits ∙ map_same _ _ (λ r. sym (shows_values lists params refl db r)) hits in
-    let same : IsPermutation (map told_by (filter test stored_rows)) answer.ordered =
-    IsPermutation-trans _ _ _ (IsPermutation-map told_by _ _ mine) (subst (λ (l : List Output). IsPermutation l answer.ordered) (sym theirs) answer.same) in
+    let theirs : map returned_by (map values hits) ≡ map (shown lists.tree lists.tests lists.project lists.order db params)
+    hits = map-map returned_by values hits ∙ map_same _ _ (λ r. sym (shows_values lists params refl db r)) hits in
+    let same : IsPermutation (map returned_by (filter test stored_rows)) answer.ordered =
+    IsPermutation-trans _ _ _ (IsPermutation-map returned_by _ _ mine) (subst (λ (l : List Output). IsPermutation l answer.ordered) (sym theirs) answer.same) in
     subst (λ (l : List Row). HaveLists l (of_class class s.policy.profiles)) (sym answer.are) (
       by_patterns s was.ordered class answer.ordered same answer.sorted,
       have_lists s was.ordered class answer.ordered same answer.sorted (of_class class s.policy.profiles)

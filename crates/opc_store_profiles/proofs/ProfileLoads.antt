@@ -54,9 +54,9 @@ use Rattle.sqlite_tied.specs.Compute.{everything}
 use Rattle.sqlite_value.proofs.OrderLemmas.{value_cmp-Text, value_cmp-Blob}
 use Rattle.sqlite_keyed.proofs.ListLemmas.{all_weaker}
 use Rattle.opc_store_sql.specs.Order.{Rises, text_cmp}
-use Rattle.opc_store_sql.proofs.Asked.{Asked, IsAsked, IsPaged, by_columns, columns, query, tells, then_less, told}
+use Rattle.opc_store_sql.proofs.Asked.{Asked, IsAsked, IsPaged, by_columns, columns, query, returns, then_less, returned}
 use Rattle.opc_store_sql.proofs.Keyed.{same_columns}
-use Rattle.opc_store_sql.proofs.Limited.{any_map, one_row, told_any}
+use Rattle.opc_store_sql.proofs.Limited.{any_map, one_row, returned_any}
 use Rattle.opc_store_sql.proofs.Values.{and_true, equal_texts, same_texts}
 use Rattle.opc_names.specs.declared.class.Class.{Class}
 use Rattle.opc_names.specs.declared.class.Class.TheVariants.{Console, Opercmds}
@@ -98,8 +98,8 @@ class_texts Opercmds Console = refl
 class_texts Opercmds Opercmds = refl
 
 pub profiles_rise : (x y : Profile) → profile_cmp x y ≡ Less
-    → output_cmp (query by_class) (tells by_class [] (Null ∷ profile_row x))
-    (tells by_class [] (Null ∷ profile_row y)) ≡ Less
+    → output_cmp (query by_class) (returns by_class [] (Null ∷ profile_row x))
+    (returns by_class [] (Null ∷ profile_row y)) ≡ Less
 profiles_rise x y h =
     rw (
       value_cmp-Text (class_text x.class) (class_text y.class),
@@ -122,9 +122,9 @@ pub in_class : (class : Class) (p : Profile)
     p.class class
 in_class class p = and_true _ ∙ (equal_texts (class_text p.class) (class_text class) ∙ class_is p.class class)
 
-pub class_told : (class : Class) (old new : SqlState) (s : State) → Represents old.now s → (rows : List Row)
+pub class_returned : (class : Class) (old new : SqlState) (s : State) → Represents old.now s → (rows : List Row)
     → Shown by_class.text (class_params class) old new rows → rows ≡ map profile_row (of_class class s.policy.profiles)
-class_told class old new s was = told by_class (class_params class) refl profile_row profile_cmp (λ _. refl)
+class_returned class old new s was = returned by_class (class_params class) refl profile_row profile_cmp (λ _. refl)
     profiles_rise (λ p. same_class p.class class) (in_class class) by_class_asked old new was.rows.schema
     s.policy.profiles was.ordered.profiles was.rows.holds.profiles
 
@@ -140,11 +140,11 @@ pub profile_asked : IsAsked profile
 unfolding understood everything
 profile_asked = record { selects = refl; unlisted = refl; plain = (refl, refl); shows = λ schema base. refl }
 
-pub profile_told : (old new : SqlState) (s : State) → Represents old.now s
+pub profile_returned : (old new : SqlState) (s : State) → Represents old.now s
     → (class : Class) (pattern : List ℕ) (rows : List Row) → Shown profile.text (profile_key class pattern) old new rows
     → rows ≡ map profile_row (filter (is_of class pattern) s.policy.profiles)
-profile_told old new s was class pattern =
-    told profile (profile_key class pattern) refl profile_row profile_cmp (λ _. refl) profiles_rise
+profile_returned old new s was class pattern =
+    returned profile (profile_key class pattern) refl profile_row profile_cmp (λ _. refl) profiles_rise
     (is_of class pattern) (picks_profile class pattern) profile_asked old new was.rows.schema s.policy.profiles
     was.ordered.profiles was.rows.holds.profiles
 
@@ -162,11 +162,11 @@ pub any_owned_asked : IsPaged any_owned one_row
 unfolding understood everything
 any_owned_asked = record { selects = refl; unlisted = refl; plain = (refl, refl); shows = λ schema base. refl }
 
-pub any_owned_told : (old new : SqlState) (s : State) → Represents old.now s → (id : List ℕ) (rows : List Row)
+pub any_owned_returned : (old new : SqlState) (s : State) → Represents old.now s → (id : List ℕ) (rows : List Row)
     → Shown any_owned.text (Text id ∷ []) old new rows
     → not (length rows == 0) ≡ list_any (λ (p : Profile). bytes_eq p.owner id) s.policy.profiles
-any_owned_told old new s was id rows h =
-    told_any any_owned (Text id ∷ []) refl any_owned_asked old new was.rows.schema (map profile_row s.policy.profiles) was.rows.holds.profiles rows h
+any_owned_returned old new s was id rows h =
+    returned_any any_owned (Text id ∷ []) refl any_owned_asked old new was.rows.schema (map profile_row s.policy.profiles) was.rows.holds.profiles rows h
     ∙ any_map _ profile_row _ (λ (p : Profile). and_true _ ∙ same_texts p.owner id) s.policy.profiles
 
 -- the profile that is found is that of its own class and pattern

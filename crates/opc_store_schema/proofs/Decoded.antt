@@ -1,4 +1,4 @@
--- Tables represent one state alone: it can be told from their rows.
+-- Tables represent one state alone: it can be read from their rows.
 use Rattle.std.proofs.Common.{
   ◌≡◌,
   ℕ,
@@ -140,7 +140,7 @@ same_pick : (class : Class) (pattern : List ℕ) (p : Profile) (e : Entry)
     (entry_row p.class p.pattern e)
 same_pick class pattern p e = ap (λ (c : Class). same_class c class && bytes_eq p.pattern pattern) (class_back p.class) ∙ sym (picks_entries class pattern p e)
 
--- the entries of a profile are those that tell its class and pattern
+-- the entries of a profile are those that name its class and pattern
 own_entries : (class : Class) (pattern : List ℕ) (ps : List Profile) (p : Profile) → Rises profile_cmp ps → profile_of ps class pattern ≡ Some p
     → filter (is_entry_of class pattern) (flat_map entry_rows ps) ≡ map (entry_row p.class p.pattern) p.entries
 own_entries class pattern ps p up here =
@@ -188,12 +188,12 @@ module _ (trees : Trees) (s : State) (ordered : IsOrdered s) (holds : Holds tree
   -- the profiles that the tables hold are those of the state
   pub profiles_are : profiles_in trees ≡ ps
   profiles_are =
-      let tells : map profile_said (map profile_row ps) ≡ map bare ps = map-map profile_said profile_row ps ∙ map_same _ _ profile_back ps in
+      let returns : map profile_said (map profile_row ps) ≡ map bare ps = map-map profile_said profile_row ps ∙ map_same _ _ profile_back ps in
       let sorted = decoded_as profile_cmp profile_total profile_said (map profile_row ps) (map bare ps)
-      (trees profiles_at.tree) (bare_rise ps ordered.profiles) tells holds.profiles in
+      (trees profiles_at.tree) (bare_rise ps ordered.profiles) returns holds.profiles in
       ap (map (λ (p : Profile). record p { entries = entries_in trees p.class p.pattern })) sorted ∙ filled ps (each_found ps ordered.profiles) ordered.entries
 
--- ---- the state that the rows tell
+-- ---- the state that the rows represent
 
 abbrev actives_said : List (Class × Bool) → ActiveClasses
 actives_said (a ∷ b ∷ more) = record { console = a.1; opercmds = b.1 }
@@ -218,8 +218,8 @@ by_flag a b = nat_cmp (bool_number a) (bool_number b)
 by_flag_total : IsTotalOrder by_flag
 by_flag_total = on_total bool_number nat_cmp_total
 
-abbrev told : Trees → State
-told t = record {
+abbrev returned : Trees → State
+returned t = record {
   policy = record {
     users = sort_by user_cmp (map (λ (r : Row). user_said (drop 1 r)) (t usr_at.tree));
     groups = sort_by name_cmp (map (λ (r : Row). group_said (drop 1 r)) (t grp_at.tree));
@@ -290,7 +290,7 @@ module _ (t : Trees) (s : State) (h : AreTablesOf t s) where
   batches_are : map batch_said (t batches_at.tree) ≡ s.batches
   batches_are = ap (map batch_said) h.holds.batches ∙ batches_back s.batches o.read_back
 
-  policy_is : (told t).policy ≡ s.policy
+  policy_is : (returned t).policy ≡ s.policy
   policy_is = λ i. record {
     users = users_are i;
     groups = groups_are i;
@@ -299,7 +299,7 @@ module _ (t : Trees) (s : State) (h : AreTablesOf t s) where
     active = actives_are i;
   }
 
-  board_is : (told t).board ≡ s.board
+  board_is : (returned t).board ≡ s.board
   board_is = λ i. record {
     units = units_are i;
     devices = devices_are i;
@@ -311,9 +311,9 @@ module _ (t : Trees) (s : State) (h : AreTablesOf t s) where
     halted = halted_is i;
   }
 
-  pub told_is : told t ≡ s
-  told_is = λ i. record { policy = policy_is i; board = board_is i; account = account_is i; batches = batches_are i }
+  pub reported_is : returned t ≡ s
+  reported_is = λ i. record { policy = policy_is i; board = board_is i; account = account_is i; batches = batches_are i }
 
 -- trees are the tables of one state alone
 pub one_state : (t : Trees) (a b : State) → AreTablesOf t a → AreTablesOf t b → a ≡ b
-one_state t a b here there = sym (told_is t a here) ∙ told_is t b there
+one_state t a b here there = sym (reported_is t a here) ∙ reported_is t b there

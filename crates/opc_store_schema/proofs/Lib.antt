@@ -9,6 +9,7 @@ pub mod Keys
 pub mod Made
 pub mod Opened
 pub mod Ordered
+pub mod OrderedBoard
 pub mod PolicyRead
 pub mod ProfileTexts
 pub mod OtherTables

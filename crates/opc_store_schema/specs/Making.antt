@@ -6,7 +6,7 @@ use Rattle.sqlite.specs.Held.{Held, state}
 use Rattle.sqlite.specs.Order.{Row}
 use Rattle.opc_names.specs.declared.class.Class.TheVariants.{Console, Opercmds}
 use Rattle.opc_store_sql.specs.Steps.{Ran, RanAll}
-use Rattle.opc_store_schema.specs.Represented.{version_row, class_row, halted_row}
+use Rattle.opc_store_schema.specs.Represented.{made_version, version_row, class_row, halted_row}
 
 abbrev pub lasting : List (List ℕ)
 lasting =
@@ -51,7 +51,7 @@ insert_halted = codes "INSERT INTO board VALUES (?1)"
 
 -- the rows that are always there, each with its statement: the version, the classes and the day
 abbrev pub first_rows : List (List ℕ × Row)
-first_rows = (insert_version, version_row 3) ∷ (insert_class, class_row (Opercmds, false))
+first_rows = (insert_version, version_row made_version) ∷ (insert_class, class_row (Opercmds, false))
     ∷ (insert_class, class_row (Console, false)) ∷ (insert_halted, halted_row false) ∷ []
 
 module _ {S : Type 0} (g : Ghosts S) where

@@ -61,6 +61,10 @@ abbrev pub or_null : Option (List ℕ) → Value
 or_null None = Null
 or_null (Some bytes) = Blob bytes
 
+-- the version of the tables that are made
+abbrev pub made_version : ℕ
+made_version = 3
+
 abbrev pub version_row : ℕ → Row
 version_row version = Int (pos version) ∷ []
 
@@ -189,7 +193,7 @@ batch_row b = numbered_row batch_values b.number b
 -- The rows of each table.
 abbrev pub contents_of : State → Contents
 contents_of s = record {
-  meta = version_row 3 ∷ [];
+  meta = version_row made_version ∷ [];
   classes = map class_row ((Console, s.policy.active.console) ∷ (Opercmds, s.policy.active.opercmds) ∷ []);
   consoles = map console_row s.board.consoles;
   units = map unit_row s.board.units;

@@ -1,5 +1,6 @@
 //! What a caller learns of a failure.
 ghost use Rattle.std.specs.Prelude.{◌≡◌};
+ghost use Rattle.opc_terms.specs.declared.store_fault.StoreFault.TheVariants.{Store};
 ghost use Rattle.opc_store_schema.specs.Changes.{fault_of};
 
 use opc_terms::store_fault::StoreFault;
@@ -16,6 +17,8 @@ pub fn fault(error: Error) -> StoreFault
 }
 
 /// The tables keep something that is not what belongs there.
-pub fn unreadable() -> StoreFault {
+pub fn unreadable() -> StoreFault
+    ensures { result ≡ Store }
+{
     StoreFault::Store
 }

@@ -13,6 +13,7 @@ ghost use Rattle.opc_state.specs.State.{empty};
 ghost use Rattle.opc_store_schema.specs.Ending.{IsCommitted};
 ghost use Rattle.opc_store_schema.specs.Represented.{Represents, AreTablesOf};
 
+use crate::version::VERSION;
 use opc_store_sql::{run, run_all};
 use sqlite::{Alter, Connection, Error, Transaction, params};
 
@@ -85,7 +86,7 @@ fn fill<S: Alter>(tx: &mut Transaction<'_, S>) -> Result<(), Error>
         → OnOk result (IsMade nothing (state S.Store tx.old.conn.now).now
         → Represents (state S.Store tx.new.conn.now).now empty) }
 {
-    run(tx, "INSERT INTO meta VALUES (?1)", params![3u32])?;
+    run(tx, "INSERT INTO meta VALUES (?1)", params![VERSION])?;
     run(
         tx,
         "INSERT INTO classes VALUES (?1, ?2)",

@@ -12,7 +12,7 @@ use sqlite::types::ValueRef;
 use sqlite::{Alter, Connection};
 
 /// Whether a query gives a row. It should have LIMIT 1, so that no more than that row is read, and needs no order: that
-/// LIMIT 1 gives a row if and only if a row passes the test is proved once for all tables (`told_any` of
+/// LIMIT 1 gives a row if and only if a row passes the test is proved once for all tables (`returned_any` of
 /// opc_store_sql).
 pub fn is_there_on<S: Alter>(
     conn: &mut Connection<S>,

@@ -6,11 +6,13 @@ ghost use Rattle.sqlite.specs.declared.error.Error.TheVariants.{SqliteFailure};
 ghost use Rattle.sqlite.specs.declared.error.ErrorCode.TheVariants.{OutOfMemory};
 ghost use Rattle.opc_store_sql.specs.Steps.{Looks};
 ghost use Rattle.opc_store_schema.specs.Asked.{Finds};
-ghost use Rattle.opc_store_schema.specs.Asked.{Finds};
 ghost use Rattle.opc_store_schema.specs.Ours.{NamesVersion, version_of, version_query};
 
 use opc_store_sql::read;
 use sqlite::{Alter, Connection, Error, ErrorCode, Row};
+
+/// The version of the tables that this program makes.
+pub const VERSION: u32 = 3;
 
 /// The version that the one row of meta names, or 0.
 pub fn version_on<S: Alter>(conn: &mut Connection<S>) -> Result<u64, Error>
@@ -22,7 +24,7 @@ pub fn version_on<S: Alter>(conn: &mut Connection<S>) -> Result<u64, Error>
     ensures unasked { HasCleanDisk (state S.Store conn.new)
         → IfErr result (λ e. (e ≡ SqliteFailure OutOfMemory)
         ⊎ FailsToQuery version_query [] (state S.Store conn.old) (state S.Store conn.new) e) }
-    ensures ours { Finds S.Store conn.old conn.new result (λ s v. v ≡ 3) }
+    ensures ours { Finds S.Store conn.old conn.new result (λ s v. v ≡ VERSION) }
 {
     let rows = read(conn, "SELECT version FROM meta ORDER BY version", &[])?;
     version_in(rows.as_slice())

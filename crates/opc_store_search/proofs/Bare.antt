@@ -1,4 +1,4 @@
--- An access list tells nothing of the search.
+-- The search does not depend on an access list.
 use Rattle.std.proofs.Common.{◌≡◌, ◌∙◌, ℕ, Bool, true, false, not, List, [], ◌∷◌, map, filter, length, Option, Some, None, option_map, Less, refl, ap}
 use Rattle.std.specs.List.{AllByRecursion}
 use Rattle.std.proofs.lemmas.List.{length-map}

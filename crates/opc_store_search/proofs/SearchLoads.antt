@@ -17,7 +17,7 @@ use Rattle.sqlite.specs.Listing.{understood}
 use Rattle.sqlite.specs.State.{Shown, Begins, IsUnchanged}
 use Rattle.opc_store_sql.specs.Steps.{NeverWrites}
 use Rattle.opc_store_sql.specs.Taken.{taken_for}
-use Rattle.opc_store_sql.proofs.Asked.{Asked, IsAsked, told, told_first}
+use Rattle.opc_store_sql.proofs.Asked.{Asked, IsAsked, returned, returned_first}
 use Rattle.opc_store_sql.proofs.Values.{equal_texts, and_true, same_texts}
 use Rattle.opc_store_sql.proofs.Streams.{HasTaken, TakesOn, takes_on, taken_all}
 use Rattle.opc_names.specs.declared.class.Class.{Class}
@@ -27,7 +27,7 @@ use Rattle.opc_policy_members.specs.declared.profile.Profile.{Profile}
 use Rattle.opc_policy_members.specs.Profiles.{of_class, profile_cmp}
 use Rattle.opc_policy.specs.Examined.{head_of, with_head, is_chosen}
 use Rattle.opc_policy.proofs.FirstCovering.{filter_both}
-use Rattle.opc_store_profiles.proofs.ProfileLoads.{by_class, by_class_asked, class_is, class_params, class_told, in_class, profiles_rise}
+use Rattle.opc_store_profiles.proofs.ProfileLoads.{by_class, by_class_asked, class_is, class_params, class_returned, in_class, profiles_rise}
 use Rattle.opc_state.specs.State.{State}
 use Rattle.opc_store_search.specs.declared.search.TheConstants.{BY_HEAD}
 use Rattle.opc_store_search.specs.Search.{chosen, Selects}
@@ -57,10 +57,10 @@ module _ (class : Class) (head : List ℕ) where
   -- the query selects the profiles of the class and with the head
   pub selects_chosen : {S : Type 0} (g : Ghosts S) → Selects g by_head.text (head_params class head) (chosen class head)
   selects_chosen g = record {
-    begins = λ h s was. told_first by_head (head_params class head) refl profile_row profile_cmp (λ _. refl)
+    begins = λ h s was. returned_first by_head (head_params class head) refl profile_row profile_cmp (λ _. refl)
         profiles_rise (is_chosen class (Some head)) picks by_head_asked (state g h) was.rows.schema s.policy.profiles
         was.ordered.profiles was.rows.holds.profiles;
-    shows = λ h k s was. told by_head (head_params class head) refl profile_row profile_cmp (λ _. refl) profiles_rise
+    shows = λ h k s was. returned by_head (head_params class head) refl profile_row profile_cmp (λ _. refl) profiles_rise
         (is_chosen class (Some head)) picks by_head_asked (state g h) (state g k) was.rows.schema s.policy.profiles
         was.ordered.profiles was.rows.holds.profiles;
   }
@@ -71,10 +71,10 @@ module _ (class : Class) where
   -- the query selects the profiles of the class
   pub selects_class : {S : Type 0} (g : Ghosts S) → Selects g by_class.text (class_params class) (λ s. of_class class s.policy.profiles)
   selects_class g = record {
-    begins = λ h s was. told_first by_class (class_params class) refl profile_row profile_cmp (λ _. refl) profiles_rise
+    begins = λ h s was. returned_first by_class (class_params class) refl profile_row profile_cmp (λ _. refl) profiles_rise
         (λ p. same_class p.class class) (in_class class) by_class_asked (state g h) was.rows.schema s.policy.profiles
         was.ordered.profiles was.rows.holds.profiles;
-    shows = λ h k s was. class_told class (state g h) (state g k) s was;
+    shows = λ h k s was. class_returned class (state g h) (state g k) s was;
   }
 
 -- ---- rows that are taken one at a time

@@ -1,4 +1,4 @@
--- A SELECT on one table: what is asked, and which rows it tells.
+-- A SELECT on one table: what is asked, and which rows it returns.
 use Rattle.std.proofs.Common.{
   ◌≡◌,
   ℕ,
@@ -167,7 +167,7 @@ module _ (params r : Row) where
   tests_same (t ∷ ts) h = let both = and_parts (of_values t) (list_all of_values ts) h in
       ap₂ (λ (v : Value) (b : Bool). is_true v && b) (evals_same t both.0) (tests_same ts both.1)
 
--- ---- the rows that are told
+-- ---- the rows that are returned
 
 pub record Asked : Type 0 where
   pub schema : Schema
@@ -195,8 +195,8 @@ module _ (a : Asked) (params : Row) where
   abbrev pub picks : Row → Bool
   picks r = passes a.tree a.tests a.project a.order (λ _. []) params r
 
-  abbrev pub tells : Row → Output
-  tells r = shown a.tree a.tests a.project a.order (λ _. []) params r
+  abbrev pub returns : Row → Output
+  returns r = shown a.tree a.tests a.project a.order (λ _. []) params r
 
   pub pages : (limit : Term) → IsPaged a limit → (old new : State) → old.now.schema ≡ a.schema → (rows : List Row)
       → Shown a.text params old new rows → Pages a.tree a.tests a.project a.order old.now.trees params limit rows
@@ -206,49 +206,49 @@ module _ (a : Asked) (params : Row) where
 
   -- a table whose key is the rowid: rows with their numbers
   module _ {X : Type 0} (row : X → Row) (cmp : X → X → Ordering)
-      (less : (x y : X) → cmp x y ≡ Less → output_cmp (query a) (tells (row x)) (tells (row y)) ≡ Less) where
+      (less : (x y : X) → cmp x y ≡ Less → output_cmp (query a) (returns (row x)) (returns (row y)) ≡ Less) where
     module _ (p : X → Bool) (passing : (x : X) → picks (row x) ≡ p x) where
       pub numbers_listed : (db : Trees) (xs : List X) → Rises cmp xs → db a.tree ≡ map row xs → (rows : List Row)
-          → Lists a.tree a.tests a.project a.order db params rows → rows ≡ map (λ x. (tells (row x)).1) (filter p xs)
+          → Lists a.tree a.tests a.project a.order db params rows → rows ≡ map (λ x. (returns (row x)).1) (filter p xs)
       numbers_listed db xs up had rows lists =
-          listed_numbers row cmp a.tree a.tests a.project a.order params (λ x. tells (row x)) p db passing (λ _. refl)
+          listed_numbers row cmp a.tree a.tests a.project a.order params (λ x. returns (row x)) p db passing (λ _. refl)
           less xs rows up had lists
 
-      pub told_numbers : IsAsked a → (old new : State) → old.now.schema ≡ a.schema → (xs : List X) → Rises cmp xs
+      pub returned_numbers : IsAsked a → (old new : State) → old.now.schema ≡ a.schema → (xs : List X) → Rises cmp xs
           → old.now.trees a.tree ≡ map row xs → (rows : List Row) → Shown a.text params old new rows
-          → rows ≡ map (λ x. (tells (row x)).1) (filter p xs)
-      told_numbers is old new has xs up had rows h =
+          → rows ≡ map (λ x. (returns (row x)).1) (filter p xs)
+      returned_numbers is old new has xs up had rows h =
           numbers_listed old.now.trees xs up had rows
           (answered a.tree a.tests a.project a.order old.now.trees params old.now.schema rows
           (answers a.schema a.text (query a) is params old new has rows h))
 
     -- where each row passes
-    pub told_all_numbers : ((x : X) → picks (row x) ≡ true) → IsAsked a → (old new : State) → old.now.schema ≡ a.schema
+    pub returned_all_numbers : ((x : X) → picks (row x) ≡ true) → IsAsked a → (old new : State) → old.now.schema ≡ a.schema
         → (xs : List X) → Rises cmp xs → old.now.trees a.tree ≡ map row xs → (rows : List Row)
         → Shown a.text params old new rows
-        → rows ≡ map (λ x. (tells (row x)).1) xs
-    told_all_numbers each is old new has xs up had rows h =
-        told_numbers (λ _. true) each is old new has xs up had rows h
-        ∙ ap (map (λ x. (tells (row x)).1))
+        → rows ≡ map (λ x. (returns (row x)).1) xs
+    returned_all_numbers each is old new has xs up had rows h =
+        returned_numbers (λ _. true) each is old new has xs up had rows h
+        ∙ ap (map (λ x. (returns (row x)).1))
         (filter_all (λ (x : X). true) xs (all_of (λ (x : X). true ≡ true) (λ _. refl) xs))
 
   -- a table whose rows are numbered by their places, all of it
-  pub told_places : {X : Type 0} (values shape : X → Row) → ((p : ℕ × X) → (tells (placed_row values p)).1 ≡ shape p.1)
+  pub returned_places : {X : Type 0} (values shape : X → Row) → ((p : ℕ × X) → (returns (placed_row values p)).1 ≡ shape p.1)
       → ((p q : ℕ × X) → place_cmp p q ≡ Less
-      → output_cmp (query a) (tells (placed_row values p)) (tells (placed_row values q)) ≡ Less)
+      → output_cmp (query a) (returns (placed_row values p)) (returns (placed_row values q)) ≡ Less)
       → ((p : ℕ × X) → picks (placed_row values p) ≡ true) → IsAsked a → (old new : State) → old.now.schema ≡ a.schema
       → (xs : List X) → old.now.trees a.tree ≡ numbered_rows values 1 xs
       → (rows : List Row) → Shown a.text params old new rows → rows ≡ map shape xs
-  told_places {X} values shape shows less each is old new has xs had rows h =
-      told_all_numbers (placed_row values) place_cmp less each is old new has (placed 1 xs) (placed_rises 1 xs) (had ∙ placed_rows values 1 xs) rows h
-      ∙ (map_same (λ (p : ℕ × X). (tells (placed_row values p)).1) (λ (p : ℕ × X). shape p.1) shows (placed 1 xs) ∙ placed_members shape 1 xs)
+  returned_places {X} values shape shows less each is old new has xs had rows h =
+      returned_all_numbers (placed_row values) place_cmp less each is old new has (placed 1 xs) (placed_rises 1 xs) (had ∙ placed_rows values 1 xs) rows h
+      ∙ (map_same (λ (p : ℕ × X). (returns (placed_row values p)).1) (λ (p : ℕ × X). shape p.1) shows (placed 1 xs) ∙ placed_members shape 1 xs)
 
   -- any other: rows of values
   module _ (values : is_of_values a ≡ true) where
     pub passes_values : (db : Trees) (r : Row) → passes a.tree a.tests a.project a.order db params r ≡ picks (Null ∷ drop 1 r)
     passes_values db r = tests_same params r a.tests (and_parts _ _ values).0
 
-    pub shows_values : (db : Trees) (r : Row) → shown a.tree a.tests a.project a.order db params r ≡ tells (Null ∷ drop 1 r)
+    pub shows_values : (db : Trees) (r : Row) → shown a.tree a.tests a.project a.order db params r ≡ returns (Null ∷ drop 1 r)
     shows_values db r =
         let both = and_parts (list_all of_values (map (λ (k : Term × Key). k.0) a.order)) (list_all of_values a.project)
         (and_parts (list_all of_values a.tests) _ values).1 in
@@ -257,64 +257,64 @@ module _ (a : Asked) (params : Row) where
         (all_evals_same params r a.project both.1)
 
     -- for each member what is shown of its row
-    module _ {X : Type 0} (row shape : X → Row) (cmp : X → X → Ordering) (shows : (x : X) → (tells (Null ∷ row x)).1 ≡ shape x)
-        (less : (x y : X) → cmp x y ≡ Less → output_cmp (query a) (tells (Null ∷ row x)) (tells (Null ∷ row y)) ≡ Less) where
+    module _ {X : Type 0} (row shape : X → Row) (cmp : X → X → Ordering) (shows : (x : X) → (returns (Null ∷ row x)).1 ≡ shape x)
+        (less : (x y : X) → cmp x y ≡ Less → output_cmp (query a) (returns (Null ∷ row x)) (returns (Null ∷ row y)) ≡ Less) where
       module _ (p : X → Bool) (passing : (x : X) → picks (Null ∷ row x) ≡ p x) where
         answer_shows : (db : Database) (xs : List X) → Rises cmp xs → HasRows (map row xs) (db.trees a.tree)
             → (rows : List Row) → Answers db (alone (query a)) params rows → rows ≡ map shape (filter p xs)
         answer_shows db xs up had rows h =
             let lists = answered a.tree a.tests a.project a.order db.trees params db.schema rows h in
-            listed row shape cmp a.tree a.tests a.project a.order params (λ v. picks (Null ∷ v)) (λ v. tells (Null ∷ v))
+            listed row shape cmp a.tree a.tests a.project a.order params (λ v. picks (Null ∷ v)) (λ v. returns (Null ∷ v))
             p db.trees (passes_values db.trees) (shows_values db.trees) passing shows less xs rows up had lists
 
       -- where each row passes
-      pub told_all_shown : ((x : X) → picks (Null ∷ row x) ≡ true) → IsAsked a → (old new : State)
+      pub returned_all_shown : ((x : X) → picks (Null ∷ row x) ≡ true) → IsAsked a → (old new : State)
           → old.now.schema ≡ a.schema → (xs : List X) → Rises cmp xs → HasRows (map row xs) (old.now.trees a.tree)
           → (rows : List Row) → Shown a.text params old new rows → rows ≡ map shape xs
-      told_all_shown each is old new has xs up had rows h =
+      returned_all_shown each is old new has xs up had rows h =
           answer_shows (λ _. true) each old.now xs up had rows (answers a.schema a.text (query a) is params old new has rows h)
           ∙ ap (map shape) (filter_all (λ (x : X). true) xs (all_of (λ (x : X). true ≡ true) (λ _. refl) xs))
 
       -- a part of the table
-      pub told_part_shown : IsAsked a → (old new : State) → old.now.schema ≡ a.schema → (have : List Row) (xs : List X)
+      pub returned_part_shown : IsAsked a → (old new : State) → old.now.schema ≡ a.schema → (have : List Row) (xs : List X)
           → Rises cmp xs → filter (λ v. picks (Null ∷ v)) have ≡ map row xs → HasRows have (old.now.trees a.tree)
           → (rows : List Row) → Shown a.text params old new rows → rows ≡ map shape xs
-      told_part_shown is old new has have xs up mine had rows h =
+      returned_part_shown is old new has have xs up mine had rows h =
           let lists = answered a.tree a.tests a.project a.order old.now.trees params old.now.schema rows
           (answers a.schema a.text (query a) is params old new has rows h) in
           listed_part row shape cmp a.tree a.tests a.project a.order params (λ v. picks (Null ∷ v))
-          (λ v. tells (Null ∷ v)) old.now.trees (passes_values old.now.trees) (shows_values old.now.trees) shows
+          (λ v. returns (Null ∷ v)) old.now.trees (passes_values old.now.trees) (shows_values old.now.trees) shows
           less have xs rows up mine had lists
 
     -- and where that is the whole row
-    module _ {X : Type 0} (row : X → Row) (cmp : X → X → Ordering) (whole : (x : X) → (tells (Null ∷ row x)).1 ≡ row x)
-        (less : (x y : X) → cmp x y ≡ Less → output_cmp (query a) (tells (Null ∷ row x)) (tells (Null ∷ row y)) ≡ Less) where
+    module _ {X : Type 0} (row : X → Row) (cmp : X → X → Ordering) (whole : (x : X) → (returns (Null ∷ row x)).1 ≡ row x)
+        (less : (x y : X) → cmp x y ≡ Less → output_cmp (query a) (returns (Null ∷ row x)) (returns (Null ∷ row y)) ≡ Less) where
       module _ (p : X → Bool) (passing : (x : X) → picks (Null ∷ row x) ≡ p x) where
         pub answer_is : (db : Database) (xs : List X) → Rises cmp xs → HasRows (map row xs) (db.trees a.tree)
             → (rows : List Row) → Answers db (alone (query a)) params rows → rows ≡ map row (filter p xs)
         answer_is = answer_shows row row cmp whole less p passing
 
-        pub told : IsAsked a → (old new : State) → old.now.schema ≡ a.schema → (xs : List X) → Rises cmp xs
+        pub returned : IsAsked a → (old new : State) → old.now.schema ≡ a.schema → (xs : List X) → Rises cmp xs
             → HasRows (map row xs) (old.now.trees a.tree) → (rows : List Row) → Shown a.text params old new rows
             → rows ≡ map row (filter p xs)
-        told is old new has xs up had rows h = answer_is old.now xs up had rows (answers a.schema a.text (query a) is params old new has rows h)
+        returned is old new has xs up had rows h = answer_is old.now xs up had rows (answers a.schema a.text (query a) is params old new has rows h)
 
         -- the first rows of the answer
-        pub told_first : IsAsked a → (old : State) → old.now.schema ≡ a.schema → (xs : List X) → Rises cmp xs
+        pub returned_first : IsAsked a → (old : State) → old.now.schema ≡ a.schema → (xs : List X) → Rises cmp xs
             → HasRows (map row xs) (old.now.trees a.tree) → (rows : List Row) → Begins a.text params old rows
             → (tail : List Row) × (map row (filter p xs) ≡ rows ++ tail)
-        told_first is old has xs up had rows h =
+        returned_first is old has xs up had rows h =
             let it = begins a.schema a.text (query a) is params old has rows h in
             (it.0, sym (answer_is old.now xs up had (rows ++ it.0) it.1))
 
       -- where each row passes
-      pub told_all : ((x : X) → picks (Null ∷ row x) ≡ true) → IsAsked a → (old new : State) → old.now.schema ≡ a.schema
+      pub returned_all : ((x : X) → picks (Null ∷ row x) ≡ true) → IsAsked a → (old new : State) → old.now.schema ≡ a.schema
           → (xs : List X) → Rises cmp xs → HasRows (map row xs) (old.now.trees a.tree)
           → (rows : List Row) → Shown a.text params old new rows → rows ≡ map row xs
-      told_all = told_all_shown row row cmp whole less
+      returned_all = returned_all_shown row row cmp whole less
 
       -- a part of the table
-      pub told_part : IsAsked a → (old new : State) → old.now.schema ≡ a.schema → (have : List Row) (xs : List X)
+      pub returned_part : IsAsked a → (old new : State) → old.now.schema ≡ a.schema → (have : List Row) (xs : List X)
           → Rises cmp xs → filter (λ v. picks (Null ∷ v)) have ≡ map row xs → HasRows have (old.now.trees a.tree)
           → (rows : List Row) → Shown a.text params old new rows → rows ≡ map row xs
-      told_part = told_part_shown row row cmp whole less
+      returned_part = returned_part_shown row row cmp whole less

@@ -87,20 +87,20 @@ module _ {X Y : Type 0} (row : X → Y) (p : X → Bool) where
       go (x ∷ l) h = let same : y ≡ row x = cc in (x, same, refl)
 
   -- what was read of it
-  pub first_told : {V : Type 0} (of : X → V) (xs : List X) (rows : List Y) (y : Y) (v : V)
+  pub first_returned : {V : Type 0} (of : X → V) (xs : List X) (rows : List Y) (y : Y) (v : V)
       → rows ≡ map row (filter p xs) → slice_get rows 0 ≡ Some y → ((x : X) → y ≡ row x → v ≡ of x)
       → Some v ≡ option_map of (find p xs)
-  first_told of xs rows y v are first reads = let it = first_is xs rows y are first in ap (λ z. Some z) (reads it.0 it.1) ∙ ap (option_map of) it.2
+  first_returned of xs rows y v are first reads = let it = first_is xs rows y are first in ap (λ z. Some z) (reads it.0 it.1) ∙ ap (option_map of) it.2
 
-  pub none_told : {V : Type 0} (of : X → V) (xs : List X) (rows : List Y) → rows ≡ map row (filter p xs)
+  pub none_returned : {V : Type 0} (of : X → V) (xs : List X) (rows : List Y) → rows ≡ map row (filter p xs)
       → slice_get rows 0 ≡ None → None ≡ option_map of (find p xs)
-  none_told of xs rows are first = ap (option_map of) (none_found row (λ x. x) p xs rows are first)
+  none_returned of xs rows are first = ap (option_map of) (none_found row (λ x. x) p xs rows are first)
 
 -- what was read of the rows so far is that of the members, up to here
-pub more_told : {X Y V : Type 0} (row : X → Y) (of : X → V) (xs : List X) (rows : List Y) (vs : List V) (i : ℕ) (y : Y)
+pub more_returned : {X Y V : Type 0} (row : X → Y) (of : X → V) (xs : List X) (rows : List Y) (vs : List V) (i : ℕ) (y : Y)
     (v : V) → rows ≡ map row xs → i < length rows → y ≡ get_or rows i y → ((x : X) → y ≡ row x → v ≡ of x)
     → vs ≡ take i (map of xs) → vs ++ v ∷ [] ≡ take (i + 1) (map of xs)
-more_told {X} {Y} {V} row of xs rows vs i y v are low is reads so_far =
+more_returned {X} {Y} {V} row of xs rows vs i y v are low is reads so_far =
     let it = at row xs i y (subst (λ (l : List Y). i < length l) are low) in
     let here : y ≡ row it.x = is ∙ (ap (λ (l : List Y). get_or l i y) are ∙ it.is) in
     let grown : map of (take i xs) ++ of it.x ∷ [] ≡ map of (take (suc i) xs) = sym (map-append of (take i xs) (it.x ∷ [])) ∙ ap (map of) (sym it.more) in

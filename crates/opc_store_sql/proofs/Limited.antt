@@ -41,7 +41,7 @@ use Rattle.sqlite.specs.State.{State, Shown}
 use Rattle.sqlite_keyed.proofs.ListLemmas.{IsPermutation-filter, filter-map, filter_same}
 use Rattle.opc_store_sql.specs.Order.{Rises}
 use Rattle.opc_store_sql.specs.Rows.{HasRows}
-use Rattle.opc_store_sql.proofs.Asked.{Asked, IsPaged, query, is_of_values, picks, tells, pages, passes_values, shows_values}
+use Rattle.opc_store_sql.proofs.Asked.{Asked, IsPaged, query, is_of_values, picks, returns, pages, passes_values, shows_values}
 use Rattle.opc_store_sql.proofs.Listed.{listed_part}
 use Rattle.opc_store_sql.proofs.Queries.{passes, shown}
 
@@ -100,9 +100,9 @@ module _ (a : Asked) (params : Row) (values : is_of_values a ≡ true) where
 
   -- the first rows of a part of the table
   pub part_first : {X : Type 0} (row : X → Row) (cmp : X → X → Ordering)
-      → ((x : X) → (tells a params (Null ∷ row x)).1 ≡ row x)
-      → ((x y : X) → cmp x y ≡ Less → output_cmp (query a) (tells a params (Null ∷ row x))
-      (tells a params (Null ∷ row y)) ≡ Less)
+      → ((x : X) → (returns a params (Null ∷ row x)).1 ≡ row x)
+      → ((x y : X) → cmp x y ≡ Less → output_cmp (query a) (returns a params (Null ∷ row x))
+      (returns a params (Null ∷ row y)) ≡ Less)
       → (limit : Term) → IsPaged a limit → (old new : State) → old.now.schema ≡ a.schema
       → (have : List Row) (xs : List X) → Rises cmp xs → filter picked have ≡ map row xs
       → HasRows have (old.now.trees a.tree)
@@ -111,15 +111,15 @@ module _ (a : Asked) (params : Row) (values : is_of_values a ≡ true) where
       let it = pages a params limit is old new has rows h in
       it.are
       ∙ ap (limited (as_count (eval limit (params ∷ []))))
-      (listed_part row row cmp a.tree a.tests a.project a.order params picked (λ v. tells a params (Null ∷ v))
+      (listed_part row row cmp a.tree a.tests a.project a.order params picked (λ v. returns a params (Null ∷ v))
       old.now.trees (passes_values a params values old.now.trees) (shows_values a params values old.now.trees) whole
       less have xs it.all up mine had it.lists)
 
   -- with LIMIT 1 there is a row where one passes the test
-  pub told_any : IsPaged a one_row → (old new : State) → old.now.schema ≡ a.schema → (have : List Row)
+  pub returned_any : IsPaged a one_row → (old new : State) → old.now.schema ≡ a.schema → (have : List Row)
       → HasRows have (old.now.trees a.tree) → (rows : List Row) → Shown a.text params old new rows
       → not (length rows == 0) ≡ list_any picked have
-  told_any is old new has have had rows h =
+  returned_any is old new has have had rows h =
       let db = old.now.trees in
       let test = passes a.tree a.tests a.project a.order db params in
       let hits : List Row = filter test (db a.tree) in

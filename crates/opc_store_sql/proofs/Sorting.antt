@@ -1,4 +1,4 @@
--- What the rows of a table tell of the members that they stand for: decoded, and sorted by their keys, they are the
+-- How the rows of a table give the members that they stand for: decoded, and sorted by their keys, they are the
 -- list.
 use Rattle.std.proofs.Common.{
   ◌≡◌,
@@ -93,14 +93,14 @@ module _ {X : Type 0} (cmp : X → X → Ordering) (total : IsTotalOrder cmp) wh
       sym (sorted_is-sort_by cmp total ys xs ((apart_along xs ys same).1 (no_ties xs up)) (IsPermutation-sym xs ys same)
       (rises_sorted xs up))
 
-  -- the rows of a table, decoded and sorted, are the members that its values tell
+  -- the rows of a table, decoded and sorted, are the members that its values represent
   pub decoded_as : (back : Row → X) (have : List Row) (xs : List X) (rows : List Row) → Rises cmp xs
       → map back have ≡ xs → HasRows have rows → sort_by cmp (map (λ (r : Row). back (drop 1 r)) rows) ≡ xs
-  decoded_as back have xs rows up tells has =
+  decoded_as back have xs rows up returns has =
       let same : IsPermutation (map back have) (map (λ (r : Row). back (drop 1 r)) rows) =
       subst (IsPermutation (map back have)) (map-map back (λ (r : Row). drop 1 r) rows)
       (IsPermutation-map back _ _ has.each) in
-      in_order xs _ up (subst (λ (l : List X). IsPermutation l (map (λ (r : Row). back (drop 1 r)) rows)) tells same)
+      in_order xs _ up (subst (λ (l : List X). IsPermutation l (map (λ (r : Row). back (drop 1 r)) rows)) returns same)
 
   module _ (row : X → Row) (back : Row → X) (reads : (x : X) → back (row x) ≡ x) where
     -- what a table with one row for each member holds

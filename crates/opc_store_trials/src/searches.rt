@@ -66,12 +66,12 @@ fn found_in_memory(
     let mut lines = String::new(alloc);
     for class in CLASSES {
         let found = search(policy, class, name)?;
-        let told = if listed {
+        let returned = if listed {
             listed_lines(alloc, &found)?
         } else {
             found_lines(alloc, &found)?
         };
-        lines.push_str(told.as_str())?;
+        lines.push_str(returned.as_str())?;
     }
     Ok(lines)
 }

@@ -7,7 +7,7 @@ use Rattle.sqlite.specs.State.{State as SqlState, Shown}
 use Rattle.sqlite_tied.specs.Compute.{everything}
 use Rattle.sqlite_value.proofs.OrderLemmas.{value_cmp-Text}
 use Rattle.opc_store_sql.specs.Order.{text_cmp}
-use Rattle.opc_store_sql.proofs.Asked.{Asked, IsAsked, by_columns, columns, told}
+use Rattle.opc_store_sql.proofs.Asked.{Asked, IsAsked, by_columns, columns, returned}
 use Rattle.opc_store_sql.proofs.Keyed.{same_columns}
 use Rattle.opc_store_sql.proofs.Values.{equal_texts, and_true}
 use Rattle.opc_names.specs.declared.class.Class.{Class}
@@ -40,11 +40,11 @@ class_order x y = text_cmp (class_text x.0) (class_text y.0)
 abbrev classes_of : State → List (Class × Bool)
 classes_of s = (Console, s.policy.active.console) ∷ (Opercmds, s.policy.active.opercmds) ∷ []
 
-pub class_told : (old new : SqlState) (s : State) → Represents old.now s → (of : Class) (rows : List Row)
+pub class_returned : (old new : SqlState) (s : State) → Represents old.now s → (of : Class) (rows : List Row)
     → Shown class.text (Text (class_text of) ∷ []) old new rows → rows ≡ class_row (of, is_active s.policy.active of)
     ∷ []
-class_told old new s was of rows h =
-    told class (Text (class_text of) ∷ []) refl class_row class_order (λ _. refl)
+class_returned old new s was of rows h =
+    returned class (Text (class_text of) ∷ []) refl class_row class_order (λ _. refl)
     (λ x y h. rw (value_cmp-Text (class_text x.0) (class_text y.0), h))
     (λ x. is_eq (text_cmp (class_text x.0) (class_text of)))
     (λ x. and_true _ ∙ equal_texts (class_text x.0) (class_text of))

@@ -11,9 +11,9 @@ use Rattle.sqlite.specs.State.{State as SqlState, Shown}
 use Rattle.sqlite_tied.specs.Compute.{everything}
 use Rattle.sqlite_value.proofs.OrderLemmas.{value_cmp-Text}
 use Rattle.sqlite_keyed.proofs.ListLemmas.{filter-map, filter_same, ascending-filter}
-use Rattle.opc_store_sql.proofs.Asked.{Asked, IsAsked, IsPaged, by_columns, columns, then_less, told_all}
+use Rattle.opc_store_sql.proofs.Asked.{Asked, IsAsked, IsPaged, by_columns, columns, then_less, returned_all}
 use Rattle.opc_store_sql.proofs.Keyed.{same_columns}
-use Rattle.opc_store_sql.proofs.Limited.{any_map, one_row, part_first, told_any}
+use Rattle.opc_store_sql.proofs.Limited.{any_map, one_row, part_first, returned_any}
 use Rattle.opc_store_sql.proofs.Values.{and_true, same_texts}
 use Rattle.opc_policy_members.specs.declared.connect.Connect.{Connect}
 use Rattle.opc_policy_members.specs.Members.{name_cmp, connect_cmp}
@@ -39,10 +39,10 @@ pub connects_asked : IsAsked connects
 unfolding understood everything
 connects_asked = record { selects = refl; unlisted = refl; plain = (refl, refl); shows = λ schema base. refl }
 
-pub connects_told : (old new : SqlState) (s : State) → Represents old.now s → (rows : List Row)
+pub connects_returned : (old new : SqlState) (s : State) → Represents old.now s → (rows : List Row)
     → Shown connects.text [] old new rows → rows ≡ map connect_row s.policy.connects
-connects_told old new s was =
-    told_all connects [] refl connect_row connect_cmp (λ _. refl)
+connects_returned old new s was =
+    returned_all connects [] refl connect_row connect_cmp (λ _. refl)
     (λ x y h. rw (value_cmp-Text x.user y.user, value_cmp-Text x.group y.group)
     (then_less (name_cmp x.user y.user) (name_cmp x.group y.group) h)) (λ _. refl)
     connects_asked old new was.rows.schema s.policy.connects was.ordered.connects was.rows.holds.connects
@@ -56,10 +56,10 @@ pub of_user_asked : IsPaged of_user (col 0 1)
 unfolding understood everything
 of_user_asked = record { selects = refl; unlisted = refl; plain = (refl, refl); shows = λ schema base. refl }
 
-pub of_user_told : (old new : SqlState) (s : State) → Represents old.now s → (id : List ℕ) (most : ℕ) (rows : List Row)
+pub of_user_returned : (old new : SqlState) (s : State) → Represents old.now s → (id : List ℕ) (most : ℕ) (rows : List Row)
     → Shown of_user.text (Text id ∷ Int (pos most) ∷ []) old new rows
     → rows ≡ map connect_row (take most (filter (λ (c : Connect). bytes_eq c.user id) s.policy.connects))
-of_user_told old new s was id most rows h =
+of_user_returned old new s was id most rows h =
     let mine = λ (c : Connect). bytes_eq c.user id in
     part_first of_user (Text id ∷ Int (pos most) ∷ []) refl connect_row connect_cmp (λ _. refl)
     (λ x y less. rw (value_cmp-Text x.user y.user, value_cmp-Text x.group y.group)
@@ -80,11 +80,11 @@ pub any_of_user_asked : IsPaged any_of_user one_row
 unfolding understood everything
 any_of_user_asked = record { selects = refl; unlisted = refl; plain = (refl, refl); shows = λ schema base. refl }
 
-pub any_of_user_told : (old new : SqlState) (s : State) → Represents old.now s → (id : List ℕ) (rows : List Row)
+pub any_of_user_returned : (old new : SqlState) (s : State) → Represents old.now s → (id : List ℕ) (rows : List Row)
     → Shown any_of_user.text (Text id ∷ []) old new rows
     → not (length rows == 0) ≡ list_any (λ (c : Connect). bytes_eq c.user id) s.policy.connects
-any_of_user_told old new s was id rows h =
-    told_any any_of_user (Text id ∷ []) refl any_of_user_asked old new was.rows.schema (map connect_row s.policy.connects) was.rows.holds.connects rows h
+any_of_user_returned old new s was id rows h =
+    returned_any any_of_user (Text id ∷ []) refl any_of_user_asked old new was.rows.schema (map connect_row s.policy.connects) was.rows.holds.connects rows h
     ∙ any_map _ connect_row _ (λ (c : Connect). and_true _ ∙ same_texts c.user id) s.policy.connects
 
 abbrev pub connect : Asked
@@ -94,9 +94,10 @@ pub connect_asked : IsPaged connect one_row
 unfolding understood everything
 connect_asked = record { selects = refl; unlisted = refl; plain = (refl, refl); shows = λ schema base. refl }
 
-pub connect_told : (old new : SqlState) (s : State) → Represents old.now s → (user group : List ℕ) (rows : List Row)
+pub connect_returned : (old new : SqlState) (s : State) → Represents old.now s → (user group : List ℕ) (rows : List Row)
     → Shown connect.text (Text user ∷ Text group ∷ []) old new rows
     → not (length rows == 0) ≡ is_connected s.policy user group
-connect_told old new s was user group rows h =
-    told_any connect (Text user ∷ Text group ∷ []) refl connect_asked old new was.rows.schema (map connect_row s.policy.connects) was.rows.holds.connects rows h
+connect_returned old new s was user group rows h =
+    returned_any connect (Text user ∷ Text group ∷ []) refl connect_asked
+    old new was.rows.schema (map connect_row s.policy.connects) was.rows.holds.connects rows h
     ∙ any_map _ connect_row _ (λ (c : Connect). ap₂ (λ a b. a && b) (same_texts c.user user) (and_true _ ∙ same_texts c.group group)) s.policy.connects

@@ -11,9 +11,9 @@ use Rattle.sqlite.specs.State.{State as SqlState, Shown}
 use Rattle.sqlite_tied.specs.Compute.{everything}
 use Rattle.sqlite_value.proofs.OrderLemmas.{value_cmp-Text}
 use Rattle.opc_store_sql.specs.Order.{text_cmp}
-use Rattle.opc_store_sql.proofs.Asked.{Asked, IsAsked, IsPaged, by_columns, columns, told, told_all}
+use Rattle.opc_store_sql.proofs.Asked.{Asked, IsAsked, IsPaged, by_columns, columns, returned, returned_all}
 use Rattle.opc_store_sql.proofs.Keyed.{same_columns}
-use Rattle.opc_store_sql.proofs.Limited.{any_found, any_map, one_row, told_any}
+use Rattle.opc_store_sql.proofs.Limited.{any_found, any_map, one_row, returned_any}
 use Rattle.opc_store_sql.proofs.Sets.{text_total}
 use Rattle.opc_store_sql.proofs.Values.{equal_texts, and_true}
 use Rattle.opc_policy_members.specs.declared.user.User.{User}
@@ -40,10 +40,10 @@ pub users_asked : IsAsked users
 unfolding understood everything
 users_asked = record { selects = refl; unlisted = refl; plain = (refl, refl); shows = λ schema base. refl }
 
-pub users_told : (old new : SqlState) (s : State) → Represents old.now s → (rows : List Row)
+pub users_returned : (old new : SqlState) (s : State) → Represents old.now s → (rows : List Row)
     → Shown users.text [] old new rows → rows ≡ map user_row s.policy.users
-users_told old new s was =
-    told_all users [] refl user_row user_cmp (λ _. refl) (λ x y h. rw (value_cmp-Text x.id y.id, h)) (λ _. refl)
+users_returned old new s was =
+    returned_all users [] refl user_row user_cmp (λ _. refl) (λ x y h. rw (value_cmp-Text x.id y.id, h)) (λ _. refl)
     users_asked old new was.rows.schema s.policy.users was.ordered.users was.rows.holds.usr
 
 -- ---- that of an id
@@ -63,11 +63,11 @@ eq_back a b = ap is_eq (text_total.antisymm a b) ∙ (turned (text_cmp b a) ∙ 
     turned Equal = refl
     turned Greater = refl
 
-pub user_told : (old new : SqlState) (s : State) → Represents old.now s → (id : List ℕ) (rows : List Row)
+pub user_returned : (old new : SqlState) (s : State) → Represents old.now s → (id : List ℕ) (rows : List Row)
     → Shown user.text (Text id ∷ []) old new rows
     → rows ≡ map user_row (filter (λ (u : User). bytes_eq id u.id) s.policy.users)
-user_told old new s was id =
-    told user (Text id ∷ []) refl user_row user_cmp (λ _. refl) (λ x y h. rw (value_cmp-Text x.id y.id, h))
+user_returned old new s was id =
+    returned user (Text id ∷ []) refl user_row user_cmp (λ _. refl) (λ x y h. rw (value_cmp-Text x.id y.id, h))
     (λ u. bytes_eq id u.id) (λ u. and_true _ ∙ (equal_texts u.id id ∙ eq_back u.id id)) user_asked old new
     was.rows.schema s.policy.users was.ordered.users was.rows.holds.usr
 
@@ -80,11 +80,11 @@ pub named_user_asked : IsPaged named_user one_row
 unfolding understood everything
 named_user_asked = record { selects = refl; unlisted = refl; plain = (refl, refl); shows = λ schema base. refl }
 
-pub named_user_told : (old new : SqlState) (s : State) → Represents old.now s → (name : List ℕ) (rows : List Row)
+pub named_user_returned : (old new : SqlState) (s : State) → Represents old.now s → (name : List ℕ) (rows : List Row)
     → Shown named_user.text (Text name ∷ []) old new rows → not (length rows == 0) ≡ has_user s.policy name
-named_user_told old new s was name rows h =
+named_user_returned old new s was name rows h =
     let mine = λ (u : User). bytes_eq name u.id in
-    told_any named_user (Text name ∷ []) refl named_user_asked old new was.rows.schema (map user_row s.policy.users) was.rows.holds.usr rows h
+    returned_any named_user (Text name ∷ []) refl named_user_asked old new was.rows.schema (map user_row s.policy.users) was.rows.holds.usr rows h
     ∙ (any_map _ user_row mine (λ (u : User). and_true _ ∙ (equal_texts u.id name ∙ eq_back u.id name)) s.policy.users ∙ any_found mine s.policy.users)
 
 -- ---- whether there is a user
@@ -100,7 +100,7 @@ some_user : (users : List User) → list_any (λ (r : Row). true) (map user_row 
 some_user [] = refl
 some_user (u ∷ us) = refl
 
-pub any_user_told : (old new : SqlState) (s : State) → Represents old.now s → (rows : List Row)
+pub any_user_returned : (old new : SqlState) (s : State) → Represents old.now s → (rows : List Row)
     → Shown any_user.text [] old new rows → not (length rows == 0) ≡ has_users s.policy
-any_user_told old new s was rows h = told_any any_user [] refl any_user_asked old new was.rows.schema
+any_user_returned old new s was rows h = returned_any any_user [] refl any_user_asked old new was.rows.schema
     (map user_row s.policy.users) was.rows.holds.usr rows h ∙ some_user s.policy.users

@@ -1,5 +1,5 @@
 use Rattle.opc_store_board.proofs.DayRows.{sets_halted}
-use Rattle.opc_store_schema.proofs.Ordered.{halted_ordered}
+use Rattle.opc_store_schema.proofs.OrderedBoard.{halted_ordered}
 use Rattle.opc_store_board.proofs.day.set_halted.Goals as goal
 
 pub returns-clause-done : goal.returns-clause-done

@@ -2,7 +2,7 @@ use Rattle.std.proofs.Common.{arith}
 use Rattle.sqlite.specs.Held.{state}
 use Rattle.sqlite.specs.State.{HasCleanDisk}
 use Rattle.opc_store_board.proofs.ReplyRows.{inserts_reply}
-use Rattle.opc_store_schema.proofs.Ordered.{with_reply_ordered}
+use Rattle.opc_store_schema.proofs.OrderedBoard.{with_reply_ordered}
 use Rattle.opc_store_board.proofs.replies.put_reply.Goals as goal
 
 pub returns-clause-done : goal.returns-clause-done

@@ -1,5 +1,5 @@
 use Rattle.opc_store_board.proofs.ReplyRows.{removes_reply}
-use Rattle.opc_store_schema.proofs.Ordered.{without_reply_ordered}
+use Rattle.opc_store_schema.proofs.OrderedBoard.{without_reply_ordered}
 use Rattle.opc_store_board.proofs.replies.remove_reply.Goals as goal
 
 pub returns-clause-done : goal.returns-clause-done

@@ -1,9 +1,9 @@
 use Rattle.opc_store_sql.proofs.Asked.{never_writes}
-use Rattle.opc_store_board.proofs.ReplyLoads.{replies_asked, replies_told}
+use Rattle.opc_store_board.proofs.ReplyLoads.{replies_asked, replies_returned}
 use Rattle.opc_store_board.proofs.replies.replies_on.Goals as goal
 
 pub members_on-requires-clause-quiet : goal.members_on-requires-clause-quiet
 members_on-requires-clause-quiet g c = never_writes replies_asked
 
 pub returns-clause-found : goal.returns-clause-found
-returns-clause-found g c clean s was = c.members_on.ensures.found clean s.board.replies (replies_told _ _ s was)
+returns-clause-found g c clean s was = c.members_on.ensures.found clean s.board.replies (replies_returned _ _ s was)

@@ -1,6 +1,6 @@
 use Rattle.std.specs.Str.{bytes_eq}
 use Rattle.opc_store_sql.proofs.Asked.{never_writes}
-use Rattle.opc_store_board.proofs.UnitLoads.{unit_asked, unit_told}
+use Rattle.opc_store_board.proofs.UnitLoads.{unit_asked, unit_returned}
 use Rattle.opc_store_board.proofs.units.unit_on.Goals as goal
 
 pub member_on-requires-clause-quiet : goal.member_on-requires-clause-quiet
@@ -8,5 +8,5 @@ member_on-requires-clause-quiet g c = never_writes unit_asked
 
 pub returns-clause-found : goal.returns-clause-found
 returns-clause-found g c clean s was = c.member_on.ensures.found clean (λ x. bytes_eq x.name c.args.name.now)
-    s.board.units (λ rows shown. unit_told _ _ s was c.args.name.now rows
+    s.board.units (λ rows shown. unit_returned _ _ s was c.args.name.now rows
     (rw (c.params-to_sql.ensures, c.text.ensures.text) at shown))

@@ -2,7 +2,7 @@ use Rattle.std.proofs.Common.{◌≡◌, ◌∙◌, ℕ, List, map, take, length
 use Rattle.std.proofs.lemmas.Iterator.Adapters.{YieldsList-from_vec}
 use Rattle.std.proofs.lemmas.Iterator.Consumers.{YieldsList-turn, YieldsList-end}
 use Rattle.std.proofs.lemmas.List.{length-map, map-id, take_all, length_push}
-use Rattle.opc_store_sql.proofs.Decoded.{more_told}
+use Rattle.opc_store_sql.proofs.Decoded.{more_returned}
 use Rattle.opc_state.specs.declared.account.AccountRow.{AccountRow}
 use Rattle.opc_store_history.proofs.account.without_numbers.Goals as goal
 
@@ -22,7 +22,7 @@ loop-numbered-preserved c =
     c.in-Some.is c.next.ensures.steps in
     let y = c.in-Some.numbered in
     c.in_ok-push.ensures.ok
-    ∙ (more_told (λ x. x) (λ (p : ℕ × AccountRow). p.1) xs xs c.loop-numbered.rows (length c.loop-numbered.yielded) y
+    ∙ (more_returned (λ x. x) (λ (p : ℕ × AccountRow). p.1) xs xs c.loop-numbered.rows (length c.loop-numbered.yielded) y
     y.1 (sym (map-id xs)) t.0 t.1 (λ x e. ap (λ (p : ℕ × AccountRow). p.1) e) c.loop-numbered.invariant
     ∙ ap (λ k. take k (rows_of xs)) (sym (length_push c.loop-numbered.yielded y)))
 

@@ -6,7 +6,7 @@ use Rattle.opc_import.specs.Lines.{policy_text}
 use Rattle.opc_policy_members.specs.declared.row.Row.{Row}
 use Rattle.opc_store_schema.specs.State.{IsReadBack}
 use Rattle.opc_store_history.proofs.BatchRows.{removes_batch, inserts_batch, batch_given}
-use Rattle.opc_store_schema.proofs.Ordered.{with_batch_ordered}
+use Rattle.opc_store_schema.proofs.OrderedBoard.{with_batch_ordered}
 use Rattle.opc_store_history.proofs.batches.put_batch.Goals as goal
 
 pub returns-clause-done : goal.returns-clause-done

@@ -1,6 +1,6 @@
 use Rattle.std.proofs.Common.{◌∙◌}
 use Rattle.opc_store_sql.proofs.Asked.{never_writes}
-use Rattle.opc_store_history.proofs.MessageLoads.{messages_asked, messages_told}
+use Rattle.opc_store_history.proofs.MessageLoads.{messages_asked, messages_returned}
 use Rattle.opc_store_history.proofs.messages.messages_on.Goals as goal
 
 pub read-requires-clause-quiet : goal.read-requires-clause-quiet
@@ -8,4 +8,4 @@ read-requires-clause-quiet g c = never_writes messages_asked
 
 pub returns-clause-found : goal.returns-clause-found
 returns-clause-found g c clean s was = c.decode_all.ensures s.board.messages
-    (c.as_slice.ensures.value ∙ messages_told _ _ s was _ (c.in_ok-rows.ensures.shown clean))
+    (c.as_slice.ensures.value ∙ messages_returned _ _ s was _ (c.in_ok-rows.ensures.shown clean))

@@ -3,7 +3,7 @@ use Rattle.opc_store_sql.proofs.Asked.{never_writes}
 use Rattle.opc_state.specs.Changes.{with_batches}
 use Rattle.opc_store_profiles.proofs.EntryLoads.{list_ordered}
 use Rattle.opc_store_old_tables.specs.Tables.{First}
-use Rattle.opc_store_old_tables.proofs.EntryLoads.{entries_asked, entries_told}
+use Rattle.opc_store_old_tables.proofs.EntryLoads.{entries_asked, entries_returned}
 use Rattle.opc_store_old_tables.proofs.entries.access_list_on.Goals as goal
 
 pub read-requires-clause-quiet : goal.read-requires-clause-quiet
@@ -15,4 +15,4 @@ returns-clause-found g c clean version s was =
     let pattern = c.args.pattern.now in
     let shown = rw (c.params-to_sql.ensures, c.params-to_sql-2.ensures, c.text.ensures.text, c.text-2.ensures.text) at (c.in_ok-rows.ensures.shown clean) in
     c.entries_in.ensures class pattern _ (list_ordered (with_batches [] s) was.state.ordered class pattern)
-    (c.as_slice.ensures.value ∙ entries_told version _ _ s was class pattern _ shown)
+    (c.as_slice.ensures.value ∙ entries_returned version _ _ s was class pattern _ shown)

@@ -7,7 +7,7 @@ use Rattle.opc_store_sql.proofs.Looking.{looks_then, looked}
 use Rattle.opc_store_old_tables.specs.Tables.{First}
 use Rattle.opc_store_old_tables.specs.Old.{RepresentsOld}
 use Rattle.opc_store_old_tables.specs.Read.{by_text}
-use Rattle.opc_store_old_tables.proofs.ProfileLoads.{profiles_asked, profiles_told, all_among}
+use Rattle.opc_store_old_tables.proofs.ProfileLoads.{profiles_asked, profiles_returned, all_among}
 use Rattle.opc_store_old_tables.proofs.profiles.profiles_on.Goals as goal
 
 pub read-requires-clause-quiet : goal.read-requires-clause-quiet
@@ -26,4 +26,4 @@ returns-clause-found g c clean version s was =
     let mid = looked g.S.Store _ _ _ _ _ first early (λ (d : Database). RepresentsOld version d s) was in
     c.profiles_in.ensures.found clean version s mid (by_text s.policy.profiles)
     (all_among s.policy.profiles was.state.ordered.profiles)
-    (c.as_slice.ensures.value ∙ profiles_told version _ _ s was _ (c.in_ok-rows.ensures.shown early))
+    (c.as_slice.ensures.value ∙ profiles_returned version _ _ s was _ (c.in_ok-rows.ensures.shown early))

@@ -1,7 +1,7 @@
 use Rattle.std.proofs.Common.{◌∙◌}
 use Rattle.opc_store_sql.proofs.Asked.{never_writes}
 use Rattle.opc_store_old_tables.specs.Tables.{First}
-use Rattle.opc_store_old_tables.proofs.UserLoads.{users_asked, users_told}
+use Rattle.opc_store_old_tables.proofs.UserLoads.{users_asked, users_returned}
 use Rattle.opc_store_old_tables.proofs.users.users_on.Goals as goal
 
 pub read-requires-clause-quiet : goal.read-requires-clause-quiet
@@ -10,4 +10,4 @@ read-requires-clause-quiet g c = never_writes (users_asked First)
 pub returns-clause-found : goal.returns-clause-found
 returns-clause-found g c clean version s was =
     c.users_in.ensures s.policy.users (c.as_slice.ensures.value
-    ∙ users_told version _ _ s was _ (c.in_ok-rows.ensures.shown clean))
+    ∙ users_returned version _ _ s was _ (c.in_ok-rows.ensures.shown clean))

@@ -1,6 +1,6 @@
 use Rattle.std.proofs.Common.{◌∙◌}
 use Rattle.opc_store_sql.proofs.Asked.{never_writes}
-use Rattle.opc_store_profiles.proofs.EntryLoads.{first_entries_asked, first_entries_told, first_listed, list_ordered}
+use Rattle.opc_store_profiles.proofs.EntryLoads.{first_entries_asked, first_entries_returned, first_listed, list_ordered}
 use Rattle.opc_store_schema.proofs.Kept.{looks_for}
 use Rattle.opc_store_profiles.proofs.entries.entries_on.Goals as goal
 
@@ -20,7 +20,7 @@ returns-clause-found g c clean s was =
       c.text-2.ensures.text,
     ) at (c.in_ok-rows.ensures.shown clean) in
     c.entries_in.ensures class pattern _ (first_listed most _ (list_ordered s was.ordered class pattern))
-    (c.as_slice.ensures.value ∙ first_entries_told _ _ s was class pattern most _ shown)
+    (c.as_slice.ensures.value ∙ first_entries_returned _ _ s was class pattern most _ shown)
 
 pub returns-clause-looks : goal.returns-clause-looks
 returns-clause-looks g c = looks_for g.S.Store _ c.entries_in.result _ _ c.in_ok-rows.ensures.looks

@@ -8,7 +8,7 @@ use Rattle.opc_store_sql.proofs.Decoded.{first_is, none_found}
 use Rattle.opc_store_sql.proofs.Looking.{looked, looks_as, looks_then}
 use Rattle.opc_policy_members.specs.Profiles.{is_of}
 use Rattle.opc_store_schema.specs.Represented.{Represents, profile_row}
-use Rattle.opc_store_profiles.proofs.ProfileLoads.{profile_asked, profile_told, own_key}
+use Rattle.opc_store_profiles.proofs.ProfileLoads.{profile_asked, profile_returned, own_key}
 use Rattle.opc_store_profiles.proofs.profiles.profile_at.Goals as goal
 
 pub read-requires-clause-quiet : goal.read-requires-clause-quiet
@@ -23,7 +23,7 @@ returns-in-Some-clause-found g c clean s was =
     let early : HasCleanDisk (state g.S.Store c.read.new.conn) = omega (arith, step.looks.survives.clean) in
     let mid = looked g.S.Store _ _ _ _ _ first early (λ (d : Database). Represents d s) was in
     let shown = rw (c.params-to_sql.ensures, c.params-to_sql-2.ensures, c.text.ensures.text, c.text-2.ensures.text) at (c.in_ok-rows.ensures.shown early) in
-    let are = profile_told _ _ s was class pattern _ shown in
+    let are = profile_returned _ _ s was class pattern _ shown in
     let it = first_is profile_row (is_of class pattern) s.policy.profiles c.as_slice.result.now c.in-Some.row.now
     (c.as_slice.ensures.value ∙ are)
     (let h = c.in-Some.ensures.lookup in slice_get_read c.as_slice.result.now _ 0 c.in-Some.row.now refl h.3.0 h.1)
@@ -35,7 +35,7 @@ returns-clause-found g c clean s was =
     let class = c.args.class in
     let pattern = c.args.pattern.now in
     let shown = rw (c.params-to_sql.ensures, c.params-to_sql-2.ensures, c.text.ensures.text, c.text-2.ensures.text) at (c.in_ok-rows.ensures.shown clean) in
-    let are = profile_told _ _ s was class pattern _ shown in
+    let are = profile_returned _ _ s was class pattern _ shown in
     none_found profile_row (λ p. p) (is_of class pattern) s.policy.profiles c.as_slice.result.now
     (c.as_slice.ensures.value ∙ are) (slice_get_past c.as_slice.result.now 0 c.in-None.ensures.lookup.3)
 

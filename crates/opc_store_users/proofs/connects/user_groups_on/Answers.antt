@@ -3,7 +3,7 @@ use Rattle.std.specs.Str.{bytes_eq}
 use Rattle.std.proofs.lemmas.List.{take-map}
 use Rattle.opc_store_sql.proofs.Asked.{never_writes}
 use Rattle.opc_policy_members.specs.declared.connect.Connect.{Connect}
-use Rattle.opc_store_users.proofs.ConnectLoads.{of_user_asked, of_user_told}
+use Rattle.opc_store_users.proofs.ConnectLoads.{of_user_asked, of_user_returned}
 use Rattle.opc_store_schema.proofs.Kept.{looks_for}
 use Rattle.opc_store_users.proofs.connects.user_groups_on.Goals as goal
 
@@ -18,7 +18,7 @@ returns-clause-found g c clean s was =
     let shown = rw (c.params-to_sql.ensures, c.params-to_sql-2.ensures, c.text.ensures.text) at (c.in_ok-rows.ensures.shown clean) in
     rw (take-map (λ (d : Connect). d.group) c.args.most mine)
     (c.groups_in.ensures (take c.args.most mine)
-    (c.as_slice.ensures.value ∙ of_user_told _ _ s was user c.args.most _ shown))
+    (c.as_slice.ensures.value ∙ of_user_returned _ _ s was user c.args.most _ shown))
 
 pub returns-clause-looks : goal.returns-clause-looks
 returns-clause-looks g c = looks_for g.S.Store _ c.groups_in.result _ _ c.in_ok-rows.ensures.looks

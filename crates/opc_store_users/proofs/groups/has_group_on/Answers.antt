@@ -1,5 +1,5 @@
 use Rattle.opc_store_sql.proofs.Asked.{never_writes}
-use Rattle.opc_store_users.proofs.GroupLoads.{named_group_asked, named_group_told}
+use Rattle.opc_store_users.proofs.GroupLoads.{named_group_asked, named_group_returned}
 use Rattle.opc_store_users.proofs.groups.has_group_on.Goals as goal
 
 pub is_there_on-requires-clause-quiet : goal.is_there_on-requires-clause-quiet
@@ -7,4 +7,4 @@ is_there_on-requires-clause-quiet g c = never_writes named_group_asked
 
 pub returns-clause-found : goal.returns-clause-found
 returns-clause-found g c clean s was = c.is_there_on.ensures.found clean _
-    (λ rows shown. named_group_told _ _ s was c.args.name.now rows (rw (c.params-to_sql.ensures) at shown))
+    (λ rows shown. named_group_returned _ _ s was c.args.name.now rows (rw (c.params-to_sql.ensures) at shown))

@@ -1,0 +1,150 @@
+//! What stands at the path of a database file before it is opened, and what a refused opening leaves there.
+use crate::spare::{Found, is_spare_database, is_spare_log};
+use os::RangeLock;
+use std::fs::{File, Metadata, OpenOptions};
+use std::io::ErrorKind;
+use std::os::fd::AsRawFd;
+use std::os::unix::fs::{MetadataExt, OpenOptionsExt};
+use std::path::PathBuf;
+use std::{fs, io};
+
+/// A new file is for its owner alone, whatever the umask allows.
+const OWNER_ALONE: u32 = 0o600;
+
+/// The bytes of a database file that SQLite locks, and how many they are.
+const LOCK_BYTES: (u64, u64) = (1 << 30, 512);
+
+/// Where a database file and its log lie, with no link in their paths, and what stood there.
+#[derive(Drop)]
+pub struct Site {
+    database: PathBuf,
+    log: String,
+    found: Found,
+}
+
+/// Whether SQLite gives this path a meaning of its own, so that it means no file.
+pub fn means_no_file(path: &str) -> bool {
+    path == ":memory:" || path.starts_with("file:")
+}
+
+/// Looks at what stands at a path, and makes the database file if nothing does. It is empty then, and its owner's alone;
+/// the log that SQLite makes beside it gets the same mode. None if the path means no file.
+pub fn prepare(rt: &HostRuntime, path: &str) -> io::Result<Option<Site>> {
+    if means_no_file(path) {
+        return Ok(None);
+    }
+    let is_made = is_missing(rt, path)? && make(rt, path)?;
+    match Site::at(rt, path, is_made) {
+        Ok(site) => Ok(Some(site)),
+        Err(error) => {
+            if is_made {
+                remove_empty(rt, path);
+            }
+            Err(error)
+        }
+    }
+}
+
+/// Whether no file is there.
+fn is_missing(rt: &HostRuntime, path: &str) -> io::Result<bool> {
+    match fs::metadata(rt, path) {
+        Ok(_) => Ok(false),
+        Err(error) if error.kind() == ErrorKind::NotFound => Ok(true),
+        Err(error) => Err(error),
+    }
+}
+
+/// Makes the file, unless something stands there by now. Nobody else may read it at any moment.
+fn make(rt: &HostRuntime, path: &str) -> io::Result<bool> {
+    let made = OpenOptions::new()
+        .read(true)
+        .write(true)
+        .create_new(true)
+        .mode(OWNER_ALONE)
+        .open(rt, path);
+    match made {
+        Ok(_) => Ok(true),
+        Err(error) if error.kind() == ErrorKind::AlreadyExists => Ok(false),
+        Err(error) => Err(error),
+    }
+}
+
+/// Whether something stands there. If the system does not say, it counts as there, and is left alone.
+fn is_there(rt: &HostRuntime, path: &str) -> bool {
+    match fs::symlink_metadata(rt, path) {
+        Err(error) => error.kind() != ErrorKind::NotFound,
+        Ok(_) => true,
+    }
+}
+
+impl Site {
+    fn at(rt: &HostRuntime, path: &str, is_made: bool) -> io::Result<Self> {
+        let database = fs::canonicalize(rt, path)?;
+        let log = format!(in rt.alloc(); "{}-wal", database.as_str())?;
+        let found = Found {
+            is_made,
+            length: fs::metadata(rt, path)?.len(),
+            has_log: is_there(rt, log.as_str()),
+        };
+        Ok(Site {
+            database,
+            log,
+            found,
+        })
+    }
+
+    /// Removes what a refused opening left and nobody needs. The opening has let the files go by now; nothing is removed
+    /// if another program has them.
+    pub fn tidy(&self, rt: &HostRuntime) {
+        let (database, log) = (self.database.as_str(), self.log.as_str());
+        let Some((file, length)) = locked(rt, database) else {
+            return;
+        };
+        match fs::symlink_metadata(rt, log) {
+            Ok(found) if found.is_file() && is_spare_log(self.found, length, found.len()) => {
+                let _ = fs::remove_file(rt, log);
+            }
+            _ => {}
+        }
+        if is_spare_database(self.found, length) {
+            let _ = fs::remove_file(rt, database);
+        }
+        // The lock is held until here.
+        drop(file);
+    }
+}
+
+/// Removes a file that was made and is empty still.
+fn remove_empty(rt: &HostRuntime, path: &str) {
+    if let Some((file, 0)) = locked(rt, path) {
+        let _ = fs::remove_file(rt, path);
+        drop(file);
+    }
+}
+
+/// The database file at a path, locked as SQLite locks it, and how many bytes it has. None if that is not to be had.
+fn locked(rt: &HostRuntime, path: &str) -> Option<(File, u64)> {
+    let named = fs::symlink_metadata(rt, path).ok()?;
+    if !named.is_file() {
+        return None;
+    }
+    let file = OpenOptions::new()
+        .read(true)
+        .write(true)
+        .open(rt, path)
+        .ok()?;
+    let (start, count) = LOCK_BYTES;
+    if os::try_lock_range(file.as_raw_fd(), RangeLock::Exclusive, start, count) != 0 {
+        return None;
+    }
+    let opened = file.metadata().ok()?;
+    if is_same(&opened, &named) {
+        Some((file, opened.len()))
+    } else {
+        None
+    }
+}
+
+fn is_same(one: &Metadata, other: &Metadata) -> bool {
+    one.dev() == other.dev() && one.ino() == other.ino()
+}

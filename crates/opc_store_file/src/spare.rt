@@ -1,0 +1,32 @@
+//! Which files a refused opening leaves that nobody needs.
+ghost use Rattle.std.specs.Prelude.{◌≡◌};
+ghost use Rattle.opc_store_file.specs.Spare.{is_spare_database, is_spare_log};
+
+/// Fewer bytes than a log with one page in it has: its header, that of a page, and the smallest page.
+pub const ONE_PAGE: u64 = 32 + 24 + 512;
+
+/// What stood at a path before the opening.
+#[derive(Clone, Copy, PartialEq, Eq)]
+pub struct Found {
+    /// Nothing did, and the opening made the database file.
+    pub is_made: bool,
+    /// How many bytes the database file had.
+    pub length: u64,
+    pub has_log: bool,
+}
+
+/// Whether the database file, which has this many bytes now, is one that the opening made and nothing is in it.
+pub fn is_spare_database(found: Found, length: u64) -> bool
+    ensures { result ≡ is_spare_database found length }
+{
+    found.is_made && length == 0
+}
+
+/// Whether the log is one that the opening made and nothing that counts is in it: no page, nor the mark by which an
+/// opening tells a file that is half made from one that is damaged.
+pub fn is_spare_log(found: Found, length: u64, log_length: u64) -> bool
+    ensures { result ≡ is_spare_log found length log_length }
+{
+    let may_be_half_made = found.length <= 1 && length > 1;
+    !found.has_log && log_length < ONE_PAGE && !may_be_half_made
+}

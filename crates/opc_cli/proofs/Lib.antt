@@ -1,2 +1,3 @@
 mod Answered
 pub mod Done
+mod Pieces

@@ -1,6 +1,5 @@
 -- Scripts and services over a gate, each with the number that a program ends with.
 use Rattle.std.specs.Prelude.{◌≡◌, ℕ, Bool, true, List, Option, None, Result, Ok, Err, if◌then◌else◌}
-use Rattle.std.specs.declared.time.Duration.{Duration}
 use Rattle.opc_state.specs.Meaning.{Meaning}
 use Rattle.opc_cli_failures.specs.declared.status.Status.{Status}
 use Rattle.opc_cli_failures.specs.declared.status.Status.TheVariants.{BadInput, Done, Failed}
@@ -9,6 +8,8 @@ use Rattle.opc_cli_script.specs.declared.script.ScriptFault.{ScriptFault}
 use Rattle.opc_cli_script.specs.declared.script.ScriptFault.TheVariants.{BadLine, NoMemory, Output}
 use Rattle.opc_cli_script.specs.Refusals.{is_cut_by_output}
 use Rattle.opc_cli_script.specs.Running.{IsAnswered}
+use Rattle.opc_http_connections.specs.Links.{Door}
+use Rattle.opc_http_head.specs.declared.origins.Origins.{Origins}
 use Rattle.opc_http_serve.specs.declared.arrival.ServeFault.{ServeFault}
 use Rattle.opc_http_serve.specs.Handled.{AreHandled}
 
@@ -36,8 +37,7 @@ module _ {T : Type 0} (m : Meaning T) (old new : T) where
     pub ends : number ≡ number_of (status_of_script ran)
 
   -- So many clients were served, each waited for as long as it takes, or fewer; and this is the number of its status.
-  pub record IsService {C : Type 0} (limits : C → Duration → Bool → Type 0) (remaining contents : C → Option (List ℕ))
-      (count number : ℕ) : Type 0 where
+  pub record IsService {C K : Type 0} (origins : Origins) (door : Door C K) (count number : ℕ) : Type 0 where
     pub served : Result (Unit {0}) ServeFault
-    pub handled : AreHandled m limits remaining contents None old new count served
+    pub handled : AreHandled origins m door.link door.comes None old new count served
     pub ends : number ≡ number_of (status_of_service served)

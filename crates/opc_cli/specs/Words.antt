@@ -1,5 +1,6 @@
 -- What the program does for the words of its command line, and the status that it ends with.
-use Rattle.std.specs.Prelude.{◌≡◌, ◌⊎◌, ℕ, Bool, false, List, Option, Some, None, Result, Ok, Err, IfErr}
+use Rattle.std.specs.Prelude.{◌≡◌, ◌⊎◌, ℕ, Bool, true, false, List, Option, Some, None, Result, Ok, Err, IfErr}
+use Rattle.std.specs.Io.KnownBytes.{Appends}
 use Rattle.std.specs.Borrow.{Bor}
 use Rattle.sqlite_disk.specs.declared.Disk as disk
 use Rattle.sqlite_disk.specs.declared.Files.{Files}
@@ -23,6 +24,7 @@ use Rattle.opc_cli_policy_files.specs.Questions.{IsReportedAnswer}
 use Rattle.opc_cli_program.specs.declared.work.Work.{Work}
 use Rattle.opc_cli_program.specs.declared.work.Work.TheVariants as work
 use Rattle.opc_cli_works.specs.Works.{IsRunInMemory, IsWorkAt}
+use Rattle.opc_cli.specs.Made.{made_line}
 
 -- the status of a work over a file: that of its end, or a failure where the file was not closed
 abbrev pub status_of_work : {A B : Type 0} → Result Status Failure → (closed : Result A B) → Status
@@ -38,6 +40,12 @@ module _ {E : Type 0} (shown : E → Option (List ℕ)) where
   -- Where it failed, its fault was.
   abbrev pub IsEndReported : (quiet reported : Watched E) → Result Status Failure → Type 0
   IsEndReported quiet reported end = IfErr end (λ failure. IsFaultReported quiet reported failure.fault)
+
+  -- Of an export that made the tables, that was printed, unless a write failed. Of any other work nothing was.
+  abbrev pub IsMadeNoted : (quiet noted : Watched E) → (path : List ℕ) → Work → (are_made : Bool) → Type 0
+  IsMadeNoted quiet noted path work.Export true = noted.failed ≡ false
+      → Appends (shown quiet.inner) (shown noted.inner) (made_line path)
+  IsMadeNoted quiet noted path task are_made = noted ≡ quiet
 
   -- The fault of its end was, and then, where the file was not closed, that the store failed.
   abbrev pub IsWorkReported : {A B : Type 0} → (quiet reported : Watched E)
@@ -56,19 +64,24 @@ pub record IsDoneInMemory {W E : Type 0} (contents : W → Option (List ℕ)) (s
   pub ran : IsRunInMemory (λ (w : Watched W). contents w.inner) (λ (w : Watched W). w.failed) (λ path. None) policy left
       before written end
   pub status_is : status ≡ status_of_end end
-  pub end_told : IsEndReported shown quiet reported end
+  pub end_reported : IsEndReported shown quiet reported end
 
 -- Of a database file: `image` is what it holds at first.
 module _ {D : Type 0} (g : disk.Ghosts D) (is_fresh : Bool → D → Type 0) (image : Image) {W E : Type 0}
     (contents : W → Option (List ℕ)) (shown : E → Option (List ℕ)) (left : Option (List ℕ)) (before written : Watched W)
     (quiet reported : Watched E) (status : Status) where
-  -- The file was opened, the work done over its tables, and the file closed, or not.
-  pub record IsDoneInFile (work : Work) : Type 0 where
+  -- The file was opened, the work done over its tables, and the file closed, or not. An export that made the tables
+  -- says so first.
+  pub record IsDoneInFile (path : List ℕ) (work : Work) : Type 0 where
     pub end : Result Status Failure
     pub closed : Result (Files D) (Error × FileStore D g)
-    pub done : IsWorkAt {g = g} contents image work left before written end closed
+    pub are_made : Bool
+    pub done : IsWorkAt {g = g} contents image work left before written end closed are_made
     pub status_is : status ≡ status_of_work end closed
-    pub end_told : IsWorkReported shown quiet reported end closed
+    pub noted : Watched E
+    pub made_noted : IsMadeNoted shown quiet noted path work are_made
+    pub end_reported : IsWorkReported shown noted reported end closed
+    pub kept : reported.failed ≡ false → noted.failed ≡ false
 
   -- The file was not opened, and nothing was done or written.
   pub record IsNotBegun : Type 0 where
@@ -78,11 +91,11 @@ module _ {D : Type 0} (g : disk.Ghosts D) (is_fresh : Bool → D → Type 0) (im
     pub status_is : status ≡ Failed
     pub fault_reported : IsFaultReported shown quiet reported (opening_fault fault)
 
-  abbrev pub IsWorkInFile : Work → Type 0
-  IsWorkInFile work = IsDoneInFile work ⊎ IsNotBegun
+  abbrev pub IsWorkInFile : (path : List ℕ) → Work → Type 0
+  IsWorkInFile path work = IsDoneInFile path work ⊎ IsNotBegun
 
   abbrev pub IsRun : (database policy : Option (Bor (List ℕ))) → Type 0
-  IsRun (Some path) policy = IsWorkInFile (work.Run policy)
+  IsRun (Some path) policy = IsWorkInFile path.now (work.Run policy)
   IsRun None policy = IsDoneInMemory contents shown left before written quiet reported status policy
 
   -- What a task asks for was done.
@@ -91,9 +104,9 @@ module _ {D : Type 0} (g : disk.Ghosts D) (is_fresh : Bool → D → Type 0) (im
       IsReportedAnswer contents (λ (e : Watched E). shown e.inner) (λ (e : Watched E). e.failed) before.inner
       written.inner quiet reported left question status
   IsTaskDone (task.Run paths) = IsRun paths.database paths.policy
-  IsTaskDone (task.Import import) = IsWorkInFile (work.Import import)
-  IsTaskDone (task.Export path) = IsWorkInFile work.Export
-  IsTaskDone (task.Serve serve) = IsWorkInFile (work.Serve serve)
+  IsTaskDone (task.Import import) = IsWorkInFile import.path.now (work.Import import)
+  IsTaskDone (task.Export path) = IsWorkInFile path.now work.Export
+  IsTaskDone (task.Serve serve) = IsWorkInFile serve.path.now (work.Serve serve)
 
   -- What the words ask for was done; or they ask for nothing that is done, and that was reported.
   abbrev pub AreDone : (words : List (List ℕ)) → Type 0

@@ -1,5 +1,6 @@
 //! Why a database file is not opened, as the system says it where it is asked for the file again.
 use opc_cli_failures::reason::Reason;
+use opc_store_file::site::prepare;
 use sqlite::Wary;
 use sqlite_std_file::OpenError;
 use std::fs::{File, OpenOptions};
@@ -7,14 +8,32 @@ use std::io;
 use std::io::{ErrorKind, Read};
 
 /// What the first bytes of a database file are.
-const HEAD: [u8; 16] = *b"SQLite format 3\0";
+const MAGIC: [u8; 16] = *b"SQLite format 3\0";
 
-/// Why the database at this path was not opened.
+/// How many bytes of its header say how the file is read.
+const HEADER: usize = 60;
+
+/// Where the header has the greatest page that is the root of a tree: 0 without auto_vacuum.
+const GREATEST_ROOT: usize = 52;
+
+/// Where it has the encoding of texts, in the last byte of four: 1 is UTF-8.
+const ENCODING: usize = 59;
+
+/// Why the database at this path was not opened. As after the opening itself, nothing is left behind.
 pub fn reason_at(rt: &HostRuntime, path: &str) -> Reason {
-    // SQLite gives these names a meaning of their own.
-    if path == ":memory:" || path.starts_with("file:") {
-        return Reason::NoPath;
+    match prepare(rt, path) {
+        Ok(Some(site)) => {
+            let reason = reason_again(rt, path);
+            site.tidy(rt);
+            reason
+        }
+        Ok(None) => Reason::NoPath,
+        Err(error) => Reason::System(error),
     }
+}
+
+/// Why the file is not opened, where it is opened once more.
+fn reason_again(rt: &HostRuntime, path: &str) -> Reason {
     match sqlite_std_file::open(rt, path, Wary) {
         Ok(_) => reason_in(rt, path),
         Err(OpenError::Io(error)) if error.kind() == ErrorKind::Unsupported => {
@@ -29,19 +48,35 @@ pub fn reason_at(rt: &HostRuntime, path: &str) -> Reason {
 
 /// Why a file that the system opens holds no tables.
 fn reason_in(rt: &HostRuntime, path: &str) -> Reason {
-    match is_database(rt, path) {
-        Ok(true) => Reason::Unreadable,
-        Ok(false) => Reason::NoDatabase,
+    match header(rt, path) {
+        Ok(Some(header)) => reason_by(&header),
+        Ok(None) => Reason::NoDatabase,
         Err(error) => Reason::System(error),
     }
 }
 
-/// Whether the file begins as a database does; one that is empty may become one.
-fn is_database(rt: &HostRuntime, path: &str) -> io::Result<bool> {
+/// Why a database with this header holds no tables: it is of a kind that is not read, or else nobody knows.
+fn reason_by(header: &[u8; HEADER]) -> Reason {
+    let words = if !header[GREATEST_ROOT..].starts_with(&[0; 4]) {
+        "a database with auto_vacuum, which is not supported"
+    } else if header[ENCODING] > 1 {
+        "a database in UTF-16, which is not supported"
+    } else {
+        return Reason::Unreadable;
+    };
+    Reason::System(io::Error::new(ErrorKind::Unsupported, words))
+}
+
+/// The header of the file, if it begins as a database does; that of one that is empty, which may become one, is zeros.
+fn header(rt: &HostRuntime, path: &str) -> io::Result<Option<[u8; HEADER]>> {
     let mut file = File::open(rt, path)?;
-    let mut head = [0; 16];
-    let count = file.read(&mut head)?;
-    Ok(count == 0 || head == HEAD)
+    let mut header = [0; HEADER];
+    let count = file.read(&mut header)?;
+    if count == 0 || header.starts_with(&MAGIC) {
+        Ok(Some(header))
+    } else {
+        Ok(None)
+    }
 }
 
 /// Why what stands at this path is not taken for a database file: it is a folder, or a device, or has several names.

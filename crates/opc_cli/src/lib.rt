@@ -1,19 +1,29 @@
 //! The command line: it does what the words ask for.
 #![tactic(auto)]
 
-ghost use Rattle.std.specs.Prelude.{◌≡◌, ◌≤◌};
+ghost use Rattle.std.specs.Prelude.{◌≡◌, ◌≤◌, false};
 ghost use Rattle.sqlite.specs.WalFiles.{image_at};
 ghost use Rattle.sqlite_std_file.specs.File.{IsFresh};
 ghost use Rattle.opc_store.specs.Opening.{opening_fault};
 ghost use Rattle.opc_cli_failures.specs.Statuses.{number_of};
 ghost use Rattle.opc_cli_words.specs.Reading.{words_after};
-ghost use Rattle.opc_cli.specs.Words.{AreDone, IsDoneInMemory, IsRun, IsWorkInFile, IsWorkReported, status_of_work};
+ghost use Rattle.opc_cli.specs.Words.{
+  AreDone,
+  IsDoneInMemory,
+  IsMadeNoted,
+  IsRun,
+  IsWorkInFile,
+  IsWorkReported,
+  status_of_work,
+};
 
 mod database;
+mod made;
 pub mod script;
 pub mod service;
 
 use crate::database::reason_at;
+use crate::made::report_made;
 pub use crate::script::run_script;
 pub use crate::service::serve_on;
 use opc_cli_failures::failure::{Failure, Paths, Place, reported};
@@ -21,11 +31,12 @@ use opc_cli_failures::reason::Reason;
 use opc_cli_failures::status::Status;
 use opc_cli_policy_files::explain::answer_question;
 use opc_cli_program::work::Work;
+use opc_cli_words::serve::Address;
 use opc_cli_words::words::{Task, read_words};
 use opc_cli_works::file::{Closed, work_at};
 use opc_cli_works::memory::run_in_memory;
 use opc_io::watched::Watched;
-use opc_store::opening::OpenFault;
+use opc_store::opening::{NotOpened, OpenFault};
 use opc_terms::fault::Fault;
 use sqlite::{Error, ErrorCode, FileFrom, Start, Wary};
 use sqlite_disk::Disk;
@@ -136,6 +147,17 @@ fn run_without_file<R: Read, W: Write, E: Write>(
     )
 }
 
+/// The Unix socket at which a work listens.
+fn socket_of<'a>(work: &Work<'a>) -> Option<&'a str> {
+    match work {
+        Work::Serve(serve) => match serve.address {
+            Address::Socket { path, .. } => Some(path),
+            Address::Port(_) => None,
+        },
+        _ => None,
+    }
+}
+
 /// The files that are named where a work is done over the database file at a path.
 fn paths_of<'a>(path: &'a str, work: &Work<'a>) -> Paths<'a> {
     let policy = match work {
@@ -145,10 +167,12 @@ fn paths_of<'a>(path: &'a str, work: &Work<'a>) -> Paths<'a> {
     Paths {
         database: Some(path),
         policy,
+        socket: socket_of(work),
     }
 }
 
-/// Does a work over the tables of the database file at a path, which is made if it is not there.
+/// Does a work over the tables of the database file at a path, which is made if it is not there. An export that made
+/// them says so.
 fn work_in_file<S: Start, R: Read, W: Write, E: Write>(
     rt: &HostRuntime,
     start: S,
@@ -159,14 +183,33 @@ fn work_in_file<S: Start, R: Read, W: Write, E: Write>(
     errors: &mut Watched<E>,
 ) -> Status
     ensures { IsWorkInFile ⟦<FileFrom<S> as Disk>⟧ IsFresh (image_at S.Start) W.contents E.contents
-        (R.remaining input.old) output.old output.new errors.old errors.new result work.now }
+        (R.remaining input.old) output.old output.new errors.old errors.new result path.now work.now }
 {
     match work_at(rt, path, start, work, input, output) {
-        Ok((end, closed)) => ended(end, closed, &paths_of(path, work), errors),
-        Err(fault) => {
-            let failure = not_opened(rt, path, fault);
+        Ok((end, closed, are_made)) => {
+            note_made(path, work, are_made, errors);
+            ended(end, closed, &paths_of(path, work), errors)
+        }
+        Err(refused) => {
+            let failure = not_opened(rt, path, refused);
             reported(Err(failure), &paths_of(path, work), errors)
         }
+    }
+}
+
+/// Says of an export that it made the tables: the policy that it writes is that of a new database, so the path may be
+/// mistyped.
+fn note_made<E: Write>(path: &str, work: &Work<'_>, are_made: bool, errors: &mut Watched<E>)
+    ensures noted { IsMadeNoted E.contents errors.old errors.new path.now work.now are_made }
+    ensures kept { errors.new.failed ≡ false → errors.old.failed ≡ false }
+{
+    match work {
+        Work::Export => {
+            if are_made {
+                report_made(path, errors);
+            }
+        }
+        Work::Run(_) | Work::Import(_) | Work::Serve(_) => {}
     }
 }
 
@@ -179,6 +222,7 @@ fn ended<S: Start, E: Write>(
 ) -> Status
     ensures status { result ≡ status_of_work end closed }
     ensures reported { IsWorkReported E.contents errors.old errors.new end closed }
+    ensures kept { errors.new.failed ≡ false → errors.old.failed ≡ false }
 {
     let status = reported(end, paths, errors);
     match closed {
@@ -204,13 +248,16 @@ fn not_closed(error: Error) -> Failure
     of_database(Fault::Store, reason)
 }
 
-fn not_opened(rt: &HostRuntime, path: &str, fault: OpenFault) -> Failure
-    ensures { result.fault ≡ opening_fault fault }
+fn not_opened(rt: &HostRuntime, path: &str, refused: NotOpened) -> Failure
+    ensures { result.fault ≡ opening_fault refused.fault }
 {
-    match fault {
+    match refused.fault {
         OpenFault::NoMemory => Failure::from(Fault::NoMemory),
-        // The store has one fault for whatever fails below it, so the file is opened once more to learn why.
+        OpenFault::Store if refused.is_full => of_database(Fault::Store, Reason::DiskFull),
+        // The store has one fault for whatever else fails below it, so the file is opened once more to learn why.
         OpenFault::Store => of_database(Fault::Store, reason_at(rt, path)),
-        OpenFault::NotOurs(version) => of_database(Fault::from(fault), Reason::Tables(version)),
+        OpenFault::NotOurs(version) => {
+            of_database(Fault::from(refused.fault), Reason::Tables(version))
+        }
     }
 }

@@ -1,13 +1,16 @@
 //! A service over a gate, with the number that a program ends with.
 ghost use Rattle.std.specs.Prelude.{◌≡◌};
 ghost use Rattle.opc_cli_failures.specs.Statuses.{number_of};
+ghost use Rattle.opc_http_connections.specs.Links.{Comes, door_of, link_of};
 ghost use Rattle.opc_cli.specs.Calls.{IsService, status_of_service};
 
 use opc_cli_failures::status::Status;
 use opc_gate::gate::Gate;
+use opc_http_connections::connection::Connection;
+use opc_http_connections::listener::Listener;
+use opc_http_connections::timer::Timer;
 use opc_http_head::routes::Routes;
 use opc_http_serve::arrival::ServeFault;
-use opc_http_serve::connection::Connection;
 use opc_http_serve::serving;
 use opc_state::tables::Tables;
 use std::net::OpenListener;
@@ -25,8 +28,8 @@ pub fn serve_on<H: AllocGlobal + Clock, L: OpenListener, T: Tables>(
 where
     L::Stream: Connection,
     ensures sure { T.meaning.is_sure gate.new → T.meaning.is_sure gate.old }
-    ensures served { IsService T.meaning gate.old gate.new L.Stream.limits L.Stream.remaining
-        L.Stream.contents count result }
+    ensures served { IsService T.meaning gate.old gate.new routes.now (door_of (link_of L.Stream.limits ⟦<H as Timer>⟧.shows
+        L.Stream.reads L.Stream.remaining L.Stream.contents) (Comes ⟦<L as Listener>⟧.accepts L.Stream.clones)) count result }
 {
     number_of(serving::serve_on(rt, listener, count, None, routes, gate))
 }

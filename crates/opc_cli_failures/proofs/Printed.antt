@@ -18,10 +18,10 @@ put_together fault before code line put empty is =
     ∙ ap₂ (λ b c. b ++ (c ++ 32 ∷ (fault_text fault ++ 10 ∷ []))) empty is
     ∙ sym (append_assoc (fault_code fault ++ 32 ∷ []) (fault_text fault) (10 ∷ []) ∙ append_assoc (fault_code fault) (32 ∷ []) (fault_text fault ++ 10 ∷ []))
 
-pub line_told : {A E : Type 0} (result : Result A E) (a c : Option (List ℕ)) (fault : Fault) (bytes : List ℕ)
+pub line_reported : {A E : Type 0} (result : Result A E) (a c : Option (List ℕ)) (fault : Fault) (bytes : List ℕ)
     → bytes ≡ fault_line fault → OnOk result (Appends a c bytes) → OnOk result (IsLineOf fault a c)
-line_told (Ok v) a c fault bytes is k = record { line = fault_line fault; is = inl refl; text = subst (Appends a c) is k }
-line_told (Err e) a c fault bytes is k = tt
+line_reported (Ok v) a c fault bytes is k = record { line = fault_line fault; is = inl refl; text = subst (Appends a c) is k }
+line_reported (Err e) a c fault bytes is k = tt
 
 module _ {A E : Type 0} (result : Result A E) (a b c : Option (List ℕ)) where
   -- bytes, and then more where that went well
@@ -40,9 +40,9 @@ module _ {A E : Type 0} (result : Result A E) (a b c : Option (List ℕ)) where
       go (Err e) k = tt
 
   -- a code, and then a line feed
-  pub code_told : (fault : Fault) (code feed : List ℕ) → code ≡ fault_code fault → feed ≡ 10 ∷ [] → Appends a b code
+  pub code_reported : (fault : Fault) (code feed : List ℕ) → code ≡ fault_code fault → feed ≡ 10 ∷ [] → Appends a b code
       → OnOk result (Appends b c feed) → OnOk result (IsLineOf fault a c)
-  code_told fault code feed is feed_is h k = go result k
+  code_reported fault code feed is feed_is h k = go result k
     where
       go : (r : Result A E) → OnOk r (Appends b c feed) → OnOk r (IsLineOf fault a c)
       go (Ok v) k = record {
@@ -53,8 +53,8 @@ module _ {A E : Type 0} (result : Result A E) (a b c : Option (List ℕ)) where
       go (Err e) k = tt
 
   -- a fault's line, and then what failed
-  pub told_whole : (fault : Fault) → IsLineOf fault a b → OnOk result (Grows b c) → OnOk result (IsReported fault a c)
-  told_whole fault line k = go result k
+  pub reported_whole : (fault : Fault) → IsLineOf fault a b → OnOk result (Grows b c) → OnOk result (IsReported fault a c)
+  reported_whole fault line k = go result k
     where
       go : (r : Result A E) → OnOk r (Grows b c) → OnOk r (IsReported fault a c)
       go (Ok v) more = record { line = line.line; is = line.is; more = more.0; text = appends-more a b c line.line more.0 line.text more.1 }

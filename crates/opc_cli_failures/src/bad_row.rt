@@ -1,7 +1,8 @@
 //! What is wrong with a row of a policy file, in words.
 use arrayvec::ArrayString;
 use csv::{ReaderBuilder, StringRecord};
-use opc_import::column::Column;
+use opc_import::column::{COLUMNS, Column};
+use opc_import::extent::extent_of;
 use opc_import::kind::Kind;
 use opc_terms::fault::Why;
 use std::alloc::Global;
@@ -23,18 +24,46 @@ pub struct BadRow {
 
 #[derive(Clone, Copy)]
 enum Problem {
-    /// The record has this many fields, and the header so many.
+    /// The record has this many fields, of which eleven are read at most, and the header so many.
     Columns(usize, usize),
     Many,
     /// The field in this column does not fit a row of this kind, if the row has a kind.
     Field {
         column: Column,
         kind: Option<Kind>,
-        start: FieldStart,
+        shown: Shown,
     },
 }
 
-/// What is shown of a field: as much of it as there is room for.
+/// What is shown of a field.
+#[derive(Clone, Copy)]
+enum Shown {
+    /// As much of it as there is room for.
+    Start(FieldStart),
+    /// How many characters it has. A digest that does not read may be a password, which no log should have.
+    Length(usize),
+}
+
+impl Shown {
+    fn of(field: &str, column: Column) -> Self {
+        match column {
+            Column::Digest => Shown::Length(field.chars().count()),
+            _ => Shown::Start(FieldStart::of(field)),
+        }
+    }
+}
+
+impl Display for Shown {
+    fn fmt<W: fmt::Write>(&self, f: &mut Formatter<W>) -> fmt::Result {
+        match self {
+            Shown::Start(start) => write!(f, "{start}"),
+            Shown::Length(1) => f.write_str("it has 1 character"),
+            Shown::Length(count) => write!(f, "it has {count} characters"),
+        }
+    }
+}
+
+/// The start of a field.
 #[derive(Clone, Copy)]
 struct FieldStart {
     text: ArrayString<SHOWN_BYTES>,
@@ -75,7 +104,7 @@ impl BadRow {
             Some(column) => Problem::Field {
                 column,
                 kind: kind_of(&record),
-                start: FieldStart::of(field_in(&record, column)),
+                shown: Shown::of(field_in(&record, column), column),
             },
             None if why == Why::Columns => {
                 Problem::Columns(record.len(), record_at(alloc, text, 0)?.len())
@@ -92,7 +121,7 @@ fn record_at(alloc: Global, text: &str, number: u32) -> Option<StringRecord> {
     let mut reader = ReaderBuilder::new()
         .has_headers(false)
         .flexible(true)
-        .from_reader(alloc, text.as_bytes());
+        .from_reader(alloc, extent_of(text.as_bytes()));
     let mut record = StringRecord::new(alloc);
     for _ in 0..=number {
         match reader.read_record(&mut record) {
@@ -171,6 +200,9 @@ impl Display for BadRow {
         write!(f, "row {number}: ")?;
         match &self.problem {
             Problem::Columns(1, wanted) => write!(f, "it has 1 column and not {wanted}"),
+            Problem::Columns(count, wanted) if *count > COLUMNS.len() => {
+                write!(f, "it has more than 10 columns and not {wanted}")
+            }
             Problem::Columns(count, wanted) => {
                 write!(f, "it has {count} columns and not {wanted}")
             }
@@ -178,14 +210,14 @@ impl Display for BadRow {
             Problem::Field {
                 column,
                 kind,
-                start,
+                shown,
             } => {
                 let name = column.name();
                 match kind {
-                    None => write!(f, "there is no such {name}: {start}"),
+                    None => write!(f, "there is no such {name}: {shown}"),
                     Some(kind) => match misfit(*column, *kind) {
-                        Some(words) => write!(f, "the {name} {words}: {start}"),
-                        None => write!(f, "a {} row has no {name}: {start}", kind.text()),
+                        Some(words) => write!(f, "the {name} {words}: {shown}"),
+                        None => write!(f, "a {} row has no {name}: {shown}", kind.text()),
                     },
                 }
             }

@@ -17,12 +17,14 @@ use std::io::ErrorKind;
 pub struct Paths<'a> {
     pub database: Option<&'a str>,
     pub policy: Option<&'a str>,
+    pub socket: Option<&'a str>,
 }
 
 /// No file is named.
 pub const NO_PATHS: Paths<'static> = Paths {
     database: None,
     policy: None,
+    socket: None,
 };
 
 /// What the program reads, writes or opens.
@@ -35,6 +37,8 @@ pub enum Place {
     Clock,
     /// A port of 127.0.0.1.
     Port(u16),
+    /// A Unix socket.
+    Socket,
     /// A connection that was to be accepted.
     Connection,
 }

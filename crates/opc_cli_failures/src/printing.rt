@@ -103,6 +103,7 @@ fn kind_of(place: Place) -> &'static str {
         Place::Database => "database ",
         Place::Clock => "clock",
         Place::Port(_) => "port ",
+        Place::Socket => "socket ",
         Place::Connection => "connection",
     }
 }
@@ -112,6 +113,7 @@ fn path_of<'a>(place: Place, paths: &Paths<'a>) -> &'a str {
     match place {
         Place::PolicyFile => paths.policy.unwrap_or(""),
         Place::Database => paths.database.unwrap_or(""),
+        Place::Socket => paths.socket.unwrap_or(""),
         _ => "",
     }
 }

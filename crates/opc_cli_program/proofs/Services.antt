@@ -1,26 +1,23 @@
 -- What a service comes to, over tables with a cache and over the tables alone.
 use Rattle.std.proofs.Common.{◌≡◌, inl, inr, ℕ, List, Option, Result, ap, subst, sym}
-use Rattle.std.specs.Prelude.{Bool}
-use Rattle.std.specs.declared.net.socket_addr.SocketAddr.{SocketAddr}
+use Rattle.std.specs.declared.io.Error.{Error}
 use Rattle.std.specs.declared.time.Duration.{Duration}
 use Rattle.opc_state.specs.Meaning.{Meaning}
 use Rattle.opc_state.specs.State.{State}
 use Rattle.opc_state_cache.specs.Cache.{IsCached}
 use Rattle.opc_state_cache.specs.Meaning.{cached_meaning}
 use Rattle.opc_state_cache.specs.declared.cached.Cached.{Cached}
+use Rattle.opc_http_connections.specs.Links.{Door}
+use Rattle.opc_http_head.specs.declared.origins.Origins.{Origins}
 use Rattle.opc_http_serve.specs.declared.arrival.ServeFault.{ServeFault}
 use Rattle.opc_http_serve.specs.Handled.{AreHandled, Handled, IsRunOf}
 use Rattle.opc_cli_failures.specs.declared.failure.Failure.{Failure}
 use Rattle.opc_cli_failures.specs.declared.status.Status.{Status}
+use Rattle.opc_cli_words.specs.declared.serve.Address.{Address}
+use Rattle.opc_cli_words.specs.declared.serve.Address.TheVariants.{Port, Socket}
 use Rattle.opc_cli_words.specs.declared.serve.Serve.{Serve}
-use Rattle.opc_cli_program.specs.Listening.{Listens, SaysWhere}
-use Rattle.opc_cli_program.specs.Services.{IsServiceAfter}
+use Rattle.opc_cli_program.specs.Services.{AreClients, IsNotBegun, IsPortService, IsServiceAt, IsSocketService}
 use Rattle.opc_cli_program.proofs.Uncached.{run}
-
-pub says_where : {P L : Type 0} (binds : P → SocketAddr → L → Type 0) (is_at : P → L → SocketAddr → Type 0) (ports : P)
-    (asked : ℕ) (before after : Option (List ℕ))
-    → Listens binds is_at ports asked before after → SaysWhere before after
-says_where binds is_at ports asked before after reported = (reported.1.port, reported.1.reported)
 
 -- What the tables represent at first, they do with their cache.
 module _ {T : Type 0} (m : Meaning T) (old new : Cached T)
@@ -33,25 +30,56 @@ module _ {T : Type 0} (m : Meaning T) (old new : Cached T)
     idle = λ none. ap (λ (c : Cached T). c.tables) (were.idle none);
   }
 
-  module _ {S : Type 0} (limits : S → Duration → Bool → Type 0) (remaining contents : S → Option (List ℕ)) where
-    clients : {A : Type 0} (timeout : Option Duration) (count : ℕ) (served : Result A ServeFault)
-        → AreHandled (cached_meaning m) limits remaining contents timeout old new count served
-        → AreHandled m limits remaining contents timeout old.tables new.tables count served
-    clients timeout count served are = record { handled = are.handled; served = are.served; run = requests are.handled are.run }
+  not_begun : (end : Result Status Failure) → IsNotBegun (cached_meaning m) old new end → IsNotBegun m old.tables new.tables end
+  not_begun end none = record { failed = none.failed; same = ap (λ (c : Cached T). c.tables) none.same }
 
-    uncached : (serve : Serve) (end : Result Status Failure) (said wanted : Type 0) → (said → wanted)
-        → IsServiceAfter (cached_meaning m) limits remaining contents old new serve end said
-        → IsServiceAfter m limits remaining contents old.tables new.tables serve end wanted
-    uncached serve end said wanted says (inl none) = inl (record { failed = none.failed; same = ap (λ (c : Cached T). c.tables) none.same })
-    uncached serve end said wanted says (inr (reported, are)) =
-        inr (says reported, record { served = are.served; handled = clients serve.timeout serve.count are.served are.handled; ends = are.ends })
+  module _ {C K : Type 0} (door : Door C K) (serve : Serve) (end : Result Status Failure) where
+    clients : (origins : Origins) → AreClients (cached_meaning m) door old new serve end origins
+        → AreClients m door old.tables new.tables serve end origins
+    clients origins are = record {
+      served = are.served;
+      handled = record {
+        handled = are.handled.handled;
+        timer = are.handled.timer;
+        served = are.handled.served;
+        run = requests are.handled.handled are.handled.run;
+      };
+      ends = are.ends;
+    }
+
+    at_port : (said wanted : ℕ → Type 0) → ((port : ℕ) → said port → wanted port)
+        → IsPortService (cached_meaning m) door old new serve end said
+        → IsPortService m door old.tables new.tables serve end wanted
+    at_port said wanted says (inl none) = inl (not_begun end none)
+    at_port said wanted says (inr (port, reported, are)) = inr (port, says port reported, clients _ are)
+
+    at_socket : (said wanted : Type 0) → (said → wanted) → IsSocketService (cached_meaning m) door old new serve end said
+        → IsSocketService m door old.tables new.tables serve end wanted
+    at_socket said wanted says (inl none) = inl (not_begun end none)
+    at_socket said wanted says (inr (reported, are)) = inr (says reported, clients _ are)
+
+  module _ {C D K : Type 0} (ports : Door C K) (sockets : Door D K) (serve : Serve) (end : Result Status Failure)
+      (said_of_port of_port : (asked port : ℕ) → Type 0) (said_of_socket of_socket : List ℕ → ℕ → Type 0)
+      (by_port : (asked port : ℕ) → said_of_port asked port → of_port asked port)
+      (by_socket : (path : List ℕ) (mode : ℕ) → said_of_socket path mode → of_socket path mode) where
+    uncached : (address : Address) → IsServiceAt (cached_meaning m) ports sockets old new serve end said_of_port said_of_socket address
+        → IsServiceAt m ports sockets old.tables new.tables serve end of_port of_socket address
+    uncached (Port asked) service = at_port ports serve end (said_of_port asked) (of_port asked) (by_port asked) service
+    uncached (Socket path mode) service = at_socket sockets serve end (said_of_socket path.now mode) (of_socket path.now mode)
+        (by_socket path.now mode) service
 
     -- the same over tables that are these
-    pub handed_back : (first last : T) → old.tables ≡ first → last ≡ new.tables
-        → (serve : Serve) (end : Result Status Failure) (said wanted : Type 0) → (said → wanted)
-        → IsServiceAfter (cached_meaning m) limits remaining contents old new serve end said
-        → IsServiceAfter m limits remaining contents first last serve end wanted
-    handed_back first last is was serve end said wanted says service =
-        subst (λ (t : T). IsServiceAfter m limits remaining contents t last serve end wanted) is
-        (subst (λ (t : T). IsServiceAfter m limits remaining contents old.tables t serve
-        end wanted) (sym was) (uncached serve end said wanted says service))
+    pub handed_back : (first last : T) → old.tables ≡ first → last ≡ new.tables → (address : Address)
+        → IsServiceAt (cached_meaning m) ports sockets old new serve end said_of_port said_of_socket address
+        → IsServiceAt m ports sockets first last serve end of_port of_socket address
+    handed_back first last is was address service =
+        subst (λ (t : T). IsServiceAt m ports sockets t last serve end of_port of_socket address) is
+        (subst (λ (t : T). IsServiceAt m ports sockets old.tables t serve end of_port of_socket address) (sym was)
+        (uncached address service))
+
+-- nothing was handled at any address
+pub not_served : {T C D K : Type 0} (m : Meaning T) (ports : Door C K) (sockets : Door D K) (old new : T) (serve : Serve) (end : Result Status Failure)
+    (of_port : (asked port : ℕ) → Type 0) (of_socket : List ℕ → ℕ → Type 0) (address : Address)
+    → IsNotBegun m old new end → IsServiceAt m ports sockets old new serve end of_port of_socket address
+not_served m ports sockets old new serve end of_port of_socket (Port asked) none = inl none
+not_served m ports sockets old new serve end of_port of_socket (Socket path mode) none = inl none

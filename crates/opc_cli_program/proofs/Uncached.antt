@@ -63,9 +63,11 @@ module _ {T : Type 0} (m : Meaning T) (old new : Cached T)
   match_option None f g p = f p
   match_option (Some a) f g p = g a p
 
-  answered : (text : List ℕ) (before written : Option (List ℕ)) (ran : Result Status ScriptFault) → IsAnswered (cached_meaning m) old new text before written ran
+  answered : (text : List ℕ) (before written : Option (List ℕ)) (ran : Result Status ScriptFault)
+      → IsAnswered (cached_meaning m) old new text before written ran
       → IsAnswered m old.tables new.tables text before written ran
-  answered text before written ran = match_option (bad_line text) (script (requests_in text) before written ran) (λ number bad. (ap (λ (c : Cached T). c.tables) bad.0, bad.1))
+  answered text before written ran = match_option (bad_line text) (script (requests_in text) before written ran)
+      (λ number bad. (ap (λ (c : Cached T). c.tables) bad.0, bad.1))
 
   map_either : {A B C D : Type 0} → (A → C) → (B → D) → A ⊎ B → C ⊎ D
   map_either f g (inl a) = inl (f a)

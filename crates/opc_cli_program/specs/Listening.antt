@@ -13,14 +13,13 @@ IsLocalhost address = MatchIp (socket_ip address) (λ v4. ipv4_octets v4 ≡ 127
 abbrev pub listening_line : ℕ → List ℕ
 listening_line port = codes "LISTENING 127.0.0.1:" ++ decimal port ++ codes "\n"
 
--- The output says more: at which port of 127.0.0.1 the program listens.
-abbrev pub SaysWhere : (before after : Option (List ℕ)) → Type 0
-SaysWhere before after = (port : ℕ) × Appends before after (listening_line port)
+-- the line that says at which socket
+abbrev pub socket_line : List ℕ → List ℕ
+socket_line path = codes "LISTENING unix:" ++ path ++ codes "\n"
 
-module _ {P L : Type 0} (binds : P → SocketAddr → L → Type 0) (is_at : P → L → SocketAddr → Type 0) (ports : P)
-    (asked : ℕ) (listener : L) where
+module _ {P L : Type 0} (binds : P → SocketAddr → L → Type 0) (is_at : P → L → SocketAddr → Type 0) (ports : P) where
   -- The listener was bound to the port of 127.0.0.1 that was asked for, and is at this port.
-  pub record IsListening (port : ℕ) : Type 0 where
+  pub record IsListening (asked : ℕ) (listener : L) (port : ℕ) : Type 0 where
     pub address : SocketAddr
     pub here : IsLocalhost address
     pub same : socket_port address ≡ asked
@@ -29,13 +28,21 @@ module _ {P L : Type 0} (binds : P → SocketAddr → L → Type 0) (is_at : P �
     pub at : is_at ports listener given
     pub port_is : socket_port given ≡ port
 
-  -- And the output says at which.
-  pub record IsReported (before after : Option (List ℕ)) : Type 0 where
-    pub port : ℕ
-    pub listens : IsListening port
-    pub reported : Appends before after (listening_line port)
+  -- A listener was bound to the port that was asked for, and the output says at which it is.
+  abbrev pub ListensAt : (before after : Option (List ℕ)) → (asked port : ℕ) → Type 0
+  ListensAt before after asked port = ((listener : L) × IsListening asked listener port)
+      × Appends before after (listening_line port)
 
--- A listener was bound to the port that was asked for, and the output says at which it is.
-abbrev pub Listens : {P L : Type 0} → (P → SocketAddr → L → Type 0) → (P → L → SocketAddr → Type 0) → P → ℕ
-    → (before after : Option (List ℕ)) → Type 0
-Listens binds is_at ports asked before after = (listener : _) × IsReported binds is_at ports asked listener before after
+module _ {P B S : Type 0} (names : P → List ℕ → B → Type 0) (permits : P → List ℕ → ℕ → Type 0)
+    (listens : P → B → S → Type 0) (ports : P) where
+  -- A socket has the file at this path, which has these permissions, and listens.
+  pub record IsSocketAt (path : List ℕ) (mode : ℕ) (socket : S) : Type 0 where
+    pub bound : B
+    pub named : names ports path bound
+    pub permitted : permits ports path mode
+    pub listening : listens ports bound socket
+
+  -- And the output says at which path.
+  abbrev pub ListensBy : (before after : Option (List ℕ)) → (path : List ℕ) → (mode : ℕ) → Type 0
+  ListensBy before after path mode = ((socket : S) × IsSocketAt path mode socket)
+      × Appends before after (socket_line path)

@@ -1,7 +1,10 @@
 -- What the program makes of a service of many clients.
-use Rattle.std.specs.Prelude.{◌≡◌, ◌⊎◌, ℕ, Bool, List, Option, Result, Ok, Err, IsErrAnd}
-use Rattle.std.specs.declared.time.Duration.{Duration}
+use Rattle.std.specs.Prelude.{◌≡◌, ◌⊎◌, ℕ, Bool, List, Option, Result, Ok, Err, IsErrAnd, if◌then◌else◌}
+use Rattle.std.specs.Io.KnownBytes.{Appends}
 use Rattle.opc_state.specs.Meaning.{Meaning}
+use Rattle.opc_http_connections.specs.Links.{Door}
+use Rattle.opc_http_head.specs.declared.origins.Origins.{Origins}
+use Rattle.opc_http_head.specs.declared.origins.Origins.TheVariants.{Any, Only}
 use Rattle.opc_http_serve.specs.declared.arrival.ServeFault.{ServeFault}
 use Rattle.opc_http_serve.specs.declared.arrival.ServeFault.TheVariants.{Accept, Clock}
 use Rattle.opc_http_serve.specs.Handled.{AreHandled}
@@ -10,8 +13,10 @@ use Rattle.opc_cli_failures.specs.declared.failure.Place.TheVariants as place
 use Rattle.opc_cli_failures.specs.declared.status.Status.{Status}
 use Rattle.opc_cli_failures.specs.declared.status.Status.TheVariants.{Done, Failed}
 use Rattle.opc_cli_failures.specs.Statuses.{IsErrorAt, status_of_end}
+use Rattle.opc_cli_words.specs.declared.serve.Address.{Address}
+use Rattle.opc_cli_words.specs.declared.serve.Address.TheVariants.{Port, Socket}
 use Rattle.opc_cli_words.specs.declared.serve.Serve.{Serve}
-use Rattle.opc_cli_program.specs.Listening.{SaysWhere}
+use Rattle.opc_cli_program.specs.Listening.{listening_line, socket_line}
 
 -- How the program ends where serving came to this: well, or with the error of the call that failed.
 abbrev pub IsEndOfService : {A : Type 0} → Result A ServeFault → Result Status Failure → Type 0
@@ -19,26 +24,43 @@ IsEndOfService (Ok all) end = end ≡ Ok Done
 IsEndOfService (Err (Accept error)) end = IsErrAnd end (IsErrorAt place.Connection error)
 IsEndOfService (Err (Clock error)) end = IsErrAnd end (IsErrorAt place.Clock error)
 
-module _ {T : Type 0} (m : Meaning T)
-    {C : Type 0} (limits : C → Duration → Bool → Type 0) (remaining contents : C → Option (List ℕ)) (old new : T)
-    (serve : Serve) (end : Result Status Failure) where
+-- from where a service at this port takes requests
+abbrev pub origins_at : (strict : Bool) → (port : ℕ) → Origins
+origins_at strict port = if strict then Only port else Any
+
+module _ {T : Type 0} (m : Meaning T) where
   -- It failed before its first client, and nothing was handled.
-  pub record IsNotBegun : Type 0 where
+  pub record IsNotBegun (old new : T) (end : Result Status Failure) : Type 0 where
     pub failed : status_of_end end ≡ Failed
     pub same : new ≡ old
 
-  -- As many clients as were asked for were served, with the timeout that was asked for; or fewer were, and then none
-  -- could be taken. The program ended so.
-  pub record AreClients : Type 0 where
-    pub served : Result (Unit {0}) ServeFault
-    pub handled : AreHandled m limits remaining contents serve.timeout old new serve.count
-        served
-    pub ends : IsEndOfService served end
+  module _ {C K : Type 0} (door : Door C K) (old new : T) (serve : Serve) (end : Result Status Failure) where
+    -- As many connections as were asked for were served, with the timeout that was asked for; or fewer were, and then
+    -- none could be taken. The program ended so.
+    pub record AreClients (origins : Origins) : Type 0 where
+      pub served : Result (Unit {0}) ServeFault
+      pub handled : AreHandled origins m door.link door.comes serve.timeout old new serve.count served
+      pub ends : IsEndOfService served end
 
-  -- It failed before its first client, or this was said and then clients were served.
-  abbrev pub IsServiceAfter : (said : Type 0) → Type 0
-  IsServiceAfter said = IsNotBegun ⊎ (said × AreClients)
+    -- It failed before its first client; or it listened at a port, of which this was said, and then clients were served,
+    -- strictly where that was asked for.
+    abbrev pub IsPortService : (said : ℕ → Type 0) → Type 0
+    IsPortService said =
+        IsNotBegun old new end ⊎ ((port : ℕ) × said port × AreClients (origins_at serve.strict port))
 
-  -- It failed before its first client, or the output says where the program listens, and then clients were served.
-  abbrev pub IsService : (before written : Option (List ℕ)) → Type 0
-  IsService before written = IsServiceAfter (SaysWhere before written)
+    -- It failed before its first client; or this was said of its socket, and then clients were served.
+    abbrev pub IsSocketService : (said : Type 0) → Type 0
+    IsSocketService said = IsNotBegun old new end ⊎ (said × AreClients Any)
+
+  module _ {C D K : Type 0} (ports : Door C K) (sockets : Door D K) (old new : T) (serve : Serve)
+      (end : Result Status Failure) where
+    -- The service at an address, of which this was said.
+    abbrev pub IsServiceAt : (of_port : (asked port : ℕ) → Type 0) → (of_socket : List ℕ → ℕ → Type 0) → Address → Type 0
+    IsServiceAt of_port of_socket (Port asked) = IsPortService ports old new serve end (of_port asked)
+    IsServiceAt of_port of_socket (Socket path mode) =
+        IsSocketService sockets old new serve end (of_socket path.now mode)
+
+    -- It failed before its first client, or the output says where the program listens, and then clients were served.
+    abbrev pub IsService : (before written : Option (List ℕ)) → Type 0
+    IsService before written = IsServiceAt (λ asked port. Appends before written (listening_line port))
+        (λ path mode. Appends before written (socket_line path)) serve.address

@@ -1,12 +1,12 @@
 -- What a work of the program does over tables.
-use Rattle.std.specs.Prelude.{◌≡◌, ◌≤◌, ◌⊎◌, ℕ, Bool, List, Option, Result, IsErrAnd}
-use Rattle.std.specs.declared.time.Duration.{Duration}
+use Rattle.std.specs.Prelude.{◌≡◌, ◌≤◌, ◌⊎◌, ℕ, List, Option, Result, IsErrAnd}
 use Rattle.opc_state.specs.Changes.{IsKept}
 use Rattle.opc_state.specs.Meaning.{Meaning}
 use Rattle.opc_cli_failures.specs.declared.failure.Failure.{Failure}
 use Rattle.opc_cli_failures.specs.declared.status.Status.{Status}
 use Rattle.opc_cli_failures.specs.Statuses.{IsFailure}
 use Rattle.opc_io.specs.declared.watched.Watched.{Watched}
+use Rattle.opc_http_connections.specs.Links.{Door}
 use Rattle.opc_http_serve.specs.declared.clock.TheConstants.{LAST_MOMENT}
 use Rattle.opc_cli_words.specs.declared.import.Import.{Import}
 use Rattle.opc_cli_program.specs.Imports.{IsExport, IsImport}
@@ -26,18 +26,17 @@ module _ {T : Type 0} (m : Meaning T) {W : Type 0}
       × IsImport m old new end (λ (w : Watched W). contents w.inner)
       (λ (w : Watched W). w.failed) before written left moment import)
 
-  -- Each work does what is said of it alone. `limits`, `remaining` and `taken` say of a client's connection whether its
-  -- waits are limited, what it has left and what it took, where that is known; `holds` what the file at a path holds.
-  abbrev pub IsDone : {C : Type 0} → (limits : C → Duration → Bool → Type 0) → (remaining taken : C → Option (List ℕ))
+  -- Each work does what is said of it alone. `ports` and `sockets` say of where clients connect what is known of their
+  -- connections, `holds` what the file at a path holds.
+  abbrev pub IsDone : {C D K : Type 0} → (ports : Door C K) → (sockets : Door D K)
       → (holds : List ℕ → Option (List ℕ)) → Work → Type 0
-  IsDone limits remaining taken holds (work.Run policy) =
+  IsDone ports sockets holds (work.Run policy) =
       IsProgramRun m (λ (w : Watched W). contents w.inner) (λ (w : Watched W). w.failed)
       holds old new policy left before written end
-  IsDone limits remaining taken holds (work.Import import) = IsImportNow import
-  IsDone limits remaining taken holds work.Export =
+  IsDone ports sockets holds (work.Import import) = IsImportNow import
+  IsDone ports sockets holds work.Export =
       IsKept m old new
       × IsExport m old new end (λ (w : Watched W). contents w.inner)
       (λ (w : Watched W). w.failed) before written
-  IsDone limits remaining taken holds (work.Serve serve) =
-      IsService m limits remaining taken old new serve end (contents before.inner)
-      (contents written.inner)
+  IsDone ports sockets holds (work.Serve serve) =
+      IsService m ports sockets old new serve end (contents before.inner) (contents written.inner)

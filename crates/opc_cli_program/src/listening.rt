@@ -1,63 +1,21 @@
 //! Where `opcmds serve` listens, and what it says of it.
-ghost use Rattle.std.specs.Prelude.{◌≡◌, IfErr, IfOk, OnOk};
+ghost use Rattle.std.specs.Prelude.{◌≡◌, IfErr, IfOk, IsOk, OnOk};
 ghost use Rattle.std.specs.Io.KnownBytes.{Appends};
 ghost use Rattle.std.specs.Net.Socket.{socket_port};
 ghost use Rattle.opc_cli_failures.specs.Statuses.{status_of};
-ghost use Rattle.opc_cli_program.specs.Listening.{IsLocalhost, IsListening, IsReported, listening_line};
+ghost use Rattle.opc_cli_program.specs.Listening.{IsListening, IsLocalhost, IsSocketAt, listening_line, socket_line};
 
+use crate::ports::Ports;
 use arrayvec::ArrayString;
 use itoa::Buffer;
 use opc_cli_failures::failure::{Failure, Place};
 use opc_cli_failures::status::Status;
 use std::io;
-use std::io::Write;
-use std::net::{Ipv4Addr, Net, OpenListener, SocketAddr, SocketAddrV4};
+use std::io::{ErrorKind, Write};
+use std::net::{Ipv4Addr, SocketAddr, SocketAddrV4};
 
-/// More bytes than the line has that says where the program listens.
+/// More bytes than the line has that says at which port the program listens.
 const LISTENING_LINE: usize = 32;
-
-/// Where one may listen.
-pub trait Ports {
-    ghost use Rattle.std.specs.declared.net.socket_addr.SocketAddr.{SocketAddr};
-
-    type Listener: Drop;
-
-    /// That a listener was bound to an address. What a function over any ports says by it can only be shown by a call.
-    ghost binds: { Self → SocketAddr → Self.Listener → Type 0 };
-
-    /// That this is the address of a listener.
-    ghost is_at: { Self → Self.Listener → SocketAddr → Type 0 };
-
-    fn bind(&self, address: SocketAddr) -> io::Result<Self::Listener>
-        ensures { IfOk result (λ listener. binds self.now address listener) };
-
-    fn address_of(&self, listener: &Self::Listener) -> io::Result<SocketAddr>
-        ensures { IfOk result (λ address. is_at self.now listener.now address) };
-}
-
-/// The system's ports.
-#[derive(Drop)]
-pub struct System<'a, H: Net> {
-    pub net: &'a H,
-}
-
-impl<H: Net> Ports for System<'_, H> {
-    ghost use Rattle.std.specs.Prelude.{⊤};
-
-    type Listener = H::Listener;
-
-    ghost binds = { λ _ _ _. ⊤ };
-
-    ghost is_at = { λ _ _ _. ⊤ };
-
-    fn bind(&self, address: SocketAddr) -> io::Result<H::Listener> {
-        self.net.bind(address)
-    }
-
-    fn address_of(&self, listener: &H::Listener) -> io::Result<SocketAddr> {
-        listener.local_addr()
-    }
-}
 
 /// A port of 127.0.0.1.
 fn loopback(port: u16) -> SocketAddr
@@ -69,7 +27,7 @@ fn loopback(port: u16) -> SocketAddr
 
 /// Listens at a port of 127.0.0.1, or at one that the system chooses, where it is 0.
 #[tactic(auto, using(opc_cli_failures::proofs::Faults::streams_fail))]
-fn listen<P: Ports>(ports: &P, port: u16) -> Result<(P::Listener, u16), Failure>
+pub(crate) fn listen_at_port<P: Ports>(ports: &P, port: u16) -> Result<(P::Listener, u16), Failure>
     ensures status { IfErr result (λ failure. status_of failure.fault ≡ Status.Failed) }
     ensures listens { IfOk result (λ bound. IsListening P.binds P.is_at ports.now port bound.0 bound.1) }
 {
@@ -80,6 +38,43 @@ fn listen<P: Ports>(ports: &P, port: u16) -> Result<(P::Listener, u16), Failure>
     match ports.address_of(&listener) {
         Ok(given) => Ok((listener, given.port())),
         Err(error) => Err(Failure::at(Place::Port(port), error)),
+    }
+}
+
+/// Makes the file of a socket. That of a socket at which nobody listens any more is replaced.
+fn make_file<P: Ports>(ports: &P, path: &str) -> io::Result<P::Bound>
+    ensures { IfOk result (λ bound. P.names ports.now path.now bound) }
+{
+    match ports.make_file(path) {
+        Err(error) if error.kind() == ErrorKind::AddrInUse && ports.clear(path) => {
+            ports.make_file(path)
+        }
+        made => made,
+    }
+}
+
+/// Makes a socket with these permissions, and then listens at it.
+fn make_socket<P: Ports>(ports: &P, path: &str, mode: u32) -> io::Result<P::Socket>
+    ensures { IfOk result (λ socket. IsSocketAt P.names P.permits P.listens ports.now path.now mode socket) }
+{
+    let bound = make_file(ports, path)?;
+    ports.permit(path, mode)?;
+    ports.listen(bound)
+}
+
+/// Listens at a socket with these permissions.
+#[tactic(auto, using(opc_cli_failures::proofs::Faults::streams_fail))]
+pub(crate) fn listen_at_socket<P: Ports>(
+    ports: &P,
+    path: &str,
+    mode: u32,
+) -> Result<P::Socket, Failure>
+    ensures status { IfErr result (λ failure. status_of failure.fault ≡ Status.Failed) }
+    ensures listens { IfOk result (λ socket. IsSocketAt P.names P.permits P.listens ports.now path.now mode socket) }
+{
+    match make_socket(ports, path, mode) {
+        Ok(socket) => Ok(socket),
+        Err(error) => Err(Failure::at(Place::Socket, error)),
     }
 }
 
@@ -94,8 +89,8 @@ fn listening_line(port: u16) -> ArrayString<LISTENING_LINE>
     line
 }
 
-/// Says where the program listens, in one write.
-fn print_port<W: Write>(port: u16, output: &mut W) -> io::Result<()>
+/// Says at which port the program listens, in one write.
+fn write_port<W: Write>(port: u16, output: &mut W) -> io::Result<()>
     ensures { OnOk result (Appends (W.contents output.old) (W.contents output.new) (listening_line port)) }
 {
     let line = listening_line(port);
@@ -103,21 +98,39 @@ fn print_port<W: Write>(port: u16, output: &mut W) -> io::Result<()>
     output.flush()
 }
 
-/// Listens, and says so.
-#[tactic(auto, using(opc_cli_failures::proofs::Faults::streams_fail))]
-pub fn open_port<P: Ports, W: Write>(
-    ports: &P,
-    port: u16,
-    output: &mut W,
-) -> Result<P::Listener, Failure>
-    ensures status { IfErr result (λ failure. status_of failure.fault ≡ Status.Failed) }
-    ensures listens { IfOk result (λ listener. IsReported P.binds P.is_at ports.now port listener
-        (W.contents output.old)
-        (W.contents output.new)) }
+fn write_socket<W: Write>(path: &str, output: &mut W) -> io::Result<()>
+    ensures { OnOk result (Appends (W.contents output.old) (W.contents output.new) (socket_line path.now)) }
 {
-    let (listener, given) = listen(ports, port)?;
-    match print_port(given, output) {
-        Ok(()) => Ok(listener),
+    output.write_all(b"LISTENING unix:")?;
+    output.write_all(path.as_bytes())?;
+    output.write_all(b"\n")?;
+    output.flush()
+}
+
+/// What the program makes of what it wrote.
+#[tactic(auto, using(opc_cli_failures::proofs::Faults::streams_fail))]
+fn said(wrote: io::Result<()>) -> Result<(), Failure>
+    ensures status { IfErr result (λ failure. status_of failure.fault ≡ Status.Failed) }
+    ensures same { OnOk result (IsOk wrote) }
+{
+    match wrote {
+        Ok(()) => Ok(()),
         Err(error) => Err(Failure::at(Place::Output, error)),
     }
+}
+
+/// Says at which port the program listens.
+pub(crate) fn print_port<W: Write>(port: u16, output: &mut W) -> Result<(), Failure>
+    ensures status { IfErr result (λ failure. status_of failure.fault ≡ Status.Failed) }
+    ensures said { OnOk result (Appends (W.contents output.old) (W.contents output.new) (listening_line port)) }
+{
+    said(write_port(port, output))
+}
+
+/// Says at which socket it does.
+pub(crate) fn print_socket<W: Write>(path: &str, output: &mut W) -> Result<(), Failure>
+    ensures status { IfErr result (λ failure. status_of failure.fault ≡ Status.Failed) }
+    ensures said { OnOk result (Appends (W.contents output.old) (W.contents output.new) (socket_line path.now)) }
+{
+    said(write_socket(path, output))
 }

@@ -1,20 +1,35 @@
-//! `opcmds serve`: the gate on loopback, over HTTP.
-ghost use Rattle.opc_cli_program.specs.Listening.{Listens};
-ghost use Rattle.opc_cli_program.specs.Services.{IsEndOfService, IsService, IsServiceAfter};
+//! `opcmds serve`: the gate over HTTP, at a port of 127.0.0.1 or at a Unix socket.
+ghost use Rattle.std.specs.Prelude.{◌≡◌, IfErr, IfOk};
+ghost use Rattle.std.specs.Io.KnownBytes.{Appends};
+ghost use Rattle.opc_http_connections.specs.Links.{Comes, door_of, link_of};
+ghost use Rattle.opc_cli_failures.specs.Statuses.{status_of};
+ghost use Rattle.opc_cli_program.specs.Listening.{ListensAt, ListensBy, socket_line};
+ghost use Rattle.opc_http_head.specs.declared.origins.Origins.{Origins};
+ghost use Rattle.opc_cli_program.specs.Services.{
+  AreClients,
+  IsEndOfService,
+  IsPortService,
+  IsService,
+  IsServiceAt,
+  IsSocketService,
+  origins_at,
+};
 
-use crate::listening::{Ports, System, open_port};
+use crate::listening::{listen_at_port, listen_at_socket, print_port, print_socket};
+use crate::ports::Ports;
 use opc_cli_failures::failure::{Failure, Place};
 use opc_cli_failures::status::Status;
-use opc_cli_words::serve::Serve;
+use opc_cli_words::serve::{Address, Serve};
 use opc_gate::gate::Gate;
+use opc_http_connections::listener::Listener;
+use opc_http_connections::timer::Timer;
 use opc_http_head::routes::Routes;
 use opc_http_serve::arrival::ServeFault;
-use opc_http_serve::connection::Connection;
 use opc_http_serve::serving::serve_on;
 use opc_state::tables::Tables;
 use opc_terms::fault::Fault;
+use std::alloc::Global;
 use std::io::Write;
-use std::net::{Net, OpenListener};
 use std::rt::Clock;
 
 /// What the program makes of a service.
@@ -28,29 +43,57 @@ fn ended(served: Result<(), ServeFault>) -> Result<Status, Failure>
     }
 }
 
-/// Serves clients at a port over these tables, with a cache of which profile decides, and hands them back.
-pub fn serve_tables<H: AllocGlobal + Clock + Net, T: Tables, W: Write>(
-    rt: &H,
-    tables: T,
-    serve: &Serve<'_>,
-    output: &mut W,
-) -> (Result<Status, Failure>, T)
+/// The routes at a port, strict or not.
+fn routes_at(alloc: Global, strict: bool, port: u16) -> Result<Routes, Failure>
+    ensures routes { IfOk result (λ routes. routes ≡ origins_at strict port) }
+    ensures status { IfErr result (λ failure. status_of failure.fault ≡ Status.Failed) }
+{
+    let routes = if strict {
+        Routes::strict(alloc, port)
+    } else {
+        Routes::new(alloc)
+    };
+    match routes {
+        Ok(routes) => Ok(routes),
+        Err(_) => Err(Failure::from(Fault::NoMemory)),
+    }
+}
+
+/// Serves clients over these tables, with a cache of which profile decides, and hands them back.
+pub fn serve_tables<
+    H: AllocGlobal + Clock,
+    P: Ports<Listener = L, Socket = S>,
+    L: Listener,
+    S: Listener,
+    T: Tables,
+    W: Write,
+>(rt: &H, ports: &P, tables: T, serve: &Serve<'_>, output: &mut W) -> (Result<Status, Failure>, T)
 where
-    H::Stream: Connection,
+    L: Drop,
+    S: Drop,
     ensures sure { T.meaning.is_sure result.1 → T.meaning.is_sure tables }
-    ensures serves { IsService T.meaning H.Stream.limits H.Stream.remaining H.Stream.contents
+    ensures serves { IsService T.meaning (door_of (link_of L.Client.limits ⟦<H as Timer>⟧.shows L.Client.reads
+        L.Client.remaining L.Client.contents) (Comes L.accepts L.Client.clones)) (door_of (link_of S.Client.limits
+        ⟦<H as Timer>⟧.shows S.Client.reads S.Client.remaining S.Client.contents) (Comes S.accepts S.Client.clones))
         tables result.1 serve.now result.0 (W.contents output.old) (W.contents output.new) }
 {
     let mut gate = match Gate::new(rt.alloc(), tables) {
         Ok(gate) => gate,
         Err((fault, tables)) => return (Err(Failure::from(fault)), tables),
     };
-    let end = serve_at(rt, &System { net: rt }, &mut gate, serve, output);
+    let end = serve_gate(rt, ports, &mut gate, serve, output);
     (end, gate.into_store())
 }
 
-/// Serves clients at a port over a gate.
-fn serve_at<H: AllocGlobal + Clock, P: Ports<Listener = L>, L: OpenListener, T: Tables, W: Write>(
+/// Serves clients over a gate, at the address that is asked for.
+fn serve_gate<
+    H: AllocGlobal + Clock,
+    P: Ports<Listener = L, Socket = S>,
+    L: Listener,
+    S: Listener,
+    T: Tables,
+    W: Write,
+>(
     rt: &H,
     ports: &P,
     gate: &mut Gate<T>,
@@ -59,15 +102,101 @@ fn serve_at<H: AllocGlobal + Clock, P: Ports<Listener = L>, L: OpenListener, T: 
 ) -> Result<Status, Failure>
 where
     L: Drop,
-    L::Stream: Connection,
+    S: Drop,
     ensures sure { T.meaning.is_sure gate.new → T.meaning.is_sure gate.old }
-    ensures serves { IsServiceAfter T.meaning L.Stream.limits L.Stream.remaining
-        L.Stream.contents gate.old gate.new serve.now result
-        (Listens P.binds P.is_at ports.now serve.now.port (W.contents output.old) (W.contents output.new)) }
+    ensures serves { IsServiceAt T.meaning (door_of (link_of L.Client.limits ⟦<H as Timer>⟧.shows L.Client.reads L.Client.remaining
+        L.Client.contents) (Comes L.accepts L.Client.clones)) (door_of (link_of S.Client.limits ⟦<H as Timer>⟧.shows S.Client.reads
+        S.Client.remaining S.Client.contents) (Comes S.accepts S.Client.clones)) gate.old gate.new serve.now result
+        (ListensAt P.binds P.is_at ports.now (W.contents output.old) (W.contents output.new))
+        (ListensBy P.names P.permits P.listens ports.now (W.contents output.old) (W.contents output.new))
+        serve.now.address }
+{
+    match serve.address {
+        Address::Port(port) => serve_at_port(rt, ports, gate, port, serve, output),
+        Address::Socket { path, mode } => {
+            serve_at_socket(rt, ports, gate, path, mode, serve, output)
+        }
+    }
+}
+
+/// Serves clients by these routes.
+fn serve_by<H: AllocGlobal + Clock, L: Listener, T: Tables>(
+    rt: &H,
+    listener: &L,
+    gate: &mut Gate<T>,
+    serve: &Serve<'_>,
+    routes: &Routes,
+) -> Result<Status, Failure>
+    ensures sure { T.meaning.is_sure gate.new → T.meaning.is_sure gate.old }
+    ensures serves { (origins : Origins) → routes.now ≡ origins
+        → AreClients T.meaning (door_of (link_of L.Client.limits ⟦<H as Timer>⟧.shows L.Client.reads L.Client.remaining
+        L.Client.contents) (Comes L.accepts L.Client.clones)) gate.old gate.new serve.now result origins }
+{
+    ended(serve_on(rt, listener, serve.count, serve.timeout, routes, gate))
+}
+
+/// Serves clients at a port.
+fn serve_at_port<H: AllocGlobal + Clock, P: Ports<Listener = L>, L: Listener, T: Tables, W: Write>(
+    rt: &H,
+    ports: &P,
+    gate: &mut Gate<T>,
+    port: u16,
+    serve: &Serve<'_>,
+    output: &mut W,
+) -> Result<Status, Failure>
+where
+    L: Drop,
+    ensures sure { T.meaning.is_sure gate.new → T.meaning.is_sure gate.old }
+    ensures serves { IsPortService T.meaning (door_of (link_of L.Client.limits ⟦<H as Timer>⟧.shows L.Client.reads L.Client.remaining
+        L.Client.contents) (Comes L.accepts L.Client.clones)) gate.old gate.new serve.now result
+        (ListensAt P.binds P.is_at ports.now (W.contents output.old) (W.contents output.new) port) }
+{
+    let (listener, given) = listen_at_port(ports, port)?;
+    let routes = routes_at(rt.alloc(), serve.strict, given)?;
+    print_port(given, output)?;
+    serve_by(rt, &listener, gate, serve, &routes)
+}
+
+/// Serves clients at a Unix socket, whose file is there as long as that takes.
+fn serve_at_socket<H: AllocGlobal + Clock, P: Ports<Socket = S>, S: Listener, T: Tables, W: Write>(
+    rt: &H,
+    ports: &P,
+    gate: &mut Gate<T>,
+    path: &str,
+    mode: u32,
+    serve: &Serve<'_>,
+    output: &mut W,
+) -> Result<Status, Failure>
+where
+    S: Drop,
+    ensures sure { T.meaning.is_sure gate.new → T.meaning.is_sure gate.old }
+    ensures serves { IsSocketService T.meaning (door_of (link_of S.Client.limits ⟦<H as Timer>⟧.shows S.Client.reads
+        S.Client.remaining S.Client.contents) (Comes S.accepts S.Client.clones)) gate.old gate.new serve.now result
+        (ListensBy P.names P.permits P.listens ports.now (W.contents output.old) (W.contents output.new) path.now mode) }
+{
+    let socket = listen_at_socket(ports, path, mode)?;
+    let end = serve_socket(rt, &socket, gate, path, serve, output);
+    ports.remove(path);
+    end
+}
+
+/// Serves clients of a socket at this path. No web page reaches it.
+fn serve_socket<H: AllocGlobal + Clock, S: Listener, T: Tables, W: Write>(
+    rt: &H,
+    socket: &S,
+    gate: &mut Gate<T>,
+    path: &str,
+    serve: &Serve<'_>,
+    output: &mut W,
+) -> Result<Status, Failure>
+    ensures sure { T.meaning.is_sure gate.new → T.meaning.is_sure gate.old }
+    ensures serves { IsSocketService T.meaning (door_of (link_of S.Client.limits ⟦<H as Timer>⟧.shows S.Client.reads
+        S.Client.remaining S.Client.contents) (Comes S.accepts S.Client.clones)) gate.old gate.new serve.now result
+        (Appends (W.contents output.old) (W.contents output.new) (socket_line path.now)) }
 {
     let Ok(routes) = Routes::new(rt.alloc()) else {
         return Err(Failure::from(Fault::NoMemory));
     };
-    let listener = open_port(ports, serve.port, output)?;
-    ended(serve_on(rt, &listener, serve.count, serve.timeout, &routes, gate))
+    print_socket(path, output)?;
+    serve_by(rt, socket, gate, serve, &routes)
 }

@@ -1,7 +1,9 @@
 //! A work of the program, over tables that are open.
+ghost use Rattle.opc_http_connections.specs.Links.{Comes, door_of, link_of};
 ghost use Rattle.opc_cli_program.specs.Works.{IsDone, IsImportNow};
 
 use crate::import::{export_on, import_on};
+use crate::ports::Ports;
 use crate::run::run_on;
 use crate::serve::serve_tables;
 use opc_cli_failures::failure::{Failure, Place};
@@ -9,12 +11,12 @@ use opc_cli_failures::status::Status;
 use opc_cli_policy_files::openings::Openings;
 use opc_cli_words::import::Import;
 use opc_cli_words::serve::Serve;
+use opc_http_connections::listener::Listener;
+use opc_http_connections::timer::Timer;
 use opc_http_serve::clock::moment;
-use opc_http_serve::connection::Connection;
 use opc_io::watched::Watched;
 use opc_state::tables::Tables;
 use std::io::{Read, Write};
-use std::net::Net;
 use std::rt::Clock;
 
 /// What is done over tables.
@@ -31,24 +33,36 @@ pub enum Work<'a> {
 }
 
 /// Does a work over these tables, and hands them back.
-pub fn work_on<H: AllocGlobal + Clock + Net + Openings, T: Tables, R: Read, W: Write>(
+pub fn work_on<
+    H: AllocGlobal + Clock + Openings,
+    P: Ports<Listener = L, Socket = S>,
+    L: Listener,
+    S: Listener,
+    T: Tables,
+    R: Read,
+    W: Write,
+>(
     rt: &H,
+    ports: &P,
     tables: T,
     work: &Work<'_>,
     input: &mut R,
     output: &mut Watched<W>,
 ) -> (Result<Status, Failure>, T)
 where
-    H::Stream: Connection,
+    L: Drop,
+    S: Drop,
     ensures sure { T.meaning.is_sure result.1 → T.meaning.is_sure tables }
-    ensures done { IsDone T.meaning W.contents tables result.1 (R.remaining input.old)
-        output.old output.new result.0 H.Stream.limits H.Stream.remaining H.Stream.contents (H.holds rt.now) work.now }
+    ensures done { IsDone T.meaning W.contents tables result.1 (R.remaining input.old) output.old output.new result.0
+        (door_of (link_of L.Client.limits ⟦<H as Timer>⟧.shows L.Client.reads L.Client.remaining L.Client.contents)
+        (Comes L.accepts L.Client.clones)) (door_of (link_of S.Client.limits ⟦<H as Timer>⟧.shows S.Client.reads
+        S.Client.remaining S.Client.contents) (Comes S.accepts S.Client.clones)) (H.holds rt.now) work.now }
 {
     match work {
         Work::Run(policy) => run_on(rt, tables, *policy, input, output),
         Work::Import(import) => import_now(rt, tables, import, input, output),
         Work::Export => export_on(rt.alloc(), tables, output),
-        Work::Serve(serve) => serve_tables(rt, tables, serve, &mut output.inner),
+        Work::Serve(serve) => serve_tables(rt, ports, tables, serve, &mut output.inner),
     }
 }
 

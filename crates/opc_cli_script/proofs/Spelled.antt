@@ -1,4 +1,4 @@
--- A text tells an event only where it is that event's text.
+-- A text reads as an event only if it is that event's text.
 use Rattle.std.proofs.Common.{
   ◌≡◌,
   ◌<◌,
@@ -171,9 +171,9 @@ allocate_is text e h =
       ap (λ t. codes "ALLOCATE" ++ 32 ∷ t) (separated_is text w.0 w.1 ∙ ap (λ t. t ++ 32 ∷ w.0.1) device.1 ∙ ap (λ t. d.0 ++ 32 ∷ t) unit.1),
     )
 
-told_is : (text reported : List ℕ) → not_empty text ≡ Some reported → (0 < length reported) × (text ≡ reported)
-told_is [] reported h = absurd (search (rules, h))
-told_is (c ∷ text) reported h =
+reported_is : (text reported : List ℕ) → not_empty text ≡ Some reported → (0 < length reported) × (text ≡ reported)
+reported_is [] reported h = absurd (search (rules, h))
+reported_is (c ∷ text) reported h =
     let same : c ∷ text ≡ reported = search (rules, h) in
     subst (λ t. (0 < length t) × (c ∷ text ≡ t)) same (omega arith, refl)
 
@@ -184,7 +184,7 @@ asked_is text parts h =
     let i = bind_some (id_in w.0.0) _ parts w.2 in
     let t = bind_some (not_empty w.0.1) _ parts i.2 in
     let id = id_is w.0.0 i.0 i.1 in
-    let reported = told_is w.0.1 t.0 t.1 in
+    let reported = reported_is w.0.1 t.0 t.1 in
     let same : (i.0, t.0) ≡ parts = search (rules, t.2) in
     subst (λ q. IsEvent (event.Ask q.0 q.1) × (text ≡ two_digits q.0 ++ 32 ∷ q.1)) same (
       (id.0, reported.0),

@@ -1,6 +1,8 @@
 -- What is asked for by the values of options, and by the rows in which they were found.
-use Rattle.std.proofs.Common.{◌≡◌, ◌∙◌, ℕ, ◌*◌, List, [], Option, Some, codes, ap, ap₂, refl, sym}
+use Rattle.std.proofs.Common.{◌≡◌, ◌∙◌, ℕ, List, [], Option, Some, codes, ap, ap₂, false, refl, subst, sym}
+use Rattle.std.specs.Option.{option_map_or}
 use Rattle.std.specs.Prelude.{None, option_map, unwrap_or}
+use Rattle.std.specs.Str.{bytes_eq}
 use Rattle.clap.specs.Matches.{first_value, subcommand_name_of}
 use Rattle.clap.specs.Simple.{subcommand_rows_of}
 use Rattle.clap.specs.Walk.{Row, first_of, rows_of}
@@ -11,11 +13,19 @@ use Rattle.clap.proofs.WalkLemmas.{first_value-rows}
 use Rattle.opc_names.specs.Spellings.{classes, levels, lookup}
 use Rattle.opc_cli_words.specs.declared.import.Import.{Import}
 use Rattle.opc_cli_words.specs.declared.question.Question.{Question}
+use Rattle.opc_cli_words.specs.declared.serve.Address.{Address}
 use Rattle.opc_cli_words.specs.declared.serve.Serve.{Serve}
 use Rattle.opc_cli_words.specs.declared.words.Task.{Task}
 use Rattle.opc_cli_words.specs.declared.words.Task.TheVariants as task
 use Rattle.opc_cli_words.specs.Numbers.{number_between}
-use Rattle.opc_cli_words.specs.Tasks.{FailsAt, IsImport, IsQuestion, IsService, IsTask, IsTaskOf, first_unread, options_of}
+use Rattle.opc_cli_words.specs.Checks.{first_mistake}
+use Rattle.opc_cli_words.specs.Services.{IsAddress}
+use Rattle.opc_cli_words.specs.Tasks.{FailsAt, IsImport, IsQuestion, IsService, IsTask, IsTaskOf, longest, options_of}
+
+-- an address, by values that are the same
+at_once : {p q p' q' : Option (List ℕ)} {m m' : Option (List ℕ)} → p ≡ p' → q ≡ q' → m ≡ m' → (a : Address) → IsAddress p q m a → IsAddress p' q' m' a
+at_once {p} {q} {p'} {q'} {m} {m'} e f g a is =
+    subst (λ t. IsAddress p' q' t a) g (subst (λ t. IsAddress p' t m a) f (subst (λ t. IsAddress t q m a) e is))
 
 -- two ways in which the values of options are known
 module _ (one other : List ℕ → Option (List ℕ)) (same : (name : List ℕ) → one name ≡ other name) where
@@ -44,12 +54,11 @@ module _ (one other : List ℕ → Option (List ℕ)) (same : (name : List ℕ) 
   service : (s : Serve) → IsService one s → IsService other s
   service s is = record {
     path = is.path ∙ given (codes "db");
-    port = of_given (number_between 0 65_535) (codes "port") ∙ is.port;
+    address = at_once (same (codes "port")) (same (codes "socket")) (same (codes "socket-mode")) s.address is.address;
     count = of_given (number_between 1 1_000_000) (codes "count") ∙ is.count;
-    waits = is.waits
-        ∙ ap (λ (o : Option (List ℕ)). option_map
-        (λ text. option_map (λ seconds. seconds * 1_000_000_000) (number_between 1 3_600 text)) o)
-        (same (codes "timeout"));
+    waits = of_given (λ (text : List ℕ). option_map longest (number_between 0 3_600 text)) (codes "timeout") ∙ is.waits;
+    strict = is.strict
+        ∙ ap (λ (o : Option (List ℕ)). option_map_or (λ text. bytes_eq text (codes "true")) o false) (same (codes "strict"));
   }
 
   pub task_is : (command : List ℕ) (t : Task) → IsTaskOf one command t → IsTaskOf other command t
@@ -69,6 +78,9 @@ module _ (one other : List ℕ → Option (List ℕ)) (same : (name : List ℕ) 
         same (codes "level"),
         same (codes "batch"),
         same (codes "port"),
+        same (codes "socket"),
+        same (codes "socket-mode"),
+        same (codes "strict"),
         same (codes "count"),
         same (codes "timeout"),
       )
@@ -88,21 +100,23 @@ module _ {B : Type 0} (name_of : B → List ℕ) (rows_in : B → List Row) wher
       let also : rows_in b ≡ rows = cc in
       ap₂ (λ x y. let p : List ℕ × List Row = (x, y) in Some p) same also
 
-pub fails_at : (found : ArgMatches) (chosen : Found) (command option : List ℕ) → Some command ≡ subcommand_name_of found
+pub fails_at : (found : ArgMatches) (chosen : Found) (command mistake : List ℕ) → Some command ≡ subcommand_name_of found
     → Some (rows_of chosen) ≡ option_map (λ (p : List ℕ × List Row). p.1) (subcommand_rows_of found)
-    → first_unread (options_of (first_value chosen) command) ≡ Some option
-    → FailsAt (subcommand_rows_of found) command option
-fails_at found chosen command option name rows is = (
+    → first_mistake (options_of (first_value chosen) command) ≡ Some mistake
+    → FailsAt (subcommand_rows_of found) command mistake
+fails_at found chosen command mistake name rows is = (
   rows_of chosen,
   of_one _ _ (out-ArgMatches found).subcommand command (rows_of chosen) name rows,
-  ap first_unread (sym (same_options (first_value chosen) (λ id. first_of id (rows_of chosen)) (first_value-rows chosen) command)) ∙ is,
+  ap first_mistake (sym (same_options (first_value chosen) (λ id. first_of id (rows_of chosen)) (first_value-rows chosen) command)) ∙ is,
 )
 
 pub is_task : (found : ArgMatches) (chosen : Found) (command : List ℕ) (t : Task) → Some command ≡ subcommand_name_of found
-    → Some (rows_of chosen) ≡ option_map (λ (p : List ℕ × List Row). p.1) (subcommand_rows_of found) → IsTaskOf (first_value chosen) command t → IsTask found t
-is_task found chosen command t name rows is = (
+    → Some (rows_of chosen) ≡ option_map (λ (p : List ℕ × List Row). p.1) (subcommand_rows_of found)
+    → first_mistake (options_of (first_value chosen) command) ≡ None → IsTaskOf (first_value chosen) command t → IsTask found t
+is_task found chosen command t name rows right is = (
   command,
   rows_of chosen,
   of_one _ _ (out-ArgMatches found).subcommand command (rows_of chosen) name rows,
+  ap first_mistake (sym (same_options (first_value chosen) (λ id. first_of id (rows_of chosen)) (first_value-rows chosen) command)) ∙ right,
   task_is (first_value chosen) (λ id. first_of id (rows_of chosen)) (first_value-rows chosen) command t is,
 )

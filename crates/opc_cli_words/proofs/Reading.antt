@@ -1,5 +1,5 @@
 -- What is read of the words, by what `clap` makes of them.
-use Rattle.std.proofs.Common.{◌≡◌, ◌∙◌, ◌⊎◌, ℕ, List, [], ◌∷◌, Option, None, inl, inr, refl, subst, sym, false}
+use Rattle.std.proofs.Common.{◌≡◌, ◌∙◌, ◌⊎◌, ℕ, List, [], ◌∷◌, Option, None, inl, inr, refl, subst, sym}
 use Rattle.std.specs.Prelude.{Bool, is_some, Result, Ok, Err}
 use Rattle.clap.specs.Faults.{check_fault, defaults_fault, entered_fault, fault_of, level_fault, settle_fault, walk_fault}
 use Rattle.clap.specs.Kinds.{HasKind, Kinds, or_else}
@@ -14,7 +14,7 @@ use Rattle.opc_cli_failures.specs.declared.status.Status.{Status}
 use Rattle.opc_cli_failures.specs.declared.status.Status.TheVariants.{Done, Refused, BadInput, Failed}
 use Rattle.opc_cli_words.specs.declared.words.Task.{Task}
 use Rattle.opc_cli_words.specs.CommandLine.{command_line}
-use Rattle.opc_cli_words.specs.Reading.{AreRead, AskForNone, IsHelp, IsHelpTold, IsKindTold, IsTaskRead, IsToldUnread}
+use Rattle.opc_cli_words.specs.Reading.{AreRead, AskForNone, IsHelp, IsHelpReported, IsKindReported, IsTaskRead, IsReportedMistake}
 use Rattle.opc_cli_words.specs.Tasks.{AsksFor}
 
 last_is_empty : (first last : Kinds) → or_else first last ≡ [] → last ≡ []
@@ -61,25 +61,25 @@ module _ {E : Type 0} (shown : E → Option (List ℕ)) (quiet reported : Watche
   task_read output words taken found is (Ok task) (asks, silent) = (record { taken = taken; asks = subst (λ f. AsksFor f task) is asks }, refl, silent)
   task_read output words taken found is (Err status) (bad, why) = subst (AskForNone words shown output output quiet reported) (sym bad) (go why)
     where
-      go : (found ≡ None) ⊎ IsToldUnread shown quiet reported found → AskForNone words shown output output quiet reported BadInput
+      go : (found ≡ None) ⊎ IsReportedMistake shown quiet reported found → AskForNone words shown output output quiet reported BadInput
       go (inl none) = absurd (some_command words taken (sym is ∙ none))
-      go (inr unread) = (inr (record { taken = taken; unread = subst (IsToldUnread shown quiet reported) is unread }), refl)
+      go (inr mistaken) = (inr (record { taken = taken; mistaken = subst (IsReportedMistake shown quiet reported) is mistaken }), refl)
 
   module _ {W : Type 0} (before written : W) where
-    pub help_told : (kind : ErrorKind) → IsHelp kind → (status : Status) → IsHelpTold shown quiet reported status
-        → IsKindTold shown before written quiet reported kind status
-    help_told kind help Done silent = (help, silent)
-    help_told kind help Refused none = absurd none
-    help_told kind help BadInput none = absurd none
-    help_told kind help Failed failure = failure
+    pub help_reported : (kind : ErrorKind) → IsHelp kind → (status : Status) → IsHelpReported shown quiet reported status
+        → IsKindReported shown before written quiet reported kind status
+    help_reported kind help Done silent = (help, silent)
+    help_reported kind help Refused none = absurd none
+    help_reported kind help BadInput none = absurd none
+    help_reported kind help Failed failure = failure
 
     -- where it does not
-    pub kind_told : (words : List (List ℕ)) (error : Error) → HasKind (fault_of command_line words) error
-        → (status : Status) → IsKindTold shown before written quiet reported (kind_of error) status
+    pub kind_reported : (words : List (List ℕ)) (error : Error) → HasKind (fault_of command_line words) error
+        → (status : Status) → IsKindReported shown before written quiet reported (kind_of error) status
         → AskForNone words shown before written quiet reported status
-    kind_told words error (inl memory) Done (help, silent) = absurd (not_memory (kind_of error) help memory)
-    kind_told words error (inr among) Done (help, silent) = (record { kind = kind_of error; among = among; help = help }, silent)
-    kind_told words error has Refused none = absurd none
-    kind_told words error (inl memory) BadInput (mistake, other, same) = absurd (other memory)
-    kind_told words error (inr among) BadInput (mistake, other, same) = (inl (record { kind = kind_of error; among = among; mistake = mistake }), same)
-    kind_told words error has Failed failure = failure
+    kind_reported words error (inl memory) Done (help, silent) = absurd (not_memory (kind_of error) help memory)
+    kind_reported words error (inr among) Done (help, silent) = (record { kind = kind_of error; among = among; help = help }, silent)
+    kind_reported words error has Refused none = absurd none
+    kind_reported words error (inl memory) BadInput (mistake, other, same) = absurd (other memory)
+    kind_reported words error (inr among) BadInput (mistake, other, same) = (inl (record { kind = kind_of error; among = among; mistake = mistake }), same)
+    kind_reported words error has Failed failure = failure

@@ -1,8 +1,8 @@
 -- The command line of the program, as `clap` has it: the commands, and the options of each.
-use Rattle.std.specs.Prelude.{◌≡◌, ℕ, true, false, List, [], ◌∷◌, Some, codes}
+use Rattle.std.specs.Prelude.{◌≡◌, ℕ, true, false, List, [], ◌∷◌, ◌++◌, Some, codes}
 use Rattle.clap.specs.Simple.{App, Shape, app_of, new_rule, new_shape}
 use Rattle.clap.specs.Walk.{Rule}
-use Rattle.clap.specs.declared.builder.action.ArgAction.TheVariants.{Set}
+use Rattle.clap.specs.declared.builder.action.ArgAction.TheVariants.{Set, SetTrue}
 use Rattle.clap.specs.declared.builder.command.Command.{Command}
 use Rattle.clap.specs.declared.builder.command.Command.TheViews.{out-Command}
 
@@ -17,6 +17,10 @@ needed name = record (valued name) { required = true }
 -- one that has this value where it is not given
 abbrev pub preset : List ℕ → List ℕ → Rule
 preset name value = record (valued name) { defaults = value ∷ [] }
+
+-- one without a value
+abbrev pub flag : List ℕ → Rule
+flag name = record (new_rule name) { long = Some name; action = Some SetTrue }
 
 -- a command of this name, with these options
 abbrev pub command : List ℕ → List Rule → Shape
@@ -36,9 +40,14 @@ import_options = needed (codes "db") ∷ needed (codes "batch") ∷ valued (code
 abbrev pub export_options : List Rule
 export_options = needed (codes "db") ∷ []
 
+abbrev pub address_options : List Rule
+address_options =
+    valued (codes "port") ∷ valued (codes "socket") ∷ valued (codes "socket-mode") ∷ flag (codes "strict") ∷ []
+
 abbrev pub serve_options : List Rule
-serve_options = needed (codes "db") ∷ needed (codes "port") ∷ preset (codes "count") (codes "1000000")
-    ∷ valued (codes "timeout") ∷ []
+serve_options =
+    needed (codes "db") ∷ address_options
+    ++ preset (codes "count") (codes "1000000") ∷ preset (codes "timeout") (codes "30") ∷ []
 
 abbrev pub commands : List Shape
 commands =

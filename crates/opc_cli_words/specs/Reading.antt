@@ -3,8 +3,6 @@ use Rattle.std.specs.Prelude.{
   ◌≡◌,
   ◌≢◌,
   ◌⊎◌,
-  ◌++◌,
-  ◌∷◌,
   ℕ,
   false,
   List,
@@ -14,7 +12,6 @@ use Rattle.std.specs.Prelude.{
   Result,
   Ok,
   Err,
-  codes,
   drop,
   map,
   String,
@@ -36,16 +33,12 @@ use Rattle.opc_cli_failures.specs.Printing.{IsReported}
 use Rattle.opc_cli_failures.specs.Statuses.{IsFailure}
 use Rattle.opc_cli_words.specs.declared.words.Task.{Task}
 use Rattle.opc_cli_words.specs.CommandLine.{command_line}
+use Rattle.opc_cli_words.specs.Mistakes.{mistake_line}
 use Rattle.opc_cli_words.specs.Tasks.{AsksFor, FailsAt}
 
 -- the words after the first, which is the program's own name
 abbrev pub words_after : List (String Global) → List (List ℕ)
 words_after words = map string_bytes (drop 1 words)
-
--- what is printed of an option whose value does not read
-abbrev pub unread_line : (command option : List ℕ) → List ℕ
-unread_line command option = codes "error: the value of " ++ option ++ codes " does not read; see opcmds " ++ command
-    ++ codes " --help\n"
 
 -- help, or the version
 abbrev pub IsHelp : ErrorKind → Type 0
@@ -71,45 +64,44 @@ module _ (words : List (List ℕ)) where
 
 module _ {E : Type 0} (shown : E → Option (List ℕ)) (quiet reported : Watched E) where
   -- There was no memory, or the output failed, and that is printed, unless a write failed.
-  pub record IsToldFailure : Type 0 where
+  pub record IsReportedFailure : Type 0 where
     pub fault : Fault
     pub failure : IsFailure fault
     pub printed : reported.failed ≡ false → IsReported fault (shown quiet.inner) (shown reported.inner)
 
-  -- What was found is a command, and the value of this option of it does not read; that is printed, unless a write
-  -- failed.
-  pub record IsToldUnread (found : Option (List ℕ × List Row)) : Type 0 where
+  -- What was found is a command with a mistake in its options; the first one is printed, unless a write failed.
+  pub record IsReportedMistake (found : Option (List ℕ × List Row)) : Type 0 where
     pub command : List ℕ
-    pub option : List ℕ
-    pub fails : FailsAt found command option
+    pub mistake : List ℕ
+    pub fails : FailsAt found command mistake
     pub printed : reported.failed ≡ false
-        → Appends (shown quiet.inner) (shown reported.inner) (unread_line command option)
+        → Appends (shown quiet.inner) (shown reported.inner) (mistake_line command mistake)
 
-  -- What was found is a task, and nothing is printed; or it is no command, or an option's value does not read.
+  -- What was found is a task, and nothing is printed; or it is no command, or has a mistake in its options.
   abbrev pub IsTaskRead : Option (List ℕ × List Row) → Result Task Status → Type 0
   IsTaskRead found (Ok task) = AsksFor found task × (reported ≡ quiet)
-  IsTaskRead found (Err status) = (status ≡ BadInput) × ((found ≡ None) ⊎ IsToldUnread found)
+  IsTaskRead found (Err status) = (status ≡ BadInput) × ((found ≡ None) ⊎ IsReportedMistake found)
 
   -- Help was given, or the output failed.
-  abbrev pub IsHelpTold : Status → Type 0
-  IsHelpTold Done = reported ≡ quiet
-  IsHelpTold Refused = ⊥
-  IsHelpTold BadInput = ⊥
-  IsHelpTold Failed = IsToldFailure
+  abbrev pub IsHelpReported : Status → Type 0
+  IsHelpReported Done = reported ≡ quiet
+  IsHelpReported Refused = ⊥
+  IsHelpReported BadInput = ⊥
+  IsHelpReported Failed = IsReportedFailure
 
 module _ {W E : Type 0} (shown : E → Option (List ℕ)) (before written : W) (quiet reported : Watched E) where
   -- What is reported of an error of this kind, by the status.
-  abbrev pub IsKindTold : ErrorKind → Status → Type 0
-  IsKindTold kind Done = IsHelp kind × (reported ≡ quiet)
-  IsKindTold kind Refused = ⊥
-  IsKindTold kind BadInput = (IsHelp kind → ⊥) × (kind ≢ OutOfMemory) × (written ≡ before)
-  IsKindTold kind Failed = IsToldFailure shown quiet reported
+  abbrev pub IsKindReported : ErrorKind → Status → Type 0
+  IsKindReported kind Done = IsHelp kind × (reported ≡ quiet)
+  IsKindReported kind Refused = ⊥
+  IsKindReported kind BadInput = (IsHelp kind → ⊥) × (kind ≢ OutOfMemory) × (written ≡ before)
+  IsKindReported kind Failed = IsReportedFailure shown quiet reported
 
--- The command line takes the words, but not the value of an option, and that is printed.
-pub record AreToldUnread {E : Type 0} (shown : E → Option (List ℕ)) (quiet reported : Watched E)
+-- The command line takes the words, but there is a mistake in the options, and that is printed.
+pub record AreMistaken {E : Type 0} (shown : E → Option (List ℕ)) (quiet reported : Watched E)
     (words : List (List ℕ)) : Type 0 where
   pub taken : fault_of command_line words ≡ []
-  pub unread : IsToldUnread shown quiet reported (subcommand_of command_line words)
+  pub mistaken : IsReportedMistake shown quiet reported (subcommand_of command_line words)
 
 module _ (words : List (List ℕ)) {W E : Type 0} (shown : E → Option (List ℕ)) (before written : W)
     (quiet reported : Watched E) where
@@ -117,8 +109,8 @@ module _ (words : List (List ℕ)) {W E : Type 0} (shown : E → Option (List �
   abbrev pub AskForNone : Status → Type 0
   AskForNone Done = AskForHelp words × (reported ≡ quiet)
   AskForNone Refused = ⊥
-  AskForNone BadInput = (AreNotTaken words ⊎ AreToldUnread shown quiet reported words) × (written ≡ before)
-  AskForNone Failed = IsToldFailure shown quiet reported
+  AskForNone BadInput = (AreNotTaken words ⊎ AreMistaken shown quiet reported words) × (written ≡ before)
+  AskForNone Failed = IsReportedFailure shown quiet reported
 
   -- The task that the words ask for, and nothing is printed; or why there is none.
   abbrev pub AreRead : Result Task Status → Type 0

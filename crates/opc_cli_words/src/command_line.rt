@@ -1,12 +1,14 @@
 //! The command line, as `clap` reads it: the commands and the options of each.
-ghost use Rattle.std.specs.Prelude.{◌≡◌, IfOk, false, codes, []};
+ghost use Rattle.std.specs.Prelude.{◌≡◌, ◌∷◌, IfOk, false, codes, []};
 ghost use Rattle.clap.specs.Walk.{rule_of};
 ghost use Rattle.clap.specs.Simple.{app_of};
 ghost use Rattle.opc_cli_words.specs.CommandLine.{
   IsCommand,
+  address_options,
   command_line,
   explain_options,
   export_options,
+  flag,
   import_options,
   needed,
   preset,
@@ -51,6 +53,17 @@ fn preset<'a>(
     ensures alone { result.global ≡ false }
 {
     value(alloc, name, shown, help).default_value(usual)
+}
+
+/// An option without a value.
+fn flag<'a>(alloc: Global, name: &'a str, help: &'a str) -> Arg<'a>
+    ensures rule { rule_of result ≡ flag name.entry.now }
+    ensures alone { result.global ≡ false }
+{
+    Arg::new(alloc, name)
+        .long(name)
+        .action(ArgAction::SetTrue)
+        .help(help)
 }
 
 /// A command with its help, and without an option.
@@ -172,14 +185,45 @@ fn export_command<'a>(alloc: Global) -> Result<Command<'a>, AllocError>
     ))
 }
 
+/// `serve` with the options that say where it listens, and what is refused there.
+fn with_address<'a>(alloc: Global, serve: Command<'a>) -> Result<Command<'a>, AllocError>
+    ensures { IfOk result (λ built. IsCommand serve.entry (codes "serve") (needed (codes "db") ∷ [])
+        → IsCommand built (codes "serve") (needed (codes "db") ∷ address_options)) }
+{
+    serve
+        .arg(value(
+            alloc,
+            "port",
+            "NUMBER",
+            "The port of 127.0.0.1, 0 to 65,535, with 0 one that the system chooses; this or --socket",
+        ))?
+        .arg(value(
+            alloc,
+            "socket",
+            "PATH",
+            "The path of the Unix socket, which is made; file permissions say who can connect, and no web page can",
+        ))?
+        .arg(value(
+            alloc,
+            "socket-mode",
+            "MODE",
+            "The permissions of the socket, 600, 660 for its group or 666 for everybody; 600 without this",
+        ))?
+        .arg(flag(
+            alloc,
+            "strict",
+            "Refuses what a web page can send: Origin, Sec-Fetch-Site, or a Host that is not 127.0.0.1:PORT or localhost:PORT",
+        ))
+}
+
 fn serve_command<'a>(alloc: Global) -> Result<Command<'a>, AllocError>
     ensures { IfOk result (λ built. IsCommand built (codes "serve") serve_options) }
 {
-    command(
+    let serve = command(
         alloc,
         "serve",
-        "Answers requests over HTTP on 127.0.0.1, one connection after another, over a database file",
-        "Prints LISTENING 127.0.0.1:PORT once it answers.\n\
+        "Answers requests over HTTP on 127.0.0.1 or a Unix socket, one connection after another, over a database file",
+        "Prints LISTENING 127.0.0.1:PORT or LISTENING unix:PATH once it answers.\n\
          Example: opcmds serve --db gate.db --port 8011 --count 1 &\n\
          \x20        curl -s --retry 5 --retry-connrefused -d '{\"text\":\"D U\"}' http://127.0.0.1:8011/consoles/C1/command\n\
          Status: 0 all connections were served, 2 bad words, 3 out of memory or a failed device",
@@ -189,26 +233,22 @@ fn serve_command<'a>(alloc: Global) -> Result<Command<'a>, AllocError>
         "db",
         "FILE",
         "The database file, made if it is not there",
-    ))?
-    .arg(needed(
-        alloc,
-        "port",
-        "NUMBER",
-        "The port, 0 to 65,535; with 0 the system chooses one",
-    ))?
-    .arg(preset(
-        alloc,
-        "count",
-        "NUMBER",
-        "How many connections are served, 1 to 1,000,000",
-        "1000000",
-    ))?
-    .arg(value(
-        alloc,
-        "timeout",
-        "SECONDS",
-        "How long a silent peer is waited for, 1 to 3,600; as long as it takes without this",
-    ))
+    ))?;
+    with_address(alloc, serve)?
+        .arg(preset(
+            alloc,
+            "count",
+            "NUMBER",
+            "How many connections are served, 1 to 1,000,000",
+            "1000000",
+        ))?
+        .arg(preset(
+            alloc,
+            "timeout",
+            "SECONDS",
+            "How long an exchange may take, 0 to 3,600; with 0 as long as it takes",
+            "30",
+        ))
 }
 
 /// The program before its commands. The help names it as the documents do, whatever its file is called.

@@ -1,8 +1,10 @@
 //! The words of `opcmds import`.
 ghost use Rattle.std.specs.Prelude.{◌≡◌, Some, codes};
 ghost use Rattle.clap.specs.Matches.{first_value, found_of};
-ghost use Rattle.opc_cli_words.specs.Tasks.{AreReadAs, IsImport, IsReadAs, batch_of, batch_option, options_of};
+ghost use Rattle.opc_cli_words.specs.Checks.{AreReadAs, IsReadAs};
+ghost use Rattle.opc_cli_words.specs.Tasks.{IsImport, batch_of, batch_option, options_of};
 
+use crate::mistake::unread;
 use crate::number::number_between;
 use crate::question::console_in;
 use clap::ArgMatches;
@@ -23,12 +25,12 @@ fn batch_in(chosen: &ArgMatches<'_>) -> Result<u32, &'static str>
 {
     match number_between(chosen.get_str("batch").unwrap_or(""), 1, 999_999_999) {
         Some(number) => Ok(number as u32),
-        None => Err("--batch"),
+        None => Err(unread!("--batch")),
     }
 }
 
 impl<'a> Import<'a> {
-    /// What these words ask for, or the name of the first option whose value does not read.
+    /// What these words ask for, or the first mistake in their options.
     pub fn read(chosen: &ArgMatches<'a>) -> Result<Self, &'static str>
         ensures { AreReadAs (IsImport (first_value (found_of chosen.now)))
             (options_of (first_value (found_of chosen.now)) (codes "import")) result }

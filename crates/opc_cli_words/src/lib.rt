@@ -3,6 +3,7 @@
 
 mod command_line;
 pub mod import;
+pub mod mistake;
 mod number;
 pub mod question;
 pub mod serve;

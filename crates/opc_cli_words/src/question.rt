@@ -2,10 +2,9 @@
 ghost use Rattle.std.specs.Prelude.{◌≡◌, Some, codes};
 ghost use Rattle.clap.specs.Matches.{first_value, found_of};
 ghost use Rattle.opc_names.specs.Spellings.{classes, levels, lookup};
+ghost use Rattle.opc_cli_words.specs.Checks.{AreReadAs, IsReadAs};
 ghost use Rattle.opc_cli_words.specs.Tasks.{
-  AreReadAs,
   IsQuestion,
-  IsReadAs,
   class_option,
   console_option,
   given,
@@ -15,6 +14,7 @@ ghost use Rattle.opc_cli_words.specs.Tasks.{
   user_option,
 };
 
+use crate::mistake::unread;
 use clap::ArgMatches;
 use opc_names::class::Class;
 use opc_names::level::Level;
@@ -36,7 +36,7 @@ fn user_in(chosen: &ArgMatches<'_>) -> Result<UserId, &'static str>
 {
     match UserId::read(chosen.get_str("user").unwrap_or("")) {
         Ok(user) => Ok(user),
-        Err(_) => Err("--user"),
+        Err(_) => Err(unread!("--user")),
     }
 }
 
@@ -46,7 +46,7 @@ fn class_in(chosen: &ArgMatches<'_>) -> Result<Class, &'static str>
 {
     match Class::read(chosen.get_str("class").unwrap_or("")) {
         Some(class) => Ok(class),
-        None => Err("--class"),
+        None => Err(unread!("--class")),
     }
 }
 
@@ -56,7 +56,7 @@ fn resource_in(chosen: &ArgMatches<'_>) -> Result<Resource, &'static str>
 {
     match Resource::read(chosen.get_str("resource").unwrap_or("")) {
         Ok(resource) => Ok(resource),
-        Err(_) => Err("--resource"),
+        Err(_) => Err(unread!("--resource")),
     }
 }
 
@@ -70,7 +70,7 @@ pub(crate) fn console_in(chosen: &ArgMatches<'_>) -> Result<Option<ConsoleName>,
     };
     match ConsoleName::read(text) {
         Ok(console) => Ok(Some(console)),
-        Err(_) => Err("--console"),
+        Err(_) => Err(unread!("--console")),
     }
 }
 
@@ -80,12 +80,12 @@ fn level_in(chosen: &ArgMatches<'_>) -> Result<Level, &'static str>
 {
     match Level::read(chosen.get_str("level").unwrap_or("")) {
         Some(level) => Ok(level),
-        None => Err("--level"),
+        None => Err(unread!("--level")),
     }
 }
 
 impl Question {
-    /// The question of these words, or the name of the first option whose value does not read.
+    /// The question of these words, or the first mistake in their options.
     pub fn read(chosen: &ArgMatches<'_>) -> Result<Self, &'static str>
         ensures { AreReadAs (IsQuestion (first_value (found_of chosen.now)))
             (options_of (first_value (found_of chosen.now)) (codes "explain")) result }

@@ -1,5 +1,5 @@
 //! The words of the command line.
-ghost use Rattle.std.specs.Prelude.{◌≡◌, IfOk, OnOk, drop, false, if◌then◌else◌, is_err, true};
+ghost use Rattle.std.specs.Prelude.{◌≡◌, IfOk, drop, false};
 ghost use Rattle.std.specs.Io.KnownBytes.{Appends};
 ghost use Rattle.clap.specs.Faults.{fault_of};
 ghost use Rattle.clap.specs.Kinds.{FailsBy};
@@ -10,24 +10,26 @@ ghost use Rattle.opc_cli_failures.specs.Statuses.{IsFailure};
 ghost use Rattle.opc_cli_words.specs.CommandLine.{command_line};
 ghost use Rattle.opc_cli_words.specs.Reading.{
   AreRead,
-  IsHelpTold,
-  IsKindTold,
+  IsHelpReported,
+  IsKindReported,
   IsTaskRead,
-  IsToldFailure,
-  unread_line,
+  IsReportedFailure,
   words_after,
 };
-ghost use Rattle.opc_cli_words.specs.Tasks.{AreReadAs, IsTaskOf, options_of};
+ghost use Rattle.opc_cli_words.specs.Checks.{AreReadAs};
+ghost use Rattle.opc_cli_words.specs.Mistakes.{mistake_line};
+ghost use Rattle.opc_cli_words.specs.Tasks.{IsTaskOf, options_of};
 
 use crate::command_line::command_line;
 use crate::import::Import;
+use crate::mistake::{print_mistake, unread};
 use crate::question::Question;
 use crate::serve::Serve;
 use clap::error::ErrorKind;
 use clap::{ArgMatches, Error};
 use opc_cli_failures::failure::{Failure, NO_PATHS, Paths, Place};
 use opc_cli_failures::status::Status;
-use opc_io::sink::{Sink, WriteFault, write_whole};
+use opc_io::sink::Sink;
 use opc_io::watched::Watched;
 use opc_terms::fault::Fault;
 use std::alloc::Global;
@@ -78,7 +80,7 @@ fn after_first<'a>(words: &'a [String]) -> &'a [String]
     }
 }
 
-/// The task of what `clap` found. Where an option's value does not read, that is reported.
+/// The task of what `clap` found. A mistake in the options is reported.
 fn task_of<'a, E: Write>(
     matches: &ArgMatches<'a>,
     errors: &mut Watched<E>,
@@ -90,14 +92,14 @@ fn task_of<'a, E: Write>(
     };
     match asked(command, chosen) {
         Ok(task) => Ok(task),
-        Err(option) => {
-            tell_unread(command, option, errors);
+        Err(mistake) => {
+            report_mistake(command, mistake, errors);
             Err(Status::BadInput)
         }
     }
 }
 
-/// What a command with these options asks for, or the name of the first one that does not read.
+/// What a command with these options asks for, or the first mistake in them.
 fn asked<'a>(command: &str, chosen: &ArgMatches<'a>) -> Result<Task<'a>, &'static str>
     ensures { AreReadAs (IsTaskOf (first_value (found_of chosen.now)) command.now)
         (options_of (first_value (found_of chosen.now)) command.now) result }
@@ -105,43 +107,33 @@ fn asked<'a>(command: &str, chosen: &ArgMatches<'a>) -> Result<Task<'a>, &'stati
     match command {
         "explain" => match Question::read(chosen) {
             Ok(question) => Ok(Task::Explain(question)),
-            Err(word) => Err(word),
+            Err(mistake) => Err(mistake),
         },
         "run" => Ok(Task::Run(Paths {
             database: chosen.get_str("db"),
             policy: chosen.get_str("policy"),
+            socket: None,
         })),
         "import" => match Import::read(chosen) {
             Ok(import) => Ok(Task::Import(import)),
-            Err(word) => Err(word),
+            Err(mistake) => Err(mistake),
         },
         "export" => Ok(Task::Export(chosen.get_str("db").unwrap_or(""))),
         "serve" => match Serve::read(chosen) {
             Ok(serve) => Ok(Task::Serve(serve)),
-            Err(word) => Err(word),
+            Err(mistake) => Err(mistake),
         },
-        _ => Err("COMMAND"),
+        _ => Err(unread!("COMMAND")),
     }
 }
 
-/// Reports that the value of an option does not read.
-fn tell_unread<K: Sink>(command: &str, option: &str, errors: &mut K)
-    ensures { K.has_failed errors.new ≡ false
-        → Appends (K.held errors.old) (K.held errors.new) (unread_line command.now option.now) }
+/// Reports a mistake in the options of a command.
+fn report_mistake<K: Sink>(command: &str, mistake: &str, errors: &mut K)
+    ensures { K.has_failed errors.new ≡ false → Appends (K.held errors.old) (K.held errors.new)
+        (mistake_line command.now mistake.now) }
 {
     // The status says it too, if no word can be printed.
-    let _ = print_unread(command, option, errors);
-}
-
-fn print_unread<K: Sink>(command: &str, option: &str, errors: &mut K) -> Result<(), WriteFault>
-    ensures text { OnOk result (Appends (K.held errors.old) (K.held errors.new) (unread_line command.now option.now)) }
-    ensures failed { K.has_failed errors.new ≡ (if is_err result then true else K.has_failed errors.old) }
-{
-    write_whole(errors, b"error: the value of ")?;
-    write_whole(errors, option.as_bytes())?;
-    write_whole(errors, b" does not read; see opcmds ")?;
-    write_whole(errors, command.as_bytes())?;
-    write_whole(errors, b" --help\n")
+    let _ = print_mistake(command, mistake, errors);
 }
 
 /// Prints what `clap` says: help to the output, a mistake to the errors.
@@ -150,11 +142,11 @@ fn report_words<W: Write, E: Write>(
     output: &mut Watched<W>,
     errors: &mut Watched<E>,
 ) -> Status
-    ensures { IsKindTold E.contents output.old output.new errors.old errors.new (kind_of error.now) result }
+    ensures { IsKindReported E.contents output.old output.new errors.old errors.new (kind_of error.now) result }
 {
     match error.kind() {
-        ErrorKind::OutOfMemory => tell_failure(&Failure::from(Fault::NoMemory), errors),
-        ErrorKind::DisplayHelp | ErrorKind::DisplayVersion => tell_help(error, output, errors),
+        ErrorKind::OutOfMemory => report_failure(&Failure::from(Fault::NoMemory), errors),
+        ErrorKind::DisplayHelp | ErrorKind::DisplayVersion => report_help(error, output, errors),
         _ => {
             let _ = write!(errors.inner, "{error}");
             Status::BadInput
@@ -162,24 +154,24 @@ fn report_words<W: Write, E: Write>(
     }
 }
 
-fn tell_help<W: Write, E: Write>(
+fn report_help<W: Write, E: Write>(
     help: &Error,
     output: &mut Watched<W>,
     errors: &mut Watched<E>,
 ) -> Status
-    ensures { IsHelpTold E.contents errors.old errors.new result }
+    ensures { IsHelpReported E.contents errors.old errors.new result }
 {
     match write!(output.inner, "{help}") {
         Ok(()) => Status::Done,
-        Err(error) => tell_failure(&Failure::at(Place::Output, error), errors),
+        Err(error) => report_failure(&Failure::at(Place::Output, error), errors),
     }
 }
 
 /// Reports that there was no memory, or that the output failed.
-fn tell_failure<E: Write>(failure: &Failure, errors: &mut Watched<E>) -> Status
+fn report_failure<E: Write>(failure: &Failure, errors: &mut Watched<E>) -> Status
     requires { IsFailure failure.now.fault }
     ensures status { result ≡ Status.Failed }
-    ensures reported { IsToldFailure E.contents errors.old errors.new }
+    ensures reported { IsReportedFailure E.contents errors.old errors.new }
 {
     failure.report(&NO_PATHS, errors)
 }

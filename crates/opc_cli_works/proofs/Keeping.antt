@@ -1,12 +1,14 @@
 -- What a whole work over the tables of a database file comes to, from what the files held to what they hold.
-use Rattle.std.proofs.Common.{◌≡◌, ◌∙◌, inl, inr, ℕ, Bool, List, Option, Some, None, Result, Ok, Err, MatchOption, refl, sym, subst}
+use Rattle.std.proofs.Common.{◌≡◌, ◌∙◌, inl, inr, ℕ, Bool, List, Option, Some, None, Result, Ok, Err, MatchOption, refl, sym, subst, ap, false, not}
 use Rattle.std.specs.Prelude.{MatchResult, IsUtf8}
 use Rattle.std.specs.Io.KnownBytes.{Appends}
 use Rattle.sqlite_disk.specs.declared.Disk as disk
 use Rattle.sqlite_disk.specs.declared.Files.{Files}
 use Rattle.sqlite_store.specs.declared.store.FileStore.{FileStore}
 use Rattle.sqlite.specs.Effect.{Database}
-use Rattle.sqlite.specs.Files.{over_files, file_state}
+use Rattle.sqlite.specs.Files.{over_files, file_state, HoldsDatabase}
+use Rattle.sqlite.specs.Recovery.{Image}
+use Rattle.sqlite_trees.specs.Tree.{Trees}
 use Rattle.sqlite.specs.Held.{Held}
 use Rattle.sqlite.specs.WalReads.{AreClean}
 use Rattle.opc_terms.specs.declared.rule.Rule.{Rule}
@@ -15,7 +17,8 @@ use Rattle.opc_board.specs.declared.line.Line.{Line}
 use Rattle.opc_state.specs.Meaning.{Meaning}
 use Rattle.opc_state.specs.State.{State}
 use Rattle.opc_store_schema.specs.Represented.{AreTablesOf}
-use Rattle.opc_store_schema.proofs.Opened.{alone_from}
+use Rattle.opc_store_schema.proofs.Opened.{alone_from, found_again, named}
+use Rattle.opc_store.specs.Opening.{IsAdopted}
 use Rattle.opc_store.specs.StoreTables.{IsSure, RepresentsIfOpen, store_meaning}
 use Rattle.opc_machine.specs.declared.request.Answer.{Answer}
 use Rattle.opc_machine.specs.declared.request.Answer.TheVariants as answer
@@ -64,7 +67,7 @@ without : {A X : Type 0} (Y : A → Type 0) (o : Option A) → o ≡ None → Ma
 without Y None is h = h
 without Y (Some a) is h = absurd (cc)
 
--- ---- answers that are told
+-- ---- answers that are printed
 
 -- what ended well was done, and its lines were written
 done_reported : {K : Type 0} (held : K → Option (List ℕ)) (has_failed : K → Bool) (a : Answer) (before written : K)
@@ -119,6 +122,14 @@ module _ {D : Type 0} (g : disk.Ghosts D) where
         seen = copied.seen;
         left = copied.left;
       }
+
+  -- tables that the files held are not made
+  never_made : (image : Image) (found : Trees) (are_made : Bool) (opened : Tables) (s : State) → HoldsDatabase image found
+      → AreTablesOf found s → IsAdopted image are_made opened → are_made ≡ false
+  never_made image found are_made opened s holds tables (first, adopts) =
+      let trees : (file_state first).now.trees ≡ found = ap (λ (d : Database). d.trees) adopts.opens.0.clean ∙ adopts.found.holds found holds in
+      let again = found_again (file_state first).now s (adopts.opens.1 adopts.opens.0.is_open).0 (subst (λ (t : Trees). AreTablesOf t s) (sym trees) tables) in
+      adopts.counts ∙ ap not (named _ again.rows.schema)
 
   -- ---- a first policy
 
@@ -320,4 +331,5 @@ module _ {D : Type 0} (g : disk.Ghosts D) where
         let sure = last_sure over in (
           r.done.1.text sure s (start over),
           holds_last r.last files r.ends over.clean s (r.done.0.same sure s (start over)),
+          never_made over.image over.found over.are_made r.opened s over.holds over.tables (r.opening.adopted (r.sure sure)),
         )

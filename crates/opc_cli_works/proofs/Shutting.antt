@@ -184,7 +184,7 @@ module _ {D : Type 0} (g : disk.Ghosts D) where
       let whole = left_whole over_files old new moment r answer handled clean s was alone trees may in
       record {
         are = whole;
-        found = λ image holds again opening sure never. whole (elim [
+        found = λ image holds are_made again opening sure never. whole (elim [
           | inl are ↦ never (inl (opening.found sure trees holds s are))
           | inr are ↦ never (inr (opening.found sure trees holds (after s moment r (outcome s r)) are))
         ]);

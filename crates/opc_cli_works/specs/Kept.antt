@@ -1,5 +1,5 @@
 -- What a whole work over the tables of a database file comes to, from what the files held to what they hold.
-use Rattle.std.specs.Prelude.{◌≡◌, ◌⊎◌, ℕ, List, Option, Some, None, Result, Ok, Err, IsUtf8}
+use Rattle.std.specs.Prelude.{◌≡◌, ◌⊎◌, ℕ, Bool, false, List, Option, Some, None, Result, Ok, Err, IsUtf8}
 use Rattle.std.specs.Borrow.{Bor}
 use Rattle.std.specs.Io.KnownBytes.{Appends}
 use Rattle.sqlite_disk.specs.declared.Disk as disk
@@ -92,7 +92,8 @@ module _ {D : Type 0} (g : disk.Ghosts D) where
       pub found : Trees
       pub holds : HoldsDatabase image found
       pub tables : AreTablesOf found s
-      pub works : IsWorkAt {g = g} contents image work left before written end (Ok files)
+      pub are_made : Bool
+      pub works : IsWorkAt {g = g} contents image work left before written end (Ok files) are_made
       pub clean : AreClean g files.log files.db
 
     -- Where a script without a bad line was run, they hold tables of the state that its requests lead to,
@@ -138,10 +139,11 @@ module _ {D : Type 0} (g : disk.Ghosts D) where
         → (rows : List Row) × AreRead left rows
         × ((first : State) × (bootstrapped rows s ≡ Ok first) × (written ≡ before) × HoldTablesOf files first)
 
-    -- An export writes the policy file of the state, whose tables they hold still.
+    -- An export writes the policy file of the state, whose tables they hold still; these do not count as made by it.
     abbrev pub ExportsLeaveTheFile : Type 0
     ExportsLeaveTheFile =
         (s : State) (left : Option (List ℕ)) (before written : Watched W) (end : Result Status Failure)
         (files : Files D)
-        → IsWorkOver s Export left before written end files
+        → (over : IsWorkOver s Export left before written end files)
         → IsWritten (exported s) (contents before.inner) (contents written.inner) end × HoldTablesOf files s
+        × (over.are_made ≡ false)

@@ -1,6 +1,6 @@
 -- What a crash leaves at a request, or a fault of the disk that closes the tables, and what becomes of the requests
 -- after it.
-use Rattle.std.specs.Prelude.{◌⊎◌, ℕ, ⊤}
+use Rattle.std.specs.Prelude.{Bool, ◌⊎◌, ℕ, ⊤}
 use Rattle.sqlite_disk.specs.declared.Disk as disk
 use Rattle.sqlite_store.specs.declared.store.FileStore.{FileStore}
 use Rattle.sqlite_trees.specs.declared.store.Store.{Ghosts}
@@ -49,8 +49,8 @@ module _ {D : Type 0} (g : disk.Ghosts D) where
   -- Trees are tables of one of two states, and an opening of files that hold them finds that state.
   pub record AreOfOneOf (trees : Trees) (s next : State) : Type 0 where
     pub are : ¬ ¬ (AreTablesOf trees s ⊎ AreTablesOf trees next)
-    pub found : (image : Image) → HoldsDatabase image trees → (again : Held (FileStore D g)) → IsOpening image again
-        → HasCleanDisk (file_state again)
+    pub found : (image : Image) → HoldsDatabase image trees → (are_made : Bool) → (again : Held (FileStore D g))
+        → IsOpening image are_made again → HasCleanDisk (file_state again)
         → ¬ ¬ (Represents (file_state again).now s ⊎ Represents (file_state again).now next)
 
   -- Where a crash leaves one state alone before a request, as after an opening or a change that is acknowledged, then

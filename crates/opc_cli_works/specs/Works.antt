@@ -1,7 +1,9 @@
 -- A work over the tables of a database file, from its opening to its closing, and a run over tables in memory.
-use Rattle.std.specs.Prelude.{◌≡◌, ◌⊎◌, ℕ, Bool, List, Option, None, Result, IfOk, IsErrAnd, IsTrue, ⊤}
+use Rattle.std.specs.Prelude.{◌≡◌, ◌⊎◌, ℕ, Bool, List, Option, None, Result, IfOk, IsErrAnd, IsTrue}
 use Rattle.std.specs.Borrow.{Bor}
+use Rattle.std.specs.declared.net.tcp.TcpListener.{TcpListener}
 use Rattle.std.specs.declared.net.tcp.TcpStream.{TcpStream}
+use Rattle.std.specs.declared.rt.LibcRuntime.{LibcRuntime}
 use Rattle.sqlite_disk.specs.declared.Disk as disk
 use Rattle.sqlite_disk.specs.declared.Files.{Files}
 use Rattle.sqlite_store.specs.declared.store.FileStore.{FileStore}
@@ -23,6 +25,9 @@ use Rattle.opc_store_old_tables.specs.Old.{AreOldTablesOf}
 use Rattle.opc_store_old_tables.specs.Tables.{Older}
 use Rattle.opc_store.specs.Opening.{IsAdopted, LeavesItself}
 use Rattle.opc_store.specs.StoreTables.{IsSure, store_meaning}
+use Rattle.opc_http_connections.specs.Links.{unknown_door}
+use Rattle.opc_http_connections.specs.declared.unix.UnixClient.{UnixClient}
+use Rattle.opc_http_connections.specs.declared.unix.UnixDoor.{UnixDoor}
 use Rattle.opc_cli_failures.specs.declared.status.Status.{Status}
 use Rattle.opc_cli_failures.specs.declared.failure.Failure.{Failure}
 use Rattle.opc_cli_failures.specs.Statuses.{IsFailure}
@@ -32,8 +37,8 @@ use Rattle.opc_cli_program.specs.Works.{IsDone}
 use Rattle.opc_cli_program.specs.declared.work.Work.{Work}
 
 module _ {D : Type 0} {g : disk.Ghosts D} where
-  -- What the files held is what the tables represent, and a crash leaves that.
-  pub record IsOpening (image : Image) (opened : Held (FileStore D g)) : Type 0 where
+  -- What the files held is what the tables represent, and a crash leaves that. They were made now, or not.
+  pub record IsOpening (image : Image) (are_made : Bool) (opened : Held (FileStore D g)) : Type 0 where
     pub found : HasCleanDisk (file_state opened) → (db : Trees) → HoldsDatabase image db → (s : State)
         → AreTablesOf db s → Represents (file_state opened).now s
     pub copied : HasCleanDisk (file_state opened) → (db : Trees) → HoldsDatabase image db → (version : Older)
@@ -41,7 +46,7 @@ module _ {D : Type 0} {g : disk.Ghosts D} where
     pub made : HasCleanDisk (file_state opened) → (trees : Trees) × AreFoundIn image trees
         × (Lists (trees catalog_tree) no_schema → Represents (file_state opened).now empty)
     pub settled : LeavesItself (file_state opened)
-    pub adopted : HasCleanDisk (file_state opened) → IsAdopted image opened
+    pub adopted : HasCleanDisk (file_state opened) → IsAdopted image are_made opened
 
   -- What is there is what was committed last; where the files are closed, it is in the database file.
   abbrev pub IsEnd : Held (FileStore D g) → Result (Files D) (Error × FileStore D g) → Type 0
@@ -53,13 +58,14 @@ module _ {D : Type 0} {g : disk.Ghosts D} where
   -- the system hold nothing is known, nor of what bytes come and go over its connections.
   pub record IsWorkAt {W : Type 0} (contents : W → Option (List ℕ)) (image : Image) (work : Work)
       (left : Option (List ℕ)) (before written : Watched W) (end : Result Status Failure)
-      (closed : Result (Files D) (Error × FileStore D g)) : Type 0 where
+      (closed : Result (Files D) (Error × FileStore D g)) (are_made : Bool) : Type 0 where
     pub opened : Held (FileStore D g)
     pub last : Held (FileStore D g)
-    pub opening : IsOpening image opened
+    pub opening : IsOpening image are_made opened
     pub sure : IsSure over_files last → IsSure over_files opened
-    pub done : IsDone (store_meaning over_files) contents opened last left
-        before written end {C = TcpStream} (λ _ _ _. ⊤) (λ _. None) (λ _. None) (λ path. None) work
+    pub done : IsDone (store_meaning over_files) contents opened last left before written end
+        (unknown_door TcpListener {C = TcpStream} {K = LibcRuntime}) (unknown_door UnixDoor {C = UnixClient})
+        (λ path. None) work
     pub ends : IsEnd last closed
 
 -- The program ran over new tables in memory, those of an empty state. Or there was no memory for them, and nothing was

@@ -7,9 +7,10 @@ ghost use Rattle.opc_cli_works.specs.Works.{IsWorkAt};
 
 use opc_cli_failures::failure::Failure;
 use opc_cli_failures::status::Status;
+use opc_cli_program::ports::System;
 use opc_cli_program::work::{Work, work_on};
 use opc_io::watched::Watched;
-use opc_store::opening::OpenFault;
+use opc_store::opening::NotOpened;
 use opc_store::store::Store;
 use sqlite::{Error, FileFrom, FileStore, Files, Start};
 use sqlite_disk::Disk;
@@ -19,7 +20,8 @@ use std::io::{Read, Write};
 pub type Closed<S> = Result<Files<FileFrom<S>>, (Error, FileStore<FileFrom<S>>)>;
 
 /// Opens the database file at a path, or makes it, does a work over its tables, and closes it. `start` stands for what
-/// the files hold, and says what a torn write may leave. Returns what the work came to, and what the closing did.
+/// the files hold, and says what a torn write may leave. Returns what the work came to, what the closing did, and
+/// whether the tables were made by this opening.
 pub fn work_at<S: Start, R: Read, W: Write>(
     rt: &HostRuntime,
     path: &str,
@@ -27,18 +29,19 @@ pub fn work_at<S: Start, R: Read, W: Write>(
     work: &Work<'_>,
     input: &mut R,
     output: &mut Watched<W>,
-) -> Result<(Result<Status, Failure>, Closed<S>), OpenFault>
+) -> Result<(Result<Status, Failure>, Closed<S>, bool), NotOpened>
     ensures worked { IfOk result (λ r. IsWorkAt W.contents (image_at S.Start) work.now (R.remaining input.old)
         output.old
-        output.new r.0 r.1) }
-    ensures failed { IfErr result (IsNotOpened ⟦<FileFrom<S> as Disk>⟧ IsFresh (image_at S.Start)) }
+        output.new r.0 r.1 r.2) }
+    ensures failed { IfErr result
+        (λ refused. IsNotOpened ⟦<FileFrom<S> as Disk>⟧ IsFresh (image_at S.Start) refused.fault) }
     ensures silent { OnErr result (output.new ≡ output.old) }
 {
     match Store::open_at(rt, path, start) {
-        Ok(tables) => {
-            let (end, tables) = work_on(rt, tables, work, input, output);
-            Ok((end, tables.close()))
+        Ok((tables, are_made)) => {
+            let (end, tables) = work_on(rt, &System { net: rt }, tables, work, input, output);
+            Ok((end, tables.close(), are_made))
         }
-        Err(fault) => Err(fault),
+        Err(refused) => Err(refused),
     }
 }

@@ -4,10 +4,12 @@
 use opc_cli::run_words;
 use opc_cli_failures::failure::{Failure, NO_PATHS};
 use opc_cli_failures::status::Status;
+use opc_cli_screen::screen::Screen;
 use opc_io::watched::Watched;
 use opc_terms::fault::Fault;
-use std::io::{ErrorKind, Write};
+use std::io::{ErrorKind, IsTerminal, Write};
 use std::process::ExitCode;
+use std::rt::Stdout;
 use std::{env, io};
 
 fn main(rt: HostRuntime) -> ExitCode {
@@ -21,7 +23,7 @@ fn status(rt: &HostRuntime) -> u8 {
             rt,
             words.as_slice(),
             &mut rt.stdin(),
-            &mut Watched::new(rt.stdout()),
+            &mut Watched::new(screen(rt)),
             &mut errors,
         ),
         Err(error) if error.kind() == ErrorKind::OutOfMemory => Failure::from(Fault::NoMemory)
@@ -31,6 +33,16 @@ fn status(rt: &HostRuntime) -> u8 {
             let _ = writeln!(errors.inner, "error: a word is not UTF-8");
             Status::BadInput.number()
         }
+    }
+}
+
+/// Standard output. A terminal is shown what it would act on or hide; a file or a program gets the bytes as they are.
+fn screen(rt: &HostRuntime) -> Screen<Stdout> {
+    let inner = rt.stdout();
+    Screen {
+        is_terminal: inner.is_terminal(),
+        inner,
+        alloc: rt.alloc(),
     }
 }
 

@@ -5,5 +5,5 @@ returns g c = record {
   end = c.run_in_memory.result;
   ran = c.run_in_memory.ensures.ran;
   status_is = c.reported.ensures.status;
-  end_told = c.reported.ensures.reported;
+  end_reported = c.reported.ensures.reported;
 }

@@ -4,7 +4,7 @@ use Rattle.opc_cli_words.proofs.command_line.serve_command.Goals as goal
 
 pub returns : goal.returns
 returns c =
-    let option_1 = one_option_more _ _ _ _ _ _ c.command.ensures c.needed.ensures.rule c.needed.ensures.alone c.in_ok-arg.ensures in
-    let option_2 = one_option_more _ _ _ _ _ _ option_1 c.needed-2.ensures.rule c.needed-2.ensures.alone c.in_ok-arg-2.ensures in
-    let option_3 = one_option_more _ _ _ _ _ _ option_2 c.preset.ensures.rule c.preset.ensures.alone c.in_ok-arg-3.ensures in
-    IfOk-weaker c.arg-4.result _ _ (λ built. one_option_more _ built _ _ _ _ option_3 c.value.ensures.rule c.value.ensures.alone) c.arg-4.ensures
+    let database = one_option_more _ _ _ _ _ _ c.command.ensures c.needed.ensures.rule c.needed.ensures.alone c.in_ok-serve.ensures in
+    let address = c.in_ok-with_address.ensures database in
+    let count = one_option_more _ _ _ _ _ _ address c.preset.ensures.rule c.preset.ensures.alone c.in_ok-arg.ensures in
+    IfOk-weaker c.arg-3.result _ _ (λ built. one_option_more _ built _ _ _ _ count c.preset-2.ensures.rule c.preset-2.ensures.alone) c.arg-3.ensures

@@ -1,5 +1,5 @@
 use Rattle.opc_cli_words.specs.Reading.{words_after}
-use Rattle.opc_cli_words.proofs.Reading.{kind_told, task_read}
+use Rattle.opc_cli_words.proofs.Reading.{kind_reported, task_read}
 use Rattle.opc_cli_words.proofs.words.read_words.Goals as goal
 
 pub returns-in-Ok : goal.returns-in-Ok
@@ -9,5 +9,5 @@ returns-in-Ok g c =
 
 pub returns-in-Err : goal.returns-in-Err
 returns-in-Err g c =
-    kind_told g.E.Write.contents _ _ c.args.output.now _ (words_after c.args.words.now) c.in-Err.error
+    kind_reported g.E.Write.contents _ _ c.args.output.now _ (words_after c.args.words.now) c.in-Err.error
     c.in-Err.ensures.fails c.report_words.result c.report_words.ensures

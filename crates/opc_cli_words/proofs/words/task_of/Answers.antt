@@ -6,7 +6,7 @@ use Rattle.opc_cli_words.proofs.words.task_of.Goals as goal
 pub returns-in-Ok : goal.returns-in-Ok
 returns-in-Ok g c = (
   is_task c.args.matches.now (found_of c.in-Some.chosen.now) c.in-Some.command.now c.in-Ok.task
-      c.in-Some.ensures.name c.in-Some.ensures.rows c.in-Ok.ensures,
+      c.in-Some.ensures.name c.in-Some.ensures.rows c.in-Ok.ensures.1 c.in-Ok.ensures.0,
   refl,
 )
 
@@ -15,9 +15,9 @@ returns-in-Err g c = (
   refl,
   inr (record {
     command = c.in-Some.command.now;
-    option = c.in-Err.option.now;
-    fails = fails_at c.args.matches.now (found_of c.in-Some.chosen.now) c.in-Some.command.now c.in-Err.option.now
+    mistake = c.in-Err.mistake.now;
+    fails = fails_at c.args.matches.now (found_of c.in-Some.chosen.now) c.in-Some.command.now c.in-Err.mistake.now
         c.in-Some.ensures.name c.in-Some.ensures.rows c.in-Err.ensures;
-    printed = c.tell_unread.ensures;
+    printed = c.report_mistake.ensures;
   }),
 )

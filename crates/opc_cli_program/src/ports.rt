@@ -1,0 +1,121 @@
+//! What lets the program listen.
+ghost use Rattle.std.specs.Prelude.{IfOk, OnOk};
+
+use opc_http_connections::connection::Connection;
+use opc_http_connections::listener::Listener;
+use opc_http_connections::socket_file;
+use opc_http_connections::unix::UnixDoor;
+use std::fs::Files;
+use std::net::{Net, OpenListener, SocketAddr};
+use std::os::fd::OwnedFd;
+use std::{fs, io};
+
+/// Where one may listen.
+pub trait Ports {
+    ghost use Rattle.std.specs.Prelude.{ℕ, List};
+    ghost use Rattle.std.specs.declared.net.socket_addr.SocketAddr.{SocketAddr};
+
+    /// Listens at a port.
+    type Listener: Listener + Drop;
+
+    /// A Unix socket that has its file, and does not listen yet.
+    type Bound: Drop;
+
+    /// Listens at the file of a Unix socket.
+    type Socket: Listener + Drop;
+
+    /// That a listener was bound to an address. What a function over any ports says by it can only be shown by a call.
+    ghost binds: { Self → SocketAddr → Self.Listener → Type 0 };
+
+    /// That this is the address of a listener.
+    ghost is_at: { Self → Self.Listener → SocketAddr → Type 0 };
+
+    /// That the file at this path was made for a socket.
+    ghost names: { Self → List ℕ → Self.Bound → Type 0 };
+
+    /// That the file at this path was given these permissions.
+    ghost permits: { Self → List ℕ → ℕ → Type 0 };
+
+    /// That a socket began to listen.
+    ghost listens: { Self → Self.Bound → Self.Socket → Type 0 };
+
+    fn bind(&self, address: SocketAddr) -> io::Result<Self::Listener>
+        ensures { IfOk result (λ listener. binds self.now address listener) };
+
+    fn address_of(&self, listener: &Self::Listener) -> io::Result<SocketAddr>
+        ensures { IfOk result (λ address. is_at self.now listener.now address) };
+
+    /// Makes a socket with a file at this path, where there is none. Nobody can connect to it before it listens.
+    fn make_file(&self, path: &str) -> io::Result<Self::Bound>
+        ensures { IfOk result (λ bound. names self.now path.now bound) };
+
+    fn permit(&self, path: &str, mode: u32) -> io::Result<()>
+        ensures { OnOk result (permits self.now path.now mode) };
+
+    fn listen(&self, bound: Self::Bound) -> io::Result<Self::Socket>
+        ensures { IfOk result (λ socket. listens self.now bound socket) };
+
+    /// Removes the file of a socket at which nobody listens, if that is what stands at this path; whether it did.
+    fn clear(&self, path: &str) -> bool;
+
+    /// Removes the file of a socket that is done with.
+    fn remove(&self, path: &str);
+}
+
+/// The system's ports and files.
+#[derive(Drop)]
+pub struct System<'a, H: Net> {
+    pub net: &'a H,
+}
+
+impl<H: Files + Net> Ports for System<'_, H>
+where
+    H::Stream: Connection,
+{
+    ghost use Rattle.std.specs.Prelude.{⊤};
+
+    type Listener = H::Listener;
+
+    type Bound = OwnedFd;
+
+    type Socket = UnixDoor;
+
+    ghost binds = { λ _ _ _. ⊤ };
+
+    ghost is_at = { λ _ _ _. ⊤ };
+
+    ghost names = { λ _ _ _. ⊤ };
+
+    ghost permits = { λ _ _ _. ⊤ };
+
+    ghost listens = { λ _ _ _. ⊤ };
+
+    fn bind(&self, address: SocketAddr) -> io::Result<H::Listener> {
+        self.net.bind(address)
+    }
+
+    fn address_of(&self, listener: &H::Listener) -> io::Result<SocketAddr> {
+        listener.local_addr()
+    }
+
+    fn make_file(&self, path: &str) -> io::Result<OwnedFd> {
+        socket_file::make(self.net, path)
+    }
+
+    fn permit(&self, path: &str, mode: u32) -> io::Result<()> {
+        socket_file::permit(self.net, path, mode)
+    }
+
+    fn listen(&self, bound: OwnedFd) -> io::Result<UnixDoor> {
+        socket_file::listen(bound)
+    }
+
+    fn clear(&self, path: &str) -> bool {
+        socket_file::clear(self.net, path)
+    }
+
+    fn remove(&self, path: &str) {
+        // (one that is left is replaced by the next service)
+        let _ = fs::remove_file(self.net, path);
+    }
+}

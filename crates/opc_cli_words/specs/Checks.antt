@@ -1,0 +1,38 @@
+-- Checks of the options of a command, in the order in which they are made.
+use Rattle.std.specs.Prelude.{
+  ◌≡◌,
+  ℕ,
+  Bool,
+  true,
+  false,
+  List,
+  [],
+  ◌∷◌,
+  Option,
+  Some,
+  None,
+  Result,
+  Ok,
+  Err,
+  if◌then◌else◌,
+}
+use Rattle.std.specs.Borrow.{Bor}
+
+-- what is printed of a mistake, and whether it was not made
+abbrev pub Check : Type 0
+Check = List ℕ × Bool
+
+-- the first mistake that was made
+abbrev pub first_mistake : List Check → Option (List ℕ)
+first_mistake [] = None
+first_mistake (check ∷ checks) = if check.1 then first_mistake checks else Some check.0
+
+-- A value was read, or the mistake was answered.
+abbrev pub IsReadAs : {A : Type 0} → (A → Type 0) → Check → Result A (Bor (List ℕ)) → Type 0
+IsReadAs is check (Ok a) = is a × (check.1 ≡ true)
+IsReadAs is check (Err mistake) = (mistake.now ≡ check.0) × (check.1 ≡ false)
+
+-- What these checks are for was read, or the first mistake was answered.
+abbrev pub AreReadAs : {A : Type 0} → (A → Type 0) → List Check → Result A (Bor (List ℕ)) → Type 0
+AreReadAs is checks (Ok a) = is a × (first_mistake checks ≡ None)
+AreReadAs is checks (Err mistake) = first_mistake checks ≡ Some mistake.now

@@ -1,0 +1,1 @@
+"""Many gates on loopback, and what is sent to all of them."""

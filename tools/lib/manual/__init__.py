@@ -1,0 +1,1 @@
+"""The manual page and the completions of the shells, beside the program's own help."""

@@ -1,0 +1,1 @@
+"""Tests of what reads the help and the manual, and of the completions."""

@@ -1,0 +1,1 @@
+"""A real nginx on loopback with the configuration of examples/nginx.conf, and what is behind it."""

@@ -1,0 +1,1 @@
+"""Tests of what the configuration of nginx becomes in a test, and of how its answers are read."""

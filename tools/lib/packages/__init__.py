@@ -1,0 +1,1 @@
+"""What make installs and packs, tried in folders of their own."""

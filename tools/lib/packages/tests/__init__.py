@@ -1,0 +1,1 @@
+"""Tests of what is said of the proof of a program that is installed."""

@@ -1,0 +1,1 @@
+"""The sessions that the documents show, run as they stand there."""

@@ -1,0 +1,76 @@
+"""Sessions are found in a page, and run as a reader types them."""
+import tempfile
+import unittest
+
+from lib.sessions.pages import Run, files_in, runs_in
+from lib.sessions.shell import Shell
+
+PAGE = """\
+Write `day.csv`:
+
+```
+kind,class
+group,,DAY
+```
+
+A block that is no session:
+
+```
+tools/build
+```
+
+1. In a list:
+
+   ```
+   $ cat day.csv
+   kind,class
+   group,,DAY
+   $ printf '%s\\n' a \\
+   > b
+   a
+   b
+   ```
+
+```
+$ program < tour.script
+```
+
+| The script | The answers | What happens |
+|---|---|---|
+| `1 * JOBIN A JOB` | `1 DONE -` | a job starts |
+| `2 C1 D U` | `2 REFUSED E12` | nobody is on |
+
+And `another.csv` is not shown.
+"""
+
+
+class Sessions(unittest.TestCase):
+    def test_runs(self) -> None:
+        self.assertEqual(
+            runs_in(PAGE),
+            [
+                Run(17, "cat day.csv", ["kind,class", "group,,DAY"]),
+                Run(20, "printf '%s\\n' a \\\nb", ["a", "b"]),
+                Run(27, "program < tour.script", ["1 DONE -", "2 REFUSED E12"]),
+            ],
+        )
+
+    def test_files(self) -> None:
+        self.assertEqual(files_in(PAGE), {"day.csv": "kind,class\ngroup,,DAY\n"})
+
+    def test_a_shell(self) -> None:
+        with tempfile.TemporaryDirectory() as folder, Shell(folder, folder) as shell:
+            for command, printed in (
+                ("echo a; echo b >&2", ["a", "b"]),
+                ("x=5; true", []),
+                ("printf $x", ["5"]),
+                ("printf '\\n\\n'", ["", ""]),
+                ("(echo c; sleep 60) &", ["c"]),
+                ("kill %1; wait", []),
+            ):
+                with self.subTest(command):
+                    self.assertEqual(shell.printed(Run(1, command, printed)), printed)
+
+
+if __name__ == "__main__":
+    unittest.main()

@@ -17,8 +17,14 @@ def free_port() -> Iterator[int]:
         yield held.getsockname()[1]
 
 
-def connected(port: int) -> socket.socket:
-    link = socket.create_connection((HOST, port), SECONDS)
+def connected(place: int | str) -> socket.socket:
+    """A link to a port, or to the Unix socket at a path."""
+    if isinstance(place, str):
+        link = socket.socket(socket.AF_UNIX)
+        link.settimeout(SECONDS)
+        link.connect(place)
+        return link
+    link = socket.create_connection((HOST, place), SECONDS)
     link.setsockopt(socket.IPPROTO_TCP, socket.TCP_NODELAY, 1)
     return link
 
@@ -38,17 +44,17 @@ def head(method: str, path: str, body: bytes | None, fields: Iterable[str] = ())
     return "\r\n".join([*lines, "", ""]).encode()
 
 
-def sent(port: int, data: bytes, closes: bool = False) -> bytes:
-    """What comes back for these bytes; `closes` where nothing more is to be sent after them."""
-    with connected(port) as link:
+def sent(place: int | str, data: bytes, closes: bool = False) -> bytes:
+    """What comes back for these bytes; `closes` if nothing more is to be sent after them."""
+    with connected(place) as link:
         link.sendall(data)
         if closes:
             link.shutdown(socket.SHUT_WR)
         return taken(link)
 
 
-def by_socket(port: int, method: str, path: str, body: bytes | None = None) -> bytes:
-    return sent(port, head(method, path, body) + (body or b""))
+def by_socket(place: int | str, method: str, path: str, body: bytes | None = None) -> bytes:
+    return sent(place, head(method, path, body) + (body or b""))
 
 
 def by_http_client(

@@ -34,7 +34,7 @@ def standing_on(known: Lines, names: Iterable[str]) -> set[str]:
 
 class Clone:
     """All files that git does not ignore, without what earlier checks kept; of the crates only those named and what
-    they stand on, where some are named."""
+    they stand on, if some are named."""
 
     def __init__(self, top: str, room: str, names: list[str]) -> None:
         self.top, self.root, self.aside = top, f"{room}/repository", f"{room}/must-fail"

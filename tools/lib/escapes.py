@@ -7,7 +7,7 @@ REPEATED = re.compile(r"\\\[(\d+) ([^]]*)\]")
 
 def unescaped(text: str) -> bytes:
     r"""The bytes of a text: \r, \n and \t stand for their characters, \x and two digits for a byte, and \[COUNT TEXT]
-    for a text so many times, which may have escapes itself."""
+    for a text this many times, which may have escapes itself."""
     plain, *more = REPEATED.split(text)
     found = [without_escapes(plain)]
     for count, repeated, rest in zip(more[::3], more[1::3], more[2::3]):

@@ -12,6 +12,11 @@ Ran = tuple[int, str, str]  # a run's status, what it prints, and what it says
 WANT = {"alloc": "E90 NoMemory\n", "read": "E91 Store\n", "write": "E91 Store\n", "sync": "E91 Store\n"}
 
 
+def bytes_of(path: str) -> bytes:
+    with open(path, "rb") as file:
+        return file.read()
+
+
 def run(words: list[str], data: str, faults: dict[str, str] | None = None) -> Ran:
     """The status of one run, and what it prints and says."""
     ran = subprocess.run(
@@ -22,6 +27,11 @@ def run(words: list[str], data: str, faults: dict[str, str] | None = None) -> Ra
 
 def script(lines: Iterable[str], file: str, faults: dict[str, str] | None = None, policy: bool = True) -> Ran:
     return run(["run", "--db", file, *(["--policy", POLICY] if policy else [])], "".join(lines), faults)
+
+
+def made(file: str) -> str:
+    """What an export says that made the tables of a file."""
+    return f"opcmds: database {file}: made now, without a policy\n"
 
 
 def tables(file: str) -> dict[str, list[str]]:

@@ -35,7 +35,7 @@ def rtlib() -> ModuleType:
 
 
 def needs_line(kit: str, line: str = LINE) -> None:
-    """Ends where this is not the kit that tools/kit-line names, since two methods of its private module are changed
+    """Ends if this is not the kit that tools/kit-line names, since two methods of its private module are changed
     here."""
     with open(line, encoding="utf-8") as file:
         wanted = file.read().split()[0]
@@ -97,14 +97,14 @@ def processors() -> int:
 
 
 def free_memory() -> int:
-    """Bytes that are free, 8 GB where the system does not say."""
+    """Bytes that are free, 8 GB if the system does not say."""
     with contextlib.suppress(OSError, ValueError, IndexError), open("/proc/meminfo") as lines:
         return next(1024 * int(line.split()[1]) for line in lines if line.startswith("MemAvailable:"))
     return 8_000_000_000
 
 
 def linked(was: str, to: str) -> None:
-    """Copies a folder, by hard links where both lie on one disk."""
+    """Copies a folder, by hard links if both lie on one disk."""
     os.makedirs(os.path.dirname(to), exist_ok=True)
     if subprocess.run(["cp", "-al", was, to], stderr=subprocess.DEVNULL).returncode:
         shutil.rmtree(to, ignore_errors=True)

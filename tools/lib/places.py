@@ -19,6 +19,13 @@ def built() -> str:
     return PROGRAM
 
 
+def wide_policy() -> list[str]:
+    """The lines of the base policy as an export has them, in ten columns."""
+    with open(POLICY, encoding="utf-8") as policy:
+        _, *rows = policy.read().splitlines()
+    return [WIDE_HEADER, *(f"{row},," for row in rows)]
+
+
 def compiled(name: str, folder: str, *libraries: str) -> str:
     """Compiles lib/bench/NAME.c into a program of this folder."""
     made = f"{folder}/{name}"

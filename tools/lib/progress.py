@@ -7,7 +7,7 @@ import time
 from typing import TextIO
 
 CHECKED = re.compile(r"checked .*, (\d+) of (\d+)$")
-# what a check says where nothing is wrong
+# what a check says if nothing is wrong
 USUAL = re.compile(
     r"\s*$|(fn|struct|trait|impl|enum) \S+: proved|(statements|library|logic|crate|by-macro|rt): ?"
     r"|(statements|library|logic|crate) "

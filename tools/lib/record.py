@@ -41,7 +41,7 @@ def is_of(program: str, sources: str) -> bool:
 
 
 def commit(top: str) -> str:
-    """The commit that the crates are of, where git says it."""
+    """The commit that the crates are of, if git says it."""
     how = {"cwd": top, "stdout": subprocess.PIPE, "stderr": subprocess.DEVNULL, "text": True}
     with contextlib.suppress(OSError, subprocess.CalledProcessError):
         name = subprocess.run(["git", "rev-parse", "--short", "HEAD"], check=True, **how).stdout.strip()

@@ -1,4 +1,4 @@
-"""The service over a database file, on a port that the system chooses."""
+"""The service over a database file, on a port that the system chooses, or on a Unix socket."""
 import os
 import re
 import select
@@ -14,23 +14,29 @@ FIRST = re.compile(r"LISTENING 127\.0\.0\.1:([1-9]\d{0,4})\n")
 class Service:
     """`opcmds serve` from its start to its end; within a `with` it is killed if it does not end by itself."""
 
-    def __init__(self, file: str, *words: str, port: int = 0, **environment: str) -> None:
+    def __init__(
+        self, file: str, *words: str, port: int = 0, socket: str | None = None, **environment: str
+    ) -> None:
         self.file = file
-        words = self.words(file, "--port", str(port), *words)
+        where = ("--port", str(port)) if socket is None else ("--socket", socket)
+        words = self.words(file, *where, *words)
         streams = {"stdin": subprocess.DEVNULL, "stdout": subprocess.PIPE, "stderr": subprocess.PIPE}
         self.process = subprocess.Popen(words, env={**os.environ, **environment}, **streams)
+        self.socket = socket
         self.port = self.listening()
 
     def words(self, file: str, *words: str) -> list[str]:
         """The words of its command line."""
         return [built(), "serve", "--db", file, *words]
 
-    def listening(self) -> int:
-        """The port that it prints."""
+    def listening(self) -> int | str:
+        """The port that it prints, or the path of its socket."""
         ready, _, _ = select.select([self.process.stdout], [], [], 20)
         line = self.process.stdout.readline().decode() if ready else ""
+        if self.socket is not None and line == f"LISTENING unix:{self.socket}\n":
+            return self.socket
         found = FIRST.fullmatch(line)
-        if not found:
+        if self.socket is not None or not found:
             self.process.kill()
             raise RuntimeError(f"not what serve prints first: {line!r}, {self.process.stderr.read()!r}")
         return int(found[1])
@@ -45,7 +51,7 @@ class Service:
         self.process.stderr.close()
 
     def ended(self, seconds: float = 20) -> tuple[int | None, str, str]:
-        """Its status, with what else it printed and said, where it ends by itself."""
+        """Its status, with what else it printed and said, if it ends by itself."""
         try:
             output, errors = self.process.communicate(timeout=seconds)
         except subprocess.TimeoutExpired:
@@ -56,7 +62,7 @@ class Service:
         return self.process.poll() is None
 
     def processor(self) -> float:
-        """Seconds of a processor that it took so far."""
+        """Seconds of CPU time that it took so far."""
         with open(f"/proc/{self.process.pid}/schedstat") as file:
             return int(file.read().split()[0]) / 1e9
 
@@ -70,7 +76,7 @@ class Service:
 
 
 def settled(value: Callable[[], Any], wanted: Any, seconds: float = 5) -> bool:
-    """Whether a value comes to what is wanted, within so many seconds."""
+    """Whether a value comes to what is wanted within this many seconds."""
     end = time.monotonic() + seconds
     while value() != wanted:
         if time.monotonic() > end:

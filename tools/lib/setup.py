@@ -1,5 +1,5 @@
 #!/usr/bin/env python3
-"""What a command needs of the computer: looked for before any work, and installed where that is possible without
+"""What a command needs of the computer: looked for before any work, and installed if that is possible without
 asking.
 
   setup.py NEED..     for commands that are not written in Python; a NEED is a word of PACKAGES, or kit
@@ -21,6 +21,17 @@ PACKAGES = {
     "sqlite3": "sqlite3",
     "sqlite3.h": "gcc libc6-dev libsqlite3-dev",
     "valgrind": "valgrind",
+    "bash": "bash",
+    "zsh": "zsh",
+    "mandoc": "mandoc",
+    "make": "make",
+    "dpkg-shlibdeps": "dpkg-dev",
+    "lintian": "lintian",
+    "systemd-analyze": "systemd",
+    "strace": "strace",
+    "nginx": "nginx",
+    "openssl": "openssl",
+    "ansible-playbook": "ansible-core",
 }
 # Where the kit is looked for, if `rt` is not on the path.
 KIT = "/opt/rattle/bin"
@@ -37,7 +48,8 @@ def compiles(header: str) -> bool:
 def is_here(need: str) -> bool:
     if need == "cc":
         return compiles("stdlib.h")
-    return compiles(need) if need.endswith(".h") else bool(shutil.which(need))
+    # (services are programs of folders that are not on everybody's path)
+    return compiles(need) if need.endswith(".h") else bool(shutil.which(need) or shutil.which(need, path="/usr/sbin"))
 
 
 def said(text: str) -> None:
@@ -45,13 +57,14 @@ def said(text: str) -> None:
 
 
 def installed(packages: list[str]) -> str | None:
-    """Installs Debian packages, after a look at what there is where the lists are missing or old; returns why that
+    """Installs Debian packages, after a look at what there is if the lists are missing or old; returns why that
     failed."""
     how = {
         "stdin": subprocess.DEVNULL, "stdout": subprocess.PIPE, "stderr": subprocess.STDOUT, "text": True,
         "errors": "replace",
     }
-    how["env"] = {**os.environ, "DEBIAN_FRONTEND": "noninteractive"}
+    # (offline, systemd starts no service of a package that is installed for a test)
+    how["env"] = {**os.environ, "DEBIAN_FRONTEND": "noninteractive", "SYSTEMD_OFFLINE": "1"}
     install = ["apt-get", "install", "-y", "-q", "--no-install-recommends", *packages]
     for words in (install, ["apt-get", "update", "-q"], install):
         ran = subprocess.run(words, **how)
@@ -60,24 +73,30 @@ def installed(packages: list[str]) -> str | None:
     return ran.stdout.strip().rpartition("\n")[2]
 
 
-def needs(*wanted: str) -> None:
-    """Goes on only where all of this is there."""
-    if "kit" in wanted:
-        needs_kit()
-    missing = [need for need in wanted if need != "kit" and not is_here(need)]
+def lacking(*wanted: str) -> list[str]:
+    """Installs what of this is missing, if that is possible without asking; returns what is missing then."""
+    missing = [need for need in wanted if not is_here(need)]
     if not missing:
-        return
+        return []
     packages = list(dict.fromkeys(package for need in missing for package in PACKAGES[need].split()))
     command = f"apt-get install -y {' '.join(packages)}"
     if os.geteuid() != 0 or not shutil.which("apt-get"):
         sudo = "" if os.geteuid() == 0 else "sudo "
         said(f"not found: {', '.join(missing)}. On Debian: {sudo}{command}")
-        sys.exit(3)
+        return missing
     said(f"not found: {', '.join(missing)}; installing by: {command}")
     why = installed(packages)
     missing = [need for need in missing if not is_here(need)]
     if missing:
         said(f"not installed: {', '.join(missing)}: {why or 'apt-get says that it is, but it is not on the path'}")
+    return missing
+
+
+def needs(*wanted: str) -> None:
+    """Goes on only if all of this is there."""
+    if "kit" in wanted:
+        needs_kit()
+    if lacking(*(need for need in wanted if need != "kit")):
         sys.exit(3)
 
 
@@ -88,7 +107,7 @@ def kit_line() -> str:
 
 
 def needs_kit() -> None:
-    """Puts the kit on the path where it lies in its usual place, and warns if it is another one than the proofs were
+    """Puts the kit on the path if it lies in its usual place, and warns if it is another one than the proofs were
     made with."""
     if not shutil.which("rt"):
         os.environ["PATH"] = f"{os.environ.get('PATH', os.defpath)}:{KIT}"

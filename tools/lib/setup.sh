@@ -1,4 +1,4 @@
-# Read by commands that are written in bash. `needs NEED..` goes on only where Python and what is named is there, as
+# Read by commands that are written in bash. `needs NEED..` goes on only if Python and what is named is there, as
 # setup.py says.
 needs() {
     local here install="apt-get install -y python3"

@@ -6,7 +6,7 @@ class Tally:
         self.passed = self.failed = 0
 
     def wants(self, title: str, good: bool, found: object = None) -> bool:
-        """Counts one check; where it is not good, prints its title and what was found."""
+        """Counts one check; if it is not good, prints its title and what was found."""
         if good:
             self.passed += 1
         else:

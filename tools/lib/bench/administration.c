@@ -1,7 +1,7 @@
 /* The statements of administration, listings and imports, through the sqlite3 library of the system (statements.h).
 
-     administration operations FILE COUNT    so many of each operation in turn, and of each listing of a few rows
-     administration listing FILE COUNT       so many listings of the profiles of a class with their access lists
+     administration operations FILE COUNT    this many of each operation in turn, and of each listing of a few rows
+     administration listing FILE COUNT       this many listings of the profiles of a class with their access lists
      administration import FILE ROWS         a batch of the rows in a file, a row a line, its fields ended by a tab each
 
    Driven by tools/bench-admin, which asks the program for the same. */
@@ -72,7 +72,7 @@ static void name_turn(int at) {
     sprintf(user, "N%06d", at), sprintf(group, "M%06d", at), sprintf(pattern, "MVS.STOP.STC.N%06d", at);
 }
 
-/* A row is set, or added where there is none. */
+/* A row is set, or added if there is none. */
 #define PUT(set, add, ...) ((void)(run(&set, __VA_ARGS__) || run(&add, __VA_ARGS__)))
 
 static void put_profile(const char *of, const char *owner, int uacc) {

@@ -1,7 +1,7 @@
 /* A plain server to compare with: accepts on loopback, reads a request to the end of its body, writes the bytes of a
    file in answer, and closes; one connection after another, and nothing read into or decided.
 
-     serve FILE COUNT    prints LISTENING 127.0.0.1:port, on a port that the system chooses, and ends after so many
+     serve FILE COUNT    prints LISTENING 127.0.0.1:port, on a port that the system chooses, and ends after this many
 
    It ends a response as `opcmds serve` does: it shuts its side and waits for the peer to close, so that no response is
    lost. Driven by tools/bench-serve. */

@@ -1,6 +1,6 @@
 /* The statements of commands, through the sqlite3 library of the system (statements.h).
 
-     sqlite WORK FILE COUNT           the statements of so many commands: commands, lines, swaps, boards, rulings or
+     sqlite WORK FILE COUNT           the statements of this many commands: commands, lines, swaps, boards, rulings or
                                       refusals
      sqlite WORK FILE COUNT memory    the same on a copy of the file in memory
      sqlite open FILE                 opens a file and reads the first row of the account
@@ -45,8 +45,8 @@ static void deciding(const char *resource, const char *pattern) {
     fail("no profile decides");
 }
 
-/* Who acts at a console where somebody is on. */
-static void standing(void) {
+/* Who acts at a console with somebody on. */
+static void ruling_basis(void) {
     ROWS(USER, "t", "ANNA");
     ROWS(ACTIVE, "t", "OPERCMDS");
 }
@@ -62,7 +62,7 @@ static void held(const char *resource, const char *pattern) {
 }
 
 static void ruling(const char *resource, const char *pattern) {
-    standing(), held(resource, pattern);
+    ruling_basis(), held(resource, pattern);
 }
 
 /* What a command sees of a device and of the day. */
@@ -174,7 +174,7 @@ int main(int count, char **words) {
             in_memory_of(path);
         else
             open_file(path);
-        if (!done(work, atoi(words[3]))) fail("no such work");
+        if (!done(work, atoi(words[3]))) fail("unknown work");
     } else if (!strcmp(work, "open") || !strcmp(work, "check")) {
         start();
         open_base(path, SQLITE_OPEN_READWRITE);

@@ -161,7 +161,7 @@ static void set_syncs(void) {
     log->pMethods = &twice;
 }
 
-/* Works and their times, by the clock and of the processor. */
+/* Works and their times, by the clock and in CPU time. */
 
 static struct timespec begun, begun_work;
 
@@ -178,7 +178,7 @@ static long since(struct timespec then, clockid_t clock) {
 
 static void report(const char *work, long count) {
     long processor = since(begun_work, CLOCK_PROCESS_CPUTIME_ID), clock = since(begun, CLOCK_MONOTONIC);
-    printf("%s: %ld in %ld microseconds, %ld of the processor\n", work, count, clock, processor);
+    printf("%s: %ld in %ld microseconds, %ld of CPU time\n", work, count, clock, processor);
 }
 
 /* Opening and closing. */

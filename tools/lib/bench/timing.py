@@ -1,4 +1,4 @@
-"""Runs of the program over copies of database files, timed by the clock and by the processor."""
+"""Runs of the program over copies of database files, timed by the clock and in CPU time."""
 import argparse
 import os
 import re
@@ -16,7 +16,7 @@ from lib.places import built
 
 
 class Took(NamedTuple):
-    """Seconds by the clock, and seconds of a processor, which other work on the computer lengthens less; or, where
+    """Seconds by the clock, and seconds of CPU time, which other work on the computer lengthens less; or, if
     those are counted, instructions, which do not depend on it."""
     clock: float
     processor: float
@@ -30,17 +30,17 @@ class Took(NamedTuple):
         return Took(*(mine / theirs if theirs > 0 else float("nan") for mine, theirs in zip(self, other)))
 
     def each(self, count: int) -> "Took":
-        """Microseconds, and thousands of instructions, of one of so many."""
+        """Microseconds, and thousands of instructions, of one of this many."""
         return Took(self.clock / count * 1e6, self.processor / count * 1e6, self.instructions / count / 1e3)
 
     def text(self) -> str:
         """What one takes, by `each`."""
         if counting:
             return f"{self.instructions:9.1f} thousand instructions"
-        return f"{self.clock:9.1f} microseconds, {self.processor:9.1f} of the processor"
+        return f"{self.clock:9.1f} microseconds, {self.processor:9.1f} of CPU time"
 
     def ratio_text(self) -> str:
-        return f"{self.instructions:5.2f}" if counting else f"{self.clock:5.2f}, of the processor {self.processor:5.2f}"
+        return f"{self.instructions:5.2f}" if counting else f"{self.clock:5.2f}, of CPU time {self.processor:5.2f}"
 
 
 # Whether instructions are counted, by valgrind, in place of times.
@@ -97,7 +97,7 @@ def counted_in(log: str) -> int:
     return int(found[1].replace(",", "")) if found else 0
 
 
-MEASURED = re.compile(r"^(.+): (\d+) in (\d+) microseconds, (\d+) of the processor$", re.M)
+MEASURED = re.compile(r"^(.+): (\d+) in (\d+) microseconds, (\d+) of CPU time$", re.M)
 
 
 def library(words: list[str], **environment: str) -> dict[str, Took]:

@@ -42,7 +42,7 @@ def shown(data: bytes) -> list[str]:
 
 
 def transcript(response: bytes) -> list[str]:
-    """The answer as a script prints it; or the response as it is, where it is none of the bytes that this answer
+    """The answer as a script prints it; or the response as it is, if it is none of the bytes that this answer
     has."""
     try:
         body = json.loads(response.partition(b"\r\n\r\n")[2])
@@ -57,7 +57,7 @@ def transcript(response: bytes) -> list[str]:
 
 
 def end(status: int, *streams: bytes) -> list[str]:
-    """The status of a run, where it is not 0, and what was printed and said, each line with its end."""
+    """The status of a run, if it is not 0, and what was printed and said, each line with its end."""
     found = [f"status {status}"] if status != 0 else []
     for data in streams:
         *lines, rest = shown(data)
@@ -85,7 +85,7 @@ class Asking:
         return found
 
     def program(self, data: str, *words: str) -> list[str]:
-        """What the program prints and says, after its status where that is not 0."""
+        """What the program prints and says, after its status if that is not 0."""
         how = {"capture_output": True, "env": {**os.environ, **self.clock.environment}, "timeout": SECONDS}
         ran = subprocess.run([built(), *words, "--db", self.file], input=data.encode(), **how)
         return end(ran.returncode, ran.stdout, ran.stderr)
@@ -124,7 +124,7 @@ class Asking:
         return stored.rows(self.file, "SELECT count(*) FROM account")
 
     def answer(self, service: Service, exchange: Exchange) -> list[str]:
-        """What one request comes to; where no response comes, how the service ends."""
+        """What one request comes to; if no response comes, how the service ends."""
         if not self.is_up:
             return ["no service"]
         self.clock.set(exchange.moment)

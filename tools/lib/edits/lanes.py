@@ -15,7 +15,7 @@ class Lanes:
         self.turn, self.running = threading.Condition(), []
 
     def run(self, trial: Trial) -> Trial | None:
-        """The trial, once it is done, or None where the time is up."""
+        """The trial, once it is done, or None if the time is up."""
         memory = memory_of(trial)
         with self.turn:
             self.turn.wait_for(lambda: not self.running or sum(self.running) + memory <= self.room)

@@ -1,7 +1,7 @@
 """The ledger of must-fail edits: tools/lib/edits/refused.txt, which only tools/edits writes.
 
 A line names an edit that the prover refused, with the digest of all that this verdict depends on (digest.py), the
-seconds of a processor that it took beside the fixed cost of its crate's checks, and when it was last tried. An edit
+seconds of CPU time that it took beside the fixed cost of its crate's checks, and when it was last tried. An edit
 whose line has the digest of today need not be tried again. So that a wrong line does not stay for ever, each run tries
 a sample of the lines."""
 import contextlib
@@ -14,12 +14,12 @@ from typing import Iterable, Iterator, NamedTuple
 
 FILE = "tools/lib/edits/refused.txt"
 HEAD = """\
-# The must-fail edits that the prover refused: the edit, the digest of all that this depends on, seconds of a processor,
+# The must-fail edits that the prover refused: the edit, the digest of all that this depends on, seconds of CPU time,
 # and when it was last tried (UTC). Only tools/edits writes this file; docs/TESTING.md says how.
 """
 ROW = re.compile(r"(\w+/[A-Za-z0-9_.-]+\.edit) ([0-9a-f]{32}) (\d{1,6}) (\d{4}-\d\d-\d\dT\d\d:\d\d:\d\dZ)")
 MOMENT = "%Y-%m-%dT%H:%M:%SZ"
-# seconds of a processor that the checks of a crate take whatever edits they try: its libraries and its front end
+# seconds of CPU time that the checks of a crate take whatever edits they try: its libraries and its front end
 FIXED = 25
 
 
@@ -110,7 +110,7 @@ def held(folder: str) -> Iterator[None]:
 
 
 class Sample:
-    """The lines to be tried once more, of those that hold: so many as take these seconds of a processor.
+    """The lines to be tried once more, of those that hold: as many as take these seconds of CPU time.
 
     Most of the time goes to those that were not tried for the longest, so that each has its turn. A moment that is
     still to come counts as never. Where moments are the same the dice decide, crate by crate, since a crate's checks

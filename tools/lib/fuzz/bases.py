@@ -61,7 +61,7 @@ def made(folder: str) -> Base:
     state, file = base_state(), f"{folder}/plain"
     ran = run(["run", "--db", file, "--policy", POLICY], SCRIPT.encode())
     held = looked(file, folder)
-    if ran.status != 1 or held.faults or tables.told(held.rows) != tables.told(tables.of_state(state)):
+    if ran.status != 1 or held.faults or tables.printed(held.rows) != tables.printed(tables.of_state(state)):
         raise Wrong("the file to begin with", (built(), ran, held))
     base = Base(folder, state, held.schema)
     for version in (1, 2):
@@ -93,7 +93,7 @@ def remove(file: str) -> None:
 
 
 class Held(NamedTuple):
-    """What SQLite finds wrong with a file, and the rows of its tables where they are ours; the version may be older."""
+    """What SQLite finds wrong with a file, and the rows of its tables if they are ours; the version may be older."""
     faults: list[str]
     rows: dict[str, list[tuple]] | None
     schema: list[str]
@@ -132,7 +132,7 @@ def wants_rows(held: Held, wanted: dict[str, str]) -> None:
     """Wrong unless a file holds these rows; moments of the clock are all alike."""
     if held.rows is None:
         raise Wrong("the rows can't be read any more", held.faults)
-    found, wanted = without_moments(tables.told(held.rows)), without_moments(wanted)
+    found, wanted = without_moments(tables.printed(held.rows)), without_moments(wanted)
     for table in wanted:
         if found[table] != wanted[table]:
             raise Wrong("not the rows of the model", (table, cut((found[table],), (wanted[table],))))

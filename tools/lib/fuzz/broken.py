@@ -1,4 +1,4 @@
-"""Statements that break a fact of the tables, or keep all of them: what another program might write."""
+"""Statements that break an invariant of the tables, or keep all of them: what another program might write."""
 from random import Random
 
 # columns by their tables, with values that the column takes, and others that it should not

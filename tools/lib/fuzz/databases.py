@@ -15,7 +15,7 @@ from lib.model.random_unread import post
 from lib.model.requests import Import
 from lib.model.steps import CLOCK, answered, without_clock
 from lib.service import Service
-from . import bases, broken, logs, requests, rules, runs, states
+from . import bases, broken, closed, logs, requests, rules, runs, states
 from .bases import Base, Held
 from .inputs import Input, shown, written
 from .runs import Ran, Wrong, run, wants_answer, wants_end
@@ -91,16 +91,21 @@ class Database(Input):
             raise Wrong("the file was sound, and is not any more", after.faults)
         if state is None:
             wants_form(ran)
+            if self.ask == "run" and self.has_rows(held):
+                closed.wants_closed(SCRIPT, ran.printed, held.rows)
             if is_refused(ran) and held.rows and not self.name.startswith("version"):
-                bases.wants_rows(after, tables.told(held.rows))
+                bases.wants_rows(after, tables.printed(held.rows))
         else:
             wants_answer(ran, wanted)
-            bases.wants_rows(after, tables.told(tables.of_state(state)))
+            bases.wants_rows(after, tables.printed(tables.of_state(state)))
 
     def state_of(self, held: Held) -> State | None:
-        """The model's state, where the file is sound, has the tables that it had, and rows that represent one."""
-        is_ours = not held.faults and held.rows is not None and held.schema == self.base.schema
-        return states.state_of(held.rows) if is_ours else None
+        """The model's state, if the file is sound, has the tables that it had, and rows that represent one."""
+        return states.state_of(held.rows) if self.has_rows(held) else None
+
+    def has_rows(self, held: Held) -> bool:
+        """Whether the file is sound and has the tables that it had."""
+        return not held.faults and held.rows is not None and held.schema == self.base.schema
 
     def asked(self, file: str, state: State | None) -> tuple[Ran, tuple[int, str, str] | None]:
         """The run, and what comes of it by the model, whose state goes on with it."""
@@ -180,18 +185,18 @@ def is_refused_opening(before: dict[str, bytes], room: str) -> bool:
 
 
 def wants_untouched(file: str, before: dict[str, bytes], ran: Ran) -> None:
-    """Wrong unless a file that was not opened is as it was, with what was beside it. Of the log what SQLite reads of it
-    counts: the opening may make one without any page, or make one anew that nobody can read."""
+    """Wrong unless a file that was not opened is as it was, with what was beside it, and nothing else is. Of a log what
+    SQLite reads of it counts: the opening may make one anew that nobody can read."""
     after, log = bytes_of(file), f"{file}-wal"
-    if logs.pages(after.get(log, b"")) == logs.pages(before.get(log, b"")):
-        after[log] = before.get(log)
+    if log in before and logs.pages(after.get(log, b"")) == logs.pages(before[log]):
+        after[log] = before[log]
     changed = [os.path.basename(path) for path in {**before, **after} if before.get(path) != after.get(path)]
     if changed:
         raise Wrong("a file that was refused changed", (changed, ran.said.decode(errors="backslashreplace")))
 
 
 def wants_form(ran: Ran) -> None:
-    """Wrong unless each request of the script was answered, with a code where it was refused. (Texts of such tables may
+    """Wrong unless each request of the script was answered, with a code if it was refused. (Texts of such tables may
     have line ends.)"""
     if ran.said or not ran.printed.startswith(b"9000 "):
         return

@@ -1,4 +1,4 @@
-"""Tries inputs, and tells of each that the program does not take as the rules have it: cut down, kept, and how it is
+"""Tries inputs, and reports each that the program does not take as the rules have it: cut down, kept, and how it is
 tried again."""
 import os
 import tempfile
@@ -20,7 +20,7 @@ MANY = 200  # inputs, after which the model forgets what it keeps of names
 
 
 class Kind(NamedTuple):
-    """How inputs of a kind are made, so many at once to one process, and how many of ten thousand are of it."""
+    """How inputs of a kind are made, how many at once to one process, and how many of ten thousand are of it."""
     make: Callable[[Random, Base, int], Input]
     share: int
     group: int = 1
@@ -38,7 +38,7 @@ KINDS = {
 
 
 def counts(total: int, kinds: list[str]) -> dict[str, int]:
-    """How many inputs of each kind there are of so many in all."""
+    """How many inputs of each kind there are of this many in all."""
     shares, found, given = sum(KINDS[kind].share for kind in kinds), {}, 0
     for at, kind in enumerate(kinds):
         of_all = sum(KINDS[other].share for other in kinds[:at + 1])
@@ -54,7 +54,7 @@ def fault_of(made: Input, room: str) -> Wrong | None:
             made.tried(own)
         except Wrong as wrong:
             return wrong
-        except Exception as error:  # (whatever it is, the seed and the number have to be told)
+        except Exception as error:  # (whatever it is, the seed and the number have to be reported)
             return Wrong(f"the tool fails with {type(error).__name__}", traceback.format_exc(limit=-4))
     return None
 
@@ -88,13 +88,13 @@ class Fuzz:
         found = [one for one in self.findings(kind, start, number - start + 1) if one[0] == number]
         self.passed, self.failed = self.passed + (not found), self.failed + len(found)
         for one in found:
-            self.tell(kind, *one)
+            self.report(kind, *one)
 
     def group(self, kind: str, start: int, size: int) -> None:
         failed = 0
         for one in self.findings(kind, start, size):
             failed += 1
-            self.tell(kind, *one)
+            self.report(kind, *one)
         self.passed, self.failed = self.passed + size - failed, self.failed + failed
 
     def findings(self, kind: str, start: int, size: int) -> Iterator[tuple[int, Input, Wrong]]:
@@ -106,7 +106,7 @@ class Fuzz:
             yield numbers.pop(at), made, wrong
             made = made.with_pieces(made.pieces[:at] + made.pieces[at + 1:])
 
-    def tell(self, kind: str, number: int, made: Input, wrong: Wrong) -> None:
+    def report(self, kind: str, number: int, made: Input, wrong: Wrong) -> None:
         short = self.cut(made, wrong)
         again = fault_of(short, self.room) or wrong
         folder = f"{self.keep}/{kind}-{number}-of-seed-{self.seed}"
@@ -114,7 +114,7 @@ class Fuzz:
         for name, data in short.kept().items():
             written(f"{folder}/{name}", data)
         print(
-            f"{kind}:{number} of seed {self.seed}: {again.told()}\n"
+            f"{kind}:{number} of seed {self.seed}: {again.report()}\n"
             f"  cut to {len(short.pieces)} of {len(made.pieces)} pieces, kept in {folder}\n"
             f"  again: tools/fuzz --seed {self.seed} --only {kind}:{number}", flush=True
         )

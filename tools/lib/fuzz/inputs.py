@@ -12,7 +12,7 @@ class Input:
     at: int = 0  # which of a group was met last
 
     def tried(self, room: str) -> None:
-        """Runs the program, and raises Wrong where it does what no rule allows."""
+        """Runs the program, and raises Wrong if it does what no rule allows."""
         raise NotImplementedError
 
     def kept(self) -> dict[str, bytes]:

@@ -40,7 +40,7 @@ class Policy(Input):
         return b"".join(self.pieces)
 
     def command(self, room: str) -> tuple[list[Word], bytes, str]:
-        """The words of the command line, the input, and how the file is called where it is bad."""
+        """The words of the command line, the input, and how the file is called if it is bad."""
         if self.way == "explain":
             asked = [part for name, value in self.words.items() for part in (f"--{name}", value)]
             return ["explain", *asked], self.data(), "standard input"
@@ -75,7 +75,7 @@ class Policy(Input):
 
 
 def wants_reason(ran: Ran, fault: str | None, called: str, data: bytes) -> None:
-    """Wrong unless the line after the fault names the file, and says why where the rules fix it."""
+    """Wrong unless the line after the fault names the file, and says why if the rules fix it."""
     if not fault or not fault.startswith("E60"):
         return
     line = ran.said.decode(errors="backslashreplace").split("\n")[1]

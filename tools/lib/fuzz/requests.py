@@ -7,7 +7,7 @@ from typing import Callable
 from lib.model import exchange, random_lines, random_requests, random_unread, tables
 from lib.model.exchange import Sent
 from lib.model.machine import State
-from lib.model.steps import CLOCK, answered, without_clock
+from lib.model.steps import CLOCK, SOME_PORT, answered, without_clock
 from lib.model.world import one_in
 from lib.service import Service
 from . import bases, heads, rules, runs, turning
@@ -21,6 +21,8 @@ FIELDS = (
     b"X: \x7f", b"X-\xc3\xa9: y", b"Content-Length: +5", b"Content-Length: 5, 5", b"Content-Length:  5\t",
     b"Content-Length: 65537", b"Content-Length: 999999999", b"Content-Length: 9999999999",
     b"Content-Length: 18446744073709551616", b"Upgrade: h2c", b"Content-Length: 0x5", b"Content-Length:", b"X: y\r\n z",
+    b"Origin: null", b"origin:", b"ORIGIN : x", b"Sec-Fetch-Site: none", b"sec-fetch-SITE:", b"Host: localhost:PORT",
+    b"host:127.0.0.1:PORT", b"Host: 127.0.0.1:PORT\xe9", b"Host:",
 )
 HEADS = (*turning.PIECES, b"\r\n\r\n", b"\n\n", b" HTTP/1.1", b"HTTP/2.0", b"GET ", b"POST  ", b"\r\n ", *FIELDS)
 TARGETS = (
@@ -53,9 +55,11 @@ GROUP = 50  # requests to one service
 
 @dataclass
 class Requests(Input):
-    """Requests to one service; each is compared with the model, which knows what those before it left."""
+    """Requests to one service, where PORT stands for its port; each is compared with the model, which knows what those
+    before it left."""
     pieces: list
     base: Base
+    is_strict: bool
 
     def tried(self, room: str) -> None:
         file = f"{room}/db"
@@ -68,9 +72,11 @@ class Requests(Input):
     def served(self, file: str, room: str) -> None:
         state = copied(self.base.state)
         # (one more ends the service, after its memory was looked at)
-        with Service(file, "--count", str(len(self.pieces) + 1)) as service:
-            for self.at, data in enumerate(self.pieces):
-                wants_response(service, data, without_clock(answer(state, data)))
+        with Service(file, "--count", str(len(self.pieces) + 1), *self.words()) as service:
+            for self.at, piece in enumerate(self.pieces):
+                data = piece.replace(b"PORT", b"%d" % service.port)
+                strict = service.port if self.is_strict else None
+                wants_response(service, data, without_clock(answer(state, data, strict)))
             memory = most_memory(service.process.pid)
             answered(service.port, b"")
             ended = service.ended(runs.SECONDS)
@@ -81,22 +87,26 @@ class Requests(Input):
         held = bases.looked(file, room)
         if held.faults:
             raise Wrong("the file is not sound afterwards", held.faults)
-        bases.wants_rows(held, tables.told(tables.of_state(state)))
+        bases.wants_rows(held, tables.printed(tables.of_state(state)))
+
+    def words(self) -> list[str]:
+        return ["--strict"] if self.is_strict else []
 
     def kept(self) -> dict[str, bytes]:
-        files = {f"request-{at}": data for at, data in enumerate(self.pieces)}
+        files = {f"request-{at}": data.replace(b"PORT", b"8011") for at, data in enumerate(self.pieces)}
         with open(self.base.file("plain"), "rb") as file:
-            return {**files, "db": file.read(), "words": shown(["serve", "--db", "db", "--port", "8011"])}
+            words = ["serve", "--db", "db", "--port", "8011", *self.words()]
+            return {**files, "db": file.read(), "words": shown(words)}
 
 
 def copied(state: State) -> State:
     return State(state.policy.copied(), state.board.copied(), list(state.account), dict(state.batches))
 
 
-def answer(state: State, data: bytes) -> bytes:
-    """The model's response."""
+def answer(state: State, data: bytes, strict: int | None) -> bytes:
+    """The model's response, also by a strict service at this port."""
     try:
-        return exchange.exchange(state, CLOCK, heads.sent(data))
+        return exchange.exchange(state, CLOCK, heads.sent(data), strict)
     except RecursionError:
         # a body of so many brackets that Python gives up; none of those that are made closes them all
         return exchange.refused(400, "H400", exchange.PHRASES[400])
@@ -125,12 +135,13 @@ def most_memory(process: int) -> int:
 def make(turns: Callable[[Random, Sent], bytes]) -> Callable[[Random, Base, int], Requests]:
     """What makes a group of requests: those of the model's tool, turned. Each is made along the model."""
     def made(chance: Random, base: Base, size: int) -> Requests:
-        state, found, kept = copied(base.state), [], {}
+        state, found, kept, is_strict = copied(base.state), [], {}, one_in(chance, 4)
         for _ in range(size):
-            data = turns(chance, random_requests.any_sent(chance, state, kept))
-            answer(state, data)
+            sent = random_requests.any_sent(chance, state, kept)
+            data = turns(chance, random_unread.addressed(chance, sent) if is_strict else sent)
+            answer(state, data.replace(b"PORT", b"%d" % SOME_PORT), SOME_PORT if is_strict else None)
             found.append(data)
-        return Requests(found, base)
+        return Requests(found, base, is_strict)
     return made
 
 
@@ -204,6 +215,7 @@ def turned_whole(chance: Random, body: bytes) -> bytes:
 def turned_body(chance: Random, sent: Sent) -> bytes:
     """A request whose body is turned, with its length; now and then with another length."""
     body = sent.body
+    others = [field for field in sent.fields if field[0].lower() in ("host", "origin", "sec-fetch-site")]
     if sent.method != "POST" or one_in(chance, 4):
         sent = random_requests.post("/consoles/C2/command", b"")
         body = chance.choice((b'{"text":"D U"}', b'{"text":"L \'x\'"}', b'{"text":"D C","text":"D R"}'))
@@ -212,5 +224,5 @@ def turned_body(chance: Random, sent: Sent) -> bytes:
     if one_in(chance, 40):
         body = chance.choice((body.ljust(65_536), body.ljust(65_537), b"[" * 400 + b"]" * 400, body + b"\n" * 60_000))
     length = len(body) + (chance.choice((-1, 1, 7)) if one_in(chance, 20) else 0)
-    fields = (("Content-Length", str(max(length, 0))),)
+    fields = (*others, ("Content-Length", str(max(length, 0))))
     return sent._replace(fields=fields, body=b"").data() + body

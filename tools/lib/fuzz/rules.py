@@ -22,8 +22,11 @@ RULE = f"(?:-|NOPROFILE|LOGONREQUIRED|REVOKED|GROUP {GROUP} AUTH {AUTH}|{PROFILE
 REASONS_OF_DATABASE = (
     "not a database|tables of another program|tables of version [1-9][0-9]*|in use by another program|"
     "it has a rollback journal; open it with sqlite3 first|not a plain file of one name|not the path of a file|"
+    "a database with auto_vacuum, which is not supported|a database in UTF-16, which is not supported|"
     "damaged, or its disk is full or fails|the disk is full"
 )
+# what an export says that made the tables; a path may have line ends
+MADE = re.compile(r"(?s)opcmds: database .*: made now, without a policy\n")
 DONE = re.compile(rf"\d{{1,13}} DONE {RULE}")
 REFUSED = re.compile(rf"\d{{1,13}} REFUSED (E\d\d) (.*?) ({RULE})")
 # what C0, DEL and C1 have, which a terminal would obey
@@ -89,7 +92,7 @@ def wrong_said(status: int, said: bytes) -> str | None:
     if not text:
         return None
     if status == 0:
-        return f"it is done, and says {text[:200]!r}"
+        return None if MADE.fullmatch(text) else f"it is done, and says {text[:200]!r}"
     if status == 2 and text.startswith("error: "):
         return None
     first, end, rest = text.partition("\n")
@@ -142,21 +145,21 @@ def wrong_response(data: bytes) -> str | None:
         return f"not a head of the rules: {data[:300]!r}"
     try:
         text = body.decode()
-        told = json.loads(text)
-        compact = json.dumps(told, separators=(",", ":"), ensure_ascii=False)
+        answer = json.loads(text)
+        compact = json.dumps(answer, separators=(",", ":"), ensure_ascii=False)
     except ValueError:
         return f"not a body of JSON: {body[:300]!r}"
     keys = ["lines", "rule", "status"] if status == 200 else ["code", "rule", "status", "text"]
-    if list(told) != keys or told["status"] != ("done" if status == 200 else "refused") or compact != text:
+    if list(answer) != keys or answer["status"] != ("done" if status == 200 else "refused") or compact != text:
         return f"not a body of the rules: {body[:300]!r}"
-    if not re.fullmatch(RULE, told["rule"]):
-        return f"not the text of a rule: {told['rule']!r}"
-    return None if status == 200 else wrong_refusal(status, told["code"], told["text"])
+    if not re.fullmatch(RULE, answer["rule"]):
+        return f"not the text of a rule: {answer['rule']!r}"
+    return None if status == 200 else wrong_refusal(status, answer["code"], answer["text"])
 
 
 def wrong_refusal(status: int, code: str, text: str) -> str | None:
     if code == f"H{status}":
-        good = text == PHRASES[status] and status in (400, 404, 405, 413)
+        good = text == PHRASES[status] and status in (400, 403, 404, 405, 413)
         return None if good else f"not the text of {code}: {text!r}"
     wrong = wrong_fault(code, text)
     if wrong:

@@ -20,7 +20,7 @@ class Wrong(Exception):
         super().__init__(what, more)
         self.what, self.more = what, more
 
-    def told(self) -> str:
+    def report(self) -> str:
         return f"{self.what}: {self.more}" if self.more else self.what
 
 
@@ -46,7 +46,7 @@ def whole(descriptor: int) -> bytes:
 
 
 def run(words: Sequence[Word], data: bytes = b"", folder: str | None = None) -> Ran:
-    """A run with these words and this input, in a folder; Wrong where it does not end by itself."""
+    """A run with these words and this input, in a folder; Wrong if it does not end by itself."""
     streams = stream(data), stream(), stream()
     try:
         process = subprocess.Popen(
@@ -89,7 +89,7 @@ def wants_end(ran: Ran) -> None:
 
 
 def wants_answer(ran: Ran, wanted: tuple[int, str, str | None]) -> None:
-    """Wrong unless status, output and first line of the errors are those of the model; none where words do not
+    """Wrong unless status, output and first line of the errors are those of the model; none if words do not
     read, of which the rules fix no text."""
     status, printed, said = wanted
     first = ran.said.decode(errors="backslashreplace").partition("\n")[0]

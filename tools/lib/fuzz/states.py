@@ -26,7 +26,7 @@ def state_of(rows: Rows) -> State | None:
     except (Fault, KeyError, IndexError, TypeError, ValueError):
         return None
     # (a flag of 2, a gap between numbers, a second row of the board and the like do not come back)
-    is_whole = tables.told(tables.of_state(state)) == tables.told(rows)
+    is_whole = tables.printed(tables.of_state(state)) == tables.printed(rows)
     return state if is_whole and is_valid(state.policy, state.board) and is_account(state.account) else None
 
 

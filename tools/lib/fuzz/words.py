@@ -19,9 +19,14 @@ OPTIONS = {
     "run": {"db": False, "policy": False},
     "import": {"db": True, "batch": True, "console": False},
     "export": {"db": True},
-    "serve": {"db": True, "port": True, "count": False, "timeout": False},
+    "serve": {
+        "db": True, "port": False, "socket": False, "socket-mode": False, "strict": False, "count": False,
+        "timeout": False,
+    },
 }
-NUMBERS = {"batch": (1, 999_999_999), "port": (0, 65_535), "count": (1, 1_000_000), "timeout": (1, 3_600)}
+FLAGS = ("strict",)  # options without a value
+NUMBERS = {"batch": (1, 999_999_999), "port": (0, 65_535), "count": (1, 1_000_000), "timeout": (0, 3_600)}
+MODES = ("600", "0600", "660", "0660", "666", "0666")
 HELPS = {"-h", "--help", "help"}
 STRANGE: tuple[Word, ...] = (
     "", " ", "-", "--", "-x", "-h", "--help", "help", "--version", "-V", "--user", "--db", "--db=", "--use",
@@ -35,8 +40,11 @@ VALUES: dict[str, tuple[str, ...]] = {
     "resource": (*world.RESOURCES, "A..B", ".A", "A.", "MVS.*", "", "A" * 39, "A" * 40, "a", "A.%"),
     "console": (*world.CONSOLES, "C", "c1", "9X", "", "A" * 8, "A" * 9, "#1"),
     "level": (*names.LEVELS, "read", "HIGH", "", "READ "),
+    "socket": ("socket", "./socket", "/no/such/socket", "", " ", "é", "x" * 200),
+    "socket-mode": (*MODES, "600 ", "00600", "0x180", "384", "777", "0", "", "660 ", "rw", "+600"),
 }
 GOOD = {"user": "ANNA", "class": "OPERCMDS", "resource": "MVS.CANCEL.JOB.PAY", "console": "C1", "level": "UPDATE"}
+GOOD |= {"socket": "socket", "socket-mode": "660"}
 DIGITS = (
     "0", "1", "7", "007", "65535", "65536", "999999999", "1000000000", "1000000", "1000001", "3600", "3601",
     "18446744073709551616", "00000000000000000000007", "+7", " 7", "7 ", "7.0", "0x7", "1e3", "", "٣", "9" * 400, "²",
@@ -75,7 +83,7 @@ def comes_to(words: list[Word]) -> tuple[int, str, str | None] | None:
         return None
     if not words or words[0] not in OPTIONS:
         return 2, "", None
-    command, given = words[0], pairs(words[1:])
+    command, given = words[0], pairs(words[1:], FLAGS if words[0] == "serve" else ())
     known = OPTIONS[command]
     if given is None:
         return None
@@ -87,13 +95,16 @@ def comes_to(words: list[Word]) -> tuple[int, str, str | None] | None:
     return answer(command, values)
 
 
-def pairs(words: list[str]) -> list[tuple[str, str]] | None:
-    """Options with their values, if the words are nothing else and no value begins with a hyphen."""
+def pairs(words: list[str], flags: tuple[str, ...]) -> list[tuple[str, str]] | None:
+    """Options with their values, none of a flag, if the words are nothing else and no value begins with a hyphen."""
     found, rest = [], list(words)
     while rest:
         word = rest.pop(0)
-        option = re.fullmatch(r"--([a-z]+)(?:=(.*))?", word, re.S)
-        if not option or (option[2] is None and not rest):
+        option = re.fullmatch(r"--([a-z]+(?:-[a-z]+)*)(?:=(.*))?", word, re.S)
+        if option and option[1] in flags and option[2] is None:
+            found.append((option[1], ""))
+            continue
+        if not option or option[1] in flags or (option[2] is None and not rest):
             return None
         value = option[2] if option[2] is not None else rest.pop(0)
         if value.startswith("-"):
@@ -111,7 +122,17 @@ def answer(command: str, values: dict[str, str]) -> tuple[int, str, str | None] 
         return 2, "", None
     if "console" in values and not names.is_console(values["console"]):
         return 2, "", None
+    if command == "serve" and not is_address(values):
+        return 2, "", None
     return (3, "", "E91 Store") if values["db"] == "/" else None
+
+
+def is_address(values: dict[str, str]) -> bool:
+    """Whether these options say where to serve, at a port, strict or not, or at a socket, with its permissions."""
+    if "port" in values:
+        return "socket" not in values and "socket-mode" not in values
+    is_mode = "socket-mode" not in values or values["socket-mode"] in MODES
+    return values.get("socket", "") != "" and is_mode and "strict" not in values
 
 
 def answer_of_run(policy: str | None) -> tuple[int, str, str] | None:
@@ -131,6 +152,9 @@ def make(chance: Random) -> Words:
     words: list[Word] = [command]
     for name, is_needed in OPTIONS[command].items():
         if not (is_needed or one_in(chance, 2)) or one_in(chance, 20):
+            continue
+        if name in FLAGS:
+            words.append(f"--{name}")
             continue
         value = any_value(chance, name)
         words += [f"--{name}={value}"] if one_in(chance, 3) else [f"--{name}", value]

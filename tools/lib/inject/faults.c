@@ -1,9 +1,11 @@
 /* A preload that refuses the N-th call of one kind, or ends the process there, in a program that is linked to the C
    library; the program is not rebuilt.
 
-   FAULT_CALL   alloc | read | write | sync | any-write (write, pwrite, send, sync, truncate, unlink, rename)
+   FAULT_CALL   alloc | read | write | sync | any-write (write, pwrite, send, sync, truncate, unlink, rename) | accept
    FAULT_AT     the call that is refused, counted from 1 (0 or unset: none; the calls are counted all the same)
-   FAULT_KIND   fail (default: ENOMEM, EIO) | stop (the process ends at once, status 77, before the call)
+   FAULT_TIMES  how many calls are refused from there on (unset: one)
+   FAULT_KIND   fail (default) | stop (the process ends at once, status 77, before the call)
+   FAULT_ERROR  the number of the error with which a call of a file or a link fails (unset: EIO; memory has ENOMEM)
    FAULT_FROM   stdin, or the number of a link: calls are counted from the first read of standard input on, or from when
                 that link is accepted (unset: from the start)
    FAULT_COUNT  a file to which the number of calls of that kind is written at the end
@@ -21,24 +23,31 @@
 #include <sys/types.h>
 #include <unistd.h>
 
-enum kind { NONE, ALLOC, READ, WRITE, SYNC, ANY_WRITE };
+enum kind { NONE, ALLOC, READ, WRITE, SYNC, ANY_WRITE, ACCEPT };
 
 static enum kind wanted;
-static long at, calls, links, first_link;
-static int is_stop, is_ready, is_from_input;
+static long at, times, calls, links, first_link;
+static int error, is_stop, is_ready, is_from_input;
 static const char *count_file;
 
 static enum kind kind_named(const char *name) {
-    static const char *const names[] = {"", "alloc", "read", "write", "sync", "any-write"};
-    for (enum kind kind = ALLOC; name && kind <= ANY_WRITE; kind++)
+    static const char *const names[] = {"", "alloc", "read", "write", "sync", "any-write", "accept"};
+    for (enum kind kind = ALLOC; name && kind <= ACCEPT; kind++)
         if (!strcmp(name, names[kind])) return kind;
     return NONE;
 }
 
+static long number(const char *name, long usual) {
+    const char *text = getenv(name);
+    return text ? atol(text) : usual;
+}
+
 __attribute__((constructor)) static void begin(void) {
-    const char *number = getenv("FAULT_AT"), *kind = getenv("FAULT_KIND"), *from = getenv("FAULT_FROM");
+    const char *kind = getenv("FAULT_KIND"), *from = getenv("FAULT_FROM");
     wanted = kind_named(getenv("FAULT_CALL"));
-    at = number ? atol(number) : 0;
+    at = number("FAULT_AT", 0);
+    times = number("FAULT_TIMES", 1);
+    error = number("FAULT_ERROR", EIO);
     is_stop = kind && !strcmp(kind, "stop");
     count_file = getenv("FAULT_COUNT");
     is_from_input = from && !strcmp(from, "stdin");
@@ -65,7 +74,7 @@ __attribute__((destructor)) static void end(void) {
 /* Counts a call of this kind; answers whether it is to be refused. */
 static int is_due(enum kind kind) {
     int is_wanted = wanted == kind || (wanted == ANY_WRITE && (kind == WRITE || kind == SYNC));
-    if (!is_ready || !is_wanted || ++calls != at) return 0;
+    if (!is_ready || !is_wanted || ++calls < at || !at || calls >= at + times) return 0;
     if (is_stop) {
         write_count();
         _exit(77);
@@ -116,14 +125,14 @@ int posix_memalign(void **made, size_t alignment, size_t size) {
         if (!real) real = (type(*) parameters)dlsym(RTLD_NEXT, #name);                                                 \
         if (begins) is_ready = 1;                                                                                      \
         if (is_due(kind)) {                                                                                            \
-            errno = EIO;                                                                                               \
+            errno = error;                                                                                             \
             return -1;                                                                                                 \
         }                                                                                                              \
         return real arguments;                                                                                         \
     }
 #define CALL(kind, type, name, parameters, arguments) CALL_FROM(0, kind, type, name, parameters, arguments)
 #define LINK(name, parameters, arguments)                                                                              \
-    CALL_FROM(first_link && ++links == first_link, NONE, int, name, parameters, arguments)
+    CALL_FROM(first_link && ++links == first_link, ACCEPT, int, name, parameters, arguments)
 
 CALL_FROM(file == 0 && is_from_input, READ, ssize_t, read, (int file, void *bytes, size_t size), (file, bytes, size))
 LINK(accept, (int file, struct sockaddr *peer, socklen_t *size), (file, peer, size))

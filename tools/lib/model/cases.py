@@ -4,11 +4,12 @@ from collections import Counter
 from random import Random
 from typing import Any, Callable, Iterable
 
-from . import counting, exchange, files, machine, names, random_lines, random_policies, random_requests, scripts, world
+from . import counting, exchange, files, machine, names, random_lines, random_policies, random_requests, random_unread
+from . import scripts, world
 from .faults import Fault
 from .files import Row
 from .machine import State
-from .steps import CLOCK, Explain, Run, Serve, Step, Take
+from .steps import CLOCK, SOME_PORT, Explain, Run, Serve, Step, Take
 from .world import one_in
 
 
@@ -165,15 +166,21 @@ def requests(chance: Random) -> list[Step]:
     state = state_of(first)
     board = script(chance, state, 8, first=begun(chance, state))
     asked, kept, seen = [], {}, Counter()
+    is_strict = one_in(chance, 4)
+    strict = SOME_PORT if is_strict else None
 
     def one() -> exchange.Sent:
-        return random_requests.any_sent(chance, state, kept)
+        sent = random_requests.any_sent(chance, state, kept)
+        return random_unread.addressed(chance, sent) if is_strict else sent
+
+    def answer(of: State, sent: exchange.Sent) -> bytes:
+        return exchange.exchange(of, CLOCK, sent.at(SOME_PORT), strict)
 
     for _ in range(chance.choice((20, 40, 60))):
-        sent = rarest(chance, one, lambda sent: exchange.exchange(state.copied(), CLOCK, sent), seen)
-        exchange.exchange(state, CLOCK, sent)
+        sent = rarest(chance, one, lambda sent: answer(state.copied(), sent), seen)
+        answer(state, sent)
         asked.append(sent)
-    return [Run(first, board), Serve(asked)]
+    return [Run(first, board), Serve(asked, is_strict)]
 
 
 def imports(chance: Random) -> list[Step]:

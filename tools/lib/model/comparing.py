@@ -75,7 +75,7 @@ def shortened(pieces: list[Piece], fails: Callable[[list[Piece]], bool], end: fl
     return pieces
 
 
-def told(case: Case, room: str) -> str:
+def report(case: Case, room: str) -> str:
     """A failing case in words: its steps, and the first difference."""
     what, found, wanted = difference(case, room) or ("(it does not fail again)", None, None)
     lines = []

@@ -41,7 +41,7 @@ WHYS = [
 OTHERS = {
     "command": "E01 E02 E03 E04 E05 E06 E10 E11", "LOGON": "E13 E14 E15 E17 WARN done", "LOGOFF": "E16 done",
     "first policy": "E41 E52 E53 E57 done", "script": "bad", "explain": "ALLOWED DENIED UNDECIDED E53 words",
-    "HTTP": "H400 H404 H405 H413",
+    "HTTP": "H400 H403 H404 H405 H413",
 }
 BRANCHES = {
     "level by": (
@@ -65,7 +65,7 @@ def possible() -> Iterator[tuple[str, str]]:
     yield from ((what, branch) for what, branches in BRANCHES.items() for branch in branches)
 
 
-def told() -> str:
+def report() -> str:
     """The table of what was met, and what can be met and was not."""
     lines = [f"{first:14} {second:32} {count:8}" for (first, second), count in sorted(met.items())]
     left = [f"never met: {first}, {second}" for first, second in possible() if not met[first, second]]

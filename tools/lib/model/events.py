@@ -11,7 +11,7 @@ class Event(NamedTuple):
     operands: tuple
 
 
-# what the words after the verb are, where they are always the same
+# what the words after the verb are, if they are always the same
 FORMS = {
     "JOBEND": [names.is_unit], "ATTACH": [names.is_device], "ALLOCATE": [names.is_device, names.is_unit],
     "FREE": [names.is_device], "RESUME": [],

@@ -1,7 +1,7 @@
 """Requests over HTTP: what one comes to, and the exact bytes of its response."""
 import json
 import re
-from typing import Any, Callable, NamedTuple
+from typing import Any, Callable, Iterable, NamedTuple
 
 from . import counting, files, names, requests
 from .faults import Fault
@@ -30,6 +30,10 @@ class Sent(NamedTuple):
     version: str = "1.1"
     size: int | None = None  # of what is sent of the head, where it is cut
 
+    def at(self, port: int) -> "Sent":
+        """The same to a service at this port, whose number stands where PORT does in a value."""
+        return self._replace(fields=tuple((name, value.replace("PORT", str(port))) for name, value in self.fields))
+
     def data(self) -> bytes:
         lines = [
             f"{self.method} {self.target} HTTP/{self.version}", *(f"{name}: {value}" for name, value in self.fields),
@@ -52,8 +56,16 @@ def wants_read(holds: object) -> None:
         raise Unread(400)
 
 
-def read(sent: Sent) -> requests.Request:
-    """The request that was sent; else Unread, or the fault of a policy file."""
+def read(sent: Sent, strict: int | None = None) -> requests.Request:
+    """The request that was sent; else Unread, or the fault of a policy file. A strict service is at this port."""
+    # a head that does not read is refused before all else
+    wants_read(
+        sent.size is None and sent.version in ("1.0", "1.1") and all(
+            character > " " and character != "\x7f" for character in sent.target
+        )
+    )
+    if strict is not None and not is_local(sent.fields, strict):
+        raise Unread(403)
     route, parts = routed(sent)
     body = body_of(sent)
     console = re.sub("%23|%24|%40", lambda escape: chr(int(escape[0][1:], 16)), parts[0])
@@ -73,13 +85,16 @@ def read(sent: Sent) -> requests.Request:
     return requests.ListAccount(console, number(parts[1], 18, 0, 10 ** 18), number(parts[2], 4, 1, 1_000))
 
 
+def is_local(fields: Iterable[tuple[str, str]], port: int) -> bool:
+    """Whether a head comes from no web page, by its fields, and is for a service at this port."""
+    found = [(name.lower(), value.strip(" \t").lower()) for name, value in fields]
+    hosts = [value for name, value in found if name == "host"]
+    names = ("127.0.0.1", "localhost")
+    served = {f"{name}:{port}" for name in names} | ({*names} if port == 80 else set())
+    return len(hosts) == 1 and hosts[0] in served and not any(name in ("origin", "sec-fetch-site") for name, _ in found)
+
+
 def routed(sent: Sent) -> tuple[str, tuple[str, ...]]:
-    # a head that does not read is refused before all else
-    wants_read(
-        sent.size is None and sent.version in ("1.0", "1.1") and all(
-            character > " " and character != "\x7f" for character in sent.target
-        )
-    )
     if "?" in sent.target or any(character > "~" for character in sent.target):
         raise Unread(404)
     for route, (method, expression) in ROUTES.items():
@@ -195,10 +210,10 @@ def status_of(code: str) -> int:
     return 400 if number <= 6 or number == 60 else 409
 
 
-def exchange(state: State, moment: str, sent: Sent) -> bytes:
-    """The response to what was sent."""
+def exchange(state: State, moment: str, sent: Sent, strict: int | None = None) -> bytes:
+    """The response to what was sent, also by a strict service at this port."""
     try:
-        request = read(sent)
+        request = read(sent, strict)
     except Unread as unread:
         counting.met["HTTP", f"H{unread.status}"] += 1
         return refused(unread.status, f"H{unread.status}", PHRASES[unread.status], allow=unread.allow)

@@ -13,14 +13,14 @@ NAMES = {
 
 
 class Fault(Exception):
-    """A refusal: its code, the details that its text tells after the name, and the rule that decided, `-` for none."""
+    """A refusal: its code, the details that follow the name in its text, and the rule that decided, `-` for none."""
 
     def __init__(self, code: str, *details: object, rule: str = "-") -> None:
         super().__init__(code, *details)
         self.code, self.rule = code, rule
         self.text = " ".join([NAMES[code], *map(str, details)])
 
-    def told(self) -> str:
+    def printed(self) -> str:
         """The line on standard error."""
         return f"{self.code} {self.text}"
 

@@ -51,7 +51,7 @@ KINDS = {
 
 def records(text: str) -> list[list[str]]:
     """The records of a text, each a list of fields. A line feed, a carriage return, or both end one; blank lines are
-    none; a quote opens a quoted field only where the field begins, and what follows its end is taken as it is."""
+    none; a quote opens a quoted field only if the field begins with it, and what follows its end is taken as it is."""
     text, at, found = text.removeprefix("\ufeff"), 0, []
     while at < len(text):
         if text[at] in "\r\n":

@@ -17,7 +17,7 @@ class State:
     batches: dict = field(default_factory=dict)  # rows by number
 
     def bootstrap(self, rows: list[files.Row]) -> None:
-        """Takes the rows of a first policy, all or none; no account row tells of it."""
+        """Takes the rows of a first policy, all or none; it adds no row to the account."""
         wants(not self.policy.users, "E57")
         changed = self.policy.copied(), self.board.copied()
         administration.take_rows(*changed, rows)
@@ -28,7 +28,7 @@ class State:
         return State(self.policy, self.board, list(self.account), dict(self.batches))
 
     def acting(self, name: str) -> str | None:
-        """Who acts at a console: the user who is on; where nobody is, the console's own user if it logs on by
+        """Who acts at a console: the user who is on; if nobody is, the console's own user if it logs on by
         itself."""
         console = self.board.consoles.get(name)
         if console is None:
@@ -83,7 +83,7 @@ class State:
         return "-", self.take_batch(user, request.batch, request.rows)
 
     def wants_somebody(self, name: str, console: Console) -> None:
-        """Refuses where the console wants a logon and nobody is on, and where who acts is revoked."""
+        """Refuses if the console wants a logon and nobody is on, or if who acts is revoked."""
         if console.mode == "REQUIRED" and console.user is None:
             raise Fault("E12", rule="LOGONREQUIRED")
         user = self.acting(name)

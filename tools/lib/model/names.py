@@ -35,7 +35,7 @@ def is_device(text: str) -> bool:
 
 
 def is_number(text: str, most: int) -> bool:
-    """Whether it is decimal digits, so many at most: no sign, no space."""
+    """Whether it is decimal digits, at most this many: no sign, no space."""
     return 1 <= len(text) <= most and DIGITS.issuperset(text)
 
 

@@ -91,7 +91,7 @@ def any_row(chance: Random, state: State) -> Row:
 
 
 def written(chance: Random, rows: Sequence[Row], plain: bool = False) -> list[str]:
-    """The lines of a file of these rows: of eight columns where the rows need no more, fields sometimes in quotes,
+    """The lines of a file of these rows: of eight columns if the rows need no more, fields sometimes in quotes,
     authorities in any order of their parts."""
     narrow = all(not row[8] and not row[9] for row in rows) and one_in(chance, 2)
     width = 8 if narrow else 10

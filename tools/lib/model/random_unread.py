@@ -34,6 +34,22 @@ FIELDS = (
     ("Transfer-Encoding", "chunked"), ("transfer-encoding", ""), ("Content-Length", "0"), ("Expect", "100-continue"),
     ("X", "y"), ("Content-Type", "text/plain"),
 )
+# Fields of a request to a strict service, where PORT stands for its port: those that name it, and those that do not, or
+# say that a web page sends it.
+HOSTS = ("127.0.0.1:PORT", "localhost:PORT", "LocalHost:PORT")
+OTHER_HOSTS = (
+    "127.0.0.1", "localhost", "127.0.0.1:", "127.0.0.1:0PORT", "127.0.0.1:PORT0", "127.0.0.2:PORT", "[::1]:PORT",
+    "localhost.:PORT", "room:PORT", "evil.example", "PORT", "", "http://127.0.0.1:PORT",
+    "127.0.0.1:PORT,localhost:PORT",
+)
+OF_PAGES = (
+    ("Origin", "null"), ("origin", "http://127.0.0.1:PORT"), ("ORIGIN", ""), ("Sec-Fetch-Site", "cross-site"),
+    ("sec-fetch-site", "none"), ("Host", "localhost:PORT"), ("host", "evil.example"),
+)
+NOT_OF_PAGES = (
+    ("Origins", "x"), ("X-Origin", "null"), ("Referer", "http://evil.example/"), ("Sec-Fetch-Mode", "cors"),
+    ("X-Host", "evil.example"),
+)
 
 
 def spoiled(chance: Random, found: dict[str, Any]) -> bytes:
@@ -87,6 +103,15 @@ def unread(chance: Random, sent: Sent) -> Sent:
     ]
     found = chance.choice(ways)()
     return chance.choice(ways)() if one_in(chance, 8) else found
+
+
+def addressed(chance: Random, sent: Sent) -> Sent:
+    """What was to be sent, to a strict service: mostly with a field Host that names it, and with no field of a page."""
+    fields = [] if one_in(chance, 20) else [("Host", chance.choice(OTHER_HOSTS if one_in(chance, 12) else HOSTS))]
+    fields += [chance.choice(OF_PAGES)] if one_in(chance, 12) else []
+    fields += [chance.choice(NOT_OF_PAGES)] if one_in(chance, 6) else []
+    chance.shuffle(fields)
+    return sent._replace(fields=(*fields, *sent.fields))
 
 
 def post(target: str, body: bytes) -> Sent:

@@ -84,7 +84,7 @@ def open_quote(verb: str, operand: str) -> int | None:
 
 
 def quoted(text: str) -> tuple[str, str] | None:
-    """What the quoted text at the start of this one says, with what follows it; none where it is not closed."""
+    """What the quoted text at the start of this one says, with what follows it; none if it is not closed."""
     value, at = "", 1
     while at < len(text):
         if text[at] != "'":

@@ -37,7 +37,7 @@ class Happening(NamedTuple):
 
 
 class Answer(NamedTuple):
-    """What a request is answered: lines and rule where it is done; else code and text of the fault, with its rule."""
+    """What a request is answered: lines and rule if it is done; else code and text of the fault, with its rule."""
     rule: str = "-"
     lines: list = []
     code: str | None = None
@@ -48,7 +48,7 @@ Request = Command | Admin | ListProfiles | ListAccount | Import | Happening
 
 
 def kind(request: Request, code: str | None) -> str:
-    """The kind of a request, of a command by its form where it came so far."""
+    """The kind of a request, of a command by its form if it came so far."""
     if isinstance(request, Command):
         return "command" if code and code < "E12" else reading.read(request.text).form
     if isinstance(request, Admin):

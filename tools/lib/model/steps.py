@@ -14,8 +14,9 @@ from .faults import Fault
 from .machine import State
 from .requests import Import
 
-# How a moment of the clock is told, which no model knows: as many digits as a moment has from 2001 to 2286.
+# How a moment of the clock is printed, which no model knows: as many digits as a moment has from 2001 to 2286.
 CLOCK = "0000000000"
+SOME_PORT = 8_011  # which no answer has
 # what was asked, with what came of each
 Answers = list[tuple[object, object]]
 LISTED = re.compile(rb'(?<=")(\d+) (\d{10}) ')
@@ -56,12 +57,12 @@ def answered(port: int, data: bytes) -> bytes:
 
 def refused(what: str, fault: Fault) -> tuple[int, str, str]:
     counting.met[what, f"E60 {fault.text.split()[-1]}" if fault.code == "E60" else fault.code] += 1
-    return (2 if fault.code == "E60" else 1), "", fault.told()
+    return (2 if fault.code == "E60" else 1), "", fault.printed()
 
 
 @dataclass
 class Explain:
-    """`explain` over a policy file; words that do not read are told in a text that no rule fixes."""
+    """`explain` over a policy file; words that do not read are reported by a text that no rule fixes."""
     words: dict
     rows: bytes
 
@@ -147,16 +148,22 @@ class Take:
 
 @dataclass
 class Serve:
-    """`serve` with these requests, one after another."""
+    """`serve` with these requests, one after another. A strict one wants each to be for its port."""
     asked: list
+    is_strict: bool = False
 
     def program(self, file: str) -> Answers:
-        with Service(file, "--count", str(max(len(self.asked), 1))) as service:
-            found = [(sent.data(), without_clock(answered(service.port, sent.data()))) for sent in self.asked]
+        words = ["--count", str(max(len(self.asked), 1)), *(["--strict"] if self.is_strict else [])]
+        with Service(file, *words) as service:
+            found = [
+                (sent.data(), without_clock(answered(service.port, sent.at(service.port).data())))
+                for sent in self.asked
+            ]
             return [*found, ("how it ends", service.ended())] if found else []
 
     def model(self, state: State) -> Answers:
-        found = [(sent.data(), exchange.exchange(state, CLOCK, sent)) for sent in self.asked]
+        strict = SOME_PORT if self.is_strict else None
+        found = [(sent.data(), exchange.exchange(state, CLOCK, sent.at(SOME_PORT), strict)) for sent in self.asked]
         return [*found, ("how it ends", (0, "", ""))] if found else []
 
 
@@ -172,7 +179,7 @@ def left_by_program(file: str, room: str) -> Answers:
     rows["account"] = [
         (number, CLOCK if is_now(moment) else moment, *rest) for number, moment, *rest in rows["account"]
     ]
-    return [("export", found), ("the export as the policy of a new file", again), *tables.told(rows).items()]
+    return [("export", found), ("the export as the policy of a new file", again), *tables.printed(rows).items()]
 
 
 def left_by_model(state: State) -> Answers:
@@ -180,5 +187,5 @@ def left_by_model(state: State) -> Answers:
     return [
         ("export", exported),
         ("the export as the policy of a new file", ((0, "", ""), exported)),
-        *tables.told(tables.of_state(state)).items(),
+        *tables.printed(tables.of_state(state)).items(),
     ]

@@ -48,7 +48,7 @@ def exchanged(state: machine.State, line: str) -> list[str]:
 
 
 def came(state: machine.State, room: tables.Room, line: str) -> list[str] | None:
-    """What the model makes of a line; None where it has no say: it reads no heads, and no clock fails it."""
+    """What the model makes of a line; None if it has no say: it reads no heads, and no clock fails it."""
     words = line.split(" ", 4)
     if words[0] == "new":
         return taken(state, room.rows) + ran(state, room.beginning)

@@ -89,6 +89,6 @@ def of_file(file: str, room: str) -> dict[str, Iterable[tuple]]:
     return found
 
 
-def told(rows: dict[str, Iterable[tuple]]) -> dict[str, str]:
-    """Each table as a text in which equal rows are seen to be two."""
+def printed(rows: dict[str, Iterable[tuple]]) -> dict[str, str]:
+    """Each table as a text in which two equal rows stand twice."""
     return {table: "\n".join(sorted(map(repr, table_rows))) for table, table_rows in rows.items()}

@@ -46,7 +46,7 @@ def one_in(chance: Random, number: int) -> bool:
 
 
 def mostly(chance: Random, stored: Iterable[Any], pool: Sequence[Any], is_careless: bool = False) -> Any:
-    """One of those that are stored, or any of the pool: now and then, and where several may be wrong at once."""
+    """One of those that are stored, or any of the pool: now and then, and if several may be wrong at once."""
     return (
         chance.choice(sorted(stored)) if stored and not is_careless and not one_in(chance, 8) else chance.choice(pool)
     )

@@ -1,15 +1,19 @@
 """The parts of tools/program: tables, and what no table can say."""
+import errno
 import fcntl
 import os
+import pty
 import shutil
 import socket
 import sqlite3
 import subprocess
+import tty
 from typing import Callable
 
 from lib import files, older
-from lib.places import HEADER, POLICY, TOP, WIDE_HEADER, built
-from .room import Ran, Room, asked, bytes_of
+from lib.files import bytes_of
+from lib.places import HEADER, POLICY, TOP, built, preload, wide_policy
+from .room import Ran, Room, asked
 
 HELPS = ("--help", "explain --help", "help explain", "run --help", "serve --help")
 # requests that leave rows in every table, with the batch
@@ -32,6 +36,15 @@ SCRIPT = """\
 """
 BATCH = f"{HEADER}\ngroup,,DAY,,,,,\n"
 UNITS = 1_000  # more than the names that are cached
+# texts with what a terminal acts on or hides, and the line of a display that a terminal shows for each
+TEXTS = {
+    "MOUNT \x1b[31mRED": r"MOUNT \u{1b}[31mRED",
+    "ONE\r02 TWO": r"ONE\u{d}02 TWO",
+    "\t\x00\x7f\x9b": r"\u{9}\u{0}\u{7f}\u{9b}",
+    "LEFT \u202eTHGIR\u2066": r"LEFT \u{202e}THGIR\u{2066}",
+    "SOFT\xadHYPHEN, NO\u200bWIDTH\ufeff": r"SOFT\u{ad}HYPHEN, NO\u{200b}WIDTH\u{feff}",
+    "GRÜN, 東京 \\ 'TEXT'": "GRÜN, 東京 \\ 'TEXT'",
+}
 
 
 def ended(room: Room, title: str, ran: Ran, status: int = 0, said: str = "") -> None:
@@ -46,13 +59,6 @@ def another_name(room: Room) -> None:
         ran = subprocess.run(["./called-otherwise", *words.split()], cwd=room.folder, capture_output=True)
         names = b"opcmds" in ran.stdout and b"called-otherwise" not in ran.stdout
         room.tally.wants(f"help by {words}", (ran.returncode, ran.stderr, names) == (0, b"", True), ran)
-
-
-def wide_policy() -> list[str]:
-    """The lines of the base policy as an export has them, in ten columns."""
-    with open(POLICY, encoding="utf-8") as policy:
-        _, *rows = policy.read().splitlines()
-    return [WIDE_HEADER, *(f"{row},," for row in rows)]
 
 
 def after_batches(line: str) -> list[str]:
@@ -95,6 +101,72 @@ def held(room: Room) -> None:
         ran = room.run(["serve", "--db", room.folder, "--port", str(port)])
         title = "a database that is a folder, and a port that is in use"
         ended(room, title, ran, 3, f"E91 Store\nopcmds: database {room.folder}: Is a directory\n")
+
+
+def databases(room: Room) -> None:
+    room.values["long"] = f"{room.folder}/{'a' * 250}"
+    room.table("databases")
+
+
+def full(room: Room) -> None:
+    """A disk that is full at each write of an opening that makes the tables, and of its closing."""
+    shim, at, failed = preload(room.folder), 0, []
+    while True:
+        at += 1
+        path = f"{room.folder}/full-{at}"
+        faults = {"LD_PRELOAD": shim, "FAULT_CALL": "write", "FAULT_ERROR": str(errno.ENOSPC), "FAULT_AT": str(at)}
+        ran = files.run(["run", "--db", path], "", faults)
+        if ran == (0, "", ""):
+            break
+        wanted = (3, "", f"E91 Store\nopcmds: database {path}: the disk is full\n")
+        if ran != wanted or files.run(["run", "--db", path], "") != (0, "", ""):
+            failed.append((at, ran))
+    room.tally.wants("a full disk at each write of a new database", at > 10 and not failed, failed)
+
+
+def limited(room: Room) -> None:
+    """A file that reaches its size limit, where the signal for that is ignored, as the script ./opcmds has it."""
+    path, script = f"{room.folder}/limited", "".join(f"{at} C1 L '{'x' * 100}'\n" for at in range(400))
+    ended(room, "a database to be limited", room.run(["run", "--db", path, "--policy", POLICY]))
+    words = ["sh", "-c", 'trap "" XFSZ; ulimit -f 400; exec "$0" "$@"', built(), "run", "--db", path]
+    ran = subprocess.run(words, input=script, capture_output=True, text=True, timeout=60)
+    done, aborted = ran.stdout.count(" DONE "), ran.stdout.count(" REFUSED E91 ")
+    room.tally.wants("a limit of size", ran.returncode == 3 and 0 < done < 400 == done + aborted, ran)
+    room.tally.equal("a limit of size: what is kept", asked(path, "SELECT count(*) FROM log"), f"{done}\n")
+
+
+def on_terminal(words: list[str], data: bytes) -> bytes:
+    """What a run prints on a terminal that leaves all bytes as they are."""
+    seen, shown = pty.openpty()
+    tty.setraw(shown)
+    with subprocess.Popen([built(), *words], stdin=subprocess.PIPE, stdout=shown) as started:
+        os.close(shown)
+        started.stdin.write(data)
+        started.stdin.close()
+        printed = b""
+        while part := read_from(seen):
+            printed += part
+    os.close(seen)
+    return printed
+
+
+def read_from(terminal: int) -> bytes:
+    try:
+        return os.read(terminal, 4096)
+    except OSError:  # nobody has it open any more
+        return b""
+
+
+def terminal(room: Room) -> None:
+    """What a terminal acts on or hides is shown there, and left as it is elsewhere."""
+    script = "".join(f"{at} * ASK {at:02} {text}\n" for at, text in enumerate(TEXTS, 1))
+    words, data = ["run", "--policy", POLICY], f"{script}50 C1 D R\n".encode()
+    done = "".join(f"{at} DONE -\n" for at in range(1, len(TEXTS) + 1)) + "50 DONE GROUP INFO AUTH SYS\n"
+    plain, shown = (
+        "".join(f"  {at:02} {text}\n" for at, text in enumerate(texts, 1)) for texts in (TEXTS, TEXTS.values())
+    )
+    room.tally.equal("a display that is no terminal's", room.run(words, data).printed.decode(), done + plain)
+    room.tally.equal("a display on a terminal", on_terminal(words, data).decode(), done + shown)
 
 
 def units(room: Room) -> None:
@@ -165,7 +237,10 @@ PARTS: dict[str, Callable[[Room], None]] = {
     "scripts": table("scripts"),
     "files": table("files"),
     "imports": imports,
-    "databases": table("databases"),
+    "databases": databases,
+    "full": full,
+    "limited": limited,
+    "terminal": terminal,
     "held": held,
     "units": units,
     "older": older_files,

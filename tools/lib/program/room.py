@@ -8,6 +8,7 @@ import subprocess
 from typing import NamedTuple
 
 from lib.escapes import unescaped
+from lib.files import bytes_of
 from lib.places import POLICY, TOP, built
 from lib.tally import Tally
 from .tables import BadTable, Check, checks_of
@@ -57,7 +58,7 @@ class Room:
             self.judge_run(check)
 
     def judge_run(self, check: Check) -> None:
-        """Counts how a run ends and, where something is said of it, what it prints."""
+        """Counts how a run ends and, if something is said of it, what it prints."""
         for text in check.texts("made"):
             make(*text.split(" ", 1))
         ran = self.ran(check)
@@ -101,11 +102,6 @@ def opened(streams: contextlib.ExitStack, path: str, flags: int) -> int:
     made = os.open(path, flags)
     streams.callback(os.close, made)
     return made
-
-
-def bytes_of(path: str) -> bytes:
-    with open(path, "rb") as file:
-        return file.read()
 
 
 def input_in(check: Check) -> bytes:

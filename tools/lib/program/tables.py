@@ -78,7 +78,7 @@ def blocks_of(path: str) -> Iterator[tuple[Check, list[list[str]]]]:
 
 
 def checks_of(path: str, values: dict[str, str]) -> Iterator[Check]:
-    """The checks of a table, with these values; one for each row where there are rows."""
+    """The checks of a table, with these values; one for each row if there are rows."""
     for check, rows in blocks_of(path):
         for cells in rows or [[]]:
             # (a value may stand in a cell)

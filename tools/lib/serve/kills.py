@@ -103,7 +103,7 @@ class Kills:
         return self.is_kept(file, count)
 
     def stopped(self, at: int) -> tuple[Kept, int]:
-        """One run that is stopped at one of its writes, and how many writes it made; at none where the number is 0."""
+        """One run that is stopped at one of its writes, and how many writes it made; at none if the number is 0."""
         file, count = self.copied(f"{self.room}/stop{at}"), f"{self.room}/count{at}"
         faults = {
             "LD_PRELOAD": self.shim, "FAULT_CALL": "any-write", "FAULT_KIND": "stop", "FAULT_AT": str(at),
@@ -119,7 +119,7 @@ class Kills:
             return self.is_kept(file, answered), int(counted.read())
 
 
-SEEN = "requests answered, state of the file after so many requests, status of the next opening"
+SEEN = "requests answered, state of the file after this many requests, status of the next opening"
 
 
 def kills(tally: Tally, room: str, base: str, count: int) -> None:

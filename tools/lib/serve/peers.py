@@ -94,7 +94,7 @@ def broken_peers(tally: Tally, room: str, base: str) -> None:
 
 
 def whole_request(tally: Tally, guests: Guests) -> None:
-    """A peer that resets or leaves after a whole request: it is done or, where its bytes were lost, not."""
+    """A peer that resets or leaves after a whole request: it is done or, if its bytes were lost, not."""
     body = json.dumps({"text": "L 'whole'"}).encode()
     data, file = clients.head("POST", "/consoles/C2/command", body) + body, guests.service.file
     for _ in range(10):

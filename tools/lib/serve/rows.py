@@ -18,7 +18,7 @@ MOMENT = re.compile(rb'(?<=")(\d+) \d{%d} ' % len(requests.MOMENT))
 
 
 def timeless(step: Step, found: bytes) -> bytes:
-    """The response, without the moments where it lists the account."""
+    """The response, without the moments if it lists the account."""
     return MOMENT.sub(rb"\1 %s " % requests.MOMENT.encode(), found) if "/account/" in step.path else found
 
 

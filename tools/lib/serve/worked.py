@@ -72,7 +72,7 @@ ROWS = {
         account("C1", 2, 1, done(f"2 {MOMENT} C3 - E14 -")),
         account("C1", 4, 10, done()),
     ], ["1 C3 - E12 LOGONREQUIRED", "2 C3 - E14 -", "3 C3 - E16 -"]),
-    "a profile with a warning lets pass, and tells": ([
+    "a profile with a warning lets pass, and warns": ([
         logon("C1", "CARL"),
         command("C1", "V 0A80,OFFLINE", done(rule=VARY("NONE") + " WARNED")),
         command("C1", "D U", done("0A80 OFFLINE ------ -", rule=SHOWN("READ"))),

@@ -21,7 +21,7 @@ NONE = Held({}, OPENED, {})
 
 
 class Explained(Single):
-    """It prints the answer, or reports what failed; then nothing is printed, or the start where that failed."""
+    """It prints the answer, or reports what failed; then nothing is printed, or the start if that failed."""
 
     counted_from = None
 

@@ -26,7 +26,7 @@ TEXTS = {"E90": "NoMemory", "E91": "Store"}
 
 
 def said(code: str, device: str = "") -> str:
-    """What is said of a fault: all of it where memory ran out, else the start, with the device that failed."""
+    """What is said of a fault: all of it if memory ran out, else the start, with the device that failed."""
     return f"{code} {TEXTS[code]}\n" + ("" if code == "E90" else f"opcmds: {device}")
 
 

@@ -40,7 +40,7 @@ def digest(file: str) -> bytes:
 
 
 def in_copy(file: str) -> Tables | str:
-    """The tables of a copy, in which the log is played back; none where there is no file."""
+    """The tables of a copy, in which the log is played back; none if there is no file."""
     if not os.path.exists(file):
         return {}
     with tempfile.TemporaryDirectory(dir=os.path.dirname(file)) as room:
@@ -77,7 +77,7 @@ class Known:
 
 
 def timeless(tables: Tables | str) -> Tables | str:
-    """The tables without the moments of the account, where they are the clock's."""
+    """The tables without the moments of the account, if they are the clock's."""
     if isinstance(tables, str) or "account" not in tables:
         return tables
     return {**tables, "account": [re.sub(r"^\((\d+), \d+", r"(\1", row) for row in tables["account"]]}

@@ -94,7 +94,7 @@ LISTS = {
 
 class Requests(Work[Ran]):
     """What was answered is in the file, and so is a request whose response was not written. One that was aborted is
-    there as a whole or not at all, and not at all where a later one changed anything, or where memory ran out. One that
+    there as a whole or not at all, and not at all if a later one changed anything, or if memory ran out. One that
     was not read is not there."""
 
     counted_from = "1"

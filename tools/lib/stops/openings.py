@@ -30,7 +30,7 @@ class Export(Aborting):
 
 class Opening(Single):
     """An export, from the start of the process on. The file is as it was or as the opening leaves it, as a whole, and
-    as the opening leaves it where anything was printed; and then the same export is good, and leaves it so. Of a new
+    as the opening leaves it if anything was printed; and then the same export is good, and leaves it so. Of a new
     file a page may be there in which nothing stands yet, which is no database to other programs."""
 
     counted_from = None
@@ -56,6 +56,12 @@ class Opening(Single):
     def begin(self, file: str) -> None:
         if self.version:
             shutil.copy(self.older, file)
+
+    def run(self, file: str, environment: dict[str, str]) -> files.Ran:
+        """The export, without the line that says of a new file that it was made, as far as that could be written."""
+        status, output, errors = super().run(file, environment)
+        made = "" if self.version else files.made(file)
+        return status, output, "" if made.startswith(errors) else errors.removeprefix(made)
 
     def tables_in(self, file: str) -> Tables:
         return files.tables(file) if os.path.exists(file) else {}

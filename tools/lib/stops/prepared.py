@@ -22,7 +22,7 @@ class Prepared:
         self.path, self.lines, self.rows = f"{room}/{name}", lines, rows
 
     def file(self) -> str:
-        """Makes it where it is not there yet."""
+        """Makes it if it is not there yet."""
         if not os.path.exists(self.path):
             script = "".join(f"{line}\n" for line in self.lines or [])
             self.want(files.script([script], self.path, policy=self.lines is not None))

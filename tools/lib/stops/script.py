@@ -45,7 +45,7 @@ def answers(output: str) -> Answers:
 class Script(Work[files.Ran]):
     """The answers that were printed are those of the same requests without a fault. What was answered as done or
     refused is in the file; a request that was aborted, or on whose answer the process was stopped, is there as a whole
-    or not at all, and not at all where memory ran out."""
+    or not at all, and not at all if memory ran out."""
 
     counted_from = "stdin"
 

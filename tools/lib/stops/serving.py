@@ -32,7 +32,7 @@ class Faulty(Service):
         return int(found[1]) if found else None
 
     def response(self, step: Step) -> bytes | None:
-        """None where the link ends without one."""
+        """None if the link ends without one."""
         if self.port is None:
             return None
         try:

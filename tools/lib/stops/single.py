@@ -48,17 +48,17 @@ class Single(Work[files.Ran]):
         return files.run([self.words[0], "--db", file, *self.words[1:]], self.data, environment)
 
     def aborted(self, code: str) -> str | None:
-        """What is printed where the request was aborted, if that is printed."""
+        """What is printed of a request that was aborted, if anything is."""
         return None
 
     def allowed(self, kind: Kind, ran: files.Ran) -> Allowed:
-        """What may be in the file after a run that ended so; nothing where it may not end so."""
+        """What may be in the file after a run that ended so; nothing if it may not end so."""
         status, output, errors = self.wanted
         if kind.is_stop():
             # what is printed is printed once the request is kept
             is_so = ran[0] == faults.STOPPED and output.startswith(ran[1]) and errors.startswith(ran[2])
             return ({AFTER: ANSWERED} if ran[1] or ran[2] else EITHER) if is_so else {}
-        # where the write of the fault itself is refused, the status alone says it
+        # if the write of the fault itself is refused, the status alone says it
         if ran == self.wanted or kind.call == "write" and errors and ran == (status, output, ""):
             return {AFTER: ANSWERED}
         if ran[0] != 3:
@@ -86,7 +86,7 @@ class Single(Work[files.Ran]):
         return held.tables
 
     def states(self, held: Held) -> list[str]:
-        """Which of the two the file holds: both, where the request leaves all as it was."""
+        """Which of the two the file holds: both, if the request leaves all as it was."""
         tables = self.compared(held)
         return [state for state, wanted in zip((BEFORE, AFTER), self.outcome) if tables == wanted]
 
@@ -120,7 +120,7 @@ class Line(Single):
 
 class Aborting(Single):
     """What reports on standard error that it was aborted: a fault of the database, and once more that of its closing
-    where it could not be closed then."""
+    if it could not be closed then."""
 
     def unanswered(self, kind: Kind, output: str, errors: str) -> Allowed:
         half = errors[: len(errors) // 2]

@@ -18,7 +18,7 @@ SHOWN = 5  # bad calls of each kind that are shown
 
 
 class Chosen(NamedTuple):
-    """Which calls are tried: all, or at most so many of each kind, by a seed; or this one alone."""
+    """Which calls are tried: all, or at most this many of each kind, by a seed; or this one alone."""
     most: int | None = None
     seed: int = 0
     only: tuple[str, int] | None = None  # the kind's word, and the number of the call
@@ -40,7 +40,7 @@ class Count(NamedTuple):
 
 
 def places(first: int, calls: int, most: int | None, dice: random.Random) -> list[int]:
-    """The numbers of the calls that are tried: all from the first one on, or one of each of so many stretches."""
+    """The numbers of the calls that are tried: all from the first one on, or one of each of this many stretches."""
     count = max(0, calls - first + 1)
     if most is None or count <= most:
         return list(range(first, calls + 1))

@@ -16,7 +16,7 @@ class Work(Generic[Ran]):
     """A run over a copy of a file in which all before it is done."""
 
     counted_from: str | None = None  # FAULT_FROM of lib/inject/faults.c; none: the start of the process
-    skips_opening = False  # whether the calls of the opening are left out, where the count cannot begin after them
+    skips_opening = False  # whether the calls of the opening are left out, if the count cannot begin after them
 
     def __init__(self, title: str, state: Prepared | None) -> None:
         self.title, self.state, self.known = title, state, Known()
@@ -37,7 +37,7 @@ class Work(Generic[Ran]):
         return self.known.held(file)
 
     def stage(self, kind: Kind, ran: Ran, held: Held) -> str | None:
-        """How far the run came; none where it is bad."""
+        """How far the run came; none if it is bad."""
         raise NotImplementedError
 
     def left(self, held: Held) -> str:

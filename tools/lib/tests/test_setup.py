@@ -1,4 +1,4 @@
-"""What a command does where something that it needs is missing."""
+"""What a command does if something that it needs is missing."""
 import os
 import subprocess
 import sys

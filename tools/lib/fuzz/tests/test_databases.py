@@ -47,19 +47,20 @@ class Refused(unittest.TestCase):
         return databases.bytes_of(self.file)
 
     def test_what_may_change(self) -> None:
-        before = self.write(file=b"a file", of_journal=b"j")
+        before = self.write(file=b"a file", of_journal=b"j", of_wal=b"no log")
         self.write(of_wal=b"\0" * 41)
         databases.wants_untouched(self.file, before, REFUSED)
 
     def test_what_may_not(self) -> None:
         before = self.write(file=b"a file", of_journal=b"j")
-        for parts in ({"file": b"A file"}, {"of_journal": b""}, {"of_shm": b"s"}):
+        for parts in ({"file": b"A file"}, {"of_journal": b""}, {"of_shm": b"s"}, {"of_wal": b"\0" * 41}):
             self.write(**parts)
             with self.assertRaisesRegex(Wrong, "a file that was refused changed"):
                 databases.wants_untouched(self.file, before, REFUSED)
             self.write(file=b"a file", of_journal=b"j")
-            if os.path.exists(f"{self.file}-shm"):
-                os.remove(f"{self.file}-shm")
+            for made in ("shm", "wal"):
+                if os.path.exists(f"{self.file}-{made}"):
+                    os.remove(f"{self.file}-{made}")
 
     def test_each_request_is_answered(self) -> None:
         moments = [line.split()[0].decode() for line in databases.SCRIPT.splitlines()]
@@ -78,7 +79,7 @@ class States(unittest.TestCase):
     def test_back(self) -> None:
         found = states.state_of(self.rows)
         self.assertIsNotNone(found)
-        self.assertEqual(tables.told(tables.of_state(found)), tables.told(self.rows))
+        self.assertEqual(tables.printed(tables.of_state(found)), tables.printed(self.rows))
 
     def test_no_state(self) -> None:
         bad = {

@@ -1,4 +1,4 @@
-"""How inputs are shared out, made, tried, cut and told."""
+"""How inputs are shared out, made, tried, cut and reported."""
 import contextlib
 import io
 import os
@@ -48,34 +48,34 @@ class Findings(unittest.TestCase):
         self.addCleanup(patch.stop)
         self.fuzz = Fuzz(3, self.folder, f"{self.folder}/keep", None)
 
-    def told(self, *words: object, only: bool = False) -> str:
+    def reported(self, *words: object, only: bool = False) -> str:
         out = io.StringIO()
         with contextlib.redirect_stdout(out):
             (self.fuzz.only if only else self.fuzz.all_of)(*words)
         return out.getvalue()
 
     def test_alone(self) -> None:
-        told = self.told("alone", 2)
+        reported = self.reported("alone", 2)
         self.assertEqual((self.fuzz.passed, self.fuzz.failed), (0, 2))
-        self.assertIn("alone:1 of seed 3: seven: [7]\n  cut to 1 of 4 pieces", told)
-        self.assertIn("again: tools/fuzz --seed 3 --only alone:1\n", told)
+        self.assertIn("alone:1 of seed 3: seven: [7]\n  cut to 1 of 4 pieces", reported)
+        self.assertIn("again: tools/fuzz --seed 3 --only alone:1\n", reported)
         with open(f"{self.folder}/keep/alone-1-of-seed-3/numbers", encoding="utf-8") as file:
             self.assertEqual(file.read(), "[7]")
 
     def test_group(self) -> None:
-        told = self.told("group", 6)
+        reported = self.reported("group", 6)
         self.assertEqual((self.fuzz.passed, self.fuzz.failed), (3, 3))
         for number in (1, 3, 4):
-            self.assertIn(f"group:{number} of seed 3: ", told)
-        self.assertIn("the tool fails with ValueError", told)
+            self.assertIn(f"group:{number} of seed 3: ", reported)
+        self.assertIn("the tool fails with ValueError", reported)
 
     def test_only(self) -> None:
-        self.assertEqual(self.told("group", 0, only=True), "")
-        self.assertIn("group:1 of seed 3: seven", self.told("group", 1, only=True))
+        self.assertEqual(self.reported("group", 0, only=True), "")
+        self.assertIn("group:1 of seed 3: seven", self.reported("group", 1, only=True))
         self.assertEqual((self.fuzz.passed, self.fuzz.failed), (1, 1))
 
     def test_what_is_tried_leaves_nothing(self) -> None:
-        self.told("group", 5)
+        self.reported("group", 5)
         self.assertEqual(os.listdir(self.folder), ["keep"])
 
 

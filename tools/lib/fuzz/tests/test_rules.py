@@ -69,7 +69,9 @@ class Said(unittest.TestCase):
 
 class Responses(unittest.TestCase):
     def test_good(self) -> None:
-        for data in (done("a", "é", rule="NOPROFILE"), refused("E10", "NoConsole"), unread(413), unread(405, "GET")):
+        for data in (
+            done("a", "é", rule="NOPROFILE"), refused("E10", "NoConsole"), unread(413), unread(403), unread(405, "GET")
+        ):
             self.assertIsNone(rules.wrong_response(data), data)
 
     def test_bad(self) -> None:

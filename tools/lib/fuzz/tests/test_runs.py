@@ -64,7 +64,7 @@ class Answers(unittest.TestCase):
             self.assertRaises(Wrong, runs.wants_answer, ran, (1, "1 DONE -\n", ""))
         self.assertRaises(Wrong, runs.wants_answer, Ran(2, b"", b"", 0), (2, "", None))
 
-    def test_what_is_told_begins_where_they_differ(self) -> None:
+    def test_what_is_reported_begins_where_they_differ(self) -> None:
         self.assertEqual(runs.cut((1, "a\nbc\n"), (1, "a\nbd\n")), (1, "bc\n"))
 
 

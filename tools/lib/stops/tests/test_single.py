@@ -27,7 +27,7 @@ def held(tables: Tables | str, opened: files.Ran = OPENED, then: Tables | None =
     return Held(tables, opened, tables if then is None else then)
 
 
-class Told(unittest.TestCase):
+class Reported(unittest.TestCase):
     def test_one_fault(self) -> None:
         self.assertTrue(is_reported(ALLOC, MEMORY))
         self.assertTrue(is_reported(SYNC, DATABASE, "database "))

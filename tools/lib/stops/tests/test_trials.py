@@ -1,4 +1,5 @@
 """Which calls are tried, and in which order runs come less far."""
+import errno
 import random
 import shutil
 import subprocess
@@ -76,6 +77,12 @@ class Preload(unittest.TestCase):
         self.assertEqual((status, output), (1, b"one"))
         status, output, calls = self.ran(FAULT_CALL="read", FAULT_FROM="stdin", FAULT_AT="1", FAULT_KIND="stop")
         self.assertEqual((status, output, calls), (77, b"one", 1))
+
+    def test_refused_twice_by_a_signal(self) -> None:
+        faults = {"FAULT_AT": "1", "FAULT_TIMES": "2", "FAULT_ERROR": str(errno.EINTR)}
+        _, _, usual = self.ran(FAULT_CALL="read", FAULT_FROM="stdin")
+        status, output, calls = self.ran(FAULT_CALL="read", FAULT_FROM="stdin", **faults)
+        self.assertEqual((status, output, calls), (0, b"onetwo", usual + 2))
 
 
 if __name__ == "__main__":

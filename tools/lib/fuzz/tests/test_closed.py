@@ -1,0 +1,38 @@
+"""Which answers over rows that break a fact are wrong."""
+import unittest
+
+from lib.fuzz import closed
+from lib.fuzz.runs import Wrong
+
+SCRIPT = b"1 C1 D U\n2 C1 LOGOFF\n3 C1 D U\n4 C2 LOGON ANNA,ABC\n5 C2 D U\n6 * JOBIN A JOB\n"
+BY_AUTHORITY = b"DONE GROUP INFO AUTH SYS"
+DONE = [BY_AUTHORITY, b"DONE -", BY_AUTHORITY, b"DONE NOPROFILE", b"DONE NOPROFILE", b"DONE -"]
+GIVEN_UP = b"REFUSED E91 Store -"
+
+
+def printed(*given_up: int) -> bytes:
+    return b"".join(
+        b"%d %s\n" % (number, GIVEN_UP if number in given_up else answer) for number, answer in enumerate(DONE, 1)
+    )
+
+
+def rows(user: str | None) -> dict[str, list[tuple]]:
+    return {
+        "usr": [("ANNA", 0, 0, 0, None, 0)],
+        "consoles": [("C1", 8, "O", 1, user, 0), ("C2", 2, "O", 1, None, 0)],
+    }
+
+
+class Closed(unittest.TestCase):
+    def wants(self, answers: bytes, held: dict[str, list[tuple]], is_right: bool) -> None:
+        if is_right:
+            closed.wants_closed(SCRIPT, answers, held)
+        else:
+            with self.assertRaisesRegex(Wrong, "done over rows that break a fact"):
+                closed.wants_closed(SCRIPT, answers, held)
+
+    def test_user_who_is_not_stored(self) -> None:
+        self.wants(printed(), rows("GHOST"), False)
+        self.wants(printed(1), rows("GHOST"), True)
+        self.wants(printed(), rows("ANNA"), True)
+        self.wants(printed(), rows(None), True)

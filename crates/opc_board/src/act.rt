@@ -17,7 +17,7 @@ use opc_names::name::{ConsoleName, UnitName};
 use opc_reader_commands::command::{Command, Text};
 use std::alloc::{AllocError, Global};
 
-// What a text says, to be kept.
+// What a text says, to be stored.
 fn kept(alloc: Global, text: &Text<'_>) -> Result<KeptText, AllocError>
     ensures { IfOk result (λ kept. kept ≡ text_value text.now.typed.text) }
 {
@@ -32,8 +32,8 @@ impl Board {
         lines_of(alloc, self.rows.units.find(name))
     }
 
-    /// Runs a command that is typed at a console of the board, and gives its lines in order, unfiltered. LOGON and
-    /// LOGOFF aren't the board's. After a fault, memory too, the board is as it was.
+    /// Runs a command that is typed at a console of the board, and returns its lines in order, unfiltered. LOGON and
+    /// LOGOFF are not the board's. After a fault, refused memory included, the board is as it was.
     pub fn act(
         &mut self,
         alloc: Global,
@@ -54,8 +54,9 @@ impl Board {
             Command::DisplayConsoles => Ok(console_lines(alloc, self.rows.consoles.as_slice())?),
             Command::DisplayReplies => Ok(reply_lines(alloc, self.rows.replies.as_slice())?),
             Command::Reply(id, text) => self.reply(alloc, id.value, kept(alloc, text)?),
-            // Logging on and off are calls of their own, and the caller keeps these commands away.
+            // Logging on and off are calls of their own, and the caller never passes these commands.
             Command::Logon(..) | Command::Logoff => unreachable!(),
+            // All others change the board or meet a fault, and give no lines.
             _ => {
                 self.change(alloc, command, console)?;
                 Ok(Vec::new(alloc))
@@ -102,12 +103,12 @@ impl Board {
                 Ok(())
             }
             Command::Halt => self.halt(),
-            // `act` answers what changes nothing itself: displays, replies, LOGON and LOGOFF.
+            // `act` itself answers the commands that change nothing: displays, replies, LOGON and LOGOFF.
             _ => unreachable!(),
         }
     }
 
-    /// Lets an event happen. After a fault, memory too, the board is as it was.
+    /// Lets an event happen. After a fault, refused memory included, the board is as it was.
     pub fn event(&mut self, alloc: Global, event: &Event) -> Result<(), BoardFault>
         ensures done { OnOk result (event_effect self.old event.now ≡ done self.new) }
         ensures refused { IfErr result (λ fault. fault ≢ NoMemory → event_effect self.old event.now ≡ Err fault) }

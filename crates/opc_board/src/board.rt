@@ -34,7 +34,7 @@ pub struct BoardRows {
     pub halted: bool,
 }
 
-// In a function of its own, so that no caller drops part after part: that makes its proof short.
+// In a function of its own, so that no caller drops one part after another: that keeps its proof short.
 impl Drop for BoardRows {
     fn drop(self) {
         let BoardRows {
@@ -112,13 +112,14 @@ impl ConsoleRow {
     {
         match self.auth {
             Auth::Master => self.online,
+            // Every other authority, ALL included, is not MASTER.
             _ => false,
         }
     }
 }
 
 impl Board {
-    /// The board of these rows, which are handed back where they are out of order or break an invariant.
+    /// The board of these rows, which are returned if they are out of order or break an invariant.
     pub fn of(rows: BoardRows) -> Result<Self, BoardRows>
         ensures { MatchResult result
             (λ board. (board ≡ rows) × IsBoard rows)
@@ -155,7 +156,7 @@ impl Board {
         &self.rows
     }
 
-    /// What a unit of this name is, or that none is there.
+    /// What a unit of this name is, or that there is none.
     pub fn kind_at(&self, name: &UnitName) -> UnitKindAt
         ensures { result ≡ kind_at self.now name.now }
     {

@@ -77,7 +77,7 @@ impl Board {
         self.rows.any_master_with(row)
     }
 
-    // Puts a row in place of the one of its name, unless the last master is lost by it.
+    // Puts a row in place of the one of its name, unless that loses the last master.
     fn vary_console(&mut self, row: ConsoleRow) -> Result<(), BoardFault>
         ensures { ComesTo self.old self.new (varied row self.old) result }
     {
@@ -105,7 +105,7 @@ impl Board {
         ensures { ComesTo self.old self.new (vary_console_offline_outcome name.now self.old) result }
     {
         let console = self.console(name)?;
-        // Whoever is on at a console that is offline already stays on.
+        // A user who is logged on at a console that is offline already stays logged on.
         self.vary_console(if console.online {
             ConsoleRow {
                 online: false,
@@ -156,7 +156,7 @@ impl Board {
             .change(name, |console| ConsoleRow { user, ..console });
     }
 
-    /// Logs a user on at a console of the board where nobody is on.
+    /// Logs a user on at a console of the board where nobody is logged on.
     pub fn log_on(&mut self, name: &ConsoleName, user: UserId)
         requires { IsSomeAnd (console_at self.old name.now) (λ console. console.user ≡ None) }
         ensures { self.new ≡ logged_on name.now user self.old }
@@ -164,7 +164,7 @@ impl Board {
         self.set_user(name, Some(user));
     }
 
-    /// Logs the user off who is on at a console of the board.
+    /// Logs off the user who is logged on at a console of the board.
     pub fn log_off(&mut self, name: &ConsoleName)
         requires { IsSomeAnd (console_at self.old name.now) (λ console. IsSome console.user) }
         ensures { self.new ≡ logged_off name.now self.old }
@@ -189,8 +189,8 @@ impl Board {
         Ok(())
     }
 
-    /// Gives a console its authority and mode. A new console comes online with nobody on. Whether the last master is
-    /// lost by it isn't asked here: `has_master` answers that before and after.
+    /// Gives a console its authority and mode. A new console comes online with nobody logged on. Whether that loses the
+    /// last master is not asked here: `has_master` answers that before and after.
     pub fn define_console(
         &mut self,
         name: ConsoleName,

@@ -27,7 +27,7 @@ use opc_names::name::{ConsoleName, Name, NameKind, UnitName};
 use opc_names::reply_id::ReplyId;
 use std::alloc::{AllocError, Global};
 
-/// What a line is about, by which whoever shows it decides who may see it.
+/// What a line is about: whoever shows the line decides by this who may see it.
 #[derive(Clone, Copy)]
 pub enum Item {
     Plain,

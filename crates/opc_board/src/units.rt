@@ -38,6 +38,7 @@ impl DeviceRow {
     {
         match self.unit {
             Some(holder) if holder == *name => DeviceRow { unit: None, ..self },
+            // Another unit has the device, or none.
             _ => self,
         }
     }

@@ -38,7 +38,7 @@ impl Parsed for DeviceRow {
         "device"
     }
 
-    // Its number and state, and the unit that has it where there is one.
+    // Its number and state, and the unit that has it, if one has.
     fn parsed(_alloc: Global, parts: &str) -> Result<Self> {
         let (number, state) = parts.split_once(',').context("a state")?;
         let (online, unit) = match state.split_once(',') {
@@ -59,7 +59,7 @@ impl Parsed for ConsoleRow {
         "console"
     }
 
-    // Its name, authority and state, and the user who is on there where there is one.
+    // Its name, authority and state, and the user who is logged on there, if one is.
     fn parsed(_alloc: Global, parts: &str) -> Result<Self> {
         let (name, parts) = parts.split_once(',').context("an authority")?;
         let (auth, state) = parts.split_once(',').context("a state")?;

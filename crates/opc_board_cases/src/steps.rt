@@ -15,7 +15,7 @@ use opc_terms::mode::Mode;
 use opc_terms::unit_kind::UnitKindAt;
 use std::alloc::{AllocError, Global};
 
-// How many rows of each kind came back, where they are no board.
+// How many rows of each kind came back, if they are not a valid board.
 fn rows_text(alloc: Global, back: &BoardRows) -> Result<String, AllocError> {
     let units = back.units.as_slice().len();
     let devices = back.devices.as_slice().len();
@@ -102,8 +102,8 @@ pub fn no_rows(alloc: Global) -> Result<Board> {
     }
 }
 
-/// What a line is answered: `board` asks whether the rows after it are one, and `define`, `kind`, `type` and `master`
-/// are of the last that was.
+/// The answer to a line: `board` asks whether the rows after it are a board, and `define`, `kind`, `type` and `master`
+/// are about the last rows that were one.
 pub fn step(alloc: Global, board: &mut Board, line: &str) -> Result<String> {
     let (verb, text) = line.split_once(' ').unwrap_or((line, ""));
     match verb {

@@ -1,4 +1,4 @@
-//! Why a database file is not opened, as the system says it where it is asked for the file again.
+//! Why a database file is not opened, as the system reports it if it is asked for the file again.
 use opc_cli_failures::reason::Reason;
 use opc_store_file::site::prepare;
 use sqlite::Wary;
@@ -10,7 +10,7 @@ use std::io::{ErrorKind, Read};
 /// What the first bytes of a database file are.
 const MAGIC: [u8; 16] = *b"SQLite format 3\0";
 
-/// How many bytes of its header say how the file is read.
+/// How many bytes of its header state how the file is read.
 const HEADER: usize = 60;
 
 /// Where the header has the greatest page that is the root of a tree: 0 without auto_vacuum.
@@ -32,7 +32,7 @@ pub fn reason_at(rt: &HostRuntime, path: &str) -> Reason {
     }
 }
 
-/// Why the file is not opened, where it is opened once more.
+/// Why the file is not opened, if it is opened once more.
 fn reason_again(rt: &HostRuntime, path: &str) -> Reason {
     match sqlite_std_file::open(rt, path, Wary) {
         Ok(_) => reason_in(rt, path),
@@ -55,7 +55,7 @@ fn reason_in(rt: &HostRuntime, path: &str) -> Reason {
     }
 }
 
-/// Why a database with this header holds no tables: it is of a kind that is not read, or else nobody knows.
+/// Why a database with this header holds no tables: it is of a kind that is not read, or the cause is unknown.
 fn reason_by(header: &[u8; HEADER]) -> Reason {
     let words = if !header[GREATEST_ROOT..].starts_with(&[0; 4]) {
         "a database with auto_vacuum, which is not supported"
@@ -79,7 +79,7 @@ fn header(rt: &HostRuntime, path: &str) -> io::Result<Option<[u8; HEADER]>> {
     }
 }
 
-/// Why what stands at this path is not taken for a database file: it is a folder, or a device, or has several names.
+/// Why what is at this path is not accepted as a database file: it is a folder or a device, or has several names.
 fn irregular(rt: &HostRuntime, path: &str) -> Reason {
     match OpenOptions::new().read(true).write(true).open(rt, path) {
         Ok(_) => Reason::NoPlainFile,

@@ -43,7 +43,7 @@ use sqlite_disk::Disk;
 use std::io::{Read, Write};
 
 /// Does what the words of a command line ask for, the first of which is the program's own name, and returns the status:
-/// 0 done, 1 refused, 2 words or input that are bad, 3 something failed.
+/// 0 done, 1 refused, 2 bad words or bad input, 3 failed.
 pub fn run_words<R: Read, W: Write, E: Write>(
     rt: &HostRuntime,
     words: &[String],
@@ -59,8 +59,8 @@ pub fn run_words<R: Read, W: Write, E: Write>(
     run_words_from(rt, Wary, words, input, output, errors)
 }
 
-/// The same, whatever the database file holds that the words name: `start` stands for that, and says what a torn write
-/// may leave.
+/// The same, whatever the database file that the words name holds: `start` stands for that, and states what a torn
+/// write may leave.
 pub fn run_words_from<S: Start, R: Read, W: Write, E: Write>(
     rt: &HostRuntime,
     start: S,
@@ -154,14 +154,16 @@ fn socket_of<'a>(work: &Work<'a>) -> Option<&'a str> {
             Address::Socket { path, .. } => Some(path),
             Address::Port(_) => None,
         },
+        // No other work listens.
         _ => None,
     }
 }
 
-/// The files that are named where a work is done over the database file at a path.
+/// The files that are named, if a work is done over the database file at a path.
 fn paths_of<'a>(path: &'a str, work: &Work<'a>) -> Paths<'a> {
     let policy = match work {
         Work::Run(policy) => *policy,
+        // Only a run reads a policy file of its own. An import reads its rows from the input.
         _ => None,
     };
     Paths {
@@ -172,7 +174,7 @@ fn paths_of<'a>(path: &'a str, work: &Work<'a>) -> Paths<'a> {
 }
 
 /// Does a work over the tables of the database file at a path, which is made if it is not there. An export that made
-/// them says so.
+/// the tables reports that.
 fn work_in_file<S: Start, R: Read, W: Write, E: Write>(
     rt: &HostRuntime,
     start: S,
@@ -197,7 +199,7 @@ fn work_in_file<S: Start, R: Read, W: Write, E: Write>(
     }
 }
 
-/// Says of an export that it made the tables: the policy that it writes is that of a new database, so the path may be
+/// Reports that an export made the tables: the policy that it writes is that of a new database, so the path may be
 /// mistyped.
 fn note_made<E: Write>(path: &str, work: &Work<'_>, are_made: bool, errors: &mut Watched<E>)
     ensures noted { IsMadeNoted E.contents errors.old errors.new path.now work.now are_made }
@@ -213,7 +215,7 @@ fn note_made<E: Write>(path: &str, work: &Work<'_>, are_made: bool, errors: &mut
     }
 }
 
-/// Says what a work over a file came to, and then why the file was not closed, if it was not.
+/// Reports what a work over a file came to, and then why the file was not closed, if it was not.
 fn ended<S: Start, E: Write>(
     end: Result<Status, Failure>,
     closed: Closed<S>,
@@ -237,12 +239,13 @@ fn of_database(fault: Fault, reason: Reason) -> Failure
     Failure::of(fault, Place::Database, reason)
 }
 
-/// The last commit was not put into the database file. What was acknowledged is kept there, too.
+/// The last commit was not put into the database file. What was acknowledged is safe there, too.
 fn not_closed(error: Error) -> Failure
     ensures { result.fault ≡ Fault.Store }
 {
     let reason = match error {
         Error::SqliteFailure(ErrorCode::DiskFull) => Reason::DiskFull,
+        // A close reports no other cause that a user could act on.
         _ => Reason::Unreadable,
     };
     of_database(Fault::Store, reason)
@@ -254,7 +257,7 @@ fn not_opened(rt: &HostRuntime, path: &str, refused: NotOpened) -> Failure
     match refused.fault {
         OpenFault::NoMemory => Failure::from(Fault::NoMemory),
         OpenFault::Store if refused.is_full => of_database(Fault::Store, Reason::DiskFull),
-        // The store has one fault for whatever else fails below it, so the file is opened once more to learn why.
+        // The store has one fault for every other failure below it, so the file is opened once more to learn why.
         OpenFault::Store => of_database(Fault::Store, reason_at(rt, path)),
         OpenFault::NotOurs(version) => {
             of_database(Fault::from(refused.fault), Reason::Tables(version))

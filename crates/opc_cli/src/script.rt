@@ -11,9 +11,9 @@ use opc_io::sink::Sink;
 use opc_state::tables::Tables;
 use std::alloc::Global;
 
-/// Runs a script over a gate, and writes the transcript of its answers. The number is 0 where all is done, 1 where
-/// anything was refused, 2 where a line is bad, which is written, and nothing is run; and 3 where there was no memory,
-/// or the tables or the output failed.
+/// Runs a script over a gate, and writes the transcript of its answers. The number is 0 if all is done, 1 if anything
+/// was refused, 2 if a line is bad, which is reported, and nothing is run; and 3 if there was no memory, or the tables
+/// or the output failed.
 pub fn run_script<T: Tables, K: Sink>(
     alloc: Global,
     gate: &mut Gate<T>,

@@ -16,8 +16,8 @@ use opc_state::tables::Tables;
 use std::net::OpenListener;
 use std::rt::Clock;
 
-/// Serves so many clients that come to a listener, one after another, and waits for each as long as it takes. The
-/// number is 0 once all were served, and 3 where one could not be taken.
+/// Serves this many clients that come to a listener, one after another, and waits for each as long as it takes. The
+/// number is 0 once all were served, and 3 if one could not be accepted.
 pub fn serve_on<H: AllocGlobal + Clock, L: OpenListener, T: Tables>(
     rt: &H,
     listener: &L,

@@ -24,7 +24,7 @@ pub struct BadRow {
 
 #[derive(Clone, Copy)]
 enum Problem {
-    /// The record has this many fields, of which eleven are read at most, and the header so many.
+    /// The record has this many fields, of which at most eleven are read, and the header this many.
     Columns(usize, usize),
     Many,
     /// The field in this column does not fit a row of this kind, if the row has a kind.
@@ -48,6 +48,7 @@ impl Shown {
     fn of(field: &str, column: Column) -> Self {
         match column {
             Column::Digest => Shown::Length(field.chars().count()),
+            // A field of another column is a name or a word, which a log may have.
             _ => Shown::Start(FieldStart::of(field)),
         }
     }
@@ -96,8 +97,8 @@ impl Display for FieldStart {
 }
 
 impl BadRow {
-    /// The row of this number in the text of a policy file, which is refused for this reason, where it is after the
-    /// header and there is memory to read it again.
+    /// The row of this number in the text of a policy file, which is refused for this reason, if it is after the header
+    /// and there is memory to read it again.
     pub fn find(alloc: Global, text: &str, number: u32, why: Why) -> Option<Self> {
         let record = record_at(alloc, text, number)?;
         let problem = match column_of(why) {
@@ -116,7 +117,7 @@ impl BadRow {
     }
 }
 
-/// The record of this number, with the header as 0, where there is one and memory to read it.
+/// The record of this number, with the header as 0, if there is one and memory to read it.
 fn record_at(alloc: Global, text: &str, number: u32) -> Option<StringRecord> {
     let mut reader = ReaderBuilder::new()
         .has_headers(false)
@@ -168,7 +169,7 @@ fn column_of(why: Why) -> Option<Column> {
     }
 }
 
-/// What is wrong with a field in this column that does not fit the kind; none where rows of the kind have none there.
+/// What is wrong with a field in this column that does not fit the kind; none if rows of the kind have no field there.
 fn misfit(column: Column, kind: Kind) -> Option<&'static str> {
     match (column, kind) {
         (Column::Class, Kind::Class | Kind::Profile | Kind::Permit) => {
@@ -190,6 +191,7 @@ fn misfit(column: Column, kind: Kind) -> Option<&'static str> {
         (Column::Digest, Kind::User) => Some("is not 64 of the characters 0 to 9 and a to f"),
         (Column::When, Kind::Permit) => Some("is no console's name"),
         (Column::Restricted, Kind::User) => Some("is neither empty nor Y"),
+        // Rows of this kind use no such column, so it has to be empty.
         _ => None,
     }
 }

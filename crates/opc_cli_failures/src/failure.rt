@@ -43,7 +43,7 @@ pub enum Place {
     Connection,
 }
 
-/// A fault, and what failed and why, where that is known.
+/// A fault, and what failed and why, if that is known.
 #[derive(Clone, Copy)]
 pub struct Failure {
     pub fault: Fault,
@@ -84,32 +84,33 @@ impl Failure {
         }
     }
 
-    /// A fault that the gate gives: where its store fails, that is the database.
+    /// A fault that the gate returns: if its store failed, the database is the cause.
     pub fn of_gate(fault: Fault) -> Self
         ensures fault { result.fault ≡ fault }
         ensures cause { result.cause ≡ cause_in_gate fault }
     {
         match fault {
             Fault::Store => Failure::of(fault, Place::Database, Reason::Unreadable),
+            // The code and the text of every other fault already say why.
             _ => Failure { fault, cause: None },
         }
     }
 
-    /// Prints the fault, as its code and its text, and then, in a line of its own, what failed and why. Answers the
-    /// status. Takes no memory, so that it can print where there is none; then the first line alone is printed.
+    /// Prints the fault, as its code and its text, and then, in a line of its own, what failed and why. Returns the
+    /// status. Takes no memory, so that it can print if there is none; then it prints the first line alone.
     pub fn report<K: Sink>(&self, paths: &Paths<'_>, errors: &mut K) -> Status
         ensures status { result ≡ status_of self.now.fault }
         ensures reported { K.has_failed errors.new ≡ false
             → IsReported self.now.fault (K.held errors.old) (K.held errors.new) }
         ensures kept { K.has_failed errors.new ≡ false → K.has_failed errors.old ≡ false }
     {
-        // The status says it too, if no word can be printed.
+        // The status reports it too, if no word can be printed.
         let _ = print_failure(self, paths, errors);
         status_of(&self.fault)
     }
 }
 
-/// The status of what was to be done; if it failed, that is reported.
+/// The status of what was to be done; a failure is reported.
 pub fn reported<K: Sink>(end: Result<Status, Failure>, paths: &Paths<'_>, errors: &mut K) -> Status
     ensures status { result ≡ status_of_end end }
     ensures reported { IfErr end (λ failure. K.has_failed errors.new ≡ false
@@ -130,6 +131,7 @@ fn status_of(fault: &Fault) -> Status
     match fault {
         Fault::RowFault { .. } => Status::BadInput,
         Fault::NoMemory | Fault::Store | Fault::NotOurs { .. } => Status::Failed,
+        // All others are refusals of a request.
         _ => Status::Refused,
     }
 }
@@ -140,6 +142,7 @@ fn fault_of(error: &io::Error) -> Fault
 {
     match error.kind() {
         ErrorKind::OutOfMemory => Fault::NoMemory,
+        // No other kind of error means that memory was refused.
         _ => Fault::Store,
     }
 }

@@ -1,4 +1,4 @@
-//! How a failure is printed, where there may be no memory.
+//! How a failure is printed, even if there is no memory.
 ghost use Rattle.std.specs.Prelude.{◌≡◌, OnOk, if◌then◌else◌, is_err, true};
 ghost use Rattle.opc_cli_failures.specs.Printing.{Grows, IsLineOf, IsReported};
 
@@ -12,13 +12,13 @@ use std::fmt::Write as _;
 /// More bytes than the line of any fault has: the longest name in one is a pattern of 39 characters.
 const FAULT_LINE: usize = 160;
 
-/// More bytes than the words of any reason have: the longest show 39 characters of a field, each as ten bytes at most.
+/// More bytes than the words of any reason have: the longest show 39 characters of a field, each as at most ten bytes.
 const REASON_WORDS: usize = 640;
 
 /// More digits than a port has.
 const PORT_DIGITS: usize = 8;
 
-/// Prints a failure: its fault, and then, where there is memory, what failed and why.
+/// Prints a failure: its fault, and then, if there is memory, what failed and why.
 pub(crate) fn print_failure<K: Sink>(
     failure: &Failure,
     paths: &Paths<'_>,
@@ -31,7 +31,7 @@ pub(crate) fn print_failure<K: Sink>(
     print_cause(failure, paths, errors)
 }
 
-/// Prints a fault as its code and its text, or as its code alone where there is no room for that line.
+/// Prints a fault as its code and its text, or as its code alone if there is no room for that line.
 fn print_fault<K: Sink>(fault: &Fault, errors: &mut K) -> Result<(), WriteFault>
     ensures text { OnOk result (IsLineOf fault.now (K.held errors.old) (K.held errors.new)) }
     ensures failed { K.has_failed errors.new ≡ (if is_err result then true else K.has_failed errors.old) }
@@ -52,7 +52,7 @@ fn print_code<K: Sink>(fault: &Fault, errors: &mut K) -> Result<(), WriteFault>
     write_whole(errors, b"\n")
 }
 
-/// Prints, in a line of its own, what failed and why, where that is known and there is memory.
+/// Prints, in a line of its own, what failed and why, if that is known and there is memory.
 fn print_cause<K: Sink>(
     failure: &Failure,
     paths: &Paths<'_>,
@@ -66,6 +66,7 @@ fn print_cause<K: Sink>(
             print_place(*place, paths, errors)?;
             print_reason(reason, errors)
         }
+        // Nothing more is known, or there is no memory to print it.
         _ => Ok(()),
     }
 }
@@ -114,6 +115,7 @@ fn path_of<'a>(place: Place, paths: &Paths<'a>) -> &'a str {
         Place::PolicyFile => paths.policy.unwrap_or(""),
         Place::Database => paths.database.unwrap_or(""),
         Place::Socket => paths.socket.unwrap_or(""),
+        // No other place has a path.
         _ => "",
     }
 }
@@ -131,6 +133,7 @@ fn digits_of(place: Place) -> ArrayString<PORT_DIGITS> {
 fn separator_of(reason: &Reason) -> &'static str {
     match reason {
         Reason::Row(_) => ", ",
+        // A row's reason continues its sentence; every other begins one.
         _ => ": ",
     }
 }

@@ -7,11 +7,11 @@ use std::{fmt, io};
 /// More bytes than the system's words for an error have.
 const SYSTEM_WORDS: usize = 320;
 
-/// What the program has to say of a fault besides its line.
+/// What the program can report of a fault besides its line.
 #[derive(Clone, Copy)]
 pub enum Reason {
     System(io::Error),
-    /// A policy file of more bytes than one has at most.
+    /// A policy file of more bytes than one may have.
     TooLong,
     NotUtf8,
     /// A policy file whose first row is not the header.
@@ -27,7 +27,7 @@ pub enum Reason {
     /// A database with a rollback journal, which SQLite alone can play back.
     Journal,
     NoDatabase,
-    /// A database that holds tables of this version, where 0 stands for another program's.
+    /// A database that holds tables of this version; 0 stands for another program's.
     Tables(u64),
     DiskFull,
     /// A database that is damaged, or a device that fails.

@@ -25,7 +25,7 @@ use opc_terms::fault::Fault;
 use std::alloc::Global;
 use std::io::{Read, Write};
 
-/// Answers the question by the policy file on the input, and gives the status.
+/// Answers the question by the policy file on the input, and returns the status.
 pub fn answer_question<R: Read, W: Write, K: Sink>(
     alloc: Global,
     question: &Question,

@@ -9,7 +9,7 @@ use std::io::Read;
 pub trait Openings {
     type File: Read + Drop;
 
-    /// The bytes that the file at a path holds, where they are known.
+    /// The bytes that the file at a path holds, if they are known.
     ghost holds: { Self → List ℕ → Option (List ℕ) };
 
     /// Opens the file at a path.
@@ -18,7 +18,7 @@ pub trait Openings {
             (λ bytes. Self.File.remaining file ≡ Some bytes)) };
 }
 
-// Of what the files of a system hold nothing is known.
+// Nothing is known about what the files of a system hold.
 impl<H: Files> Openings for H {
     ghost use Rattle.std.specs.Prelude.{None};
 

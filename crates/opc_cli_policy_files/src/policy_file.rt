@@ -21,7 +21,7 @@ use std::str;
 /// The most bytes of a policy file.
 const POLICY_LIMIT: u32 = 16_777_216;
 
-/// Bytes that are no policy file, for this reason: they are over the limit, or no text.
+/// Bytes that are not a policy file, for this reason: they are over the limit, or not a text.
 fn no_text(place: Place, reason: Reason) -> Failure
     ensures { result.fault ≡ Fault.RowFault 0 Why.Header }
 {
@@ -32,7 +32,7 @@ fn no_text(place: Place, reason: Reason) -> Failure
     Failure::of(fault, place, reason)
 }
 
-/// The fault of a row, with what is wrong with it, where there is memory to look.
+/// The fault of a row, with what is wrong with it, if there is memory to look.
 fn row_fault(alloc: Global, place: Place, text: &str, row: u32, why: Why) -> Failure
     ensures { result.fault ≡ Fault.RowFault row why }
 {
@@ -70,7 +70,7 @@ fn rows_in(alloc: Global, place: Place, bytes: &[u8]) -> Result<Vec<Row>, Failur
     let Ok(text) = str::from_utf8(bytes) else {
         return Err(no_text(place, Reason::NotUtf8));
     };
-    // Named for the prover, which else does not find the type of a row's console.
+    // For the prover alone, which needs the type of a row's console named.
     let _nowhere: Option<ConsoleName> = None;
     read_policy(alloc, text).map_err(|fault| fault_in(alloc, place, text, fault))
 }
@@ -84,7 +84,7 @@ pub fn read_rows<R: Read>(alloc: Global, place: Place, input: &mut R) -> Result<
         Ok(bytes) => bytes,
         Err(error) => return Err(Failure::at(place, error)),
     };
-    // Named for the prover, which else does not find the type of a row's console.
+    // For the prover alone, which needs the type of a row's console named.
     let _nowhere: Option<ConsoleName> = None;
     rows_in(alloc, place, &bytes)
 }

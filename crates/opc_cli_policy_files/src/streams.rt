@@ -11,10 +11,10 @@ use std::io::{ErrorKind, Read};
 /// The most bytes of one read.
 const BLOCK: usize = 8192;
 
-/// How often a read is made again that a signal cut short.
+/// How often a read that a signal cut short is tried again.
 const TRIES: u32 = 1_000_000;
 
-/// Reads once, and again where a signal came first.
+/// Reads once, and again if a signal came first.
 fn read_once<R: Read>(input: &mut R, buf: &mut [u8]) -> io::Result<usize>
     ensures bound { ReadsAtMost result buf.new }
     ensures bytes { ReadConsumes (R.remaining input.old) (R.remaining input.new) result buf.new }
@@ -28,7 +28,7 @@ fn read_once<R: Read>(input: &mut R, buf: &mut [u8]) -> io::Result<usize>
     input.read(buf)
 }
 
-/// Reads a block at most, so that `bytes` grow to `most` at most; 0 means the end, or that there are so many.
+/// Reads at most a block, so that `bytes` grow to `most` at most; 0 means the end, or that there are this many.
 fn read_block<R: Read>(input: &mut R, bytes: &mut Vec<u8>, most: usize) -> io::Result<usize>
     requires { vec_len bytes.old ≤ most }
     ensures more { IfOk result (λ n. ReadsMore (R.remaining input.old) (R.remaining input.new) bytes.old.items
@@ -42,7 +42,7 @@ fn read_block<R: Read>(input: &mut R, bytes: &mut Vec<u8>, most: usize) -> io::R
     Ok(count)
 }
 
-/// The bytes of a reader, one more than the limit at most, and no more are read.
+/// The bytes of a reader, up to one more than the limit; no more are read.
 pub fn read_up_to<R: Read>(alloc: Global, input: &mut R, limit: u32) -> io::Result<Vec<u8>>
     ensures bytes { IfOk result (λ v. IfSome (R.remaining input.old) (λ all. v.items ≡ take (limit + 1) all)) }
     ensures most { TakesAtMost (limit + 1) (R.remaining input.old) (R.remaining input.new) }

@@ -20,7 +20,7 @@ use opc_terms::fault::Fault;
 use std::alloc::Global;
 use std::io::Read;
 
-/// Puts the policy file on the input into these tables, at a moment, and hands them back.
+/// Puts the policy file on the input into these tables, at a moment, and returns them.
 pub fn import_on<T: Tables, R: Read, K: Sink>(
     alloc: Global,
     tables: T,
@@ -100,7 +100,7 @@ fn listed(alloc: Global, rows: &[Row]) -> Result<Rows<Row>, Failure>
     Rows::from_slice(alloc, rows).map_err(|_| Failure::from(Fault::NoMemory))
 }
 
-/// Writes the policy of these tables as a policy file, and hands them back.
+/// Writes the policy of these tables as a policy file, and returns them.
 pub fn export_on<T: Tables, K: Sink>(
     alloc: Global,
     tables: T,

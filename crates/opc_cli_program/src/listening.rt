@@ -1,4 +1,4 @@
-//! Where `opcmds serve` listens, and what it says of it.
+//! Where `opcmds serve` listens, and what it prints about it.
 ghost use Rattle.std.specs.Prelude.{◌≡◌, IfErr, IfOk, IsOk, OnOk};
 ghost use Rattle.std.specs.Io.KnownBytes.{Appends};
 ghost use Rattle.std.specs.Net.Socket.{socket_port};
@@ -14,7 +14,7 @@ use std::io;
 use std::io::{ErrorKind, Write};
 use std::net::{Ipv4Addr, SocketAddr, SocketAddrV4};
 
-/// More bytes than the line has that says at which port the program listens.
+/// More bytes than the line has that states at which port the program listens.
 const LISTENING_LINE: usize = 32;
 
 /// A port of 127.0.0.1.
@@ -25,7 +25,7 @@ fn loopback(port: u16) -> SocketAddr
     SocketAddr::V4(SocketAddrV4::new(Ipv4Addr::LOCALHOST, port))
 }
 
-/// Listens at a port of 127.0.0.1, or at one that the system chooses, where it is 0.
+/// Listens at a port of 127.0.0.1, or, if it is 0, at one that the system chooses.
 #[tactic(auto, using(opc_cli_failures::proofs::Faults::streams_fail))]
 pub(crate) fn listen_at_port<P: Ports>(ports: &P, port: u16) -> Result<(P::Listener, u16), Failure>
     ensures status { IfErr result (λ failure. status_of failure.fault ≡ Status.Failed) }
@@ -41,7 +41,7 @@ pub(crate) fn listen_at_port<P: Ports>(ports: &P, port: u16) -> Result<(P::Liste
     }
 }
 
-/// Makes the file of a socket. That of a socket at which nobody listens any more is replaced.
+/// Makes the file of a socket. A file left by a socket at which nobody listens any more is replaced.
 fn make_file<P: Ports>(ports: &P, path: &str) -> io::Result<P::Bound>
     ensures { IfOk result (λ bound. P.names ports.now path.now bound) }
 {
@@ -89,7 +89,7 @@ fn listening_line(port: u16) -> ArrayString<LISTENING_LINE>
     line
 }
 
-/// Says at which port the program listens, in one write.
+/// Prints at which port the program listens, in one write.
 fn write_port<W: Write>(port: u16, output: &mut W) -> io::Result<()>
     ensures { OnOk result (Appends (W.contents output.old) (W.contents output.new) (listening_line port)) }
 {
@@ -119,7 +119,7 @@ fn said(wrote: io::Result<()>) -> Result<(), Failure>
     }
 }
 
-/// Says at which port the program listens.
+/// Prints at which port the program listens.
 pub(crate) fn print_port<W: Write>(port: u16, output: &mut W) -> Result<(), Failure>
     ensures status { IfErr result (λ failure. status_of failure.fault ≡ Status.Failed) }
     ensures said { OnOk result (Appends (W.contents output.old) (W.contents output.new) (listening_line port)) }
@@ -127,7 +127,7 @@ pub(crate) fn print_port<W: Write>(port: u16, output: &mut W) -> Result<(), Fail
     said(write_port(port, output))
 }
 
-/// Says at which socket it does.
+/// Prints at which socket it does.
 pub(crate) fn print_socket<W: Write>(path: &str, output: &mut W) -> Result<(), Failure>
     ensures status { IfErr result (λ failure. status_of failure.fault ≡ Status.Failed) }
     ensures said { OnOk result (Appends (W.contents output.old) (W.contents output.new) (socket_line path.now)) }

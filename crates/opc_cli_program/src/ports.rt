@@ -10,7 +10,7 @@ use std::net::{Net, OpenListener, SocketAddr};
 use std::os::fd::OwnedFd;
 use std::{fs, io};
 
-/// Where one may listen.
+/// Where the program may listen.
 pub trait Ports {
     ghost use Rattle.std.specs.Prelude.{ℕ, List};
     ghost use Rattle.std.specs.declared.net.socket_addr.SocketAddr.{SocketAddr};
@@ -24,7 +24,8 @@ pub trait Ports {
     /// Listens at the file of a Unix socket.
     type Socket: Listener + Drop;
 
-    /// That a listener was bound to an address. What a function over any ports says by it can only be shown by a call.
+    /// That a listener was bound to an address. What a function over any ports promises by it can only be shown by a
+    /// call.
     ghost binds: { Self → SocketAddr → Self.Listener → Type 0 };
 
     /// That this is the address of a listener.
@@ -45,7 +46,7 @@ pub trait Ports {
     fn address_of(&self, listener: &Self::Listener) -> io::Result<SocketAddr>
         ensures { IfOk result (λ address. is_at self.now listener.now address) };
 
-    /// Makes a socket with a file at this path, where there is none. Nobody can connect to it before it listens.
+    /// Makes a socket with a file at this path, if there is none. Nobody can connect to it before it listens.
     fn make_file(&self, path: &str) -> io::Result<Self::Bound>
         ensures { IfOk result (λ bound. names self.now path.now bound) };
 
@@ -55,10 +56,10 @@ pub trait Ports {
     fn listen(&self, bound: Self::Bound) -> io::Result<Self::Socket>
         ensures { IfOk result (λ socket. listens self.now bound socket) };
 
-    /// Removes the file of a socket at which nobody listens, if that is what stands at this path; whether it did.
+    /// Removes the file of a socket at which nobody listens, if that is what is at this path; returns whether it did.
     fn clear(&self, path: &str) -> bool;
 
-    /// Removes the file of a socket that is done with.
+    /// Removes the file of a socket that is no longer used.
     fn remove(&self, path: &str);
 }
 

@@ -23,7 +23,7 @@ fn write_line<K: Sink>(output: &mut K, text: &str) -> io::Result<()>
     write_text(output, "\n")
 }
 
-/// Writes the lines of an answer, and takes no memory: what was done is printed where there is none.
+/// Writes the lines of an answer, and takes no memory: what was done is printed even if there is none.
 fn write_lines<K: Sink>(output: &mut K, lines: &[Line]) -> io::Result<()>
     ensures text { MatchResult result (λ _. Appends (K.held output.old) (K.held output.new) (lines_text lines.now))
         (λ _. AppendsPrefix (K.held output.old) (K.held output.new) (lines_text lines.now)) }

@@ -20,8 +20,7 @@ use std::alloc::Global;
 use std::io::Read;
 use std::str;
 
-/// Takes the first policy, if one is named, and then runs the script on the input over these tables, which it hands
-/// back.
+/// Takes the first policy, if one is named, and then runs the script on the input over these tables, which it returns.
 pub fn run_on<H: AllocGlobal + Openings, T: Tables, R: Read, K: Sink>(
     rt: &H,
     tables: T,
@@ -70,7 +69,7 @@ fn take_file<H: AllocGlobal + Openings, T: Tables>(
     take_first(rt.alloc(), gate, &rows)
 }
 
-/// Runs the script on the input over these tables, with a cache of which profile decides, and hands them back.
+/// Runs the script on the input over these tables, with a cache of which profile decides, and returns them.
 fn run_cached<T: Tables, R: Read, K: Sink>(
     alloc: Global,
     tables: T,
@@ -89,7 +88,7 @@ fn run_cached<T: Tables, R: Read, K: Sink>(
     (end, gate.into_store())
 }
 
-/// Runs the script on the input. One that is not UTF-8 is a bad line, as one that is too long.
+/// Runs the script on the input. One that is not UTF-8 is a bad line, as is one that is too long.
 fn answer_script<T: Tables, R: Read, K: Sink>(
     alloc: Global,
     gate: &mut Gate<T>,

@@ -59,7 +59,7 @@ fn routes_at(alloc: Global, strict: bool, port: u16) -> Result<Routes, Failure>
     }
 }
 
-/// Serves clients over these tables, with a cache of which profile decides, and hands them back.
+/// Serves clients over these tables, with a cache of which profile decides, and returns them.
 pub fn serve_tables<
     H: AllocGlobal + Clock,
     P: Ports<Listener = L, Socket = S>,
@@ -85,7 +85,7 @@ where
     (end, gate.into_store())
 }
 
-/// Serves clients over a gate, at the address that is asked for.
+/// Serves clients over a gate, at the requested address.
 fn serve_gate<
     H: AllocGlobal + Clock,
     P: Ports<Listener = L, Socket = S>,

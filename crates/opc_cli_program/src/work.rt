@@ -32,7 +32,7 @@ pub enum Work<'a> {
     Serve(Serve<'a>),
 }
 
-/// Does a work over these tables, and hands them back.
+/// Does a work over these tables, and returns them.
 pub fn work_on<
     H: AllocGlobal + Clock + Openings,
     P: Ports<Listener = L, Socket = S>,
@@ -66,7 +66,7 @@ where
     }
 }
 
-/// Puts the policy file on the input into these tables, at the clock's moment, and hands them back.
+/// Puts the policy file on the input into these tables, at the clock's moment, and returns them.
 fn import_now<H: AllocGlobal + Clock, T: Tables, R: Read, W: Write>(
     rt: &H,
     tables: T,

@@ -21,11 +21,11 @@ pub struct Screen<W> {
 impl<W: Write> Write for Screen<W> {
     ghost use Rattle.std.specs.Prelude.{None, if◌then◌else◌};
 
-    // Of what a terminal holds, `write` says by itself what it adds.
+    // What a terminal holds is not modelled here: `write` itself states what it adds.
     ghost contents = { λ s. if s.is_terminal then None else W.contents s.inner };
 
-    /// Writes the bytes as they are, or, to a terminal, all of the text as it is shown. Bytes that are no text are not
-    /// written to a terminal.
+    /// Writes the bytes as they are, or, to a terminal, all of the text as it is shown. Bytes that are not a text are
+    /// not written to a terminal.
     fn write(&mut self, bytes: &[u8]) -> io::Result<usize>
         ensures bound { WritesAtMost result bytes.now }
         ensures bytes { WriteAppends (if self.old.is_terminal then None else W.contents self.old.inner)

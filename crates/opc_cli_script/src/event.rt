@@ -56,6 +56,7 @@ fn kind_alone(word: &str) -> Option<UnitKind>
     match word {
         "JOB" => Some(UnitKind::Job),
         "TSU" => Some(UnitKind::Tsu),
+        // A started task has a member after its word, so `started_kind` reads it; no other word is a kind.
         _ => None,
     }
 }
@@ -83,6 +84,7 @@ fn kind_in(text: &str) -> Option<(UnitKind, bool)>
 {
     match separated(text) {
         Some(("STC", rest)) => started_kind(rest),
+        // Jobs and sessions have no member.
         _ => plain_kind(text),
     }
 }
@@ -119,6 +121,7 @@ fn id_in(text: &str) -> Option<ReplyId>
         [a, b] if a.is_ascii_digit() && b.is_ascii_digit() => {
             ReplyId::new(10 * (*a - b'0') + (*b - b'0'))
         }
+        // Anything else is not the number of a reply.
         _ => None,
     }
 }
@@ -160,7 +163,7 @@ pub(crate) fn event_in(alloc: Global, text: &str) -> Result<Option<Event>, Alloc
     }
 }
 
-// The event of a word but ASK, with what stands after it.
+// The event of a word other than ASK, with the text after it.
 fn reported(verb: &str, rest: &str) -> Option<Event>
     ensures { result ≡ event_by verb.now rest.now }
 {
@@ -170,6 +173,7 @@ fn reported(verb: &str, rest: &str) -> Option<Event>
         "ATTACH" => Some(Event::Attach(name_in(rest)?)),
         "ALLOCATE" => allocate(rest),
         "FREE" => Some(Event::Free(name_in(rest)?)),
+        // No other word begins an event.
         _ => None,
     }
 }

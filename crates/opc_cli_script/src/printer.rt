@@ -19,14 +19,14 @@ use opc_state::tables::Tables;
 use std::alloc::Global;
 use std::io;
 
-/// Writes a text, or, where the output fails, some prefix of it.
+/// Writes a text, or, if the output fails, some prefix of it.
 pub fn write_text<K: Sink>(output: &mut K, text: &str) -> io::Result<()>
     ensures text { MatchResult result (λ _. Appends (K.held output.old) (K.held output.new) text.now)
         (λ _. AppendsPrefix (K.held output.old) (K.held output.new) text.now) }
     ensures failed { K.has_failed output.new ≡ (if is_err result then true else K.has_failed output.old) }
 {
     let bytes = text.as_bytes();
-    // A loop of its own, for the reasons that `write_whole` has.
+    // A loop of its own, for the same reasons as in `write_whole`.
     let mut done = 0;
     while done < bytes.len() {
         match output.write(&bytes[done..]) {
@@ -37,7 +37,7 @@ pub fn write_text<K: Sink>(output: &mut K, text: &str) -> io::Result<()>
     Ok(())
 }
 
-/// Prints each answer of a run, and keeps what the answers come to.
+/// Prints each answer of a run, and remembers what the answers come to.
 #[derive(Drop)]
 pub(crate) struct Printer<'a, K: Sink> {
     pub alloc: Global,

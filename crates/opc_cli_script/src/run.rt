@@ -25,7 +25,7 @@ fn write_bad_line<K: Sink>(alloc: Global, number: usize, output: &mut K) -> Resu
     Ok(())
 }
 
-/// Writes which line is bad, and answers the fault that ends the run: that line, or why it could not be reported.
+/// Writes which line is bad, and returns the fault that ends the run: that line, or why it could not be reported.
 pub fn print_bad_line<K: Sink>(alloc: Global, number: usize, output: &mut K) -> ScriptFault
     ensures reported { IsBadLinePrinted number (K.held output.old) (K.held output.new) result }
     ensures failed { K.has_failed output.new ≡ (if is_output result then true else K.has_failed output.old) }
@@ -36,11 +36,11 @@ pub fn print_bad_line<K: Sink>(alloc: Global, number: usize, output: &mut K) -> 
     }
 }
 
-/// Runs a script over a gate, and answers what the answers come to. What is written is the transcript of the access
-/// machine's answers. Where a line is bad or the script has more than 1,048,576 bytes, that is written, and nothing is
-/// run. Where the output fails or memory is refused for an answer's text, the run ends with that request: it is
-/// handled, and so are those before it, whose answers are written. A failed output is reported exactly where a write
-/// to it failed. A crash leaves what it might have left before, or a state that one of the handled requests makes, in
+/// Runs a script over a gate, and returns what the answers come to. What is written is the transcript of the access
+/// machine's answers. If a line is bad or the script has more than 1,048,576 bytes, that is written, and nothing is
+/// run. If the output fails or memory is refused for an answer's text, the run ends with that request: it is handled,
+/// and so are those before it, whose answers are written. A failed output is reported if and only if a write to it
+/// failed. A crash leaves what it might have left before, or a state that one of the handled requests makes, as a
 /// whole.
 pub fn run_script<T: Tables, K: Sink>(
     gate: &mut Gate<T>,

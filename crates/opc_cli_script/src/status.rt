@@ -7,7 +7,7 @@ use opc_cli_failures::status::Status;
 use opc_gate::request::Answer;
 use opc_terms::fault::Fault;
 
-/// The status of some answers, which is given, and one more.
+/// The status after these answers and one more.
 pub(crate) fn status_after(status: Status, answer: &Answer) -> Status
     ensures { (answers : List TheAnswer) → status ≡ status_of answers
         → result ≡ status_of (answers ++ answer.now ∷ []) }
@@ -18,6 +18,7 @@ pub(crate) fn status_after(status: Status, answer: &Answer) -> Status
             ..
         } => Status::Failed,
         Answer::Refused { .. } if status == Status::Done => Status::Refused,
+        // A failure stays a failure, a refusal stays one, and what is done changes nothing.
         _ => status,
     }
 }

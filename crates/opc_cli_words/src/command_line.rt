@@ -33,7 +33,7 @@ fn value<'a>(alloc: Global, name: &'a str, shown: &'a str, help: &'a str) -> Arg
         .help(help)
 }
 
-/// An option that has to be given.
+/// An option that is required.
 fn needed<'a>(alloc: Global, name: &'a str, shown: &'a str, help: &'a str) -> Arg<'a>
     ensures rule { rule_of result ≡ needed name.entry.now }
     ensures alone { result.global ≡ false }
@@ -41,7 +41,7 @@ fn needed<'a>(alloc: Global, name: &'a str, shown: &'a str, help: &'a str) -> Ar
     value(alloc, name, shown, help).required(true)
 }
 
-/// An option that has a value where it is not given.
+/// An option that has a default value.
 fn preset<'a>(
     alloc: Global,
     name: &'a str,
@@ -185,7 +185,7 @@ fn export_command<'a>(alloc: Global) -> Result<Command<'a>, AllocError>
     ))
 }
 
-/// `serve` with the options that say where it listens, and what is refused there.
+/// `serve` with the options that state where it listens, and what is refused there.
 fn with_address<'a>(alloc: Global, serve: Command<'a>) -> Result<Command<'a>, AllocError>
     ensures { IfOk result (λ built. IsCommand serve.entry (codes "serve") (needed (codes "db") ∷ [])
         → IsCommand built (codes "serve") (needed (codes "db") ∷ address_options)) }

@@ -10,7 +10,7 @@ use crate::question::console_in;
 use clap::ArgMatches;
 use opc_names::name::ConsoleName;
 
-/// What is imported: a batch with a number at a console or, where none is named, a first policy.
+/// What is imported: a batch with a number at a console or, if none is named, a first policy.
 #[derive(Clone, Copy)]
 pub struct Import<'a> {
     pub path: &'a str,

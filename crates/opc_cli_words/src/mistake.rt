@@ -5,7 +5,7 @@ ghost use Rattle.opc_cli_words.specs.Mistakes.{mistake_line};
 
 use opc_io::sink::{Sink, WriteFault, write_whole};
 
-/// That the value of this option does not read.
+/// That the value of this option is not valid.
 macro_rules! unread {
     ($option:literal) => {
         concat!("the value of ", $option, " does not read")
@@ -14,7 +14,7 @@ macro_rules! unread {
 
 pub(crate) use unread;
 
-/// Neither or both say where to listen.
+/// Neither or both options state where to listen.
 pub(crate) const ONE_ADDRESS: &str = "serve needs exactly one of --port and --socket";
 
 /// A port has no permissions.

@@ -10,7 +10,7 @@ fn are_digits(bytes: &[u8]) -> bool
     bytes.iter().all(|c| c.is_ascii_digit())
 }
 
-/// The number that a text of decimal digits is, within these limits. Leading zeros pass.
+/// The number that a text of decimal digits is, within these limits. Leading zeros are accepted.
 pub(crate) fn number_between(text: &str, least: u64, most: u64) -> Option<u64>
     ensures { result ≡ number_between least most text.now }
 {
@@ -19,6 +19,7 @@ pub(crate) fn number_between(text: &str, least: u64, most: u64) -> Option<u64>
     }
     match text.parse::<u64>() {
         Ok(number) if least <= number && number <= most => Some(number),
+        // The number is outside the limits, or does not fit.
         _ => None,
     }
 }

@@ -39,7 +39,7 @@ pub enum Address<'a> {
     Socket { path: &'a str, mode: u32 },
 }
 
-/// What is served: the tables of a file, at an address, to so many clients.
+/// What is served: the tables of a file, at an address, to this many clients.
 #[derive(Clone, Copy)]
 pub struct Serve<'a> {
     pub path: &'a str,
@@ -61,7 +61,7 @@ fn port_in(text: &str) -> Result<u16, &'static str>
     }
 }
 
-/// The path of a socket. Linux has a meaning of its own for an empty one: a socket without permissions.
+/// The path of a socket. An empty one has a meaning of its own for Linux: a socket without permissions.
 fn path_in<'a>(text: &'a str) -> Result<&'a str, &'static str>
     ensures { IsReadAs (λ path. path.now ≡ text.entry.now) (path_check (Some text.entry.now)) result }
 {
@@ -79,11 +79,12 @@ fn mode_named(text: &str) -> Option<u32>
         "600" | "0600" => Some(0o600),
         "660" | "0660" => Some(0o660),
         "666" | "0666" => Some(0o666),
+        // No other mode is offered: the owner, also the group, or everybody may connect.
         _ => None,
     }
 }
 
-/// The permissions of a socket: the owner's alone, where none are given.
+/// The permissions of a socket: the owner's alone, if none are given.
 fn mode_in(given: Option<&str>) -> Result<u32, &'static str>
     ensures { IsReadAs (λ mode. mode_of (option_copied given.entry) ≡ Some mode)
         (mode_check (option_copied given.entry)) result }
@@ -94,7 +95,7 @@ fn mode_in(given: Option<&str>) -> Result<u32, &'static str>
     }
 }
 
-/// Where to listen: at a port or at a socket, of which exactly one is given.
+/// Where to listen: at a port or at a socket; exactly one is given.
 fn address_of<'a>(
     port: Option<&'a str>,
     socket: Option<&'a str>,
@@ -112,6 +113,7 @@ fn address_of<'a>(
             let mode = mode_in(mode)?;
             Ok(Address::Socket { path, mode })
         }
+        // Both are given, or neither is.
         _ => Err(ONE_ADDRESS),
     }
 }
@@ -122,6 +124,7 @@ fn is_set(chosen: &ArgMatches<'_>, name: &str) -> bool
 {
     match chosen.get_str(name) {
         Some("true") => true,
+        // `clap` gives a flag no other value.
         _ => false,
     }
 }
@@ -151,7 +154,7 @@ fn count_in(chosen: &ArgMatches<'_>) -> Result<u32, &'static str>
     }
 }
 
-/// How long an exchange may take, 0 to 3,600 seconds; with 0 as long as it takes.
+/// How long an exchange may take, 0 to 3,600 seconds; with 0, as long as it takes.
 fn timeout_in(chosen: &ArgMatches<'_>) -> Result<Option<Duration>, &'static str>
     ensures { IsReadAs (IsWait (first_value (found_of chosen.now))) (timeout_option (first_value (found_of chosen.now)))
         result }

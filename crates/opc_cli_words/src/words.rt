@@ -46,8 +46,8 @@ pub enum Task<'a> {
     Serve(Serve<'a>),
 }
 
-/// What the words ask for, of which the first is the program's own name. Where they ask for help or do not read, that
-/// is reported, and the status is given.
+/// What the words ask for; the first is the program's own name. If they ask for help or are not valid, that is
+/// reported, and the status is returned.
 pub fn read_words<'a, W: Write, E: Write>(
     alloc: Global,
     words: &'a [String],
@@ -123,6 +123,7 @@ fn asked<'a>(command: &str, chosen: &ArgMatches<'a>) -> Result<Task<'a>, &'stati
             Ok(serve) => Ok(Task::Serve(serve)),
             Err(mistake) => Err(mistake),
         },
+        // The command line has no other command.
         _ => Err(unread!("COMMAND")),
     }
 }
@@ -132,11 +133,11 @@ fn report_mistake<K: Sink>(command: &str, mistake: &str, errors: &mut K)
     ensures { K.has_failed errors.new ≡ false → Appends (K.held errors.old) (K.held errors.new)
         (mistake_line command.now mistake.now) }
 {
-    // The status says it too, if no word can be printed.
+    // The status reports it too, if no word can be printed.
     let _ = print_mistake(command, mistake, errors);
 }
 
-/// Prints what `clap` says: help to the output, a mistake to the errors.
+/// Prints what `clap` reports: help to the output, a mistake to the errors.
 fn report_words<W: Write, E: Write>(
     error: &Error,
     output: &mut Watched<W>,
@@ -147,6 +148,7 @@ fn report_words<W: Write, E: Write>(
     match error.kind() {
         ErrorKind::OutOfMemory => report_failure(&Failure::from(Fault::NoMemory), errors),
         ErrorKind::DisplayHelp | ErrorKind::DisplayVersion => report_help(error, output, errors),
+        // Every other kind is a mistake in the words.
         _ => {
             let _ = write!(errors.inner, "{error}");
             Status::BadInput

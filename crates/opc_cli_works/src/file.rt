@@ -20,8 +20,8 @@ use std::io::{Read, Write};
 pub type Closed<S> = Result<Files<FileFrom<S>>, (Error, FileStore<FileFrom<S>>)>;
 
 /// Opens the database file at a path, or makes it, does a work over its tables, and closes it. `start` stands for what
-/// the files hold, and says what a torn write may leave. Returns what the work came to, what the closing did, and
-/// whether the tables were made by this opening.
+/// the files hold, and states what a torn write may leave. Returns what the work came to, what the closing did, and
+/// whether this opening made the tables.
 pub fn work_at<S: Start, R: Read, W: Write>(
     rt: &HostRuntime,
     path: &str,

@@ -19,7 +19,7 @@ pub fn runs_are_kept<D: Disk, W: Write>()
     ensures { RunsAreKept D.Disk W.contents }
 {}
 
-/// A first policy that is named is taken before the script is run: the file is left with the state that the policy, and
+/// A first policy that is named is taken before the script is run: the file is left with the state that the policy and
 /// then the requests lead to. A policy that is refused leaves the state that was there, and nothing is run or printed.
 pub fn first_policies_are_kept<D: Disk, W: Write>()
     ensures taken { FirstPoliciesAreKept D.Disk W.contents }
@@ -39,12 +39,12 @@ pub fn exports_leave_the_file<D: Disk, W: Write>()
 {}
 
 /// Whatever becomes of a request, a crash, or a fault of the disk that closes the tables, leaves those of the state
-/// before it or of the state after it, in whole, and the next opening finds that state.
+/// before it or of the state after it, as a whole, and the next opening finds that state.
 pub fn requests_are_left_whole<D: Disk>()
     ensures { RequestsAreLeftWhole D.Disk }
 {}
 
-/// Once a fault of the disk has closed the tables they stay closed, each request that some state refuses is aborted,
+/// Once a fault of the disk has closed the tables, they stay closed, each request that some state refuses is aborted,
 /// and no request adds anything to what a crash leaves.
 pub fn closed_tables_stay_as_they_are<S: Alter>()
     ensures stay { ShutTablesStay S.Store }

@@ -53,6 +53,7 @@ fn is_warned(rule: &Option<Rule>) -> bool
 {
     match rule {
         Some(Rule::Profile { warned, .. }) => *warned,
+        // Only a profile can warn.
         _ => false,
     }
 }
@@ -70,7 +71,7 @@ fn console_of(request: &Request) -> Option<ConsoleName>
     }
 }
 
-// The row of the console that a request names. Where it names one, the state is in the order of its keys.
+// The row of the console that a request names. If it names one, the state is in the order of its keys.
 fn console_on<T: Tables>(
     tables: &mut T,
     request: &Request,
@@ -96,7 +97,8 @@ fn is_accounted(outcome: &Outcome) -> bool
 }
 
 // For whom the console of a request acts, if the account gets a row for what the request comes to. The row has only the
-// name: a user is loaded for it only if an AUTO console with nobody on has to know whether its own user is stored.
+// name: a user is loaded for it only if an AUTO console with nobody logged on has to know whether its own user is
+// stored.
 fn user_accounted_on<T: Tables>(
     tables: &mut T,
     alloc: Global,
@@ -108,6 +110,7 @@ fn user_accounted_on<T: Tables>(
 {
     match console {
         Some(console) if is_accounted(outcome) => acting_user_on(tables, alloc, console),
+        // No row is written, or the request names no console that is there.
         _ => Ok(None),
     }
 }
@@ -293,8 +296,8 @@ impl<T: Tables> Model for Gate<T> {
 }
 
 impl<T: Tables> Gate<Cached<T>> {
-    /// A gate over these tables, with a cache of which profile decides. Where memory is refused for it (E90) the tables
-    /// are handed back. With its cache, which is empty, the gate represents each state that the tables represent.
+    /// A gate over these tables, with a cache of which profile decides. If memory is refused for it (E90), the tables
+    /// are returned. With its cache, which is empty, the gate represents each state that the tables represent.
     pub fn new(alloc: Global, store: T) -> Result<Self, (Fault, T)>
         ensures made { IfOk result (λ gate. (gate.tables ≡ store) × (gate.recent ≡ [])) }
         ensures represents { IfOk result
@@ -307,8 +310,8 @@ impl<T: Tables> Gate<Cached<T>> {
         }
     }
 
-    /// How many names are cached, 256 at most. Each has the pattern that decides it in every state that the gate
-    /// represents, or none where none does.
+    /// How many names are cached, at most 256. Each has the pattern that decides it in every state that the gate
+    /// represents, or none if none decides.
     pub fn cached(&self) -> u32
         ensures count { result ≡ length self.now.recent }
         ensures most { result ≤ 256 }
@@ -341,8 +344,8 @@ impl<T: Tables> Gate<T> {
         self.tables
     }
 
-    /// Takes the rows of a first policy, where no user is stored, all of them or none. A crash leaves the state before
-    /// or after it, in whole; once it is acknowledged, the state after it alone. Rows that bring nothing new write
+    /// Takes the rows of a first policy, all of them or none, if no user is stored. A crash leaves the state before or
+    /// after it, as a whole; once it is acknowledged, the state after it alone. Rows that bring nothing new write
     /// nothing.
     pub fn bootstrap(&mut self, alloc: Global, rows: &[Row]) -> Result<(), Fault>
         ensures sure { T.meaning.is_sure self.new → T.meaning.is_sure self.old }
@@ -362,8 +365,8 @@ impl<T: Tables> Gate<T> {
         bootstrap(&mut self.tables, alloc, rows)
     }
 
-    /// The policy and the consoles, as the rows of a policy file. They are those that a bootstrap of new tables makes
-    /// the same policy of, and the same authorities and modes.
+    /// The policy and the consoles, as the rows of a policy file. A bootstrap of new tables with them makes the same
+    /// policy, and the same authorities and modes.
     pub fn export(&mut self, alloc: Global) -> Result<Vec<Row>, Fault>
         ensures rows { Loads T.meaning self.old self.new result
             (λ s rows. rows.items ≡ rows_of s.policy s.board.consoles) }
@@ -373,7 +376,7 @@ impl<T: Tables> Gate<T> {
     }
 
     /// Answers a request. The answer and the state that the tables represent afterwards are a step of the access
-    /// machine. A crash leaves the state before it or the state after it, in whole; once a change is acknowledged,
+    /// machine. A crash leaves the state before it or the state after it, as a whole; once a change is acknowledged,
     /// the state after it alone.
     pub fn handle(&mut self, alloc: Global, moment: u64, request: &Request) -> Answer
         ensures sure { T.meaning.is_sure self.new → T.meaning.is_sure self.old }

@@ -32,7 +32,7 @@ use opc_terms::fault::Fault;
 use opc_terms::store_fault::StoreFault;
 use std::alloc::Global;
 
-// The profile that an operation changes, if its owner has the right to it. All else is for SPECIAL alone.
+// The profile that an operation changes, if its owner has the right to it. Everything else is for SPECIAL alone.
 fn owned_profile(op: &Operation) -> Option<(Class, Pattern)>
     ensures owner { (p : ThePolicy) → (user : Option TheUser) →
         owns_changed p user op.now ≡ owns_profile p user result }
@@ -43,6 +43,7 @@ fn owned_profile(op: &Operation) -> Option<(Class, Pattern)>
         | Operation::RDelete { class, pattern }
         | Operation::Permit { class, pattern, .. }
         | Operation::PermitDelete { class, pattern, .. } => Some((*class, *pattern)),
+        // The other operations are about no profile, or define one, which has no owner yet.
         _ => None,
     }
 }
@@ -141,7 +142,7 @@ fn definition(
     }
 }
 
-// What an operation on a profile or its access list comes to that whoever asks has the right to.
+// What an operation on a profile or its access list comes to, if whoever asks has the right to it.
 fn profile_changed_on<T: Tables>(
     tables: &mut T,
     alloc: Global,
@@ -185,14 +186,14 @@ fn profile_changed_on<T: Tables>(
             id,
             when,
         } => permit_delete(tables, alloc, class, &pattern, &id, when),
-        // The caller asks for operations on profiles alone.
+        // The caller passes operations on profiles alone.
         _ => unreachable!(),
     }
 }
 
-// What an operation comes to that whoever asks has the right to. Each operation is one function: tests in the order of
-// its definition, and at the end one edit, or none if nothing changes. The lemma `one_edit` says for most of them what
-// the policy becomes.
+// What an operation comes to, if whoever asks has the right to it. Each operation is one function: tests in the order
+// of its definition, and at the end one edit, or none if nothing changes. For most of them, the lemma `one_edit` states
+// what the policy becomes.
 fn changed_on<T: Tables>(
     tables: &mut T,
     alloc: Global,
@@ -238,10 +239,10 @@ fn changed_on<T: Tables>(
     }
 }
 
-/// What an operation of administration comes to that is asked at a console, whose row is loaded: who may ask (E10 to
-/// E13), the right (E50, E51), and what the operation itself refuses.
-/// It loads, by key, what the operation names: no access list, no policy, no board. A profile's definition is looked up
-/// three times at most, in an RAlter by an owner: for the right, for the operation, and by the cache.
+/// What an operation of administration comes to at a console, whose row is loaded: who may ask (E10 to E13), the right
+/// (E50, E51), and what the operation itself refuses. It loads, by key, what the operation names: no access list, no
+/// policy, no board. A profile's definition is looked up at most three times, in an RAlter by an owner: for the right,
+/// for the operation, and by the cache.
 pub fn admin_on<T: Tables>(
     tables: &mut T,
     alloc: Global,

@@ -21,7 +21,7 @@ use opc_terms::mode::Mode;
 use opc_terms::store_fault::StoreFault;
 use std::alloc::Global;
 
-// A new console is online with nobody on.
+// A new console is online with nobody logged on.
 fn new_console(name: ConsoleName, auth: Auth, mode: Mode) -> ConsoleRow
     ensures { result ≡ new_console name auth mode }
 {
@@ -47,7 +47,7 @@ fn any_other(consoles: &[ConsoleRow], name: &ConsoleName) -> bool
     consoles.iter().any(|console| console.name != *name)
 }
 
-// Whether an online console with AUTH MASTER is another than this one. Of two masters one is another.
+// Whether there is an online console with AUTH MASTER other than this one. Of two masters, at least one is.
 fn has_other_master<T: Tables>(
     tables: &mut T,
     alloc: Global,
@@ -60,7 +60,7 @@ fn has_other_master<T: Tables>(
     Ok(any_other(masters.as_slice(), name))
 }
 
-// Whether the last master is lost where a console becomes another.
+// Whether the last master is lost if a console becomes another.
 fn loses_master<T: Tables>(
     tables: &mut T,
     alloc: Global,
@@ -76,8 +76,8 @@ fn loses_master<T: Tables>(
     Ok(!has_other_master(tables, alloc, &old.name)?)
 }
 
-/// A console gets an authority and a mode; a new one is online with nobody on. One that is there keeps all else, and
-/// the last online console with AUTH MASTER is not lost by it (E41).
+/// A console gets an authority and a mode; a new one is online with nobody logged on. One that is there keeps all else,
+/// and the last online console with AUTH MASTER is not lost by it (E41).
 pub(crate) fn define_console<T: Tables>(
     tables: &mut T,
     alloc: Global,

@@ -26,7 +26,7 @@ fn has_name<T: Tables>(tables: &mut T, name: &str) -> Result<bool, StoreFault>
     Ok(tables.has_user(name)? || tables.has_group(name)?)
 }
 
-// Whether a user is in use: named by a connect, an owner or an access list, or on at a console.
+// Whether a user is in use: named by a connect, an owner or an access list, or logged on at a console.
 fn is_in_use<T: Tables>(tables: &mut T, alloc: Global, id: &UserId) -> Result<bool, StoreFault>
     ensures { Loads T.meaning tables.old tables.new result (λ s used. used ≡ is_in_use s.policy s.board id.now) }
 {
@@ -71,7 +71,7 @@ pub(crate) fn alt_user<T: Tables>(
     }
 }
 
-/// A user who is stored (E53) and not in use (E55) is no more.
+/// A user who is stored (E53) and not in use (E55) is removed.
 pub(crate) fn del_user<T: Tables>(
     tables: &mut T,
     alloc: Global,
@@ -104,7 +104,7 @@ pub(crate) fn add_group<T: Tables>(
     done_by(alloc, Edit::PutGroup(name))
 }
 
-/// A user who is stored is connected to a group that is (E53), unless the user is already (E52, of the group).
+/// Connects a stored user to a stored group (E53), unless the user is already connected to it (E52, of the group).
 pub(crate) fn connect<T: Tables>(
     tables: &mut T,
     alloc: Global,
@@ -126,7 +126,7 @@ pub(crate) fn connect<T: Tables>(
     done_by(alloc, Edit::PutConnect(connect))
 }
 
-/// The user, the group and the connect are stored (E53), and the connect is no more.
+/// The user, the group and the connect are stored (E53), and the connect is removed.
 pub(crate) fn remove<T: Tables>(
     tables: &mut T,
     alloc: Global,

@@ -10,7 +10,7 @@ use opc_terms::fault::{Fault, Subject};
 use opc_terms::store_fault::StoreFault;
 use std::alloc::{AllocError, Global};
 
-/// What has this name is in the way.
+/// Something with this name is in the way.
 pub(crate) fn exists<K: NameKind<N>, const N: usize>(
     name: &Name<K, N>,
 ) -> Result<Outcome, StoreFault>
@@ -19,7 +19,7 @@ pub(crate) fn exists<K: NameKind<N>, const N: usize>(
     refused(Fault::Exists(Subject::of(name)), None)
 }
 
-/// What has this name is not stored.
+/// Nothing with this name is stored.
 pub(crate) fn missing<K: NameKind<N>, const N: usize>(
     name: &Name<K, N>,
 ) -> Result<Outcome, StoreFault>

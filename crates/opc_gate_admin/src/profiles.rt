@@ -46,9 +46,9 @@ fn has_holder<T: Tables>(tables: &mut T, id: &EntryId) -> Result<bool, StoreFaul
     Ok(id.text() == "*" || tables.has_user(id.text())? || tables.has_group(id.text())?)
 }
 
-// The level of the entry for an id in the access list of a profile, at one console or, where none is given, at every
+// The level of the entry for an id in the access list of a profile, at one console or, if none is given, at every
 // console; and whether there is such a profile. The access list of a profile that is not there is empty, so an entry
-// shows its profile. Only without an entry is the profile asked for, so that its fault comes first.
+// shows that its profile is there. Only without an entry is the profile loaded, so that its fault comes first.
 fn level_in<T: Tables>(
     tables: &mut T,
     alloc: Global,
@@ -109,7 +109,7 @@ pub(crate) fn rdefine<T: Tables>(
     done_by(alloc, Edit::PutProfile(profile))
 }
 
-/// A profile that is there is defined anew, and keeps its access list. It and its owner are stored (E53).
+/// A profile that is there gets a new definition, and keeps its access list. It and its owner are stored (E53).
 pub(crate) fn ralter<T: Tables>(
     tables: &mut T,
     alloc: Global,
@@ -132,7 +132,7 @@ pub(crate) fn ralter<T: Tables>(
     done_by(alloc, Edit::PutProfile(profile))
 }
 
-/// A profile that is there (E53) goes with its access list.
+/// A profile that is there (E53) is removed with its access list.
 pub(crate) fn rdelete<T: Tables>(
     tables: &mut T,
     alloc: Global,
@@ -173,7 +173,7 @@ pub(crate) fn permit<T: Tables>(
     done_by(alloc, Edit::PutEntry(class, *pattern, entry))
 }
 
-/// The entry for an id, and for one console alone or for every console, is no more. It and its profile are there (E53).
+/// The entry for an id, and for one console alone or for every console, is removed. It and its profile are there (E53).
 #[tactic(auto, using(crate::proofs::Permitting::profile_there, crate::proofs::Permitting::permitted_there))]
 pub(crate) fn permit_delete<T: Tables>(
     tables: &mut T,

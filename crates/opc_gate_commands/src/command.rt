@@ -78,11 +78,12 @@ fn logon_fault(rule: &Rule) -> Fault
 {
     match rule {
         Rule::Revoked => Fault::Revoked,
+        // READ on the console is denied by a profile, and no other rule denies a logon.
         _ => Fault::DeniedConsole,
     }
 }
 
-// The unit that a command names, if the need of the command goes by what it is.
+// The unit that a command names, if what the command needs depends on what the unit is.
 fn unit_named<T: Tables>(
     tables: &mut T,
     command: &Command<'_>,
@@ -94,6 +95,7 @@ fn unit_named<T: Tables>(
         Command::Force(name) => tables.unit(&name.value),
         Command::Stop(name) => tables.unit(&name.value),
         Command::Modify(name, _) => tables.unit(&name.value),
+        // What the other commands need does not depend on a unit.
         _ => Ok(None),
     }
 }
@@ -107,7 +109,7 @@ fn unit_kind(unit: &Option<UnitRow>) -> UnitKindAt
     }
 }
 
-// The fault of what the board refuses; out of memory the request is aborted.
+// The fault of what the board refuses; if memory was refused, the request is aborted.
 fn board_fault(fault: BoardFault) -> Result<Fault, StoreFault>
     ensures { IfOk result (λ why. (fault ≢ NoMemory) × (why ≡ board_fault fault)) }
 {
@@ -117,7 +119,8 @@ fn board_fault(fault: BoardFault) -> Result<Fault, StoreFault>
     }
 }
 
-// What a command comes to that a rule allows, and that does more than show. The unit that it names may be loaded.
+// What a command comes to, if a rule allows it and it does more than show. The unit that it names may be loaded
+// already.
 fn effect_on<T: Tables>(
     tables: &mut T,
     alloc: Global,
@@ -195,6 +198,7 @@ fn known_by<T: Tables>(
 {
     match tables.user(alloc, id)? {
         Some(user) if is_password(password, &user.digest) => Ok(Some(user)),
+        // A missing user and a wrong password are refused alike (E14).
         _ => Ok(None),
     }
 }
@@ -270,6 +274,7 @@ fn without_need<T: Tables>(
     match command {
         Command::Logon(id, password) => logon(tables, alloc, console, &id.value, &password.value),
         Command::Logoff => logoff(tables, alloc, console),
+        // No command gets here: every other one needs something. The answer is the definition's own last case.
         _ => done(alloc, Vec::new(alloc), None),
     }
 }
@@ -291,8 +296,8 @@ fn typed<T: Tables>(
     }
 }
 
-/// What a command comes to that is typed at a console, whose row is loaded. It loads only what the tests need that are
-/// reached: no footprint is loaded for a command that is denied.
+/// What a command comes to that is typed at a console, whose row is loaded. It loads only what is needed by the tests
+/// that are reached: no footprint is loaded for a command that is denied.
 pub fn command_on<T: Tables>(
     tables: &mut T,
     alloc: Global,

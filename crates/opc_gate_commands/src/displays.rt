@@ -29,6 +29,7 @@ pub(crate) fn is_display(command: &Command<'_>) -> bool
         | Command::DisplayDevices
         | Command::DisplayConsoles
         | Command::DisplayReplies => true,
+        // Every other command may change the board, also one that shows a line, as R does.
         _ => false,
     }
 }
@@ -50,13 +51,13 @@ fn lines_on<T: Tables>(
         Command::DisplayDevices => device_lines(alloc, tables.devices(alloc)?.as_slice())?,
         Command::DisplayConsoles => console_lines(alloc, tables.consoles(alloc)?.as_slice())?,
         Command::DisplayReplies => reply_lines(alloc, tables.replies(alloc)?.as_slice())?,
-        // The caller asks for displays alone.
+        // The caller passes displays alone.
         _ => unreachable!(),
     };
     Ok(lines)
 }
 
-/// What a display comes to that a rule allows: those lines that may be shown, and no change.
+/// What a display comes to, if a rule allows it: those lines that may be shown, and no change.
 pub(crate) fn display_on<T: Tables>(
     tables: &mut T,
     alloc: Global,

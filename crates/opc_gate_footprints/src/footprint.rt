@@ -30,7 +30,7 @@ use opc_state::tables::Tables;
 use opc_terms::store_fault::StoreFault;
 use std::alloc::Global;
 
-// No row, on such a day.
+// No row, on a day that is halted or not.
 fn nothing(alloc: Global, halted: bool) -> BoardRows
     ensures part { (s : State) → halted ≡ s.board.halted → IsPart s no_rows result }
     ensures nowhere { result.consoles ≡ [] }
@@ -97,8 +97,8 @@ fn board_of(part: BoardRows) -> Result<Board, StoreFault>
     Board::of(part).map_err(|_| StoreFault::Store)
 }
 
-/// The footprint of a command that does more than show, typed at a console whose row is loaded. So may the unit be that
-/// it names. A board that breaks an invariant there fails.
+/// The footprint of a command that does more than show, typed at a console whose row is loaded. The unit that it names
+/// may be loaded already. It fails if the board breaks an invariant there.
 pub fn footprint_on<T: Tables>(
     tables: &mut T,
     alloc: Global,

@@ -32,7 +32,7 @@ pub enum BoardKeys {
     Reply(ReplyId),
 }
 
-/// What a command names that does more than show. MN and PM name nothing but the console where they are typed.
+/// What a command that does more than show names. MN and PM name nothing but the console where they are typed.
 pub(crate) fn keys_of_command(command: &Command<'_>) -> BoardKeys
     requires { is_display command.now ≡ false }
     ensures { (footprint : Footprint) → (b : BoardRows) → (console : Name) → IsInOrder b → HasKeys footprint b result
@@ -63,7 +63,7 @@ pub(crate) fn keys_of_command(command: &Command<'_>) -> BoardKeys
         Command::Halt => BoardKeys::Nothing,
         Command::Logon(..) => BoardKeys::Nothing,
         Command::Logoff => BoardKeys::Nothing,
-        // Displays load whole tables, not a footprint.
+        // Displays load whole tables, not a footprint, and the caller never passes one.
         Command::DisplayUnits
         | Command::DisplayUnit(_)
         | Command::DisplayDevices

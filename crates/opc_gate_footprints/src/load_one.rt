@@ -1,4 +1,4 @@
-//! Parts of a board, and what one row more makes of them.
+//! Parts of a board, and what one more row makes of them.
 ghost use Rattle.std.specs.Prelude.{◌≡◌, IsSome, OnOk, Some, true, []};
 ghost use Rattle.opc_rows.specs.Ordered.{comes_before};
 ghost use Rattle.opc_board.specs.Invariants.{console_at, unit_at};
@@ -33,7 +33,7 @@ fn add<R: Keyed + Drop>(rows: &mut Rows<R>, key: &R::Key, row: Option<R>) -> Res
     Ok(())
 }
 
-/// Sees a console whose row is loaded.
+/// Adds a console whose row is loaded.
 pub(crate) fn add_console(part: &mut BoardRows, console: &ConsoleRow) -> Result<(), StoreFault>
     ensures footprint { OnOk result ((s : State) → console_at s.board console.now.name ≡ Some console.now
         → LoadsMore s part.old part.new (λ footprint. footprint.consoles console.now.name ≡ true)) }
@@ -55,7 +55,7 @@ pub(crate) fn load_unit<T: Tables>(
     add(&mut part.units, name, unit)
 }
 
-// The unit of a name, which is not loaded again if it is.
+// The unit of a name, which is not loaded again if it is loaded.
 fn unit_on<T: Tables>(
     tables: &mut T,
     name: &UnitName,
@@ -66,11 +66,12 @@ fn unit_on<T: Tables>(
 {
     match loaded {
         Some(unit) if unit.name == *name => Ok(Some(unit)),
+        // No unit is loaded, or another one.
         _ => tables.unit(name),
     }
 }
 
-/// Sees a unit that may be loaded already.
+/// Adds a unit that may be loaded already.
 pub(crate) fn load_unit_once<T: Tables>(
     tables: &mut T,
     part: &mut BoardRows,
@@ -123,6 +124,7 @@ fn load_holder<T: Tables>(
                 ..
             },
         ) => load_unit(tables, part, name),
+        // Nobody has the device, or it is not there.
         _ => Ok(()),
     }
 }

@@ -15,7 +15,7 @@ use opc_state::tables::Tables;
 use opc_terms::store_fault::StoreFault;
 use std::alloc::Global;
 
-/// Sees a unit, which may be loaded already, and the devices that it has.
+/// Adds a unit, which may be loaded already, and the devices that it has.
 pub(crate) fn load_leaving<T: Tables>(
     tables: &mut T,
     alloc: Global,
@@ -31,7 +31,7 @@ pub(crate) fn load_leaving<T: Tables>(
     load_unit_once(tables, part, name, loaded)
 }
 
-/// Sees a console, and two masters where there are so many.
+/// Adds a console, and two masters if there are that many.
 pub(crate) fn load_varied<T: Tables>(
     tables: &mut T,
     alloc: Global,
@@ -46,7 +46,7 @@ pub(crate) fn load_varied<T: Tables>(
     load_console(tables, part, name)
 }
 
-/// Sees a user's session, and the consoles where the user is on.
+/// Adds a user's session, and the consoles where the user is logged on.
 pub(crate) fn load_addressed<T: Tables>(
     tables: &mut T,
     alloc: Global,

@@ -48,7 +48,7 @@ struct Stored {
     board: Board,
 }
 
-// What a row makes of a policy, as an edit: each row has its own, also if it says again what is stored. A console is no
+// What a row makes of a policy, as an edit: each row has its own, even if it repeats what is stored. A console is not
 // part of a policy; consoles are compared (`edits_of_consoles`).
 fn edit_of(alloc: Global, row: &Row) -> Option<Edit>
     ensures { result ≡ edit_of row.now }
@@ -83,7 +83,7 @@ fn edit_of(alloc: Global, row: &Row) -> Option<Edit>
     }
 }
 
-// An edit after others, if there is one.
+// The edits so far and one more, if there is one.
 fn add_any(edits: &mut Vec<Edit>, edit: Option<Edit>) -> Result<(), AllocError>
     ensures { OnOk result (edits.new.items ≡ edits.old.items ++ cons_option edit []) }
 {
@@ -96,7 +96,7 @@ fn add_any(edits: &mut Vec<Edit>, edit: Option<Edit>) -> Result<(), AllocError>
     }
 }
 
-// The edits that rows make of a policy, after others.
+// The edits so far, and those that rows make of a policy.
 fn add_edits(alloc: Global, edits: &mut Vec<Edit>, rows: &[Row]) -> Result<(), AllocError>
     ensures { OnOk result (edits.new.items ≡ edits.old.items ++ edits_of rows.now) }
 {
@@ -121,6 +121,7 @@ fn define_console(board: &mut Board, row: &Row) -> Result<(), AllocError>
 {
     match *row {
         Row::Console { name, auth, mode } => board.define_console(name, auth, mode),
+        // Rows of other kinds define no console.
         _ => Ok(()),
     }
 }
@@ -141,7 +142,7 @@ fn loses_master(old: &Board, new: &Board) -> bool
     old.has_master() && !new.has_master()
 }
 
-// The edits by which rows make one live board of another and change a policy.
+// The edits by which rows turn one live board into another and change a policy.
 fn edits_from(
     alloc: Global,
     old: &Board,
@@ -150,6 +151,7 @@ fn edits_from(
 ) -> Result<Vec<Edit>, AllocError>
     ensures { IfOk result (λ edits. AreEditsOf old.now new.now rows.now edits.items) }
 {
+    // For the prover alone: a clause of this call states that the board keeps its invariants.
     let _rows = new.rows();
     let mut edits = difference(alloc, old, new)?;
     add_edits(alloc, &mut edits, rows)?;
@@ -194,7 +196,7 @@ fn edits_of_rows(
     edits_of_consoles(alloc, &old, board, rows)
 }
 
-// Loads what is stored. Of the board rows ask about consoles alone.
+// Loads what is stored. Of the board, rows ask about consoles alone.
 fn stored_on<T: Tables>(tables: &mut T, alloc: Global) -> Result<Stored, StoreFault>
     ensures { Loads T.meaning tables.old tables.new result
         (λ s stored. (stored.policy ≡ s.policy) × (stored.board ≡ consoles_alone s.board) × IsInOrder s.board) }
@@ -292,7 +294,7 @@ fn write_first<T: Tables>(tables: &mut T, alloc: Global, edits: Vec<Edit>) -> Re
     Ok(())
 }
 
-/// Takes the rows of a first policy, where no user is stored.
+/// Takes the rows of a first policy, if no user is stored.
 pub fn bootstrap<T: Tables>(tables: &mut T, alloc: Global, rows: &[Row]) -> Result<(), Fault>
     ensures sure { T.meaning.is_sure tables.new → T.meaning.is_sure tables.old }
     ensures done { T.meaning.is_sure tables.new → (s : State) → T.meaning.represents tables.old s

@@ -94,7 +94,7 @@ fn same_rows(rows: &[Row], others: &[Row]) -> bool
     rows == others
 }
 
-// A batch whose number is kept: nothing is done, where its rows are the same.
+// A batch whose number is stored: nothing is done if its rows are the same.
 fn same_batch(alloc: Global, number: u32, kept: &[Row], rows: &[Row]) -> Result<Outcome, StoreFault>
     ensures { (s : State)
         → IfOk result (λ o. IsOutcome s (same_batch s number rows.now
@@ -111,7 +111,7 @@ fn same_batch(alloc: Global, number: u32, kept: &[Row], rows: &[Row]) -> Result<
     }))
 }
 
-// What a batch comes to, by what is kept of its number.
+// What a batch comes to, by what is stored under its number.
 fn batch_on<T: Tables>(
     tables: &mut T,
     alloc: Global,
@@ -127,8 +127,8 @@ fn batch_on<T: Tables>(
     }
 }
 
-/// What an import comes to that is asked at a console, whose row is loaded: who asks is SPECIAL (E50), and then the
-/// number is asked for (E56), and only for a new number what is in the way of the rows (E52, E53, E41).
+/// What an import comes to that is asked at a console, whose row is loaded: first, whether SPECIAL asks (E50), then the
+/// number (E56), and only for a new number what is in the way of the rows (E52, E53, E41).
 pub fn import_on<T: Tables>(
     tables: &mut T,
     alloc: Global,

@@ -52,7 +52,7 @@ fn account_lines(alloc: Global, rows: &[(u64, AccountRow)]) -> Result<Rows<Line>
     Ok(lines)
 }
 
-// The lines of the rows that are asked for; no other row is loaded.
+// The lines of the requested rows; no other row is loaded.
 fn lines_on<T: Tables>(
     tables: &mut T,
     alloc: Global,
@@ -67,7 +67,7 @@ fn lines_on<T: Tables>(
 }
 
 /// What a listing of the account comes to that is asked at a console, whose row is loaded: its rows from a number on,
-/// as many as asked for at most, where SPECIAL or AUDITOR asks (else E50).
+/// at most the requested count, if SPECIAL or AUDITOR asks (else E50).
 pub fn account_on<T: Tables>(
     tables: &mut T,
     alloc: Global,

@@ -82,7 +82,7 @@ fn holds_read(console: &ConsoleRow, user: &User, groups: &[GroupName], profile: 
     level.includes(Level::Read)
 }
 
-// The lines of those profiles that a user sees, who does not see all.
+// The lines of the profiles that a user sees who does not see all.
 fn seen_lines(
     alloc: Global,
     console: &ConsoleRow,
@@ -113,7 +113,7 @@ fn all_groups<T: Tables>(
         (λ s groups. groups.items ≡ groups_of s.policy.connects user.now) }
 {
     let groups = tables.groups_of(alloc, user, u32::MAX)?;
-    // There are fewer groups than that, so these are all. With 4,294,967,295 the listing would be aborted.
+    // There are fewer groups than this, so these are all. With 4,294,967,295 the listing would be aborted.
     if groups.len() >= u32::MAX as usize {
         return Err(StoreFault::Store);
     }
@@ -130,7 +130,7 @@ fn all_on<T: Tables>(tables: &mut T, alloc: Global, class: Class) -> Result<Rows
     profile_lines(alloc, profiles.as_slice())
 }
 
-// Those that a user sees at a console, who does not see all.
+// The profiles that a user sees at a console who does not see all.
 fn seen_on<T: Tables>(
     tables: &mut T,
     alloc: Global,

@@ -23,13 +23,13 @@ use std::alloc::Global;
 /// with 16, 3,000 entries cost more than twice what ten cost; with 12, a refusal by ten entries cost 15 % more.
 const FIRST: u32 = 14;
 
-/// An access list of so many entries at most is asked about by its entries at once: the groups of the user are a query
-/// as well.
+/// An access list of at most this many entries is searched by its entries at once: to load the groups of the user is a
+/// query as well.
 const FEW: usize = 1;
 
 /// The level that a user holds at a console in a profile, whose access list is still in the tables. More and more of
-/// the access list and of the user's groups are loaded, until one of them is whole: it asks for what counts of the
-/// other. So this takes in proportion to the shorter of both.
+/// the access list and of the user's groups are loaded, until one of them is whole; then it decides what is looked up
+/// in the other. So the time is in proportion to the shorter of both.
 pub(crate) fn level_on<T: Tables>(
     tables: &mut T,
     alloc: Global,
@@ -41,8 +41,8 @@ pub(crate) fn level_on<T: Tables>(
         (λ s level. level ≡ held_in s.policy profile.now user.now console.now) }
 {
     let mut most = FIRST;
-    // Sixteen rounds suffice if one of the lists has fewer than 4,294,967,295 members; otherwise the request is given
-    // up. Which list is shorter is not known in advance, and counting would read the longer one.
+    // Sixteen rounds suffice if one of the lists has fewer than 4,294,967,295 members; otherwise the request is
+    // aborted. Which list is shorter is not known in advance, and counting would read the longer one.
     for _ in 0..16 {
         if let Some(level) = level_within(tables, alloc, profile, user, console, most)? {
             return Ok(level);
@@ -52,7 +52,7 @@ pub(crate) fn level_on<T: Tables>(
     Err(StoreFault::NoMemory)
 }
 
-// The same, where the access list or the groups are fewer than so many.
+// The same, if the access list or the groups are fewer than this.
 fn level_within<T: Tables>(
     tables: &mut T,
     alloc: Global,
@@ -89,7 +89,7 @@ fn level_within<T: Tables>(
     }
 }
 
-// The level by a whole access list that is loaded: of the user's groups those that have an entry are asked for.
+// The level by a whole access list that is loaded: of the user's groups, those that have an entry are looked up.
 fn level_by_entries<T: Tables>(
     tables: &mut T,
     alloc: Global,
@@ -127,7 +127,7 @@ fn level_by_list(
     listed.level_of(user, Some(console), groups)
 }
 
-// The groups that a user is connected to and entries are for, as often as there are entries.
+// The groups that a user is connected to and that have entries, as often as there are entries.
 fn listed_groups_of<T: Tables>(
     tables: &mut T,
     alloc: Global,
@@ -139,8 +139,8 @@ fn listed_groups_of<T: Tables>(
 {
     let mut groups = Vec::new(alloc);
     for entry in entries {
-        // Whether the id of an entry is a connect group of the user is asked as a text: `*` and ids that begin with a
-        // digit are not names of groups, and nothing says of the tables that no connect has them.
+        // Whether the id of an entry is a connect group of the user is looked up by its text: `*` and ids that begin
+        // with a digit are not names of groups, and nothing promises that no connect in the tables has them.
         if tables.is_connected(&user.id, entry.id.text())? {
             groups.push(group_of(&entry.id)?)?;
         }

@@ -1,4 +1,4 @@
-//! Rulings: who acts and who asks at a console, what is ruled on a need there, and what may be shown.
+//! Rulings: who acts and who asks at a console, how a need is ruled on there, and what may be shown.
 #![tactic(auto)]
 
 mod held;

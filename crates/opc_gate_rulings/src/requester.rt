@@ -54,7 +54,7 @@ pub fn console_for(console: Option<ConsoleRow>) -> Result<ConsoleRow, Refusal>
     Ok(row)
 }
 
-// Whether nobody is on where somebody has to be.
+// Whether nobody is logged on at a console that requires a logon.
 fn lacks_logon(console: &ConsoleRow) -> bool
     ensures { result ≡ is_required console.now.mode && is_none console.now.user }
 {
@@ -73,9 +73,9 @@ fn is_revoked(user: &Option<User>) -> bool
     }
 }
 
-/// The console that asks, whose row is loaded, and who acts there. It has to be there and online; somebody has to be on
-/// where its mode is REQUIRED (E12), and whoever acts may not be revoked (E13). Where a user is on who is not stored,
-/// this fails.
+/// The console that asks, whose row is loaded, and who acts there. It has to be there and online; somebody has to be
+/// logged on if its mode is REQUIRED (E12), and whoever acts may not be revoked (E13). If a user is logged on who is
+/// not stored, this fails.
 pub fn requester_on<T: Tables>(
     tables: &mut T,
     alloc: Global,

@@ -59,7 +59,7 @@ fn is_auto(mode: Mode) -> bool
     }
 }
 
-// What the profile that decides in a class that is active rules on a user at a console, where one does.
+// What the profile that decides in a class rules on a user at a console, if the class is active and a profile decides.
 fn profile_ruling_on<T: Tables>(
     tables: &mut T,
     alloc: Global,
@@ -81,7 +81,7 @@ fn profile_ruling_on<T: Tables>(
     Ok(Some(ruling_at(&profile, held, needed)))
 }
 
-// By the profile that decides for a user where the class is active, else by the authority of the console.
+// By the profile that decides for a user if the class is active, or else by the authority of the console.
 fn by_profile<T: Tables>(
     tables: &mut T,
     alloc: Global,
@@ -112,7 +112,7 @@ fn own_id(name: &ConsoleName) -> UserId
     name.as_kind()
 }
 
-// The user of a console's own, where it acts for one.
+// A console's own user, if the console acts for one.
 fn own_user_on<T: Tables>(
     tables: &mut T,
     alloc: Global,
@@ -127,7 +127,7 @@ fn own_user_on<T: Tables>(
     tables.user(alloc, &own_id(&console.name))
 }
 
-/// For whom a console acts: the user who is on; where nobody is, the console's own.
+/// For whom a console acts: the user who is logged on; if nobody is, the console's own user.
 pub fn acting_user_on<T: Tables>(
     tables: &mut T,
     alloc: Global,
@@ -144,8 +144,8 @@ pub fn acting_user_on<T: Tables>(
     }
 }
 
-// The user who is on at a console. Only damaged tables lack that user. They do not say that nobody is on, so the
-// console's authority must not decide: the request is given up.
+// The user who is logged on at a console. Only damaged tables lack that user. They do not show that nobody is logged
+// on, so the console's authority must not decide: the request is aborted.
 fn user_on<T: Tables>(tables: &mut T, alloc: Global, id: &UserId) -> Result<User, StoreFault>
     ensures { Loads T.meaning tables.old tables.new result (λ s user. user_of s.policy.users id.now ≡ Some user) }
 {
@@ -155,7 +155,7 @@ fn user_on<T: Tables>(tables: &mut T, alloc: Global, id: &UserId) -> Result<User
     }
 }
 
-/// The same as a user.
+/// The same, as a user.
 pub(crate) fn acting_on<T: Tables>(
     tables: &mut T,
     alloc: Global,
@@ -181,8 +181,8 @@ pub enum RulingBasis {
     Console,
 }
 
-/// How needs are ruled on at a console: who acts is loaded once, for the command and for all lines that it shows.
-/// Where a user is on who is not stored, this fails.
+/// How needs are ruled on at a console: who acts is loaded once, for the command and for all lines that it shows. If a
+/// user is logged on who is not stored, this fails.
 pub fn ruling_basis_at<T: Tables>(
     tables: &mut T,
     alloc: Global,
@@ -207,7 +207,7 @@ pub fn ruling_basis_at<T: Tables>(
     Ok(RulingBasis::User(user))
 }
 
-/// The ruling on a need at a console, where it is known how needs are ruled on.
+/// The ruling on a need at a console, by how needs are ruled on there.
 pub fn ruling_on<T: Tables>(
     tables: &mut T,
     alloc: Global,
@@ -310,7 +310,7 @@ fn is_shown<T: Tables>(
     }
 }
 
-/// Those lines that may be shown at a console, where it is known how needs are ruled on.
+/// The lines that may be shown at a console, by how needs are ruled on there.
 pub fn shown_lines<T: Tables>(
     tables: &mut T,
     alloc: Global,

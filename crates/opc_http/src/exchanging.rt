@@ -26,7 +26,7 @@ pub struct Served {
     pub handled: bool,
 }
 
-/// Why no whole response was written. Where a request was `handled`, it stays done.
+/// Why no whole response was written. If a request was `handled`, it stays done.
 #[derive(Clone, Copy, Debug, PartialEq, Eq, Error)]
 pub enum LinkFault {
     /// The reader failed.
@@ -68,7 +68,7 @@ fn send_answer<K: Sink>(alloc: Global, sink: &mut K, answer: &Answer) -> Result<
     }
 }
 
-// Writes the response to what is no request.
+// Writes the response to what is not a request.
 fn send_refusal<K: Sink>(
     alloc: Global,
     sink: &mut K,
@@ -84,9 +84,10 @@ fn send_refusal<K: Sink>(
     }
 }
 
-/// Reads one request, of 73,728 bytes at most, lets the gate handle it, and writes its response, which is built whole
-/// before its first byte is written. What is no request is refused, and the gate is not asked. It reads on only where
-/// the head or its body is not there yet, and a read that fails ends it: that is reported, and nothing is answered.
+/// Reads one request of at most 73,728 bytes, lets the gate handle it, and writes its response, which is built whole
+/// before its first byte is written. What is not a request is refused, and the gate is not asked. It reads on only if
+/// the head or its body is not there yet, and a read that fails ends the exchange: that is reported, and nothing is
+/// answered.
 pub fn exchange<T: Tables, S: Source, K: Sink>(
     alloc: Global,
     routes: &Routes,

@@ -1,5 +1,5 @@
-//! One exchange over HTTP: a request is read and handled, and its response is written. It hands on what an exchange
-//! takes: the routes, and what keeps whether a reader or a writer failed, with a reader and a writer that fail for
+//! One exchange over HTTP: a request is read and handled, and its response is written. It re-exports what an exchange
+//! takes: the routes, and what remembers whether a reader or a writer failed, with a reader and a writer that fail for
 //! tests.
 #![tactic(auto)]
 

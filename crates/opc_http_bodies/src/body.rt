@@ -35,6 +35,7 @@ fn value_in(alloc: Global, body: &[u8]) -> Result<Value, AskFault>
         Ok(value) => Ok(value),
         Err(error) => match error.classify() {
             Category::Memory => Err(AskFault::NoMemory),
+            // The bytes are not a JSON value.
             _ => Err(BAD_REQUEST),
         },
     }
@@ -72,7 +73,7 @@ pub fn rows_in(alloc: Global, body: &[u8]) -> Result<Vec<Row>, AskFault>
     let Ok(text) = str::from_utf8(body) else {
         return Err(BAD_REQUEST);
     };
-    // Named for the prover, which else does not find the type of a row's console.
+    // For the prover alone, which needs the type of a row's console named.
     let _nowhere: Option<ConsoleName> = None;
     match read_policy(alloc, text) {
         Ok(rows) => Ok(rows),

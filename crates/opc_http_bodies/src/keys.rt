@@ -36,7 +36,7 @@ fn members_count(value: &Value) -> usize
     }
 }
 
-// That an object has so many keys.
+// That an object has this many keys.
 pub(crate) fn has_keys(value: &Value, count: usize) -> Option<()>
     ensures { result ≡ has_keys count (view value.now) }
 {

@@ -190,6 +190,7 @@ fn operation_by(name: &str, value: &Value) -> Option<Operation>
         "PermitDelete" => permit_delete(value),
         "ClassActive" => class_active(value),
         "DefineConsole" => define_console(value),
+        // No other operation exists.
         _ => None,
     }
 }

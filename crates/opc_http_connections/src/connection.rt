@@ -12,8 +12,8 @@ pub trait Connection: Readable + Writable + OpenStream + Drop {
     ghost use Rattle.std.specs.declared.io.Error.{Error};
     ghost use Rattle.std.specs.declared.time.Duration.{Duration};
 
-    /// That waits for its peer were to be limited to so long, and whether they are. What a function over any connection
-    /// says by it can only be shown by such a call.
+    /// That waits for its peer were to be limited to this duration, and whether they are. What a function over any
+    /// connection promises by it can only be shown by such a call.
     ghost limits: { Self → Duration → Bool → Type 0 };
 
     /// That another handle of the connection was asked for, and what came of that. It can only be shown by such a call.

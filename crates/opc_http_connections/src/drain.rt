@@ -9,7 +9,7 @@ use opc_io::source::Source;
 use std::net::Shutdown;
 use std::time::Duration;
 
-/// The most bytes of each read of what a peer sent beyond what was asked for.
+/// The most bytes of each read of what a peer sent beyond the request.
 const CHUNK: usize = 32_768;
 
 /// The most bytes of the first of them, and the most reads after it.
@@ -20,7 +20,7 @@ const MORE_READS: u32 = 31;
 /// The most seconds that all of them wait.
 const WAIT: u64 = 1;
 
-/// Reads once and forgets it; whether more may follow.
+/// Reads once and drops what it read; returns whether more may follow.
 fn drain_some<S: Source>(source: &mut S, chunk: &mut [u8]) -> bool
     requires { length chunk.old ≤ CHUNK }
     ensures { TakesAtMost CHUNK (S.left source.old) (S.left source.new) }
@@ -31,7 +31,7 @@ fn drain_some<S: Source>(source: &mut S, chunk: &mut [u8]) -> bool
     }
 }
 
-/// Reads on and forgets it, to the end or to the limit.
+/// Reads on and drops what it read, to the end or to the limit.
 fn drain_more<S: Source>(source: &mut S)
     ensures { TakesAtMost (MORE_READS * CHUNK) (S.left source.old) (S.left source.new) }
 {
@@ -43,8 +43,8 @@ fn drain_more<S: Source>(source: &mut S)
     }
 }
 
-/// The same from the first read on. Most peers send nothing more, so room for a large read is made only where a small
-/// one was filled in part.
+/// The same from the first read on. Most peers send nothing more, so room for a large read is made only if a small one
+/// was filled in part.
 fn drain_rest<S: Source>(source: &mut S)
     ensures { TakesAtMost (CHUNK + MORE_READS * CHUNK) (S.left source.old) (S.left source.new) }
 {
@@ -54,9 +54,9 @@ fn drain_rest<S: Source>(source: &mut S)
     }
 }
 
-/// Ends a response: shuts down our half, and reads away what the peer still sends, in few reads, for a short time and
-/// not past the deadline. Otherwise the system would reset a connection that has bytes to read, and the peer might lose
-/// the response.
+/// Ends a response: shuts down our half, and drains what the peer still sends, in few reads, for a short time and not
+/// past the deadline. Otherwise the system would reset a connection that has bytes to read, and the peer might lose the
+/// response.
 pub fn drain<C: Connection, K: Timer>(reader: &mut Timed<'_, C, K>)
     ensures { TakesAtMost (CHUNK + MORE_READS * CHUNK) (C.remaining reader.old.handle) (C.remaining reader.new.handle) }
 {

@@ -12,8 +12,8 @@ pub trait Listener {
 
     type Client: Connection;
 
-    /// That a connection was to be accepted, and what came of that. What a function over any listener says by it can
-    /// only be shown by such a call.
+    /// That a connection was to be accepted, and what came of that. What a function over any listener promises by it
+    /// can only be shown by such a call.
     ghost accepts: { Self → Result Self.Client Error → Type 0 };
 
     /// The connection of the next client.

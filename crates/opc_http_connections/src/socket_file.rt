@@ -35,7 +35,7 @@ pub fn listen(socket: OwnedFd) -> io::Result<UnixDoor> {
     Ok(UnixDoor { listener })
 }
 
-/// Whether at this path there is the file of a socket, and nobody listens there. A service that was killed leaves one.
+/// Whether the file of a socket is at this path, and nobody listens there. A service that was killed leaves one.
 fn is_left<N: Files + Net>(net: &N, path: &str) -> bool {
     let Ok(found) = fs::symlink_metadata(net, path) else {
         return false;
@@ -49,7 +49,7 @@ fn is_left<N: Files + Net>(net: &N, path: &str) -> bool {
     }
 }
 
-/// Removes the file of a socket at this path if nobody listens there; whether it did.
+/// Removes the file of a socket at this path if nobody listens there; returns whether it did.
 pub fn clear<N: Files + Net>(net: &N, path: &str) -> bool {
     is_left(net, path) && fs::remove_file(net, path).is_ok()
 }

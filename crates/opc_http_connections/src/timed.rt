@@ -21,7 +21,7 @@ use std::io;
 use std::io::ErrorKind;
 use std::time::Duration;
 
-/// How often a call is made again where a signal interrupts it. With a deadline, that ends it sooner.
+/// How often a call that a signal interrupts is tried again. A deadline ends it sooner.
 const AGAIN: u32 = 1_000_000_000;
 
 /// A handle of a connection, by which no call waits past a deadline; and whether a call by it failed.
@@ -103,7 +103,7 @@ impl<C: Connection, K: Timer> Timed<'_, C, K> {
         self.handle.write_once(bytes)
     }
 
-    /// Reads, again where a signal interrupts that.
+    /// Reads, and again if a signal interrupts that.
     fn read_on(&mut self, buf: &mut [u8]) -> io::Result<usize>
         ensures tried { IsTried K.shows C.limits C.reads self.old.timer.now self.old.deadline self.old.handle result
             self.new.handle }
@@ -121,7 +121,7 @@ impl<C: Connection, K: Timer> Timed<'_, C, K> {
         answer
     }
 
-    /// Writes, again where a signal interrupts that.
+    /// Writes, and again if a signal interrupts that.
     fn write_on(&mut self, bytes: &[u8]) -> io::Result<usize>
         ensures tried { IsTried K.shows C.limits (λ old answer new. C.writes old bytes.now answer new) self.old.timer.now
             self.old.deadline self.old.handle result self.new.handle }
@@ -139,7 +139,7 @@ impl<C: Connection, K: Timer> Timed<'_, C, K> {
         answer
     }
 
-    /// Brings the deadline forward, so that it is over after so long at the latest.
+    /// Brings the deadline forward, so that it is at most this far away.
     pub(crate) fn hurry(&mut self, longest: Duration) -> io::Result<()>
         ensures hurried { OnOk result (IsHurried K.shows longest self.old.timer.now self.old.deadline self.new.deadline) }
         ensures same { self.new ≡ record self.old { deadline = self.new.deadline } }
@@ -162,7 +162,7 @@ impl<C: Connection, K: Timer> Source for Timed<'_, C, K> {
 
     ghost has_failed = { λ t. t.failed };
 
-    /// Reads by the deadline, and keeps whether that failed.
+    /// Reads by the deadline, and remembers whether that failed.
     fn read(&mut self, buf: &mut [u8]) -> io::Result<usize>
         ensures given { IsReadInTime C.limits K.shows C.reads C.remaining self.old (given_by result buf.new) self.new }
         ensures bound { ReadsAtMost result buf.new }
@@ -183,7 +183,7 @@ impl<C: Connection, K: Timer> Sink for Timed<'_, C, K> {
 
     ghost has_failed = { λ t. t.failed };
 
-    /// Writes by the deadline, and keeps whether that failed, or took no byte.
+    /// Writes by the deadline, and remembers whether that failed, or took no byte.
     fn write(&mut self, bytes: &[u8]) -> io::Result<usize>
         ensures bound { WritesAtMost result bytes.now }
         ensures some { 0 < length bytes.now → IfOk result (λ n. 0 < n) }

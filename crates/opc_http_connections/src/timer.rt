@@ -15,15 +15,15 @@ pub trait Timer {
     ghost use Rattle.std.specs.declared.io.Error.{Error};
     ghost use Rattle.std.specs.declared.time.Duration.{Duration};
 
-    /// That the clock was read, and what it showed. What a function over any timer says by it can only be shown by such
-    /// a reading.
+    /// That the clock was read, and what it showed. What a function over any timer promises by it can only be shown by
+    /// such a reading.
     ghost shows: { Self → Result Duration Error → Type 0 };
 
     fn time(&self) -> io::Result<Duration>
         ensures { shows self.now result };
 }
 
-// Of a clock of the system no clause says that it was read.
+// No clause states that a clock of the system was read.
 impl<H: Clock> Timer for H {
     ghost use Rattle.std.specs.Prelude.{⊤};
 
@@ -34,7 +34,7 @@ impl<H: Clock> Timer for H {
     }
 }
 
-/// The end of a time that begins now; none where there is no limit.
+/// The end of a time that begins now; none if there is no limit.
 pub fn deadline_after<K: Timer>(timer: &K, limit: Option<Duration>) -> io::Result<Option<Duration>>
     ensures due { IfOk result (λ deadline. IsDue K.shows timer.now limit deadline) }
     ensures failed { IfErr result (λ error. IsSomeAnd limit (λ _. K.shows timer.now (Err error))) }
@@ -52,6 +52,7 @@ pub(crate) fn left_until(deadline: Duration, time: Duration) -> io::Result<Durat
 {
     match deadline.checked_sub(time) {
         Some(left) if !left.is_zero() => Ok(left),
+        // Nothing is left, so the deadline is over.
         _ => Err(io::Error::from(ErrorKind::TimedOut)),
     }
 }

@@ -22,7 +22,7 @@ pub(crate) fn is_named(found: &[u8], name: &[u8]) -> bool
     found.eq_ignore_ascii_case(name)
 }
 
-// Where the only field of a name has its value, if there is one.
+// The value of the only field of a name, if there is one.
 pub(crate) fn only_value(
     buf: &[u8],
     headers: &[HeaderSpan],
@@ -73,6 +73,7 @@ pub fn body_length(buf: &[u8], headers: &[HeaderSpan]) -> Result<u64, HttpRefusa
 {
     match only_value(buf, headers, b"transfer-encoding") {
         Ok(None) => {}
+        // A coding, or two of them: bodies in parts are refused.
         _ => return Err(HttpRefusal::BadRequest),
     }
     match only_value(buf, headers, b"content-length")? {

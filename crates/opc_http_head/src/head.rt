@@ -45,9 +45,9 @@ fn start_of(buf: &[u8], headers: &mut [HeaderSpan]) -> Start
     }
 }
 
-/// Reads until the head of a request is there, in at most `HEAD_LIMIT` bytes; `None` where there is none. It reads on
-/// only where what it read is no whole head and may become one. A read takes a block, so the last one may bring up to
-/// 1,023 bytes of what follows the head.
+/// Reads until the head of a request is there, in at most `HEAD_LIMIT` bytes; `None` if there is none. It reads on only
+/// if what it read is no whole head and may become one. A read takes a block, so the last one may bring up to 1,023
+/// bytes of what follows the head.
 pub fn read_head<S: Source>(
     source: &mut S,
     buf: &mut Vec<u8>,

@@ -1,4 +1,4 @@
-//! The head of a request over HTTP: how it is read, whether it is taken, its route, and the length of its body.
+//! The head of a request over HTTP: how it is read, whether it is accepted, its route, and the length of its body.
 #![tactic(auto)]
 
 pub mod framing;

@@ -10,7 +10,7 @@ fn are_digits(bytes: &[u8]) -> bool
     bytes.iter().all(|c| c.is_ascii_digit())
 }
 
-/// The number that a text is, of one decimal digit or more and so many at most.
+/// The number that a text is, of one decimal digit or more, and at most this many.
 pub fn number_in(text: &str, most: usize) -> Option<u64>
     requires { most ≤ 18 }
     ensures { result ≡ number_in most text.now }

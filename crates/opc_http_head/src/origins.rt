@@ -1,4 +1,4 @@
-//! From where requests are taken: from anywhere, or from nothing that a web page can send.
+//! From where requests are accepted: from anywhere, or from nothing that a web page can send.
 ghost use Rattle.std.specs.Prelude.{◌≡◌, ◌≤◌, All, length, map};
 ghost use Rattle.httparse.specs.Spans.{IsHeaderWithin, header_bytes};
 ghost use Rattle.opc_http_head.specs.Origins.{admitted, has_field, host_at, is_from_page, is_host, is_served, names_host};
@@ -12,7 +12,7 @@ use itoa::Buffer;
 /// More bytes than the text of a host and its port has.
 const HOST_TEXT: usize = 16;
 
-/// From where requests are taken.
+/// From where requests are accepted.
 #[derive(Clone, Copy, Debug, PartialEq, Eq)]
 pub enum Origins {
     /// From anywhere.
@@ -57,11 +57,12 @@ fn has_field(buf: &[u8], headers: &[HeaderSpan], name: &[u8]) -> bool
 {
     match only_value(buf, headers, name) {
         Ok(None) => false,
+        // Two fields of this name count as one does.
         _ => true,
     }
 }
 
-/// Whether a web page sent this, as its browser says.
+/// Whether a web page sent this, as its browser states.
 fn is_from_page(buf: &[u8], headers: &[HeaderSpan]) -> bool
     requires { All (IsHeaderWithin (length buf.now)) headers.now }
     ensures { result ≡ is_from_page (map (header_bytes buf.now) headers.now) }
@@ -76,11 +77,12 @@ fn names_host(buf: &[u8], headers: &[HeaderSpan], port: u16) -> bool
 {
     match only_value(buf, headers, b"host") {
         Ok(Some(value)) => is_served(value.of(buf), port),
+        // There is no field Host, or more than one.
         _ => false,
     }
 }
 
-/// That a request with these fields is taken.
+/// That a request with these fields is accepted.
 pub fn admitted(origins: Origins, buf: &[u8], headers: &[HeaderSpan]) -> Result<(), HttpRefusal>
     requires { All (IsHeaderWithin (length buf.now)) headers.now }
     ensures { result ≡ admitted origins (map (header_bytes buf.now) headers.now) }
@@ -89,6 +91,7 @@ pub fn admitted(origins: Origins, buf: &[u8], headers: &[HeaderSpan]) -> Result<
         Origins::Only(port) if is_from_page(buf, headers) || !names_host(buf, headers, port) => {
             Err(HttpRefusal::Forbidden)
         }
+        // Either requests are accepted from anywhere, or this one is for here and no web page sent it.
         _ => Ok(()),
     }
 }

@@ -1,4 +1,4 @@
-//! Refusals of what is no request.
+//! Refusals of what is not a request.
 use opc_terms::fault::Why;
 use std::alloc::{AllocError, AllocFailed};
 
@@ -9,12 +9,12 @@ pub enum Method {
     Post,
 }
 
-/// Why what was read is no request.
+/// Why what was read is not a request.
 #[derive(Clone, Copy, Debug, PartialEq, Eq)]
 pub enum HttpRefusal {
     /// Head, values of the path or body cannot be read, or the input ends within them.
     BadRequest,
-    /// A web page can have sent it, and that is not taken.
+    /// A web page can have sent it, and that is not accepted.
     Forbidden,
     /// No route has this path.
     NotFound,

@@ -18,7 +18,7 @@ pub enum Route {
     ListAccount,
 }
 
-/// The five routes, and from where requests are taken.
+/// The five routes, and from where requests are accepted.
 #[derive(Drop)]
 pub struct Routes {
     router: Router<Route>,
@@ -53,14 +53,14 @@ fn router(alloc: Global) -> Result<Router<Route>, InsertError>
 }
 
 impl Routes {
-    /// The routes, unless out of memory. Requests are taken from anywhere.
+    /// The routes, unless out of memory. Requests are accepted from anywhere.
     pub fn new(alloc: Global) -> Result<Self, NoMemory>
         ensures { IfOk result (λ routes. routes ≡ Any) }
     {
         Routes::from_origins(alloc, Origins::Any)
     }
 
-    /// The routes at a port of this computer, unless out of memory. What a web page can send is not taken.
+    /// The routes at a port of this computer, unless out of memory. What a web page can send is not accepted.
     pub fn strict(alloc: Global, port: u16) -> Result<Self, NoMemory>
         ensures { IfOk result (λ routes. routes ≡ Only port) }
     {
@@ -76,7 +76,7 @@ impl Routes {
         }
     }
 
-    /// From where requests are taken.
+    /// From where requests are accepted.
     pub fn origins(&self) -> Origins
         ensures { result ≡ self.now }
     {

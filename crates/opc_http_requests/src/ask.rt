@@ -130,11 +130,11 @@ fn read_planned<S: Source>(
     Ok(request)
 }
 
-/// Reads a request, or finds the first refusal. A request is answered by nothing but the bytes of its head and its
-/// body. It reads on only where what it read is no whole head and may become one, or has its head and not yet its body.
-/// Each read takes 1,024 bytes at most and none goes past the end of the body, but for the last that looks for the
-/// head. After a refusal by the head no more is read. Where memory is refused or a read fails, the source has given
-/// some of its bytes and no request is known.
+/// Reads a request, or finds the first refusal. Nothing but the bytes of its head and its body decides what a request
+/// is. It reads on only if what it read is no whole head and may become one, or has its head and not yet its body. Each
+/// read takes at most 1,024 bytes, and none goes past the end of the body, except the last one that looks for the head.
+/// After a refusal by the head no more is read. If memory is refused or a read fails, the source has given some of its
+/// bytes and no request is known.
 pub fn read_request<S: Source>(
     alloc: Global,
     routes: &Routes,

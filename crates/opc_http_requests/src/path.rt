@@ -1,4 +1,4 @@
-//! What the path of a request says: its route, and its values.
+//! What the path of a request states: its route, and its values.
 ghost use Rattle.std.specs.Prelude.{
   ◌≡◌,
   ◌≤◌,
@@ -75,14 +75,14 @@ pub(crate) fn route_in(routes: &Routes, path: &str) -> Result<Route, HttpRefusal
     }
 }
 
-// The part of a path at a place, counted from 0 for what stands before the first slash.
+// The part of a path at a place, counted from 0 for the text before the first slash.
 fn part_at(path: &str, place: usize) -> &str
     ensures { result.now ≡ part_at place path.now }
 {
     path.split('/').nth(place).unwrap_or("")
 }
 
-// What stands first, an escape or a byte, as the byte that it stands for, and what follows it.
+// The first of some bytes, an escape or a byte, as the byte that it stands for, and what follows it.
 fn first_of(bytes: &[u8]) -> Option<(u8, &[u8])>
     ensures { MatchOption result (bytes.now ≡ []) (λ first.
         (unescaped bytes.now ≡ first.0 ∷ unescaped first.1.now) × (length first.1.now < length bytes.now)) }
@@ -137,6 +137,7 @@ fn limited(number: Option<u64>, most: u64) -> Result<u32, HttpRefusal>
 {
     match number {
         Some(n) if 1 <= n && n <= most => Ok(n as u32),
+        // There is no number, or it is outside the limits.
         _ => Err(HttpRefusal::BadRequest),
     }
 }
@@ -148,21 +149,21 @@ pub(crate) fn batch_in(path: &str) -> Result<u32, HttpRefusal>
     limited(number_in(part_at(path, 4), 9), LAST_BATCH)
 }
 
-/// The class whose profiles are asked for.
+/// The class whose profiles are requested.
 pub(crate) fn class_in(path: &str) -> Result<Class, HttpRefusal>
     ensures { result ≡ class_in path.now }
 {
     Class::read(part_at(path, 4)).ok_or(HttpRefusal::BadRequest)
 }
 
-/// The number from which on the account is asked for.
+/// The number from which on the account is requested.
 pub(crate) fn from_in(path: &str) -> Result<u64, HttpRefusal>
     ensures { result ≡ from_in path.now }
 {
     number_in(part_at(path, 4), 18).ok_or(HttpRefusal::BadRequest)
 }
 
-/// How many rows of the account are asked for.
+/// How many rows of the account are requested.
 pub(crate) fn count_in(path: &str) -> Result<u32, HttpRefusal>
     ensures { result ≡ count_in path.now }
 {

@@ -1,4 +1,4 @@
-//! What the head of a request says: whether it is taken, its route, and the length of its body.
+//! What the head of a request states: whether it is accepted, its route, and the length of its body.
 ghost use Rattle.std.specs.Prelude.{◌≡◌, ◌≤◌, All, IfOk, length, map};
 ghost use Rattle.httparse.specs.Spans.{IsHeaderWithin, IsRequestWithin, header_bytes};
 ghost use Rattle.opc_http_requests.specs.Plans.{has_method, method_of, method_text, plan_in, plan_of};
@@ -35,7 +35,7 @@ fn method_text(method: Method) -> &'static str
     }
 }
 
-// That a route is asked by its method.
+// That a request has its route's method.
 fn has_method(name: &[u8], route: Route) -> Result<(), HttpRefusal>
     ensures { result ≡ has_method name.now route }
 {
@@ -47,7 +47,7 @@ fn has_method(name: &[u8], route: Route) -> Result<(), HttpRefusal>
     }
 }
 
-// The plan of a head, given its method, its target and where its fields are in `buf`.
+// The plan of a head, given its method, its target and the places of its fields in `buf`.
 fn plan_of(
     routes: &Routes,
     method: &[u8],
@@ -67,7 +67,7 @@ fn plan_of(
     Ok(Plan { route, length })
 }
 
-/// The plan of the head that `buf` begins with, where the spans find its parts.
+/// The plan of the head that `buf` begins with, if the spans find its parts.
 pub(crate) fn plan_in(
     routes: &Routes,
     buf: &[u8],

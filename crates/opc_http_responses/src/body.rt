@@ -91,12 +91,13 @@ fn status_body(alloc: Global, status: StatusCode) -> Result<String, AllocError>
     refused_text(alloc, code.as_str(), "-", phrase(status))
 }
 
-/// The body of the response to what is no request.
+/// The body of the response to what is not a request.
 pub(crate) fn refusal_body(alloc: Global, refusal: &HttpRefusal) -> Result<String, AllocError>
     ensures { IfOk result (λ body. string_bytes body ≡ refusal_body refusal.now) }
 {
     match *refusal {
         HttpRefusal::BadRow { row, why } => fault_body(alloc, &Fault::RowFault { row, why }, None),
+        // Every other refusal is reported by its status alone.
         _ => status_body(alloc, refusal_status(refusal)),
     }
 }

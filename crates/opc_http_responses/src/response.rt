@@ -113,6 +113,7 @@ fn allowed(refusal: &HttpRefusal) -> Option<Method>
 {
     match *refusal {
         HttpRefusal::MethodNotAllowed(method) => Some(method),
+        // The field Allow belongs to no other refusal.
         _ => None,
     }
 }
@@ -130,7 +131,7 @@ fn response_to_refusal(alloc: Global, refusal: &HttpRefusal) -> Result<Response,
     )
 }
 
-/// The response to what is no request.
+/// The response to what is not a request.
 pub fn refused(alloc: Global, refusal: &HttpRefusal) -> Result<Response, NoMemory>
     ensures { IfOk result (λ made. (made.status ≡ refusal_status refusal.now)
         × (made.bytes.items ≡ refusal_response refusal.now)) }

@@ -1,4 +1,4 @@
-//! The door of the program: a listener and a clock.
+//! The acceptor of the program: a listener and a clock.
 ghost use Rattle.std.specs.Prelude.{⊤};
 ghost use Rattle.opc_http_connections.specs.Links.{Comes};
 
@@ -30,8 +30,8 @@ impl<H: Clock, L: Listener> Arrivals for Acceptor<'_, H, L> {
     ghost clock_says = { λ _ _ _. ⊤ };
 
     fn accept(&mut self) -> io::Result<Option<(L::Client, L::Client)>> {
-        // One handle to read and one to write. Each is owned, so the clauses of `Read` and `Write` say what was read
-        // and written; by one shared reference nothing could be said of what is written.
+        // One handle to read and one to write. Each is owned, so the clauses of `Read` and `Write` state what was read
+        // and written; with one shared reference, no clause could state what is written.
         let reader = self.listener.accept_client()?;
         match reader.another() {
             Ok(writer) => Ok(Some((reader, writer))),

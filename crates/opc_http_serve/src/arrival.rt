@@ -13,8 +13,8 @@ pub enum ServeFault {
     Clock(io::Error),
 }
 
-/// A client that came: its connection, by a handle to read and one to write, each with the deadline of the exchange, and
-/// when.
+/// A client that came: its connection, by a handle to read and one to write, each with the deadline of the exchange,
+/// and the moment of its arrival.
 #[derive(Drop)]
 pub struct Arrival<'a, C, K> {
     pub reader: Timed<'a, C, K>,

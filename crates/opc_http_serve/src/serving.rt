@@ -43,7 +43,7 @@ fn serve_client<C: Connection, K: Timer, X: Exchanges>(
     }
 }
 
-/// Serves the next client, whose exchange has so long a time in all. A connection that came to nothing counts as one.
+/// Serves the next client, whose exchange has this much time in all. A connection that came to nothing counts as one.
 fn serve_next<A: Arrivals, K: Timer, X: Exchanges>(
     alloc: Global,
     timer: &K,
@@ -65,7 +65,7 @@ fn serve_next<A: Arrivals, K: Timer, X: Exchanges>(
     Ok(())
 }
 
-/// Serves so many connections, one after another. A fault of a link ends that client's exchange alone. Where none can be
+/// Serves this many connections, one after another. A fault of a link ends that client's exchange alone. If none can be
 /// accepted, serving ends.
 pub fn serve<A: Arrivals, K: Timer, X: Exchanges>(
     alloc: Global,
@@ -89,7 +89,7 @@ pub fn serve<A: Arrivals, K: Timer, X: Exchanges>(
     Ok(())
 }
 
-/// Serves so many clients that come to a listener.
+/// Serves this many clients that come to a listener.
 pub fn serve_on<H: AllocGlobal + Clock, L: Listener, T: Tables>(
     rt: &H,
     listener: &L,

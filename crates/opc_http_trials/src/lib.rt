@@ -1,6 +1,6 @@
 //! Exchanges over HTTP whose reader or writer fails, and the names that a gate has cached, over tables of any kind.
 //!
-//! A program of cases says which tables a room begins with, and gives it the lines:
+//! A program of cases determines which tables a room begins with, and gives it the lines:
 //!
 //! - `row RECORD`: one more row of the first policy, written as in a policy file.
 //! - `begin LINE`: one more line of the script of the beginning.

@@ -18,7 +18,7 @@ use std::alloc::Global;
 
 const HEADER: &str = "kind,class,name,id,value,owner,flags,digest,when,restricted\n";
 
-/// What ends the program where a request is aborted.
+/// What ends the program if a request is aborted.
 pub(crate) const ABORTED: &str = "the tables failed, or out of memory";
 
 /// The most rows of the account that are counted.
@@ -147,7 +147,7 @@ impl<T: Tables + Drop> Room<T> {
         Ok((outcome, writer.bytes))
     }
 
-    /// One exchange with the gate, in words. Where memory is refused it is an error.
+    /// One exchange with the gate, in words. If memory is refused, it is an error.
     pub(crate) fn exchange(
         &mut self,
         alloc: Global,
@@ -173,7 +173,7 @@ fn words_of(alloc: Global, outcome: Result<Served, LinkFault>) -> Result<String>
     Ok(format!(in alloc; "{what} {handled}")?)
 }
 
-/// What a gate answers to the lines of a script.
+/// How a gate answers the lines of a script.
 fn ran<T: Tables + Drop>(alloc: Global, gate: &mut Gate<Cached<T>>, lines: &str) -> Result<String> {
     let mut printed = Watched::new(Vec::new(alloc));
     match run_script(gate, alloc, lines, &mut printed) {

@@ -2,7 +2,7 @@
 use anyhow::Result;
 use std::alloc::Global;
 
-/// What is printed of exchanges one after another; those that came out alike are printed together.
+/// What is printed of exchanges one after another; those with the same result are printed together.
 #[derive(Drop)]
 pub(crate) struct Spans {
     printed: String,

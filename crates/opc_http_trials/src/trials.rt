@@ -121,7 +121,7 @@ fn failing_reads<T: Tables + Drop>(
     spans.ended(alloc)
 }
 
-/// An exchange whose writer may fail, after which the account has so many rows, unless the request is aborted. Where
+/// An exchange whose writer may fail, after which the account has this many rows, unless the request is aborted. If
 /// memory is refused for the response, nothing is written, and the request stays done.
 fn written_to<T: Tables + Drop>(
     alloc: Global,
@@ -179,7 +179,7 @@ fn failing_writes<T: Tables + Drop>(
     )?)
 }
 
-/// How many rows the account has after so many exchanges that bring as many each.
+/// How many rows the account has after this many exchanges that each add the same number.
 fn rows_after(before: usize, rows: usize, exchanges: usize) -> usize {
     before.saturating_add(rows.saturating_mul(exchanges))
 }

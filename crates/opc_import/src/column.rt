@@ -85,7 +85,7 @@ impl Column {
     }
 }
 
-// The field of a record in a column, empty where the record is too short.
+// The field of a record in a column, empty if the record is too short.
 pub(crate) fn field_in(line: &StringRecord, column: Column) -> &str
     ensures { result.now ≡ field_in column (fields_of line.now) }
 {
@@ -123,7 +123,7 @@ fn is_header(columns: &[Column], line: &StringRecord) -> bool
     line.len() == columns.len() && has_names(columns, line)
 }
 
-// Whether the name of each column stands in it.
+// Whether each column's field is its name.
 fn has_names(columns: &[Column], line: &StringRecord) -> bool
     ensures { result ≡ has_names columns.now (fields_of line.now) }
 {

@@ -11,7 +11,7 @@ use crate::column::COLUMNS;
 /// The byte order mark, which may stand before the header.
 const MARK: &[u8] = b"\xEF\xBB\xBF";
 
-/// Where a byte stands, by the rules of `csv` with its defaults.
+/// The place of a byte, by the rules of `csv` with its defaults.
 #[derive(Clone, Copy)]
 enum Place {
     RecordStart,
@@ -52,6 +52,7 @@ fn plain_step(byte: u8) -> Step
         b',' => to(Place::FieldStart, End::Field),
         b'\r' => to(Place::AfterReturn, End::Record),
         b'\n' => to(Place::RecordStart, End::Record),
+        // Outside quotes, a double quote too is a character like any other.
         _ => to(Place::Plain, End::Nothing),
     }
 }
@@ -63,6 +64,7 @@ fn first_step(byte: u8) -> Step
 {
     match byte {
         b'"' => to(Place::Quoted, End::Nothing),
+        // Without a quote at its beginning a field is plain.
         _ => plain_step(byte),
     }
 }
@@ -86,7 +88,7 @@ impl Place {
 }
 
 // How many bytes of a text without a mark are read: all, or those before the eleventh field of the first record that
-// has so many.
+// has that many.
 fn length_read(text: &[u8]) -> usize
     ensures within { result ≤ length text.now }
     ensures alike { AreReadAlike (take result text.now) text.now }
@@ -111,9 +113,9 @@ fn length_read(text: &[u8]) -> usize
     text.len()
 }
 
-/// What is read of the bytes of a policy file: all, or those before the eleventh field of the first record that has so
-/// many. Such a record is `Columns` or, as the header, `Header`, whatever follows. So it takes no more memory than its
-/// ten fields, and the answer is that of the whole file.
+/// What is read of the bytes of a policy file: all, or those before the eleventh field of the first record that has
+/// that many. Such a record is `Columns` or, as the header, `Header`, whatever follows. So it takes no more memory than
+/// its ten fields, and the answer is that of the whole file.
 pub fn extent_of(text: &[u8]) -> &[u8]
     ensures same { policy_of result.now ≡ policy_of text.now }
     ensures few { AllByRecursion (λ fields. length fields ≤ 11) (records default_config (strip_bom result.now)) }

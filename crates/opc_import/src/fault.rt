@@ -1,4 +1,4 @@
-//! Why a text is no policy file.
+//! Why a text is not a policy file.
 use opc_terms::fault::{Fault, Why};
 use std::alloc::{AllocError, AllocFailed};
 

@@ -47,6 +47,7 @@ pub(crate) fn read_activity(text: &str) -> Option<bool>
     match text {
         "ACTIVE" => Some(true),
         "INACTIVE" => Some(false),
+        // No other text is one of the two.
         _ => None,
     }
 }
@@ -58,6 +59,7 @@ pub(crate) fn read_warning(text: &str) -> Option<bool>
     match text {
         "" => Some(false),
         "W" => Some(true),
+        // No other text is one of the two.
         _ => None,
     }
 }
@@ -69,6 +71,7 @@ pub(crate) fn read_restriction(text: &str) -> Option<bool>
     match text {
         "" => Some(false),
         "Y" => Some(true),
+        // No other text is one of the two.
         _ => None,
     }
 }
@@ -106,6 +109,7 @@ pub(crate) fn read_user_flags(text: &str) -> Option<UserFlags>
         "SR" => Some(flags_of(true, false, true)),
         "AR" => Some(flags_of(false, true, true)),
         "SAR" => Some(flags_of(true, true, true)),
+        // Flags in another order, or twice, are refused: each user has one text.
         _ => None,
     }
 }

@@ -30,7 +30,7 @@ use opc_policy_members::user::User;
 use opc_terms::fault::Why;
 use opc_terms::mode::Mode;
 
-/// The most rows that a policy file has. The number is the definition's; this constant is proved to be it.
+/// The most rows that a policy file has. The definition has the number; this constant is proved to equal it.
 pub const MOST_ROWS: u32 = 10_000;
 
 /// A kind of row.
@@ -72,6 +72,7 @@ impl Kind {
             "console" => Some(Kind::Console),
             "profile" => Some(Kind::Profile),
             "permit" => Some(Kind::Permit),
+            // No other text is a kind.
             _ => None,
         }
     }
@@ -215,8 +216,8 @@ fn row_of_kind(kind: Kind, line: &StringRecord) -> Result<Row, Why>
     }
 }
 
-/// The row that a record is, as the data record of this number in a file of so many columns, or what is wrong with
-/// it first.
+/// The row that a record is, as the data record of this number in a file of this many columns, or what is wrong with it
+/// first.
 pub(crate) fn row_of(width: usize, number: u32, line: &StringRecord) -> Result<Row, Why>
     ensures { result ≡ row_of width number (fields_of line.now) }
 {

@@ -159,6 +159,7 @@ fn when_in(row: &Row) -> &str
             when: Some(console),
             ..
         } => console.text(),
+        // The entry is for every console, or the row is of another kind.
         _ => "",
     }
 }
@@ -168,6 +169,7 @@ fn restricted_in(row: &Row) -> &str
 {
     match row {
         Row::User(user) => restriction_text(user.restricted),
+        // Only a user's row has this field.
         _ => "",
     }
 }
@@ -194,7 +196,7 @@ fn push_digits(line: &mut ByteRecord, digest: &[u8; 32]) -> Result<(), AllocErro
     }
 }
 
-// Adds what a row says as its digest.
+// Adds the digest of a row.
 fn push_digest(line: &mut ByteRecord, row: &Row) -> Result<(), AllocError>
     requires { partial_of line.old ≡ [] }
     ensures added { OnOk result (AddsField line.old line.new (text_in column.Digest row.now)) }
@@ -207,6 +209,7 @@ fn push_digest(line: &mut ByteRecord, row: &Row) -> Result<(), AllocError>
                 ..
             },
         ) => push_digits(line, digest),
+        // The user has no digest, or the row is of another kind.
         _ => push(line, b""),
     }
 }

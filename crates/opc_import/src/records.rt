@@ -38,9 +38,9 @@ impl<'a> Records<'a> {
     pub(crate) fn take_into(&mut self, row: &mut StringRecord) -> Result<bool, AllocError>
         ensures { IfOk result (λ found. TakesFirst self.old found (fields_of row.new) self.new) }
     {
-        // Records are read as text, so that no field is tested by itself. What is cut at commas, quotes and ends of
-        // lines out of a text is a text, of any length, and a slice can be read: memory alone can run out. No clause
-        // says that it is a text; that fault would be reported as out of memory, too.
+        // Records are read as text, so that no field is tested by itself. What is cut out of a text at commas, quotes
+        // and line ends is a text, of any length, and a slice can be read: the only failure is refused memory. No
+        // clause states that it is a text; that fault would be reported as out of memory, too.
         let Ok(found) = self.reader.read_record(row) else {
             return Err(AllocError);
         };

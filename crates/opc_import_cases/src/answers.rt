@@ -1,4 +1,4 @@
-//! What is answered on each subject.
+//! How each subject is answered.
 use crate::escapes::{escaped, unescaped};
 use anyhow::{Context, Result, bail};
 use opc_import::fault::ImportFault;
@@ -11,7 +11,7 @@ const HEADER: &str = "kind,class,name,id,value,owner,flags,digest,when,restricte
 
 const ROW: &str = "group,,DAY,,,,,,,\n";
 
-/// The answer to a line: a subject, and what is asked of it. A subject that there is not ends the program.
+/// The answer to a line: a subject, and the question about it. An unknown subject ends the program.
 pub fn answer(alloc: Global, line: &str) -> Result<String> {
     let (subject, rest) = line.split_once(' ').unwrap_or((line, ""));
     match subject {
@@ -24,7 +24,7 @@ pub fn answer(alloc: Global, line: &str) -> Result<String> {
     }
 }
 
-/// A fault of the text by its code; out of memory says nothing of the text, and ends the program.
+/// A fault of the text by its code; out of memory states nothing about the text, and ends the program.
 fn reported(alloc: Global, fault: ImportFault) -> Result<String> {
     match Fault::from(fault) {
         Fault::NoMemory => bail!("out of memory"),
@@ -66,7 +66,7 @@ fn after(alloc: Global, text: &str) -> Result<String> {
     }
 }
 
-/// The header, so many rows, and a text.
+/// The header, this many rows, and a text.
 fn file_of(alloc: Global, count: u32, last: &str) -> Result<String, AllocError> {
     let mut file = String::from_str(alloc, HEADER)?;
     for _ in 0..count {
@@ -76,7 +76,7 @@ fn file_of(alloc: Global, count: u32, last: &str) -> Result<String, AllocError> 
     Ok(file)
 }
 
-/// A file with each of its records in turn made wrong, one line for each: its kind is `x`, or its last field is missing.
+/// A file with each of its records in turn made wrong, one line each: its kind is `x`, or its last field is missing.
 fn each(alloc: Global, text: &str) -> Result<String> {
     let (part, good) = text.split_once(' ').context("no part")?;
     let mut answers = String::new(alloc);

@@ -1,4 +1,4 @@
-//! Readers and writers that keep whether one of their calls failed.
+//! Readers and writers that remember whether one of their calls failed.
 #![tactic(auto)]
 
 pub mod sink;

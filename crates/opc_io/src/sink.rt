@@ -20,9 +20,9 @@ ghost use Rattle.opc_io.specs.Writes.{AppendsPrefix};
 
 use std::io;
 
-/// A writer that keeps whether a write to it failed. A write that takes no byte of some is a failure.
+/// A writer that remembers whether a write to it failed. A write that takes none of the bytes is a failure.
 pub trait Sink {
-    /// The bytes that it holds, where they are known.
+    /// The bytes that it holds, if they are known.
     ghost held: { Self → Option (List ℕ) };
 
     /// Whether a write to it failed.
@@ -39,14 +39,14 @@ pub trait Sink {
 #[derive(Clone, Copy, PartialEq, Eq)]
 pub struct WriteFault;
 
-/// Writes the bytes, or, where a write fails, a prefix of them.
+/// Writes the bytes, or, if a write fails, a prefix of them.
 pub fn write_whole<S: Sink>(sink: &mut S, bytes: &[u8]) -> Result<(), WriteFault>
     ensures ok { OnOk result (Appends (S.held sink.old) (S.held sink.new) bytes.now) }
     ensures err { OnErr result (AppendsPrefix (S.held sink.old) (S.held sink.new) bytes.now) }
     ensures failed { S.has_failed sink.new ≡ (if is_err result then true else S.has_failed sink.old) }
 {
-    // Not `write_all`, which does not say what a failed write left. A failed write is not tried again, also if it was
-    // interrupted: that would need a bound.
+    // Not `write_all`, whose clauses do not state what a failed write left. A failed write is not tried again, not even
+    // if it was interrupted: that would need a bound.
     let mut done = 0;
     while done < bytes.len() {
         match sink.write(&bytes[done..]) {

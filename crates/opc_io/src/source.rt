@@ -23,13 +23,13 @@ use std::io;
 /// The most bytes of one read.
 const BLOCK: usize = 1024;
 
-/// A reader that keeps whether a read of it failed.
+/// A reader that remembers whether a read of it failed.
 pub trait Source {
-    /// That a read of the one source gave these bytes and left the other; none where it failed. What a function over
-    /// any source says in terms of it can only be shown by the reads that the function makes.
+    /// That a read of the one source gave these bytes and left the other; none if it failed. What a function over any
+    /// source promises in terms of it can only be shown by the reads that the function makes.
     ghost gives: { Self → List ℕ → Self → Type 0 };
 
-    /// The bytes that reads will give from here on, where they are known.
+    /// The bytes that reads will give from here on, if they are known.
     ghost left: { Self → Option (List ℕ) };
 
     /// Whether a read of it failed.
@@ -49,7 +49,7 @@ pub enum SourceFault {
     NoMemory,
 }
 
-/// Reads once, a block at most, so that `buf` grows to `most` bytes at most; 0 means the end, or that `buf` was full.
+/// Reads once, at most a block, so that `buf` grows to `most` bytes at most; 0 means the end, or that `buf` was full.
 pub fn read_more<S: Source>(
     source: &mut S,
     buf: &mut Vec<u8>,

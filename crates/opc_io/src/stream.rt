@@ -1,4 +1,4 @@
-//! Readers and writers of which a contract can say that they were called.
+//! Readers and writers for which a contract can state that they were called.
 ghost use Rattle.std.specs.Prelude.{◌≡◌, ℕ, List, Option, Result};
 ghost use Rattle.std.specs.Io.{ReadsAtMost, WritesAtMost};
 ghost use Rattle.std.specs.Io.KnownBytes.{ReadConsumes, WriteAppends};
@@ -7,13 +7,13 @@ ghost use Rattle.std.specs.declared.io.Error.{Error};
 use std::io;
 use std::io::{Read, Write};
 
-/// What is read.
+/// A reader.
 pub trait Readable {
-    /// The bytes that reads will give from here on, where they are known.
+    /// The bytes that reads will give from here on, if they are known.
     ghost remaining: { Self → Option (List ℕ) };
 
-    /// That a read of the one answered so and left the other. What a function over any of these says by it can only be
-    /// shown by the reads that the function makes.
+    /// That a read of the one answered like this and left the other. What a function over any of these promises by it
+    /// can only be shown by the reads that the function makes.
     ghost reads: { Self → Result ℕ Error → Self → Type 0 };
 
     fn read_once(&mut self, buf: &mut [u8]) -> io::Result<usize>
@@ -22,12 +22,12 @@ pub trait Readable {
         ensures bytes { ReadConsumes (remaining self.old) (remaining self.new) result buf.new };
 }
 
-/// Where is written.
+/// A writer.
 pub trait Writable {
-    /// The bytes that it holds, where they are known.
+    /// The bytes that it holds, if they are known.
     ghost contents: { Self → Option (List ℕ) };
 
-    /// That a write of these bytes to the one answered so and left the other. It can only be shown by a write.
+    /// That a write of these bytes to the one answered like this and left the other. It can only be shown by a write.
     ghost writes: { Self → List ℕ → Result ℕ Error → Self → Type 0 };
 
     fn write_once(&mut self, bytes: &[u8]) -> io::Result<usize>
@@ -36,7 +36,7 @@ pub trait Writable {
         ensures bytes { WriteAppends (contents self.old) (contents self.new) result bytes.now };
 }
 
-// Of a reader of the standard library no clause says that it was read.
+// No clause states that a reader of the standard library was read.
 impl<R: Read> Readable for R {
     ghost use Rattle.std.specs.Prelude.{⊤};
 

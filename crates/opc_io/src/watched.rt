@@ -40,7 +40,7 @@ impl<R: Readable> Source for Watched<R> {
 
     ghost has_failed = { λ w. w.failed };
 
-    /// Reads the reader once, and keeps whether that read failed.
+    /// Reads the reader once, and remembers whether that read failed.
     fn read(&mut self, buf: &mut [u8]) -> io::Result<usize>
         ensures given { Consumes (R.remaining self.old.inner) (R.remaining self.new.inner) (given_by result buf.new) }
         ensures bound { ReadsAtMost result buf.new }
@@ -59,7 +59,7 @@ impl<W: Writable> Sink for Watched<W> {
 
     ghost has_failed = { λ w. w.failed };
 
-    /// Writes to the writer once, and keeps whether that write failed, or took no byte.
+    /// Writes to the writer once, and remembers whether that write failed, or took no byte.
     fn write(&mut self, bytes: &[u8]) -> io::Result<usize>
         ensures bound { WritesAtMost result bytes.now }
         ensures some { 0 < length bytes.now → IfOk result (λ n. 0 < n) }

@@ -4,7 +4,7 @@ ghost use Rattle.std.specs.Prelude.{◌≡◌};
 use std::io;
 use std::io::{ErrorKind, Read};
 
-/// A reader that gives its bytes in pieces, and fails after so many reads.
+/// A reader that gives its bytes in pieces, and fails after this many reads.
 #[derive(Drop)]
 pub struct FailingReader<'a> {
     /// The bytes that no read has given yet.
@@ -16,7 +16,7 @@ pub struct FailingReader<'a> {
 }
 
 impl<'a> FailingReader<'a> {
-    /// A reader of these bytes, so many a read at most; so many reads do not fail.
+    /// A reader of these bytes, at most this many per read; this many reads do not fail.
     pub fn new(bytes: &'a [u8], piece: usize, reads: usize) -> Self
         ensures piece { result.piece ≡ piece }
         ensures reads { result.reads ≡ reads }
@@ -28,7 +28,7 @@ impl<'a> FailingReader<'a> {
         }
     }
 
-    /// A reader that gives one byte a read.
+    /// A reader that gives one byte per read.
     pub fn by_bytes(bytes: &'a [u8], reads: usize) -> Self
         ensures piece { result.piece ≡ 1 }
         ensures reads { result.reads ≡ reads }

@@ -5,7 +5,7 @@ use std::alloc::Global;
 use std::io;
 use std::io::{ErrorKind, Write};
 
-/// A writer that takes its bytes in pieces, and fails after so many writes.
+/// A writer that takes its bytes in pieces, and fails after this many writes.
 #[derive(Drop)]
 pub struct FailingWriter {
     /// The bytes that it took.

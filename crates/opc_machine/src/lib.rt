@@ -1,4 +1,4 @@
-//! The access machine: what it is asked and answers, and what each request comes to, by definition.
+//! The access machine: what is asked of it, what it answers, and what each request comes to, by definition.
 #![tactic(auto)]
 
 pub mod fault;

@@ -60,7 +60,7 @@ pub enum Operation {
         class: Class,
         pattern: Pattern,
     },
-    /// An entry for one console alone or, where none is given, for every console.
+    /// An entry for one console alone or, if none is given, for every console.
     Permit {
         class: Class,
         pattern: Pattern,

@@ -24,14 +24,14 @@ pub struct Refusal {
     pub rule: Option<Rule>,
 }
 
-/// What a request comes to. Where memory or the tables fail there is none: the request is aborted.
+/// What a request comes to. If memory or the tables fail, there is none: the request is aborted.
 #[derive(Drop)]
 pub enum Outcome {
     Done(Effect),
     Refused(Refusal),
 }
 
-/// Nothing is done, for this reason, and by this rule where one decided.
+/// Nothing is done, for this reason, and by this rule if one decided.
 pub fn refused(fault: Fault, rule: Option<Rule>) -> Result<Outcome, StoreFault>
     ensures { result ≡ Ok (Outcome.Refused (record { fault = fault; rule = rule })) }
 {

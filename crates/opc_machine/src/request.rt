@@ -28,7 +28,7 @@ pub enum Request {
         console: ConsoleName,
         class: Class,
     },
-    /// Rows of the account from a number on, 0 as from 1, as many as asked for at most.
+    /// Rows of the account from a number on (0 means 1), at most as many as requested.
     ListAccount {
         console: ConsoleName,
         from: u64,
@@ -47,12 +47,12 @@ pub enum Request {
 /// What the gate answers.
 #[derive(Drop)]
 pub enum Answer {
-    /// It is done: the lines that it gives, and the rule that allowed it, where it needed one.
+    /// It is done: the lines that it gives, and the rule that allowed it, if it needed one.
     Done {
         lines: Rows<Line>,
         rule: Option<Rule>,
     },
-    /// It is refused: why, and the rule that decided, where it was one.
+    /// It is refused: why, and the rule that decided, if one did.
     Refused {
         fault: Fault,
         rule: Option<Rule>,

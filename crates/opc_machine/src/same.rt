@@ -12,7 +12,7 @@ pub fn same_flag(flag: bool, other: bool) -> bool
     flag == other
 }
 
-/// Whether two users are the same in all that is kept of them.
+/// Whether two users are the same in everything that is stored of them.
 pub fn same_user(user: &User, other: &User) -> bool
     ensures { result ≡ same_user user.now other.now }
 {

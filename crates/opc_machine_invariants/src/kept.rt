@@ -12,14 +12,14 @@ pub fn empty_state_has_invariants()
     ensures { EmptyHasInvariants }
 {}
 
-/// By the invariants, what a state keeps by keys is in their order.
+/// By the invariants, the keyed lists of a state are in the order of their keys.
 pub fn invariants_give_keys()
     ensures { InvariantsGiveKeys }
 {}
 
-/// A step keeps the invariants of a state: those of the board, that no user and group have one name, that whoever is on
-/// at a console and whatever a connect, an owner or an access list names is stored, and that users, groups, connects,
-/// profiles and access lists are in the order of their keys, of which none comes twice.
+/// A step keeps the invariants of a state: those of the board, that no user and group have one name, that whoever is
+/// logged on at a console and whatever a connect, an owner or an access list names is stored, and that users, groups,
+/// connects, profiles and access lists are in the order of their keys, of which none comes twice.
 pub fn steps_keep_invariants()
     ensures { StepsKeepInvariants }
 {}

@@ -19,8 +19,8 @@ pub fn events_do_what_they_say()
     ensures { EventsDoWhatTheySay }
 {}
 
-/// A command is refused by the first of what is in its way on the board (E30 to E42), and without any acts, unless the
-/// last online console with AUTH MASTER were lost (E41).
+/// A command is refused by the first of what is in its way on the board (E30 to E42), and if nothing is, acts, unless
+/// the last online console with AUTH MASTER would be lost (E41).
 pub fn commands_are_refused_by_what_is_in_their_way()
     ensures refused { BoardObstaclesAreFaults }
     ensures done { CommandsActWithoutObstacle }
@@ -32,7 +32,7 @@ pub fn events_are_refused_by_what_is_in_their_way()
     ensures done { EventsHappenWithoutObstacle }
 {}
 
-/// Whatever is asked and whatever happens: where an online console has AUTH MASTER, one has it afterwards (E41).
+/// Whatever is asked and whatever happens: if an online console has AUTH MASTER, one has it afterwards (E41).
 pub fn steps_keep_a_master()
     ensures { StepsKeepAMaster }
 {}

@@ -76,13 +76,13 @@ ghost use Rattle.opc_machine_laws.specs.TakingLaws.{
   RowsAreTakenInTurn,
 };
 
-/// A command acts only where the written policy of that moment allows it.
+/// A command acts only if the written policy of that moment allows it.
 pub fn acts_only_where_allowed()
     ensures { ActsOnlyWhereAllowed }
 {}
 
-/// A command acts wherever the written policy of that moment allows it, unless the board is in the way or the request
-/// is aborted.
+/// A command acts if the written policy of that moment allows it, unless the board is in the way or the request is
+/// aborted.
 pub fn acts_wherever_allowed()
     ensures { ActsWhereverAllowed }
 {}
@@ -93,7 +93,7 @@ pub fn only_what_is_heard_is_done()
     ensures { OnlyWhatIsHeardIsDone }
 {}
 
-/// What a command needs is that of the table, and goes by the kind of the unit that C, FORCE, P and F name.
+/// What a command needs is that of the table, and depends on the kind of the unit that C, FORCE, P and F name.
 pub fn needs_are_of_the_table()
     ensures { NeedsAreOfTheTable }
 {}
@@ -108,18 +108,17 @@ pub fn requests_are_judged_in_turn()
     ensures { RequestsAreJudgedInTurn }
 {}
 
-/// Where nothing is asked nothing is answered, and nothing changes.
+/// If nothing is asked, nothing is answered, and nothing changes.
 pub fn nothing_asked_changes_nothing()
     ensures { NothingAskedChangesNothing }
 {}
 
-/// A unit's or a console's line is listed exactly where the written policy of that moment lets it be shown.
+/// A unit's or a console's line is listed if and only if the written policy of that moment lets it be shown.
 pub fn lists_exactly_what_may_be_shown()
     ensures { ListsExactlyWhatMayBeShown }
 {}
 
-/// The line of a unit or a console is about it, is shown where READ on its resource is allowed, and a plain one always
-/// is.
+/// The line of a unit or a console is about it, and is shown if READ on its resource is allowed; a plain one always is.
 pub fn lines_are_about_what_they_list()
     ensures { LinesAreAboutWhatTheyList }
 {}
@@ -146,34 +145,34 @@ pub fn displays_list_each_once()
     ensures consoles { ListsEachConsoleOnce }
 {}
 
-/// A user is logged on only where nobody is on, the password is the user's, and the written policy of that moment
-/// allows it.
+/// A user is logged on only if nobody is logged on there, the password is the user's, and the written policy of that
+/// moment allows it.
 pub fn logs_on_only_where_allowed()
     ensures { LogsOnOnlyWhereAllowed }
 {}
 
-/// A user is logged on wherever all that holds, unless the request is aborted.
+/// A user is logged on if all that holds, unless the request is aborted.
 pub fn logs_on_wherever_allowed()
     ensures { LogsOnWhereverAllowed }
 {}
 
-/// LOGOFF is done only where somebody is on.
+/// LOGOFF is done only if somebody is logged on.
 pub fn logs_off_only_where_somebody_is_on()
     ensures { LogsOffOnlyWhereSomebodyIsOn }
 {}
 
-/// LOGOFF is done wherever somebody is on, unless the request is aborted.
+/// LOGOFF is done if somebody is logged on, unless the request is aborted.
 pub fn logs_off_wherever_somebody_is_on()
     ensures { LogsOffWhereverSomebodyIsOn }
 {}
 
-/// Administration is done only where the written policy of that moment gives the right.
+/// Administration is done only if the written policy of that moment gives the right.
 pub fn administers_only_where_allowed()
     ensures { AdministersOnlyWhereAllowed }
 {}
 
-/// Administration is done wherever the written policy of that moment gives the right, unless something is in the way or
-/// the request is aborted.
+/// Administration is done if the written policy of that moment gives the right, unless something is in the way or the
+/// request is aborted.
 pub fn administers_wherever_allowed()
     ensures { AdministersWhereverAllowed }
 {}
@@ -183,25 +182,26 @@ pub fn rights_are_of_special_and_owners()
     ensures { RightsAreOfSpecialAndOwners }
 {}
 
-/// An operation does what it says and nothing else, and leaves an online console with AUTH MASTER where there is one.
+/// An operation does what its definition states and nothing else, and leaves an online console with AUTH MASTER if
+/// there is one.
 pub fn operations_do_what_they_say()
     ensures done { OperationsDoWhatTheySay }
     ensures master { OperationsKeepAMaster }
 {}
 
-/// Each operation is refused by the first of what is in its way (E52, E53, E55), and without any is done, unless the
-/// last online console with AUTH MASTER were lost (E41).
+/// Each operation is refused by the first of what is in its way (E52, E53, E55), and if nothing is, is done, unless the
+/// last online console with AUTH MASTER would be lost (E41).
 pub fn operations_are_refused_by_what_is_in_their_way()
     ensures refused { ObstaclesAreFaults }
     ensures done { OperationsAreDoneWithoutObstacle }
 {}
 
-/// A profile's line is listed exactly where the written policy of that moment lets it be shown.
+/// A profile's line is listed if and only if the written policy of that moment lets it be shown.
 pub fn lists_exactly_profiles_shown()
     ensures { ListsExactlyProfilesShown }
 {}
 
-/// Profiles are listed wherever somebody may ask, unless the request is aborted.
+/// Profiles are listed if somebody may ask, unless the request is aborted.
 pub fn lists_profiles_wherever_asked()
     ensures { ListsProfilesWhereverAsked }
 {}
@@ -216,18 +216,18 @@ pub fn more_specific_profiles_come_first()
     ensures { MoreSpecificProfilesComeFirst }
 {}
 
-/// The account is listed only where the written policy of that moment lets it be shown.
+/// The account is listed only if the written policy of that moment lets it be shown.
 pub fn lists_account_only_where_shown()
     ensures { ListsAccountOnlyWhereShown }
 {}
 
-/// The account is listed wherever it may be shown, unless the request is aborted.
+/// The account is listed if it may be shown, unless the request is aborted.
 pub fn lists_account_wherever_shown()
     ensures { ListsAccountWhereverShown }
 {}
 
-/// The n-th line of such a list is the row that was asked for or the n-th from there, with its number; there are as
-/// many as were asked for, or as there are rows.
+/// The n-th line of such a list is the n-th row from the requested one on, with its number; there are as many as were
+/// requested, or as there are rows.
 pub fn account_is_paged()
     ensures { AccountIsPaged }
 {}
@@ -237,7 +237,7 @@ pub fn account_is_seen_by_auditors()
     ensures { AccountIsSeenByAuditors }
 {}
 
-/// Only where whoever acts has SPECIAL is anything imported.
+/// Anything is imported only if whoever acts has SPECIAL.
 pub fn imports_are_of_special()
     ensures { ImportsAreOfSpecial }
 {}
@@ -247,17 +247,17 @@ pub fn imports_only_where_allowed()
     ensures { ImportsOnlyWhereAllowed }
 {}
 
-/// An import with a new number is done wherever SPECIAL asks, unless a row is refused or the request is aborted,
+/// An import with a new number is done if SPECIAL asks, unless a row is refused or the request is aborted,
 pub fn imports_wherever_allowed()
     ensures { ImportsWhereverAllowed }
 {}
 
-/// and one that is kept with the same rows changes nothing.
+/// and one that is stored with the same rows changes nothing.
 pub fn repeats_wherever_allowed()
     ensures { RepeatsWhereverAllowed }
 {}
 
-/// Two batches are the same where their rows are equal.
+/// Two batches are the same if their rows are equal.
 pub fn same_rows_are_equal()
     ensures { SameRowsAreEqual }
 {}
@@ -267,12 +267,12 @@ pub fn rows_are_taken_in_turn()
     ensures { RowsAreTakenInTurn }
 {}
 
-/// A first policy is taken as these rows are, and only where no user is stored (E57).
+/// A first policy is taken as these rows are, and only if no user is stored (E57).
 pub fn first_policies_are_first()
     ensures { FirstPoliciesAreFirst }
 {}
 
-/// The batch of a number is found exactly where one is kept.
+/// The batch of a number is found if and only if one is stored.
 pub fn batches_are_found_by_number()
     ensures { BatchesAreFoundByNumber }
 {}
@@ -287,13 +287,13 @@ pub fn aborts_change_nothing()
     ensures { AbortsChangeNothing }
 {}
 
-/// A request is aborted where memory is refused (E90) or because the store failed (E91), and is answered so.
+/// A request is aborted if memory is refused (E90) or because the store failed (E91), and is answered like that.
 pub fn aborts_without_memory_or_store()
     ensures { AbortsWithoutMemoryOrStore }
 {}
 
-/// A refusal of authority names its rule, a profile, a console's group or the logon rule, and that rule denies by the
-/// written policy of that moment.
+/// A refusal for lack of authority names its rule, a profile, a console's group or the logon rule, and that rule denies
+/// by the written policy of that moment.
 pub fn refusals_of_authority_name_their_rule()
     ensures { RefusalsOfAuthorityNameTheirRule }
 {}
@@ -309,7 +309,7 @@ pub fn denials_are_answered()
     ensures { DenialsAreAnswered }
 {}
 
-/// Where the board is in the way of what is allowed, its fault is answered with the rule that allowed it.
+/// If the board is in the way of what is allowed, its fault is answered with the rule that allowed it.
 pub fn board_faults_are_answered()
     ensures { BoardFaultsAreAnswered }
 {}
@@ -320,7 +320,7 @@ pub fn missing_consoles_are_answered()
     ensures offline { OfflineConsolesAreAnswered }
 {}
 
-/// A line that is no command is refused by its first fault.
+/// A line that is not a command is refused by its first fault.
 pub fn bad_lines_are_answered()
     ensures { BadLinesAreAnswered }
 {}
@@ -331,19 +331,19 @@ pub fn faults_are_distinct()
     ensures line { LineFaultsAreDistinct }
 {}
 
-/// A LOGON is refused where somebody is on (E15), then where the password is not the user's (E14); LOGOFF where nobody
-/// is on (E16).
+/// A LOGON is refused if somebody is logged on (E15), then if the password is not the user's (E14); LOGOFF if nobody is
+/// logged on (E16).
 pub fn logon_faults_are_answered()
     ensures { LogonFaultsAreAnswered }
 {}
 
-/// Where the right is missing, that alone is answered, whatever else is in the way: that only SPECIAL may (E50), or
-/// only the owner of the profile too (E51).
+/// If the right is missing, that alone is answered, whatever else is in the way: that only SPECIAL may (E50), or only
+/// the owner of the profile too (E51).
 pub fn missing_rights_are_answered()
     ensures { MissingRightsAreAnswered }
 {}
 
-/// Where the right is there, what is in the way of the change or of a row is answered, and of a batch that is kept with
+/// If the right is there, what is in the way of the change or of a row is answered, and of a batch that is stored with
 /// other rows that it is (E56).
 pub fn what_is_in_the_way_is_answered()
     ensures administration { AdministrationFaultsAreAnswered }
@@ -351,8 +351,8 @@ pub fn what_is_in_the_way_is_answered()
     ensures batch { ChangedBatchesAreAnswered }
 {}
 
-/// What is done leaves the account and the batches as they are. Its row is added exactly where a warning alone let it
-/// pass, and an import keeps its batch.
+/// What is done leaves the account and the batches as they are. Its row is added if and only if a warning alone let it
+/// pass, and an import stores its batch.
 pub fn what_is_done_leaves_the_rest()
     ensures { WhatIsDoneLeavesRest }
 {}
@@ -372,12 +372,12 @@ pub fn events_only_do_their_effect()
     ensures { EventsOnlyDoTheirEffect }
 {}
 
-/// It happens wherever the board lets it, unless it is aborted,
+/// It happens if the board lets it, unless it is aborted,
 pub fn events_happen_wherever_possible()
     ensures { EventsHappenWhereverPossible }
 {}
 
-/// and is else refused by the board's fault.
+/// and is otherwise refused by the board's fault.
 pub fn event_faults_are_answered()
     ensures { EventFaultsAreAnswered }
 {}

@@ -27,7 +27,7 @@ pub fn commands_need_so()
     ensures { CommandsNeedSo }
 {}
 
-/// Where two patterns differ first, the one comes before whose character, `%`, `*` or `**` stands for less.
+/// At the first difference of two patterns, the one comes before whose character, `%`, `*` or `**` stands for less.
 pub fn narrower_patterns_come_first()
     ensures { NarrowerComesFirst }
 {}
@@ -47,8 +47,8 @@ pub fn levels_include_those_below()
     ensures { LevelsIncludeThoseBelow }
 {}
 
-/// What is taken as stored is stored: users, groups and whom entries may be for, connects and the groups of a user, who
-/// is named anywhere, and who is on.
+/// What is treated as stored is stored: users, groups and whom entries may be for, connects and the groups of a user,
+/// who is named anywhere, and who is logged on.
 pub fn stored_is_what_is_there()
     ensures names { StoredIsWhatIsThere }
     ensures connects { ConnectsConnect }
@@ -56,7 +56,7 @@ pub fn stored_is_what_is_there()
     ensures on { OnIsWhoIsOn }
 {}
 
-/// A batch that is kept is found by its number from then on, and each other one as before.
+/// A batch that is stored is found by its number from then on, and each other one as before.
 pub fn batches_are_kept()
     ensures { BatchesAreKept }
 {}
@@ -72,8 +72,8 @@ pub fn faults_have_their_numbers()
     ensures { FaultsHaveTheirNumbers }
 {}
 
-/// Each level, class, authority and mode is read back from its text, each verb has its two words, and a typed text says
-/// what stands between its apostrophes.
+/// Each level, class, authority and mode is read back from its text, each verb has its two words, and a typed text
+/// means what is between its apostrophes.
 pub fn what_is_read_is_what_is_written()
     ensures spellings { SpellingsReadBack }
     ensures verbs { VerbsAreSpelledSo }
@@ -87,7 +87,7 @@ pub fn rules_and_lines_read_so()
     ensures lines { LinesReadSo }
 {}
 
-/// A board that is in order goes by names and numbers.
+/// A board that is in order is sorted by names and numbers.
 pub fn boards_go_by_name()
     ensures { BoardsGoByName }
 {}

@@ -15,7 +15,8 @@ pub fn rows_do_what_they_say()
     ensures { RowsDoWhatTheySay }
 {}
 
-/// A console that is there gets the authority and the mode, and keeps all else; a new one is online with nobody on.
+/// A console that is there gets the authority and the mode, and keeps all else; a new one is online with nobody logged
+/// on.
 pub fn consoles_are_defined()
     ensures { ConsolesAreDefined }
 {}
@@ -25,8 +26,8 @@ pub fn rows_never_delete()
     ensures { RowsNeverDelete }
 {}
 
-/// Rows are refused by the first thing that is in the way of the first such row (E52, E53), and where nothing is, only
-/// if the last online console with AUTH MASTER were lost by all of them (E41).
+/// Rows are refused by the first thing that is in the way of the first such row (E52, E53), and if nothing is, only if
+/// the last online console with AUTH MASTER would be lost by all of them (E41).
 pub fn rows_are_refused_by_their_first_obstacle()
     ensures taken { RowsAreTakenWithoutObstacle }
     ensures refused { RowObstaclesAreFaults }

@@ -18,7 +18,7 @@ ghost use Rattle.opc_machine_laws.specs.HoldingLaws.{
 };
 ghost use Rattle.opc_machine_laws.specs.RulingLaws.{LogonRuleSaysWhy, LogonRulingsSayWhy, RulingsSayWhy};
 
-/// The logon rule denies where nobody is on at a REQUIRED console, and then where whoever acts is revoked.
+/// The logon rule denies if nobody is logged on at a REQUIRED console, and then if whoever acts is revoked.
 pub fn logon_rule_says_why()
     ensures { LogonRuleSaysWhy }
 {}
@@ -29,7 +29,7 @@ pub fn rulings_say_why()
     ensures { RulingsSayWhy }
 {}
 
-/// Whoever logs on is refused where revoked, then ruled on by the profile of CONSOLE that decides, and else admitted.
+/// Whoever logs on is refused if revoked, then ruled on by the profile of CONSOLE that decides, and otherwise admitted.
 pub fn logon_rulings_say_why()
     ensures { LogonRulingsSayWhy }
 {}
@@ -60,32 +60,32 @@ pub fn restricted_users_are_named()
 {}
 
 /// The user's own entry decides, then those for the user's groups, then that for everyone, then the universal access:
-/// the first that is there, also where it says NONE.
+/// the first that is there, even if its level is NONE.
 pub fn the_first_source_decides()
     ensures { FirstSourceDecides }
 {}
 
-/// An AUTO console where nobody is on acts for the user of its own name,
+/// An AUTO console where nobody is logged on acts for the user of its own name,
 pub fn auto_consoles_act_for_their_own()
     ensures { AutoConsolesActForTheirOwn }
 {}
 
-/// and for nobody where no such user is stored.
+/// and for nobody if no such user is stored.
 pub fn other_auto_consoles_act_alone()
     ensures { OtherAutoConsolesActAlone }
 {}
 
-/// An OPTIONAL console where nobody is on acts for nobody.
+/// An OPTIONAL console where nobody is logged on acts for nobody.
 pub fn optional_consoles_act_alone()
     ensures { OptionalConsolesActAlone }
 {}
 
-/// A REQUIRED console where nobody is on acts for nobody.
+/// A REQUIRED console where nobody is logged on acts for nobody.
 pub fn required_consoles_act_for_nobody()
     ensures { RequiredConsolesActForNobody }
 {}
 
-/// A console of any mode acts for the user who is on there.
+/// A console of any mode acts for the user who is logged on there.
 pub fn who_is_on_comes_first()
     ensures { WhoIsOnComesFirst }
 {}

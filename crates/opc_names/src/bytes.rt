@@ -107,9 +107,9 @@ impl<const N: usize> Ord for Bytes<N> {
     }
 }
 
-/// The order of as many bytes as theirs, where it shows in words of eight of them, which are faster to compare.
-/// Names and sort keys are looked up in ordered maps. Most comparisons there are of different ones, and the keys of one
-/// policy begin alike.
+/// The order of bytes as long as theirs, if words of eight of them show it, which are faster to compare. Names and sort
+/// keys are looked up in ordered maps. Most comparisons there are of different ones, and the keys of one policy begin
+/// alike.
 fn order_of_words(ours: &[u8], theirs: &[u8]) -> Option<Ordering>
     requires { length ours.now ≡ length theirs.now }
     ensures { IfSome result (λ order. (order ≡ slice_cmp nat_cmp ours.now theirs.now) × (order ≢ Equal)) }
@@ -126,7 +126,7 @@ fn order_of_words(ours: &[u8], theirs: &[u8]) -> Option<Ordering>
     None
 }
 
-/// The first eight bytes as a number, which is faster to compare; 0 where there are fewer.
+/// The first eight bytes as a number, which is faster to compare; 0 if there are fewer.
 fn prefix(room: &[u8]) -> u64
     ensures short { length room.now < 8 → result ≡ 0 }
     ensures value { 8 ≤ length room.now → result ≡ number_after 0 (take 8 room.now) }
@@ -134,6 +134,7 @@ fn prefix(room: &[u8]) -> u64
 {
     match room {
         [a, b, c, d, e, f, g, h, ..] => u64::from_be_bytes([*a, *b, *c, *d, *e, *f, *g, *h]),
+        // Fewer bytes have no word to compare; the caller passes eight or more.
         _ => 0,
     }
 }

@@ -20,6 +20,7 @@ impl Class {
         match text {
             "CONSOLE" => Some(Class::Console),
             "OPERCMDS" => Some(Class::Opercmds),
+            // No other text is a class.
             _ => None,
         }
     }

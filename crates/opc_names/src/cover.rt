@@ -47,8 +47,8 @@ fn ends_in_star(qualifier: &[u8]) -> bool
     qualifier.last() == Some(&STAR)
 }
 
-/// Puts `**` before a pattern. `covered` says of each suffix of a name, longest first, whether the
-/// pattern covers it: `**` and the pattern cover those that have such a suffix. Whether there is one.
+/// Puts `**` before a pattern. `covered` holds, for each suffix of a name, longest first, whether the pattern covers
+/// it: `**` and the pattern cover those that have such a suffix. Returns whether there is one.
 fn prepend_stars(covered: &mut [bool]) -> bool
     ensures suffixes { covered.new ≡ any_from_here covered.old }
     ensures any { result ≡ list_any (λ b. b) covered.old }
@@ -72,8 +72,8 @@ fn covers_from(qualifier: &[u8], part: &[u8], is_last: bool, covers_rest: bool) 
     matches(qualifier, part) && (is_last && ends_in_star(qualifier) || covers_rest)
 }
 
-/// Puts a qualifier other than `**` before the others of a pattern. `covered` says of each suffix of
-/// a name, longest first, whether the others cover it, and then, whether all of them do.
+/// Puts a qualifier other than `**` before the others of a pattern. `covered` holds, for each suffix of a name, longest
+/// first, whether the others cover it, and then, whether all of them do.
 fn prepend_qualifier(
     qualifier: &[u8],
     others: Option<&[u8]>,

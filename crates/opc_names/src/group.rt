@@ -26,6 +26,7 @@ impl Group {
             "SYS" => Some(Group::Sys),
             "IO" => Some(Group::Io),
             "CONS" => Some(Group::Cons),
+            // No other text is a group.
             _ => None,
         }
     }

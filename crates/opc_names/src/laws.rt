@@ -12,7 +12,7 @@ ghost use Rattle.opc_names.specs.Laws.{
   GroupNamesReadAsUsers,
 };
 
-/// The function that computes what a pattern covers is true exactly where the pattern covers.
+/// The function that computes what a pattern covers is true if and only if the pattern covers.
 pub fn covers_computes()
     ensures { CoversComputes }
 {}

@@ -27,6 +27,7 @@ impl Level {
             "UPDATE" => Some(Level::Update),
             "CONTROL" => Some(Level::Control),
             "ALTER" => Some(Level::Alter),
+            // No other text is a level.
             _ => None,
         }
     }
@@ -46,7 +47,7 @@ impl Level {
         }
     }
 
-    /// Whether who holds this level has the needed one: a level includes those below it.
+    /// Whether whoever holds this level has the needed one: a level includes those below it.
     pub fn includes(self, needed: Level) -> bool
         ensures { result ≡ includes self needed }
     {

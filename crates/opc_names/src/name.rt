@@ -98,8 +98,8 @@ impl<K: NameKind<N>, const N: usize> Name<K, N> {
         ensures ascii { IsAscii self.now }
         ensures short { length self.now ≤ N }
     {
-        // The one call of `from_utf8_unchecked` in the product. The name's invariant says that the bytes are ASCII, so
-        // they are a text. A test at each call would be 8 % of the instructions of `explain`.
+        // The one call of `from_utf8_unchecked` in the product. The name's invariant states that the bytes are ASCII,
+        // so they are a text. A test at each call would be 8 % of the instructions of `explain`.
         unsafe { str::from_utf8_unchecked(self.bytes.as_slice()) }
     }
 
@@ -333,10 +333,10 @@ pub type UserId = Name<UserKind, 8>;
 /// A unit of work: 1 to 8 name characters.
 pub type UnitName = Name<UnitNameKind, 8>;
 
-/// A group of users: 1 to 8 name characters, the first no digit.
+/// A group of users: 1 to 8 name characters, the first not a digit.
 pub type GroupName = Name<GroupKind, 8>;
 
-/// A console: 2 to 8 name characters, the first no digit.
+/// A console: 2 to 8 name characters, the first not a digit.
 pub type ConsoleName = Name<ConsoleKind, 8>;
 
 /// A volume: 1 to 6 name characters.

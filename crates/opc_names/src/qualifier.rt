@@ -11,7 +11,7 @@ fn first_period(text: &[u8]) -> Option<usize>
     text.iter().position(|c| *c == b'.')
 }
 
-/// The first qualifier of a text, and what follows its period, where there is one.
+/// The first qualifier of a text, and what follows its period, if there is one.
 pub(crate) fn split_qualifier(text: &[u8]) -> (&[u8], Option<&[u8]>)
     ensures parts { qualifiers text.now ≡ result.0.now ∷ qualifiers_left (option_copied result.1) }
     ensures lengths { length result.0.now + left_len (option_copied result.1) ≡ length text.now }

@@ -1,4 +1,4 @@
-//! What a kind of name asks of a text, and why a text is no such name.
+//! What a kind of name requires of a text, and why a text is not a valid name.
 ghost use Rattle.std.specs.Prelude.{◌≡◌, ◌+◌, ◌<◌, not, length, None};
 ghost use Rattle.std.specs.List.{position};
 ghost use Rattle.std.specs.Str.{chars};
@@ -18,7 +18,7 @@ use crate::qualifier::{is_stars, split_qualifier};
 use std::error::Error;
 use std::fmt;
 
-/// Why a text is no name. The first that holds, in this order, is the answer; places are byte places.
+/// Why a text is not a valid name. The first that holds, in this order, is the answer; places are byte places.
 #[derive(Clone, Copy, Debug, PartialEq, Eq)]
 pub enum NameFault {
     Empty,
@@ -28,7 +28,7 @@ pub enum NameFault {
     TooLong,
     /// Where the first character stands that can't stand there.
     BadCharacter(usize),
-    /// Where the first qualifier begins that is empty, has a `*` before its end or has `**` beside something.
+    /// Where the first qualifier begins that is empty, has a `*` before its end or combines `**` with other characters.
     BadQualifier(usize),
 }
 
@@ -37,7 +37,7 @@ pub enum NameFault {
 pub enum Alphabet {
     /// `A` to `Z`, `0` to `9`, `#`, `$`, `@`.
     NameCharacters,
-    /// The same, the first no digit.
+    /// The same, but the first is not a digit.
     NoDigitFirst,
     /// `0` to `9`, `A` to `F`.
     Hexadecimal,
@@ -47,7 +47,7 @@ pub enum Alphabet {
     Generic,
 }
 
-/// What a kind of name asks of a text: how many characters, and which.
+/// What a kind of name requires of a text: how many characters, and which.
 #[derive(Clone, Copy, PartialEq, Eq)]
 pub struct NameRule {
     pub least: usize,
@@ -85,6 +85,7 @@ fn star_only_last(qualifier: &[u8]) -> bool
 {
     match qualifier {
         [first, rest @ ..] if !rest.is_empty() => *first != b'*' && star_only_last(rest),
+        // A qualifier of one character may be a `*`.
         _ => true,
     }
 }
@@ -112,6 +113,7 @@ impl Alphabet {
     {
         match self {
             Alphabet::NoDigitFirst => is_name_character(byte) && !byte.is_ascii_digit(),
+            // In the other alphabets what may follow may begin.
             _ => self.may_follow(byte),
         }
     }
@@ -138,7 +140,7 @@ impl Alphabet {
         !matches!(self, Alphabet::Qualified | Alphabet::Generic)
     }
 
-    // How many characters a text has whose first bad one is known: good ones take a byte each.
+    // How many characters a text has whose first bad one is known: good ones take one byte each.
     fn count(self, text: &str, bad: Option<usize>) -> usize
         requires { bad ≡ bad_character self text.now }
         ensures { result ≡ length (chars text.now) }
@@ -149,7 +151,7 @@ impl Alphabet {
         }
     }
 
-    // Where the first bad qualifier begins of a text without bad characters: a plain one is a qualifier.
+    // Where the first bad qualifier of a text without bad characters begins: a plain text is one qualifier.
     fn bad_part(self, text: &[u8]) -> Option<usize>
         requires some { 0 < length (chars text.now) }
         requires good { bad_character self text.now ≡ None }
@@ -169,6 +171,7 @@ impl Alphabet {
         }
         match self {
             Alphabet::Generic => is_stars(part) || star_only_last(part),
+            // Without generic characters every part that is not empty is a qualifier.
             _ => true,
         }
     }

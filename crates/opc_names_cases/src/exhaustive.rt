@@ -1,5 +1,5 @@
 //! All patterns and names over an alphabet, up to a length, compared with the plain programs. Each function counts what
-//! it compared; its error is the first pair of which the plain program says otherwise.
+//! it compared; its error is the first pair on which the plain program differs.
 use crate::plain;
 use anyhow::{Context, Result, anyhow};
 use opc_names::name::{Pattern, Resource};
@@ -65,7 +65,7 @@ fn count_later(alloc: Global, text: &str, others: &[String]) -> Result<usize> {
     Ok(pairs)
 }
 
-/// All texts over an alphabet with at most so many characters.
+/// All texts over an alphabet with at most this many characters.
 fn all_texts(alloc: Global, extent: &str) -> Result<Vec<String>> {
     let (alphabet, most) = extent.split_once(' ').context("no length")?;
     let mut texts = Vec::new(alloc);

@@ -1,13 +1,14 @@
 //! Cases of names, patterns and their order, levels, classes, command groups and authority.
 //!
 //! Each line of the input is a case, a subject and its operands; it is written again with the answer after it. A line
-//! that begins with `#`, which says what the rule is, and an empty line are written as they are. The subjects:
+//! that begins with `#`, which states the rule, and an empty line are written as they are. The subjects:
 //!
 //! - `user`, `unit`, `group`, `console`, `volume`, `device`, `resource`, `pattern` TEXT: the name with this text, or
 //!   the first fault of the text.
 //! - `user-order` USER USER, `pattern-order` PATTERN PATTERN: how their texts compare, and whether they are equal.
 //! - `shown` USER: the name on the right of ten columns, and as `Debug` shows it.
-//! - `with` RESOURCE KIND NAME ..: the resource with each name as one more qualifier, by kind `unit`, `user` or `console`.
+//! - `with` RESOURCE KIND NAME ..: the resource with each name as one more qualifier, by kind `unit`, `user` or
+//!   `console`.
 //! - `level`, `class`, `command-group`, `authority` TEXT: what has this text, and how it is written.
 //! - `includes` LEVEL and `enters` AUTHORITY: the levels that it includes, the command groups that it enters.
 //! - `covers` PATTERN NAME: whether it does; `covers-1000`: how often of a thousand times.

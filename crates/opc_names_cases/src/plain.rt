@@ -58,8 +58,8 @@ pub fn ranks(alloc: Global, text: &str) -> Result<Vec<u16>, AllocError> {
     Ok(ranks)
 }
 
-/// The first token that differs decides; where one pattern ends, it comes last if the common part ends in `*` or
-/// `**`, else first.
+/// The first token that differs decides; if one pattern ends first, it comes last if the common part ends in `*` or
+/// `**`, and otherwise first.
 pub fn before(ours: &[u16], theirs: &[u16]) -> bool {
     let common = ours.iter().zip(theirs).take_while(|(a, b)| a == b).count();
     match (ours.get(common), theirs.get(common)) {

@@ -77,7 +77,7 @@ pub fn levels_at_consoles()
     ensures restricted { held display restricted_carl (Some (codes "C1")) [] ≡ level.None }
 {}
 
-/// Who is on is ruled by the profiles, and a denial by one of them is final.
+/// Whoever is logged on is ruled by the profiles, and a denial by one of them is final.
 #[tactic(auto, unfolding(opc_policy_members::specs::Held::held))]
 pub fn rulings_by_profiles()
     ensures backup { ruled_by base_profiles (Some anna) None ops auth.Sys
@@ -97,7 +97,7 @@ pub fn rulings_by_profiles()
         ≡ Allowed (rule.Profile Opercmds (codes "MVS.VARY.DEV") level.None level.Update true) }
 {}
 
-/// Where nobody is on, or no profile decides, the authority of the console does.
+/// If nobody is logged on, or no profile decides, the authority of the console does.
 pub fn rulings_by_consoles()
     ensures start { ruled_by base_profiles None None [] auth.Sys
         (need (codes "MVS.START.STC.MONPL.MONPL") level.Update group.Sys) ≡ Allowed

@@ -82,6 +82,7 @@ pub fn explain(
             let ruling = profile_ruling(profile, user, console, &groups, needed);
             (ruling.verdict(), ruling.rule())
         }
+        // No profile covers the resource, or the class is inactive.
         _ => (Verdict::Undecided, Rule::NoProfile),
     };
     Ok(Explained {

@@ -1,4 +1,4 @@
-//! Decisions: which profile decides, and what it says of a user. It hands on what policies are made of, and their
+//! Decisions: which profile decides, and what it rules on a user. It re-exports what policies are made of, and their
 //! faults, rules and needs.
 #![tactic(auto)]
 

@@ -16,8 +16,8 @@ use opc_policy_members::profiles::Profiles;
 use opc_terms::store_fault::StoreFault;
 use std::alloc::{AllocError, Global};
 
-/// The first profile that covers a resource, of those of a class and, where one is given, with a head, and how
-/// many were read for it.
+/// The first profile that covers a resource, of those of a class and, if one is given, with a head, and how many were
+/// read for it.
 fn first_chosen(
     profiles: &Profiles,
     class: Class,
@@ -106,7 +106,7 @@ impl ProfileSource for Policy {
 
     ghost is_open = { λ _. ⊤ };
 
-    // Asking changes nothing in a policy, its classes included.
+    // A search changes nothing in a policy, its classes included.
     ghost is_kept = { λ old new. new ≡ old };
 
     ghost kept_itself = { λ policy. refl };

@@ -31,7 +31,7 @@ pub enum Ruling {
 }
 
 impl Ruling {
-    /// What it says.
+    /// The verdict of the ruling.
     pub fn verdict(&self) -> Verdict
         ensures { result ≡ verdict_of self.now }
     {
@@ -51,7 +51,7 @@ impl Ruling {
     }
 }
 
-/// The ruling on a user at a console, where this profile decides. The groups are the user's connect groups.
+/// The ruling on a user at a console, if this profile decides. The groups are the user's connect groups.
 pub fn profile_ruling(
     profile: &Profile,
     user: &User,
@@ -67,7 +67,7 @@ pub fn profile_ruling(
     ruling_at(profile, profile.level_of(user, console, groups), needed)
 }
 
-/// The ruling on whoever holds a level in a profile, where it decides.
+/// The ruling on whoever holds a level in a profile, if it decides.
 pub fn ruling_at(profile: &Profile, held: Level, needed: Level) -> Ruling
     ensures ruling { result ≡ ruling_at profile.now held needed }
     ensures rule { rule_of result ≡ rule_at profile.now held needed }
@@ -102,9 +102,9 @@ pub fn console_ruling(auth: Auth, need: &Need) -> Ruling
     }
 }
 
-/// The ruling on a command at a console, where logon is no question: by the profile that decides, if the class is
-/// active and the console acts for a user, else by the authority of the console. The groups are the user's connect
-/// groups; without a user they are not looked at.
+/// The ruling on a command at a console, apart from any logon rule: by the profile that decides, if the class is active
+/// and the console acts for a user, or else by the authority of the console. The groups are the user's connect groups;
+/// without a user they are not looked at.
 pub fn rule_on(
     found: &Found,
     active: bool,
@@ -121,6 +121,7 @@ pub fn rule_on(
         (Some(user), Some(profile)) if active => {
             profile_ruling(profile, user, console, groups, need.level)
         }
+        // Nobody acts, no profile covers, or the class is inactive: nothing but the console is left to decide.
         _ => console_ruling(auth, need),
     }
 }

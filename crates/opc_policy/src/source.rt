@@ -32,7 +32,7 @@ impl Taken {
 }
 
 /// Where profiles come from: of one class and with one head at a time. A source over files may fail for good while it
-/// is asked, so what it answers is known where it is faithful afterwards.
+/// is searched, so an answer counts only if the source is faithful afterwards.
 pub trait ProfileSource {
     /// That these are the profiles, as it gives them. A relation, since tables have them as rows.
     ghost has: { Self → List TheProfile → Type 0 };
@@ -40,17 +40,17 @@ pub trait ProfileSource {
     /// That it may be asked.
     ghost is_ready: { Self → Type 0 };
 
-    /// Where this holds after a call, an answer is of the profiles that were there before, and while the source is open
-    /// they are there still.
+    /// If this holds after a call, an answer is about the profiles that were there before, and as long as the source is
+    /// open they are still there.
     ghost is_faithful: { Self → Type 0 };
 
-    /// What asking leaves of the source as it was before, whatever comes of it.
+    /// What a search leaves of the source as it was before, whatever comes of it.
     ghost is_kept: { Self → Self → Type 0 };
 
-    /// That it is still open, as a source is that has answered.
+    /// That it is still open, as a source that has answered is.
     ghost is_open: { Self → Type 0 };
 
-    /// The faults that asking may end in.
+    /// The faults that a search may end in.
     ghost can_fail_with: { TheFault → Type 0 };
 
     /// The first profile, in the order of the patterns, that covers a resource, of those of a class with this
@@ -78,7 +78,7 @@ pub trait ProfileSource {
             → has self.new profiles }
         ensures faithful { is_faithful self.new → is_faithful self.old };
 
-    /// Not to ask keeps the source, and so does to ask again.
+    /// The source is kept if nothing is searched, and if one search follows another.
     ghost kept_itself: { (source : Self) → is_kept source source };
 
     ghost kept_again: { (source next last : Self) → is_kept source next → is_kept next last → is_kept source last };

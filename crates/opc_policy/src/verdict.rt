@@ -4,7 +4,7 @@ ghost use Rattle.std.specs.Str.{IsAscii};
 
 use std::fmt;
 
-/// What the profiles of a class say of a user and a level: they decide for it or against it, or leave it open.
+/// What the profiles of a class decide on a user and a level: they allow it or deny it, or leave it open.
 #[derive(Clone, Copy)]
 pub enum Verdict {
     Allowed,

@@ -1,4 +1,4 @@
-//! What is answered on each subject.
+//! How each subject is answered.
 use crate::faults::fault_of;
 use crate::levels::compared;
 use crate::words::Words;
@@ -15,7 +15,7 @@ use std::alloc::{AllocError, Global};
 
 const HEADER: &str = "kind,class,name,id,value,owner,flags,digest,when,restricted";
 
-/// The answer to a line over a policy, which `new` and `row` change. A subject that there is not ends the program.
+/// The answer to a line over a policy, which `new` and `row` change. An unknown subject ends the program.
 pub fn answer(alloc: Global, policy: &mut Policy, line: &str) -> Result<String> {
     let (subject, rest) = line.split_once(' ').unwrap_or((line, ""));
     let words = Words::of(alloc, rest)?;

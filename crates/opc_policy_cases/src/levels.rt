@@ -20,7 +20,7 @@ fn level_at(number: u8) -> Level {
     }
 }
 
-/// Compares all of them, and says how many.
+/// Compares all of them, and returns how many.
 pub fn compared(alloc: Global) -> Result<String> {
     let mut count = 0u64;
     for there in 0..=u8::MAX {

@@ -20,7 +20,7 @@ fn first(sources: &Sources, restricted: bool) -> Option<u8> {
     }
 }
 
-/// The level by the entries for every console and by the universal access, or, where it is higher, the level by the
+/// The level by the entries for every console and by the universal access, or, if it is higher, the level by the
 /// entries for the console at which the user is.
 pub fn held(plain: &Sources, there: Option<&Sources>, universal: u8, restricted: bool) -> u8 {
     let level = match first(plain, restricted) {

@@ -5,7 +5,7 @@ use opc_names::level::Level;
 use opc_names::name::{ConsoleName, Pattern, Resource, UserId};
 use std::alloc::{AllocError, Global};
 
-/// The words of a text, between single spaces. A word that is not what is asked for ends the program.
+/// The words of a text, between single spaces. A word that is not what is expected ends the program.
 #[derive(Drop)]
 pub struct Words<'a> {
     list: Vec<&'a str>,
@@ -18,7 +18,7 @@ impl<'a> Words<'a> {
         Ok(Words { list })
     }
 
-    /// The word at a place, counted from 0, and empty where there are fewer.
+    /// The word at a place, counted from 0, and empty if there are fewer.
     fn at(&self, place: usize) -> &'a str {
         self.list.get(place).copied().unwrap_or("")
     }

@@ -55,8 +55,8 @@ impl Entries {
         self.list.as_slice()
     }
 
-    /// The level of the entry for an id, which is the name of a user or a group, or `*`, at a console alone or,
-    /// where none is given, at every console.
+    /// The level of the entry for an id, which is the name of a user or a group, or `*`, at a console alone or, if none
+    /// is given, at every console.
     pub fn level_of(&self, when: Option<&ConsoleName>, id: &str) -> Option<Level>
         ensures { result ≡ entry_level self.now (option_copied when.entry) id.now }
     {
@@ -115,7 +115,7 @@ pub struct EntryLevels {
 }
 
 impl EntryLevels {
-    /// The level of the first that there is. A RESTRICTED user has nothing of the entry for everyone.
+    /// The level of the first that there is. A RESTRICTED user gets nothing from the entry for everyone.
     pub fn first_level(self, user: &User) -> Option<Level>
         ensures { result ≡ option_or self.own
             (option_or self.groups (if user.now.restricted then None else self.everyone)) }
@@ -125,7 +125,7 @@ impl EntryLevels {
     }
 }
 
-/// Where the entry for the id and the console of another stands, or where it would stand.
+/// The place of the entry for the id and the console of another, or the place where it would stand.
 fn place_of(entries: &[Entry], new: &Entry) -> Result<usize, usize>
     requires { AreInOrder entries.now }
     ensures { IsPlace new.now entries.now result }

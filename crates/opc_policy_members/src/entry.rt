@@ -18,7 +18,7 @@ impl Entry {
     ghost use Rattle.std.specs.Option.{option_copied};
     ghost use Rattle.opc_policy_members.specs.Access.{is_for, entry_cmp};
 
-    /// Whether it is for an id, and for this console alone or, where none is given, for every console.
+    /// Whether it is for an id, and for this console alone or, if none is given, for every console.
     pub(crate) fn is_for(&self, when: Option<&ConsoleName>, id: &str) -> bool
         ensures { result ≡ is_for (option_copied when.entry) id.now self.now }
     {

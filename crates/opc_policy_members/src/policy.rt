@@ -56,7 +56,7 @@ pub struct Policy {
     pub active: ActiveClasses,
 }
 
-// In a function of its own, so that no caller drops part after part: that makes its proof short.
+// In a function of its own, so that no caller drops one part after another: that keeps its proof short.
 impl Drop for Policy {
     fn drop(self) {
         let Policy {
@@ -203,7 +203,7 @@ impl Policy {
             → IsOk (after_row (rows.Permit class pattern.now entry.id entry.level entry.when) self.old)) }
         ensures unchanged { OnErr result (self.new ≡ self.old) }
     {
-        // A row that both of them are missing for names the profile.
+        // A row for which both of them are missing names the profile.
         if !self.has_holder(&entry.id) && self.profiles.get(class, pattern).is_some() {
             return Err(Fault::Missing(Subject::of_entry(&entry.id)));
         }

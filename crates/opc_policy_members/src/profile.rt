@@ -8,8 +8,8 @@ use opc_names::class::Class;
 use opc_names::level::Level;
 use opc_names::name::{ConsoleName, GroupName, Pattern, UserId};
 
-/// What a class says of the resources that a pattern covers: who owns the profile, the universal access,
-/// whether it only warns, and the access list (RACF guide: general resource profile).
+/// What a class requires for the resources that a pattern covers: who owns the profile, the universal access, whether
+/// it only warns, and the access list (RACF guide: general resource profile).
 #[derive(Clone, Drop)]
 pub struct Profile {
     pub class: Class,
@@ -32,12 +32,13 @@ impl Profile {
     {
         match (self.class, class) {
             (Class::Console, Class::Console) | (Class::Opercmds, Class::Opercmds) => true,
+            // The two classes differ.
             _ => false,
         }
     }
 
-    /// The level that a user holds at a console, who is connected to these groups: the higher of the level that
-    /// holds at every console and the one at this console alone.
+    /// The level that a user holds at a console, who is connected to these groups: the higher of the level that holds
+    /// at every console and the one at this console alone.
     #[tactic(auto, unfolding(crate::specs::Held::held))]
     pub fn level_of(
         &self,
@@ -67,8 +68,8 @@ impl Profile {
         self.entries.first_level(console, user, groups)
     }
 
-    /// The level that a user holds who has these of the entries: of those for every console, and of those for one
-    /// console alone. Without an entry of the former there is the universal access.
+    /// The level that a user holds to whom these of the entries apply: of those for every console, and of those for one
+    /// console alone. Without one of the former, there is the universal access.
     pub fn level_from(&self, user: &User, plain: Option<Level>, conditional: Option<Level>) -> Level
         ensures { result ≡ higher_level (unwrap_or plain (universal_level self.now user.now))
             (unwrap_or conditional Level.None) }
@@ -77,7 +78,7 @@ impl Profile {
         higher_level(plain, conditional.unwrap_or(Level::None))
     }
 
-    /// What is given to those for whom there is no entry: a RESTRICTED user has nothing of it.
+    /// What is given to those for whom there is no entry: a RESTRICTED user gets nothing of it.
     fn universal_level(&self, user: &User) -> Level
         ensures { result ≡ universal_level self.now user.now }
     {

@@ -67,7 +67,7 @@ impl Profiles {
         self.by_key.get(&(class, pattern.sort_key()))
     }
 
-    /// One more profile, in the place of one of its class and pattern, which is the answer.
+    /// Puts a profile in the place of the one of its class and pattern, which it returns.
     fn put(&mut self, profile: Profile) -> Result<Option<Profile>, AllocError>
         ensures ok { OnOk result (self.new ≡ with_profile profile self.old) }
         ensures replaced { IfOk result (λ replaced. replaced ≡ profile_of self.old profile.class profile.pattern) }
@@ -80,7 +80,7 @@ impl Profiles {
         Ok(replaced)
     }
 
-    /// One more profile. Where there is one of its class and pattern, it takes its place and keeps the access
+    /// Defines a profile. If there is one of its class and pattern, the new one takes its place and keeps the access
     /// list that is there (RACF guide: RDEFINE and RALTER).
     pub fn define(&mut self, profile: Profile) -> Result<(), AllocError>
         ensures ok { OnOk result (self.new ≡ with_definition profile self.old) }
@@ -104,8 +104,8 @@ impl Profiles {
         Ok(())
     }
 
-    /// One more entry in the access list of a profile, in the place of one for its id and console (RACF guide:
-    /// PERMIT), and whether there is such a profile. Where there is none nothing changes.
+    /// One more entry in the access list of a profile, in the place of the one for its id and console (RACF guide:
+    /// PERMIT), and whether there is such a profile. If there is none, nothing changes.
     pub fn permit(
         &mut self,
         class: Class,

@@ -34,7 +34,7 @@ fn policy(alloc: Global) -> Result<Policy, Fail> {
     Ok(policy)
 }
 
-/// A policy that fails where a head is asked for that is shorter than this.
+/// A policy that fails if it is searched for a head that is shorter than this.
 #[derive(Drop)]
 struct FailingBelow {
     policy: Policy,
@@ -112,7 +112,7 @@ fn a_class_answers_whole_or_its_first(rt: HostRuntime) -> Result<(), Fail> {
     Ok(())
 }
 
-// The profile decides for a user where the class is active, and otherwise the authority of the console does.
+// The profile decides for a user if the class is active, and otherwise the authority of the console does.
 #[test]
 fn a_ruling_names_its_rule(rt: HostRuntime) -> Result<(), Fail> {
     let mut policy = policy(rt.alloc())?;

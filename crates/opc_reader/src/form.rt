@@ -30,7 +30,7 @@ use crate::verb::Verb;
 use opc_reader_commands::command::Command;
 use opc_reader_commands::piece::Piece;
 
-/// The command, where a piece is one word.
+/// The command, if a piece is one word.
 fn fixed<'a>(s: &Piece<'a>, word: &str, command: Command<'a>) -> Option<Command<'a>>
     ensures { result ≡ fixed word.now command.entry s.now }
 {
@@ -41,7 +41,7 @@ fn fixed<'a>(s: &Piece<'a>, word: &str, command: Command<'a>) -> Option<Command<
     }
 }
 
-/// The command, where nothing is left.
+/// The command, if nothing is left.
 fn only<'a>(s: &Piece<'a>, command: Command<'a>) -> Option<Command<'a>>
     ensures { result ≡ only command.entry s.now }
 {
@@ -61,6 +61,7 @@ fn display<'a>(s: &Piece<'a>) -> Option<Command<'a>>
         "U" => Some(Command::DisplayDevices),
         "C" => Some(Command::DisplayConsoles),
         "R" => Some(Command::DisplayReplies),
+        // The list of units comes first, so `D A,L` is never the unit L.
         _ => {
             let rest = s.word("A,")?;
             Some(Command::DisplayUnit(last_name(&rest)?))
@@ -129,6 +130,7 @@ fn vary_device<'a>(s: &Piece<'a>) -> Option<Command<'a>>
     match rest.folded().as_str() {
         ",ONLINE" => Some(Command::VaryDeviceOnline(device)),
         ",OFFLINE" => Some(Command::VaryDeviceOffline(device)),
+        // A device takes no other word.
         _ => None,
     }
 }
@@ -141,6 +143,7 @@ fn vary_console<'a>(s: &Piece<'a>) -> Option<Command<'a>>
     match rest.folded().as_str() {
         "),ONLINE" => Some(Command::VaryConsoleOnline(console)),
         "),OFFLINE" => Some(Command::VaryConsoleOffline(console)),
+        // Only AUTH is left.
         _ => {
             let auth = authority(rest.word("),AUTH=")?)?;
             Some(Command::VaryConsoleAuth(console, auth))

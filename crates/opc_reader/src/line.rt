@@ -41,7 +41,7 @@ use opc_reader_commands::quote::is_open;
 use std::error::Error;
 use std::fmt;
 
-/// Why a line is no command: the first of these that holds, an open quote before a bad operand. Places are byte
+/// Why a line is not a command: the first of these that holds, an open quote before a bad operand. Places are byte
 /// places.
 #[derive(Clone, Copy, Debug, PartialEq, Eq)]
 pub enum ReadFault {
@@ -53,8 +53,8 @@ pub enum ReadFault {
     BadCharacter(usize),
     /// A verb that isn't one: all up to the next space.
     UnknownVerb(Span),
-    /// Operands that are no form of the verb: from the first of their characters to the last but spaces. Both
-    /// places are that end where there are none.
+    /// Operands that are no form of the verb: from the first of their characters to the last except spaces. If there
+    /// are none, both places are their end.
     BadOperand(Span),
     /// Where a quoted text begins that isn't closed.
     OpenQuote(usize),
@@ -136,7 +136,7 @@ fn skip_spaces<'a>(s: &Piece<'a>) -> Piece<'a>
     s.split(spaces_before(s.text().as_bytes())).1
 }
 
-/// A line without the spaces round it.
+/// A line without the spaces around it.
 fn trimmed(line: &str) -> Piece<'_>
     requires ascii { IsAscii line.now }
     requires short { length line.now ≤ 126 }
@@ -160,7 +160,7 @@ fn comma(text: &[u8]) -> Option<usize>
     text.iter().position(|c| *c == b',')
 }
 
-/// Where a quoted text stands that isn't closed.
+/// The place of a quoted text that isn't closed.
 fn open_place(verb: Verb, s: &Piece<'_>) -> Option<usize>
     ensures { result ≡ open_place verb s.now }
 {
@@ -170,6 +170,7 @@ fn open_place(verb: Verb, s: &Piece<'_>) -> Option<usize>
             open_at(rest.span().from, rest.text().as_bytes())
         }
         Verb::Send | Verb::Log => open_at(s.span().from, s.text().as_bytes()),
+        // No other verb has a text that may be quoted.
         _ => None,
     }
 }
@@ -218,7 +219,7 @@ fn read(line: &str) -> Result<Command<'_>, ReadFault>
 /// The command that a line is, with each operand as the slice of the line at its span, or the first fault of the
 /// line. It takes no memory.
 pub fn read_command(line: &str) -> Result<Command<'_>, ReadFault>
-    // It is a command exactly where the grammar has one.
+    // It is a command if and only if the grammar has one.
     ensures command { (c : TheCommand) → (result ≡ Ok c) ↔ Reads line.now c }
     ensures fault { (f : TheFault) → (result ≡ Err f) ↔ IsReadFault line.now f }
     ensures slices { IfOk result (λ c. OperandsAreSlices line.now c) }

@@ -78,6 +78,7 @@ fn number(text: &[u8]) -> Option<ReplyId>
         [a, b] if a.is_ascii_digit() && b.is_ascii_digit() => {
             ReplyId::new(10 * (*a - b'0') + (*b - b'0'))
         }
+        // A reply's number has one or two digits.
         _ => None,
     }
 }
@@ -151,7 +152,7 @@ pub(crate) fn quoted_prefix<'a>(s: &Piece<'a>) -> Option<(Text<'a>, Piece<'a>)>
     Some((Text { typed }, rest))
 }
 
-/// A text that is all of the piece: quoted where it begins with an apostrophe, else plain and not empty.
+/// A text that is all of the piece: quoted if it begins with an apostrophe, otherwise plain and not empty.
 #[tactic(auto, unfolding(crate::specs::Reading::any_text))]
 pub(crate) fn any_text<'a>(s: Piece<'a>) -> Option<Text<'a>>
     ensures { result ≡ any_text s.entry }

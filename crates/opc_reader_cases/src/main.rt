@@ -1,13 +1,13 @@
-//! Cases of command lines: how they are read, what their texts say, and what commands need.
+//! Cases of command lines: how they are read, what their texts mean, and what commands need.
 //!
 //! Each line of the input is a case, a subject and a command line; it is written again with the answer after it. A line
-//! that begins with `#`, which says what the rule is, and an empty line are written as they are. In a command line
-//! `«TEXT»` stands for a text that is hard to see, `«TIMES*TEXT»` for one so many times, and U+ with hexadecimal digits
-//! as the text for one character. The subjects:
+//! that begins with `#`, which states the rule, and an empty line are written as they are. In a command line `«TEXT»`
+//! stands for a text that is hard to see, `«TIMES*TEXT»` for one repeated this many times, and U+ with hexadecimal
+//! digits as the text for one character. The subjects:
 //!
 //! - `read` LINE: the command with its operands and where they begin, or the first fault.
 //! - `says` LINE: what the text of the command says, and where the text stands.
-//! - `needs` LINE: the command group, the level and the resource that the command needs. Where they go by the kind of
+//! - `needs` LINE: the command group, the level and the resource that the command needs. If they depend on the kind of
 //!   the unit that it names: for each kind; the member of a started task is MEMBER88.
 //! - `characters`: which of the first 256 characters may stand in a quoted text, and how many others are bad there.
 #![tactic(auto)]

@@ -1,10 +1,10 @@
-//! What texts say, and which characters may stand in them.
+//! What texts mean, and which characters may stand in them.
 use anyhow::{Result, anyhow};
 use opc_reader::line::{ReadFault, read_command};
 use opc_reader_commands::command::{Command, Text};
 use std::alloc::Global;
 
-/// What the text of a line says, and where it stands.
+/// What the text of a line means, and its place.
 pub fn says(alloc: Global, line: &str) -> Result<String> {
     let text = text_of(read_command(line)?)?;
     let (value, span) = (text.value(alloc)?, text.typed.span());

@@ -31,7 +31,7 @@ impl NameKind<8> for PasswordKind {
 /// user's id.
 pub type Password = Name<PasswordKind, 8>;
 
-/// What an operand says, in upper case where it is a name, and how it was typed.
+/// What an operand means, in upper case if it is a name, and how it was typed.
 #[derive(Debug, Drop)]
 pub struct Operand<'a, T> {
     pub value: T,

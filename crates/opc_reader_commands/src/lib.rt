@@ -1,4 +1,4 @@
-//! Commands as they are typed, with their operands: pieces of a line, and what a text in one says.
+//! Commands as they are typed, with their operands: pieces of a line, and what a text in one means.
 #![tactic(auto)]
 
 pub mod command;

@@ -32,7 +32,7 @@ impl<'a> Model for Piece<'a> {
     ghost invariant = { λ p. IsAscii p.text.now × (p.from + length p.text.now ≤ 126) };
 }
 
-/// Where a piece of a line stands, as byte places: `from` is its first, `to` the one after its last.
+/// The place of a piece in a line, as byte places: `from` is its first, `to` the one after its last.
 #[derive(Clone, Copy, Debug, PartialEq, Eq)]
 pub struct Span {
     pub from: usize,
@@ -60,7 +60,7 @@ impl<'a> Piece<'a> {
         self.text
     }
 
-    /// Where it stands in the line.
+    /// Its place in the line.
     pub fn span(&self) -> Span
         ensures { result ≡ record { from = self.now.from; to = self.now.from + length self.now.text } }
     {
@@ -96,7 +96,7 @@ impl<'a> Piece<'a> {
         Folded::of(self.text)
     }
 
-    /// What stands after a word, where the piece begins with it in any case.
+    /// The text after a word, if the piece begins with it in any case.
     #[tactic(auto, unfolding(crate::specs::Stretches::word))]
     pub fn word(&self, text: &str) -> Option<Piece<'a>>
         ensures { result ≡ word text.now self.now }

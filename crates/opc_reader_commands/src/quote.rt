@@ -1,4 +1,4 @@
-//! Quoted text, and what a text says.
+//! Quoted text, and what a text means.
 ghost use Rattle.std.specs.Prelude.{◌≡◌, ◌≤◌, ◌++◌, length, IfSome, IfOk, OnOk, string_bytes};
 ghost use Rattle.std.specs.Str.{IsAscii};
 ghost use Rattle.opc_reader_commands.specs.Stretches.{folded};
@@ -38,6 +38,7 @@ pub fn quoted_len(text: &[u8]) -> Option<usize>
 {
     match text {
         [APOSTROPHE, rest @ ..] => Some(closing_len(rest)? + 1),
+        // Quoted text begins with an apostrophe.
         _ => None,
     }
 }
@@ -48,6 +49,7 @@ pub fn is_quoted(text: &[u8]) -> bool
 {
     match text {
         [APOSTROPHE, rest @ ..] => closing_len(rest) == Some(rest.len()),
+        // Quoted text begins with an apostrophe.
         _ => false,
     }
 }
@@ -58,6 +60,7 @@ pub fn is_open(text: &[u8]) -> bool
 {
     match text {
         [APOSTROPHE, rest @ ..] => closing_len(rest).is_none(),
+        // Quoted text begins with an apostrophe.
         _ => false,
     }
 }
@@ -85,6 +88,7 @@ fn push_unquoted(bytes: &[u8], value: &mut String) -> Result<(), AllocError>
             value.push('\'')?;
             push_unquoted(rest, value)
         }
+        // The apostrophe before this closes the text.
         _ => Ok(()),
     }
 }
@@ -109,14 +113,15 @@ fn value_of(bytes: &[u8], alloc: Global) -> Result<String, AllocError>
     let mut value = String::new(alloc);
     match bytes {
         [APOSTROPHE, rest @ ..] => push_unquoted(rest, &mut value)?,
+        // A plain text is folded, as all of the line but quoted text is.
         _ => push_folded(bytes, &mut value)?,
     }
     Ok(value)
 }
 
 impl Text<'_> {
-    /// What the text says: of quoted text what stands between its apostrophes, with each pair as one and in the
-    /// case in which it was typed; of plain text all of it, in upper case.
+    /// What the text means: for quoted text, what is between its apostrophes, with each pair as one and in the case in
+    /// which it was typed; for plain text, all of it, in upper case.
     pub fn value(&self, alloc: Global) -> Result<String, AllocError>
         ensures says { IfOk result (λ value. Says self.now.typed.text (string_bytes value)) }
         ensures computed { IfOk result (λ value. string_bytes value ≡ text_value self.now.typed.text) }

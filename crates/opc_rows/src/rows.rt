@@ -41,8 +41,8 @@ pub trait Keyed {
         ensures { result.now ≡ key_of self.now };
 }
 
-/// A list of rows. Those calls that look a key up need the rows in the order of their keys, which `is_ascending`
-/// tests and which `insert` keeps where the key is new.
+/// A list of rows. Those calls that look a key up need the rows in the order of their keys, which `is_ascending` tests
+/// and which `insert` keeps if the key is new.
 #[derive(Drop)]
 pub struct Rows<R> {
     items: Vec<R>,
@@ -122,6 +122,7 @@ impl<R: Keyed + Drop> Rows<R> {
         ensures { self.new ≡ filter (λ row. not (R.Key.eq (R.key_of row) key.now)) self.old }
     {
         if let Ok(at) = self.place_of(key) {
+            // Dropped here: the caller knows the row by its key.
             let _row = self.items.remove(at);
         }
     }
@@ -171,7 +172,7 @@ impl<R: Keyed + Drop> Rows<R> {
         }
     }
 
-    // Where the row of this key is, or else where it would go.
+    // The place of the row of this key, or the place where it would go.
     fn place_of(&self, key: &R::Key) -> Result<usize, usize>
         requires { IsInKeyOrder R.Key.cmp R.key_of self.now }
         ensures { MatchResult result
@@ -181,7 +182,7 @@ impl<R: Keyed + Drop> Rows<R> {
         self.items.binary_search_by(|row| row.key().cmp(key))
     }
 
-    // Where the rows of greater keys begin.
+    // The place from which the rows have greater keys.
     fn place_after(&self, key: &R::Key) -> usize
         requires { IsInKeyOrder R.Key.cmp R.key_of self.now }
         ensures within { result ≤ length self.now }

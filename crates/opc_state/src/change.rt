@@ -16,7 +16,7 @@ use opc_policy_members::user::User;
 use opc_rows::Rows;
 use opc_terms::entry_id::EntryId;
 
-/// An import that is kept: its number and its rows.
+/// An import that is stored: its number and its rows.
 #[derive(Drop)]
 pub struct Batch {
     pub number: u32,
@@ -39,7 +39,7 @@ pub enum Edit {
     /// A profile goes with its access list.
     RemoveProfile(Class, Pattern),
     PutEntry(Class, Pattern, Entry),
-    /// The entry for this id, and for this console alone or, where none is given, for every console.
+    /// The entry for this id, and for this console alone or, if none is given, for every console.
     RemoveEntry(Class, Pattern, EntryId, Option<ConsoleName>),
     PutUnit(UnitRow),
     RemoveUnit(UnitName),

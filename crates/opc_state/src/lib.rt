@@ -1,4 +1,4 @@
-//! The state of the access machine, and what the machine asks of the tables that keep it.
+//! The state of the access machine, and what the machine requires of the tables that keep it.
 #![tactic(auto)]
 
 pub mod account;

@@ -75,6 +75,7 @@ fn same_name<K: NameKind<N>, const N: usize>(
     match (name, other) {
         (None, None) => true,
         (Some(name), Some(other)) => name.text() == other.text(),
+        // One of them is missing.
         _ => false,
     }
 }
@@ -85,6 +86,7 @@ fn same_text(text: &Option<KeptText>, other: &Option<KeptText>) -> bool
     match (text, other) {
         (None, None) => true,
         (Some(text), Some(other)) => text.as_str() == other.as_str(),
+        // One of them is missing.
         _ => false,
     }
 }
@@ -98,6 +100,7 @@ fn same_kind(kind: &UnitKind, other: &UnitKind) -> bool
         (UnitKind::Stc { member }, UnitKind::Stc { member: other }) => {
             member.text() == other.text()
         }
+        // The kinds differ.
         _ => false,
     }
 }

@@ -1,4 +1,4 @@
-//! What the machine asks of the tables that keep its state.
+//! What the machine requires of the tables that keep its state.
 ghost use Rattle.std.specs.Prelude.{◌≡◌, ◌⊎◌, map, take, OnOk, OnErr};
 ghost use Rattle.std.specs.Option.{option_copied, option_map};
 ghost use Rattle.opc_board.specs.Invariants.{console_at, device_at, reply_at, unit_at};
@@ -73,11 +73,11 @@ pub trait Tables {
     fn devices_of(&mut self, alloc: Global, unit: &UnitName) -> Result<Rows<DeviceRow>, StoreFault>
         ensures { Loads meaning self.old self.new result (λ s rows. rows ≡ devices_of s.board unit.now) };
 
-    /// The consoles where a user is on, in order.
+    /// The consoles where a user is logged on, in order.
     fn consoles_of(&mut self, alloc: Global, user: &UserId) -> Result<Rows<ConsoleRow>, StoreFault>
         ensures { Loads meaning self.old self.new result (λ s rows. rows ≡ consoles_of s.board user.now) };
 
-    /// The online consoles with AUTH MASTER, in order, two at most: with two, at least one is not the console that is
+    /// The online consoles with AUTH MASTER, in order, at most two: with two, at least one is not the console that is
     /// named.
     fn masters(&mut self, alloc: Global) -> Result<Rows<ConsoleRow>, StoreFault>
         ensures { Loads meaning self.old self.new result (λ s rows. rows ≡ take 2 (masters s.board)) };
@@ -102,7 +102,7 @@ pub trait Tables {
     fn user(&mut self, alloc: Global, id: &UserId) -> Result<Option<User>, StoreFault>
         ensures { Loads meaning self.old self.new result (λ s user. user ≡ user_of s.policy.users id.now) };
 
-    /// The groups that a user is connected to, as many as asked for at most, in order.
+    /// The groups that a user is connected to, at most as many as requested, in order.
     fn groups_of(
         &mut self,
         alloc: Global,
@@ -116,7 +116,7 @@ pub trait Tables {
     fn is_active(&mut self, class: Class) -> Result<bool, StoreFault>
         ensures { Loads meaning self.old self.new result (λ s active. active ≡ is_active s.policy.active class) };
 
-    /// The profile of a class that decides a resource, as a search finds it, but for its access list.
+    /// The profile of a class that decides a resource, as a search finds it, but without its access list.
     fn deciding(
         &mut self,
         alloc: Global,
@@ -127,7 +127,7 @@ pub trait Tables {
             (λ s found. found.profile ≡ option_map bare (deciding_in s.policy class resource.now)) }
         ensures keyed { Answers meaning self.old self.new result (λ s _. IsKeyed s) };
 
-    /// The access list of a profile, as many entries as asked for at most.
+    /// The access list of a profile, at most as many entries as requested.
     fn entries(
         &mut self,
         alloc: Global,
@@ -138,7 +138,7 @@ pub trait Tables {
         ensures { Loads meaning self.old self.new result
             (λ s entries. entries ≡ take most (access_list s.policy class pattern.now)) };
 
-    /// The level of the entry of a profile for an id, at one console or, where none is given, at every console.
+    /// The level of the entry of a profile for an id, at one console or, if none is given, at every console.
     fn level_for(
         &mut self,
         class: Class,
@@ -166,7 +166,7 @@ pub trait Tables {
     fn is_named(&mut self, user: &UserId) -> Result<bool, StoreFault>
         ensures { Loads meaning self.old self.new result (λ s named. named ≡ is_named s.policy user.now) };
 
-    /// The profile of a class and a pattern, but for its access list.
+    /// The profile of a class and a pattern, but without its access list.
     fn definition(
         &mut self,
         alloc: Global,
@@ -176,7 +176,7 @@ pub trait Tables {
         ensures { Loads meaning self.old self.new result
             (λ s profile. profile ≡ option_map bare (profile_of s.policy.profiles class pattern.now)) };
 
-    /// The profiles of a class, in the order of their patterns, but for their access lists.
+    /// The profiles of a class, in the order of their patterns, but without their access lists.
     fn definitions(&mut self, alloc: Global, class: Class) -> Result<Vec<Profile>, StoreFault>
         ensures { Loads meaning self.old self.new result
             (λ s profiles. profiles.items ≡ map bare (of_class class s.policy.profiles)) };
@@ -186,7 +186,7 @@ pub trait Tables {
         ensures { Loads meaning self.old self.new result
             (λ s profiles. profiles.items ≡ of_class class s.policy.profiles) };
 
-    /// The rows of the account from a number on, as many as asked for at most, with their numbers, which begin at 1.
+    /// The rows of the account from a number on, at most as many as requested, with their numbers, which begin at 1.
     fn account(
         &mut self,
         alloc: Global,
@@ -195,7 +195,7 @@ pub trait Tables {
     ) -> Result<Vec<(u64, AccountRow)>, StoreFault>
         ensures { Loads meaning self.old self.new result (λ s rows. rows.items ≡ asked_for from count s.account) };
 
-    /// The rows of the batch of a number, if it is kept.
+    /// The rows of the batch of a number, if it is stored.
     fn batch(&mut self, alloc: Global, number: u32) -> Result<Option<Rows<Row>>, StoreFault>
         ensures { Loads meaning self.old self.new result (λ s rows. rows ≡ batch_rows s.batches number) };
 

@@ -37,7 +37,7 @@ pub struct Cached<T: Tables> {
 }
 
 impl<T: Tables> Cached<T> {
-    /// These tables, with nothing cached yet. Where memory is refused (E90) they are handed back.
+    /// These tables, with nothing cached yet. If memory is refused (E90), they are returned.
     pub fn new(alloc: Global, tables: T) -> Result<Self, (Fault, T)>
         ensures made { IfOk result (λ cached. (cached.tables ≡ tables) × (cached.recent ≡ [])) }
         ensures refused { IfErr result (λ back. (back.0 ≡ why.NoMemory) × (back.1 ≡ tables)) }
@@ -63,7 +63,7 @@ impl<T: Tables> Cached<T> {
         self.tables
     }
 
-    /// Asks the tables which profile decides, and keeps that.
+    /// Asks the tables which profile decides, and remembers that.
     pub(crate) fn search(
         &mut self,
         alloc: Global,
@@ -109,8 +109,8 @@ fn pattern_of(profile: &Option<Profile>) -> Option<Pattern>
     }
 }
 
-/// The profile of a pattern that is known to decide, or none where none does. A hit loads the profile by its key. That
-/// it is found there rests on the order of the keys, which the search gives with its answer and the cache keeps.
+/// The profile of a pattern that is known to decide, or none if none does. A hit loads the profile by its key. That it
+/// is found there rests on the order of the keys, which the search gives with its answer and the cache keeps.
 pub(crate) fn cached_pattern<T: Tables>(
     tables: &mut T,
     alloc: Global,
@@ -146,7 +146,7 @@ fn any_redefines(edits: &[Edit]) -> bool
     edits.iter().any(redefines)
 }
 
-// A profile that is defined anew decides what it decided.
+// A profile with a new definition decides what it decided before.
 fn adds_or_removes_profile<T: Tables>(
     tables: &mut T,
     alloc: Global,
@@ -164,8 +164,8 @@ fn adds_or_removes_profile<T: Tables>(
     }
 }
 
-// Whether edits may change which profile decides. Only where there is one are the tables asked: whether a profile that
-// it puts is there is one look-up by its key. A change without a profile asks nothing.
+// Whether edits may change which profile decides. The tables are asked only if a profile is among them: whether a
+// profile that is put is there already is one look-up by its key. A change without a profile asks nothing.
 fn invalidates<T: Tables>(tables: &mut T, alloc: Global, edits: &[Edit]) -> Result<bool, StoreFault>
     ensures { Loads T.meaning tables.old tables.new result (λ s redecides. redecides ≡ invalidates s.policy edits.now) }
 {

@@ -19,7 +19,7 @@ pub(crate) struct DecidingCache {
     cache: LruCache<(Class, Resource), Option<Pattern>>,
 }
 
-// In a function of its own, so that what drops a gate does not drop the cache part by part: that makes its proof short.
+// In a function of its own, so that what drops a gate does not drop the cache part by part: that keeps its proof short.
 impl Drop for DecidingCache {
     fn drop(self) {
         let DecidingCache { cache: _ } = self;
@@ -50,7 +50,7 @@ impl DecidingCache {
         })
     }
 
-    /// What is kept of a name, which then is the most recently used one.
+    /// What is known of a name, which then is the most recently used one.
     pub(crate) fn get(&mut self, class: Class, resource: &Resource) -> Option<Option<Pattern>>
         ensures found { result ≡ lookup (same_name (class, resource.now)) self.old }
         ensures first { self.new ≡ promoted (same_name (class, resource.now)) self.old }
@@ -58,11 +58,12 @@ impl DecidingCache {
         self.cache.get(&(class, *resource)).copied()
     }
 
-    /// Keeps a name, in the place of the least recently used one where there are too many; not where memory is refused.
+    /// Remembers a name, in the place of the least recently used one if there are too many; not if memory is refused.
     pub(crate) fn put(&mut self, class: Class, resource: &Resource, pattern: Option<Pattern>)
         ensures { (self.new ≡ self.old) ⊎
             (self.new ≡ put_entries same_name (lru_cache self.old 256) (class, resource.now) pattern) }
     {
+        // If memory is refused, the name is not cached, and the request proceeds.
         let _refused = self.cache.put((class, *resource), pattern);
     }
 

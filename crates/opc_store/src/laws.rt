@@ -13,7 +13,7 @@ use opc_policy::source::ProfileSource;
 use opc_state::tables::Tables;
 use sqlite::Alter;
 
-/// Where a crash leaves one state of a store alone, what it leaves are tables of that state.
+/// If a crash leaves one state of a store alone, what it leaves are tables of that state.
 pub fn a_state_left_alone_is_left_as_tables<S: Alter>()
     ensures { LeavesTables S.Store ⟦<Store<S> as Tables>⟧.meaning }
 {}
@@ -24,7 +24,7 @@ pub fn what_is_there_is_left_alone<S: Alter>()
 {}
 
 /// A store may be searched at any time: it has the profiles of the state that its tables represent, and what it answers
-/// counts where the disk returned what was written.
+/// counts if the disk returned what was written.
 pub fn a_store_has_the_profiles_of_its_state<S: Alter>()
     ensures { IsSourceOfState S.Store ⟦<Store<S> as ProfileSource>⟧.has ⟦<Store<S> as ProfileSource>⟧.is_ready
         ⟦<Store<S> as ProfileSource>⟧.is_faithful }

@@ -1,4 +1,4 @@
-//! The store: the tables of the gate as its machine asks for them, opened, committed to and read.
+//! The store: the tables of the gate as the machine requires them, opened, committed to and read.
 #![tactic(auto)]
 
 pub mod laws;

@@ -57,7 +57,7 @@ pub enum OpenFault {
     NoMemory,
     #[error("the store failed")]
     Store,
-    /// The tables are of this version, or have no version and are somebody else's: then it is 0.
+    /// The tables are of this version, or have no version and are another program's: then it is 0.
     #[error("tables of version {0}")]
     NotOurs(u64),
 }
@@ -106,6 +106,7 @@ impl NotOpened {
     {
         let fault = match error.kind() {
             ErrorKind::OutOfMemory => OpenFault::NoMemory,
+            // No other error of the system means that memory was refused.
             _ => OpenFault::Store,
         };
         NotOpened {
@@ -120,6 +121,7 @@ impl NotOpened {
     {
         let is_full = match &error {
             Error::SqliteFailure(ErrorCode::DiskFull) => true,
+            // No other error is about room on the disk.
             _ => false,
         };
         NotOpened {
@@ -146,7 +148,7 @@ fn open_fault(error: Error) -> OpenFault
     OpenFault::from(fault(error))
 }
 
-// A meta that cannot be asked for its version is somebody else's.
+// If meta cannot be asked for its version, it is another program's.
 fn version_fault(error: Error) -> OpenFault
     ensures { result ≡ unasked error }
 {
@@ -180,9 +182,9 @@ impl<S: Alter> Store<S> {
     }
 
     /// Adopts a connection. A database without a table or an index of our names gets the tables, in one transaction.
-    /// One with such a name has tables of this version; or they are of version 1 or 2, and are copied to this version,
-    /// in one transaction; or it is `NotOurs`, with the version that it names, or with 0. A fault hands the connection
-    /// back.
+    /// One with such a name has tables of this version; or they are of version 1 or 2, and are migrated to this
+    /// version, in one transaction; or it is `NotOurs`, with the version that it names, or with 0. A fault returns the
+    /// connection.
     pub fn open_files(
         alloc: Global,
         mut conn: Connection<S>,
@@ -213,6 +215,7 @@ impl<S: Alter> Store<S> {
         ensures outside { IfErr result (λ e. e.1.in_transaction ≡ false) }
         ensures settled { IfOk result (λ store. LeavesItself (state S.Store store)) }
     {
+        // For the prover alone: this call's clause states that outside a transaction all that is stored is committed.
         let _settled = conn.is_autocommit();
         if !has_our_name(conn.schema()) {
             return match make_tables(&mut conn) {
@@ -222,6 +225,7 @@ impl<S: Alter> Store<S> {
         }
         match version_on(&mut conn) {
             Ok(OURS) => {
+                // As above.
                 let _settled = conn.is_autocommit();
                 Ok(Store { conn, alloc })
             }
@@ -234,10 +238,10 @@ impl<S: Alter> Store<S> {
 
 impl<S: Start> Store<FileStore<FileFrom<S>>> {
     /// Opens the database file at a path, or makes it, and adopts it as `open_files` does. `start` stands for what the
-    /// files hold, and says what a torn write may leave. Returns the store, and whether its tables were made now. After
-    /// a fault the files were not opened, or what they held was not adopted and a crash may leave what `open_files`
-    /// says. `NotOurs` is answered only of what was opened. A new file is its owner's alone, and a refused opening
-    /// leaves no file that it made and nobody needs.
+    /// files hold, and states what a torn write may leave. Returns the store, and whether its tables were made now.
+    /// After a fault the files were not opened, or what they held was not adopted and a crash may leave what
+    /// `open_files` states. `NotOurs` is returned only for what was opened. A new file is its owner's alone, and a
+    /// refused opening leaves no file that it made and nobody needs.
     pub fn open_at(rt: &HostRuntime, path: &str, start: S) -> Result<(Self, bool), NotOpened>
         ensures found { IfOk result (λ opened. HasCleanDisk (file_state opened.0) → (db : Trees)
             → HoldsDatabase (image_at S.Start) db → (s : _) → AreTablesOf db s
@@ -269,7 +273,7 @@ impl<S: Start> Store<FileStore<FileFrom<S>>> {
         }
     }
 
-    /// The same, where the file has been made.
+    /// The same, if the file has been made.
     fn open_prepared(rt: &HostRuntime, path: &str, start: S) -> Result<(Self, bool), NotOpened>
         ensures found { IfOk result (λ opened. HasCleanDisk (file_state opened.0) → (db : Trees)
             → HoldsDatabase (image_at S.Start) db → (s : _) → AreTablesOf db s
@@ -300,8 +304,8 @@ impl<S: Start> Store<FileStore<FileFrom<S>>> {
 
 impl Store<FileStore<FileFrom<Wary>>> {
     /// Opens the database file at a path, or makes it. A torn write may leave any bytes, so each commit syncs twice.
-    /// The clauses speak of a file that is new, for which `Wary` stands; what is found in one that is not, `open_at`
-    /// says, for any contents.
+    /// The clauses are about a file that is new, for which `Wary` stands; what is found in one that is not, `open_at`
+    /// states, for any contents.
     pub fn open_from(rt: &HostRuntime, path: &str) -> Result<Self, OpenFault>
         ensures found { IfOk result (λ store. HasCleanDisk (file_state store) → (db : Trees)
             → HoldsDatabase new_files db → (s : _) → AreTablesOf db s → Represents (file_state store).now s) }
@@ -324,7 +328,7 @@ impl Store<FileStore<FileFrom<Wary>>> {
 }
 
 impl<D: Disk + Drop> Store<FileStore<D>> {
-    /// Gives the two files back, with the last commit in the database file.
+    /// Returns the two files, with the last commit in the database file.
     pub fn close(self) -> Result<Files<D>, (Error, FileStore<D>)>
         ensures copied { IfOk result (λ files. AreClean D.Disk files.log files.db → IsCopied self files) }
         ensures usable { IfOk result (λ files. IsTrue (D.Disk.is_usable files.log)
@@ -332,6 +336,7 @@ impl<D: Disk + Drop> Store<FileStore<D>> {
         ensures settled { IsTrue (file_state self).is_open → (file_state self).now ≡ (file_state self).committed }
     {
         let conn = self.into_connection();
+        // For the prover alone: this call's clause states that outside a transaction all that is stored is committed.
         let _settled = conn.is_autocommit();
         conn.close_files()
     }

@@ -25,7 +25,7 @@ impl<S: Alter> ProfileSource for Store<S> {
 
     ghost is_faithful = { λ store. HasCleanDisk (state S.Store store) };
 
-    // The tables are looked at and not changed.
+    // The tables are read and not changed.
     ghost is_kept = { λ old new. Looks S.Store old new unanswered };
 
     ghost is_open = { λ store. HasCleanDisk (state S.Store store) → IsTrue (state S.Store store).is_open };

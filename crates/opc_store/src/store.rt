@@ -43,7 +43,7 @@ pub struct Store<S: Alter> {
     pub(crate) alloc: Global,
 }
 
-// In a function of its own, so that no caller drops the connection part by part: that makes its proof short.
+// In a function of its own, so that no caller drops the connection part by part: that keeps its proof short.
 impl<S: Alter + Drop> Drop for Store<S> {
     fn drop(self) {
         let Store { conn: _, alloc: _ } = self;
@@ -132,7 +132,7 @@ impl<S: Alter> Store<S> {
         board_rows_on(alloc, &mut self.conn)
     }
 
-    /// The rows of the account from a number on, as many as asked at most; they are numbered from 1. The others are
+    /// The rows of the account from a number on, at most as many as requested; they are numbered from 1. The others are
     /// not read.
     pub fn account(
         &mut self,

@@ -1,4 +1,4 @@
-//! The store as the tables that the machine asks for.
+//! The store as the tables that the machine requires.
 ghost use Rattle.std.specs.Prelude.{◌≡◌, ◌⊎◌, IsTrue, OnErr, OnOk};
 ghost use Rattle.sqlite.specs.Held.{state};
 ghost use Rattle.opc_store_sql.specs.Steps.{Looks};
@@ -48,7 +48,7 @@ use sqlite::Alter;
 use std::alloc::Global;
 
 impl<S: Alter> Store<S> {
-    /// Asks for the version. A store that a fault closed fails here, before anything is begun, so that a crash after it
+    /// Reads the version. A store that a fault closed fails here, before anything is begun, so that a crash after it
     /// leaves nothing new.
     fn see_open(&mut self) -> Result<(), StoreFault>
         ensures keeps { Looks S.Store self.old self.new result }
@@ -59,8 +59,8 @@ impl<S: Alter> Store<S> {
         }
     }
 
-    /// Writes all of a change, or nothing, as the gate asks it of tables. Those that a fault of the disk has closed
-    /// take none.
+    /// Writes all of a change, or nothing, as the gate requires it of tables. Tables that a fault of the disk has
+    /// closed accept none.
     pub fn commit(&mut self, alloc: Global, change: &Change) -> Result<(), StoreFault>
         ensures open { IsSure S.Store self.new → OnOk result (IsTrue (state S.Store self.old).is_open) }
         ensures sure { IsSure S.Store self.new → IsSure S.Store self.old }

@@ -135,6 +135,7 @@ fn auth_in(row: &Row) -> Result<Auth, StoreFault>
         13 => Ok(Auth::SysCons),
         14 => Ok(Auth::IoCons),
         15 => Ok(Auth::SysIoCons),
+        // Only damaged tables have another number.
         _ => Err(unreadable()),
     }
 }
@@ -146,6 +147,7 @@ fn mode_in(row: &Row) -> Result<Mode, StoreFault>
         "O" => Ok(Mode::Optional),
         "R" => Ok(Mode::Required),
         "A" => Ok(Mode::Auto),
+        // Only damaged tables have another letter.
         _ => Err(unreadable()),
     }
 }
@@ -185,7 +187,7 @@ pub fn console_on<S: Alter>(
     )
 }
 
-/// The consoles where a user is on, in order.
+/// The consoles where a user is logged on, in order.
 pub fn consoles_of_on<S: Alter>(
     alloc: Global,
     conn: &mut Connection<S>,
@@ -197,7 +199,7 @@ pub fn consoles_of_on<S: Alter>(
     ensures found { Finds S.Store conn.old conn.new result (λ s v. v ≡ consoles_of s.board user.now) }
 {
     // The tested column comes first in ORDER BY, so that one key serves both; the rows come in the order of the others.
-    // NULL is nobody's name, so a row with NULL there is never picked.
+    // NULL is nobody's name, so a row with NULL there is never selected.
     members_on::<_, _, ConsoleTable>(
         alloc,
         conn,
@@ -206,7 +208,7 @@ pub fn consoles_of_on<S: Alter>(
     )
 }
 
-/// The first two online consoles with AUTH MASTER, which is 2. Two suffice to know whether one exists besides a named
+/// The first two online consoles with AUTH MASTER, which is 2. Two suffice to know whether there is one besides a named
 /// console.
 pub fn masters_on<S: Alter>(
     alloc: Global,

@@ -135,7 +135,7 @@ pub fn devices_of_on<S: Alter>(
     ensures found { Finds S.Store conn.old conn.new result (λ s v. v ≡ devices_of s.board unit.now) }
 {
     // The tested column comes first in ORDER BY, so that one key serves both; the rows come in the order of the others.
-    // NULL is no unit's name, so the row of a device that is free is never picked.
+    // NULL is no unit's name, so the row of a device that is free is never selected.
     members_on::<_, _, DeviceTable>(
         alloc,
         conn,

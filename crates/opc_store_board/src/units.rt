@@ -116,6 +116,7 @@ fn kind_in(row: &Row) -> Result<UnitKind, StoreFault>
         ("J", None) => Ok(UnitKind::Job),
         ("S", Some(member)) => Ok(UnitKind::Stc { member }),
         ("T", None) => Ok(UnitKind::Tsu),
+        // Only damaged tables have another letter, a started task without a member, or a member with another kind.
         _ => Err(unreadable()),
     }
 }

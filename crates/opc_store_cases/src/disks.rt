@@ -31,7 +31,8 @@ fn change(alloc: Global, group: &str) -> Result<Change> {
     Ok(Change { edits, account })
 }
 
-/// Whether each stop, after one call more, leaves whole changes, from one at the first call up to one after both.
+/// Whether each stop, after one more call each time, leaves whole changes, from one at the first call up to one after
+/// both.
 fn whole_changes(alloc: Global, stop: Stop) -> Result<String> {
     for calls in 0..2000u64 {
         let (whole, done) = trial(alloc, stopping(made(alloc, "")?, stop, calls))?;
@@ -55,7 +56,7 @@ fn trial<D: Crash + Drop>(alloc: Global, files: Files<D>) -> Result<(bool, usize
     }
 }
 
-/// Whether the tables hold so many changes, or one more.
+/// Whether the tables hold this many changes, or one more.
 fn is_after(held: &str, done: usize) -> bool {
     ["", "DAY DAY", "DAY NIGHT DAY NIGHT"]
         .iter()

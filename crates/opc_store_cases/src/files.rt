@@ -34,7 +34,7 @@ pub fn made(alloc: Global, statements: &str) -> Result<Files<Memory>> {
     Ok(files)
 }
 
-/// Files of which one passes so many further calls on.
+/// Files of which one accepts this many further calls.
 pub fn stopping<D: Disk>(files: Files<D>, stop: Stop, calls: u64) -> Files<Fuse<D>> {
     let (log_calls, db_calls) = match stop {
         Stop::Log => (calls, u64::MAX),
@@ -47,7 +47,7 @@ pub fn stopping<D: Disk>(files: Files<D>, stop: Stop, calls: u64) -> Files<Fuse<
     }
 }
 
-/// Files as a computer that comes back finds them: without what was not synced, and none of them stops.
+/// Files as a restarted computer finds them: without what was not synced, and none of them stops.
 pub fn crashed<D: Crash>(mut files: Files<D>) -> Files<D> {
     files.log.crash();
     files.db.crash();
@@ -100,9 +100,8 @@ pub trait Work {
     fn over<T: Tables>(&self, alloc: Global, tables: &mut T) -> Self::Out;
 }
 
-/// What a work with a store over files comes to, if the store opens, and the files. The store is never dropped:
-/// that would
-/// be proved at each end of a function.
+/// What a work with a store over files comes to, if the store opens, and the files. The store is never dropped: the
+/// drop would be proved at each end of a function.
 pub fn worked<D: Disk + Drop, W: Work>(
     alloc: Global,
     files: Files<D>,

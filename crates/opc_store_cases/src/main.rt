@@ -1,5 +1,5 @@
-//! Cases of the store that no other program can see: loads by key and what they read, edits that no request makes, disks that
-//! stop, readers and writers that fail, and names that are cached.
+//! Cases of the store that no other program can see: loads by key and what they read, edits that no request makes,
+//! disks that stop, readers and writers that fail, and names that are cached.
 //!
 //! Each line of the input is printed again, and after it what comes of it, two spaces in. The lines, besides those that
 //! `opc_store_trials` and `opc_http_trials` have:
@@ -10,9 +10,9 @@
 //! - `limit STEPS`: a limit on the steps of each later query.
 //! - `search deciding NAME`, `search listed NAME` (with its access list), `search order NAME`, `search head HEAD` and
 //!   `search all CLASS`: whether the tables find and count what a search over the base policy in memory does.
-//! - `older STATEMENT`: one more statement that makes the tables of an older version; `\n` stands for the end of a line.
-//! - `disk WORDS`: tables over files in memory, of which most stop. Such a case takes refused memory for what it is
-//!   about.
+//! - `older STATEMENT`: one more statement that makes the tables of an older version; `\n` stands for a line end.
+//! - `disk WORDS`: tables over files in memory, most of which stop. Such a case cannot distinguish refused memory from
+//!   the stop that it tests.
 //! - `http LINE`: a line of `opc_http_trials`. `http new`: a new gate, over new tables in memory.
 #![tactic(auto)]
 

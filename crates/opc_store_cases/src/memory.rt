@@ -11,7 +11,7 @@ use opc_terms::store_fault::StoreFault;
 use sqlite::MemStore;
 use std::alloc::Global;
 
-/// Tables that are made anew for each case, whose queries may be limited, and which say how they search.
+/// Tables that are made anew for each case, whose queries may be limited, and which report how they search.
 pub trait Fresh: Tables + Drop + Sized {
     /// New tables.
     fn fresh(alloc: Global) -> Result<Self>;

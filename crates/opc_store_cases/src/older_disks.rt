@@ -13,7 +13,8 @@ const OLD: &str = "2 22231";
 
 const NEW: &str = "3 22231";
 
-/// Whether each stop of an opening, after one call more, leaves the old tables or the new ones, up to one that was done.
+/// Whether each stop of an opening, after one more call each time, leaves the old tables or the new ones, up to one
+/// that was done.
 pub fn older_tables(alloc: Global, statements: &str, stop: Stop) -> Result<String> {
     for calls in 0..2000u64 {
         let (whole, done) = trial(alloc, stopping(made(alloc, statements)?, stop, calls))?;
@@ -30,8 +31,8 @@ pub fn older_tables(alloc: Global, statements: &str, stop: Stop) -> Result<Strin
     bail!("never new tables")
 }
 
-/// Whether a crash leaves the old tables or the new ones, where the opening was done the new ones alone; and whether it
-/// was.
+/// Whether a crash leaves the old tables or the new ones, and if the opening was done, the new ones alone; and whether
+/// it was.
 fn trial<D: Crash + Drop>(alloc: Global, files: Files<D>) -> Result<(bool, bool)> {
     let (done, files) = tried(alloc, files);
     let counts = counts_in(alloc, crashed(files))?;

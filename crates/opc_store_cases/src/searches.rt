@@ -9,7 +9,7 @@ use opc_store_trials::searches::{
 };
 use std::alloc::Global;
 
-/// Whether a search over the tables gives what one over a policy in memory gives, else both.
+/// Whether a search over the tables gives what one over a policy in memory gives; otherwise both.
 pub fn searched<T: Fresh>(
     alloc: Global,
     tables: &mut T,

@@ -91,6 +91,7 @@ fn transact<S: Alter>(alloc: Global, conn: &mut Connection<S>, change: &Change) 
     ensures survives { Survives (state S.Store conn.old) (state S.Store conn.new)
         (λ db. (s : _) → Represents (state S.Store conn.old).now s → AreTablesOf db (changed_by change.now s)) }
 {
+    // For the prover alone: this call's clause states that outside a transaction all that is stored is committed.
     let _settled = conn.is_autocommit();
     let mut tx = conn.transaction();
     apply_all(alloc, &mut tx, change.edits.as_slice())?;

@@ -1,4 +1,4 @@
-//! The files of a database: one that is made is its owner's alone, and what a refused opening left of them goes.
+//! The files of a database: one that is made is its owner's alone, and a refused opening removes what nobody needs.
 #![tactic(auto)]
 
 pub mod site;

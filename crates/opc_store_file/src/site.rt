@@ -1,4 +1,4 @@
-//! What stands at the path of a database file before it is opened, and what a refused opening leaves there.
+//! What is at the path of a database file before it is opened, and what a refused opening leaves there.
 use crate::spare::{Found, is_spare_database, is_spare_log};
 use os::RangeLock;
 use std::fs::{File, Metadata, OpenOptions};
@@ -14,7 +14,7 @@ const OWNER_ALONE: u32 = 0o600;
 /// The bytes of a database file that SQLite locks, and how many they are.
 const LOCK_BYTES: (u64, u64) = (1 << 30, 512);
 
-/// Where a database file and its log lie, with no link in their paths, and what stood there.
+/// Where a database file and its log lie, with no link in their paths, and what was there.
 #[derive(Drop)]
 pub struct Site {
     database: PathBuf,
@@ -27,8 +27,8 @@ pub fn means_no_file(path: &str) -> bool {
     path == ":memory:" || path.starts_with("file:")
 }
 
-/// Looks at what stands at a path, and makes the database file if nothing does. It is empty then, and its owner's alone;
-/// the log that SQLite makes beside it gets the same mode. None if the path means no file.
+/// Looks at what is at a path, and makes the database file if nothing is. It is empty then, and its owner's alone; the
+/// log that SQLite makes beside it gets the same mode. None if the path means no file.
 pub fn prepare(rt: &HostRuntime, path: &str) -> io::Result<Option<Site>> {
     if means_no_file(path) {
         return Ok(None);
@@ -54,7 +54,7 @@ fn is_missing(rt: &HostRuntime, path: &str) -> io::Result<bool> {
     }
 }
 
-/// Makes the file, unless something stands there by now. Nobody else may read it at any moment.
+/// Makes the file, unless something is there by now. Nobody else may read it at any moment.
 fn make(rt: &HostRuntime, path: &str) -> io::Result<bool> {
     let made = OpenOptions::new()
         .read(true)
@@ -69,7 +69,7 @@ fn make(rt: &HostRuntime, path: &str) -> io::Result<bool> {
     }
 }
 
-/// Whether something stands there. If the system does not say, it counts as there, and is left alone.
+/// Whether something is there. If the system does not say, it counts as there, and is left alone.
 fn is_there(rt: &HostRuntime, path: &str) -> bool {
     match fs::symlink_metadata(rt, path) {
         Err(error) => error.kind() != ErrorKind::NotFound,
@@ -93,8 +93,8 @@ impl Site {
         })
     }
 
-    /// Removes what a refused opening left and nobody needs. The opening has let the files go by now; nothing is removed
-    /// if another program has them.
+    /// Removes what a refused opening left and nobody needs. The opening has closed the files by now; nothing is
+    /// removed if another program has them open.
     pub fn tidy(&self, rt: &HostRuntime) {
         let (database, log) = (self.database.as_str(), self.log.as_str());
         let Some((file, length)) = locked(rt, database) else {
@@ -104,6 +104,7 @@ impl Site {
             Ok(found) if found.is_file() && is_spare_log(self.found, length, found.len()) => {
                 let _ = fs::remove_file(rt, log);
             }
+            // The log is not there, or may hold something.
             _ => {}
         }
         if is_spare_database(self.found, length) {
@@ -114,7 +115,7 @@ impl Site {
     }
 }
 
-/// Removes a file that was made and is empty still.
+/// Removes a file that was made and is still empty.
 fn remove_empty(rt: &HostRuntime, path: &str) {
     if let Some((file, 0)) = locked(rt, path) {
         let _ = fs::remove_file(rt, path);
@@ -122,7 +123,7 @@ fn remove_empty(rt: &HostRuntime, path: &str) {
     }
 }
 
-/// The database file at a path, locked as SQLite locks it, and how many bytes it has. None if that is not to be had.
+/// The database file at a path, locked as SQLite locks it, and how many bytes it has. None if it cannot be locked.
 fn locked(rt: &HostRuntime, path: &str) -> Option<(File, u64)> {
     let named = fs::symlink_metadata(rt, path).ok()?;
     if !named.is_file() {

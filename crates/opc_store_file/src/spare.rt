@@ -5,10 +5,10 @@ ghost use Rattle.opc_store_file.specs.Spare.{is_spare_database, is_spare_log};
 /// Fewer bytes than a log with one page in it has: its header, that of a page, and the smallest page.
 pub const ONE_PAGE: u64 = 32 + 24 + 512;
 
-/// What stood at a path before the opening.
+/// What was at a path before the opening.
 #[derive(Clone, Copy, PartialEq, Eq)]
 pub struct Found {
-    /// Nothing did, and the opening made the database file.
+    /// Nothing was, and the opening made the database file.
     pub is_made: bool,
     /// How many bytes the database file had.
     pub length: u64,
@@ -23,7 +23,7 @@ pub fn is_spare_database(found: Found, length: u64) -> bool
 }
 
 /// Whether the log is one that the opening made and nothing that counts is in it: no page, nor the mark by which an
-/// opening tells a file that is half made from one that is damaged.
+/// opening distinguishes a file that is half made from one that is damaged.
 pub fn is_spare_log(found: Found, length: u64, log_length: u64) -> bool
     ensures { result ≡ is_spare_log found length log_length }
 {

@@ -36,6 +36,7 @@ fn add_row<S: Alter>(tx: &mut Transaction<'_, S>, row: &AccountRow) -> Result<()
             row.rule.as_str()
         ],
     )?;
+    // For the prover alone: that SQLite gave the row a number shows that the account does not outgrow its table.
     let _number = last_number(tx);
     Ok(())
 }
@@ -55,7 +56,7 @@ pub fn account_for<S: Alter>(
     }
 }
 
-// The last number before those that are asked for, or the greatest that a table can hold.
+// The last number before the requested ones, or the greatest that a table can hold.
 fn last_before(from: u64) -> i64
     ensures { result ≡ pos (min (from - 1) (2 ^ 63 - 1)) }
 {
@@ -91,7 +92,7 @@ fn page_in(alloc: Global, rows: &[Row]) -> Result<Vec<(u64, AccountRow)>, StoreF
     Ok(page)
 }
 
-/// The rows of the account from a number on, as many as asked for at most, with their numbers, which begin at 1. No
+/// The rows of the account from a number on, at most as many as requested, with their numbers, which begin at 1. No
 /// other row is read.
 pub fn account_page_on<S: Alter>(
     alloc: Global,

@@ -1,4 +1,4 @@
-//! The table of batches, whose rows are kept as the text of a policy file.
+//! The table of batches, whose rows are stored as the text of a policy file.
 ghost use Rattle.std.specs.Prelude.{◌≡◌, false, List, Ok, IfOk};
 ghost use Rattle.opc_store_sql.specs.Steps.{Stays, Looks};
 ghost use Rattle.opc_import.specs.Files.{policy_of};
@@ -25,7 +25,7 @@ use opc_terms::store_fault::StoreFault;
 use sqlite::{Alter, Connection, Error, ErrorCode, Transaction, params};
 use std::alloc::{AllocError, Global};
 
-/// A batch of more rows than a policy file has could not be read back, and is not kept.
+/// A batch of more rows than a policy file has could not be read back, and is not stored.
 pub fn put_batch<S: Alter>(
     alloc: Global,
     tx: &mut Transaction<'_, S>,

@@ -1,4 +1,4 @@
-//! Databases of version 1 or 2, copied to version 3 in one transaction.
+//! Databases of version 1 or 2, migrated to version 3 in one transaction.
 #![tactic(auto)]
 
 pub mod migrate;

@@ -1,4 +1,4 @@
-//! The copy as a whole.
+//! The migration as a whole.
 ghost use Rattle.std.specs.Prelude.{◌≡◌, false, OnOk};
 ghost use Rattle.sqlite.specs.Held.{state};
 ghost use Rattle.sqlite.specs.State.{HasCleanDisk, Survives};
@@ -28,6 +28,7 @@ fn transact<S: Alter>(conn: &mut Connection<S>, puts: &MigrationEdits) -> Result
         (λ db. (version : _) → (s : _) → RepresentsOld version (state S.Store conn.old).now s
         → AreMigrationEditsOf s puts.now → AreTablesOf db s) }
 {
+    // For the prover alone: this call's clause states that outside a transaction all that is stored is committed.
     let _settled = conn.is_autocommit();
     let mut tx = conn.transaction();
     recreate_tables(&mut tx)?;
@@ -36,8 +37,8 @@ fn transact<S: Alter>(conn: &mut Connection<S>, puts: &MigrationEdits) -> Result
     tx.commit()
 }
 
-/// Makes tables of version 1 or 2 those of version 3, of the same state. Where it fails they are as they were, and a
-/// crash leaves the old tables or the new ones, whole. The policy and the kept batches are read into memory; the
+/// Turns tables of version 1 or 2 into those of version 3, of the same state. If it fails, they are as they were, and a
+/// crash leaves the old tables or the new ones, whole. The policy and the stored batches are read into memory; the
 /// account and the histories stay where they are.
 pub fn migrate_on<S: Alter>(conn: &mut Connection<S>) -> Result<(), StoreFault>
     requires { conn.old.in_transaction ≡ false }

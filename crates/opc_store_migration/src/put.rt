@@ -1,4 +1,4 @@
-//! What was read is put.
+//! Upserts of what was read.
 ghost use Rattle.std.specs.Prelude.{◌≡◌};
 ghost use Rattle.opc_store_sql.specs.Steps.{Stays};
 ghost use Rattle.opc_store_schema.specs.Asked.{Makes};
@@ -9,7 +9,7 @@ use opc_store_old_tables::edits::MigrationEdits;
 use sqlite::{Alter, Error, Transaction};
 use std::alloc::Global;
 
-/// The puts of each part, one part after another.
+/// The upserts of each part, one part after another.
 pub fn put_all<S: Alter>(
     alloc: Global,
     tx: &mut Transaction<'_, S>,

@@ -1,4 +1,4 @@
-//! What the lasting tables have of their version.
+//! What the lasting tables record of their version.
 ghost use Rattle.std.specs.Prelude.{◌≡◌, ℕ, List, OnOk};
 ghost use Rattle.sqlite.specs.Held.{state};
 ghost use Rattle.sqlite.specs.State.{HasCleanDisk};
@@ -14,7 +14,7 @@ use opc_store_schema::version::VERSION;
 use opc_store_sql::run;
 use sqlite::{Alter, Error, Transaction, params};
 
-/// The version is that of these tables, and no batch is kept.
+/// The version is that of these tables, and no batch is stored.
 pub fn set_version<S: Alter>(tx: &mut Transaction<'_, S>) -> Result<(), Error>
     ensures same_reference { tx.new.conn.ghost_name ≡ tx.old.conn.ghost_name }
     ensures stays { Stays S.Store tx.old.conn.now tx.new.conn.now result }

@@ -1,4 +1,4 @@
-//! The kept batches of older tables, whose texts have fewer columns.
+//! The stored batches of older tables, whose texts have fewer columns.
 ghost use Rattle.std.specs.Prelude.{◌≡◌, ℕ, List, false, map, Ok, IfOk};
 ghost use Rattle.opc_import.specs.Files.{policy_of};
 ghost use Rattle.opc_state.specs.declared.change.Batch.{Batch as TheBatch};
@@ -35,7 +35,7 @@ fn batches_in(alloc: Global, rows: &[Row]) -> Result<Vec<Edit>, StoreFault>
     Ok(puts)
 }
 
-/// Puts of the kept batches, in order.
+/// Upserts of the stored batches, in order.
 pub fn batches_on<S: Alter>(conn: &mut Connection<S>) -> Result<Vec<Edit>, StoreFault>
     requires { conn.old.in_transaction ≡ false }
     ensures mode { conn.new.in_transaction ≡ false }

@@ -23,7 +23,7 @@ fn connects_in(alloc: Global, rows: &[Row]) -> Result<Vec<Edit>, StoreFault>
     Ok(puts)
 }
 
-/// Puts of the connects, in order.
+/// Upserts of the connects, in order.
 pub fn connects_on<S: Alter>(conn: &mut Connection<S>) -> Result<Vec<Edit>, StoreFault>
     requires { conn.old.in_transaction ≡ false }
     ensures mode { conn.new.in_transaction ≡ false }

@@ -1,4 +1,4 @@
-//! All that is put anew.
+//! All edits of a migration.
 ghost use Rattle.std.specs.Prelude.{◌≡◌, false};
 ghost use Rattle.opc_store_sql.specs.Steps.{Looks};
 ghost use Rattle.opc_store_old_tables.specs.MigrationEdits.{AreMigrationEditsOf};
@@ -12,8 +12,8 @@ use opc_state::change::Edit;
 use opc_terms::store_fault::StoreFault;
 use sqlite::{Alter, Connection};
 
-/// Puts of the users, the connects, the profiles with their access lists, and the kept batches. Each part refers to
-/// those before it alone.
+/// Upserts of the users, the connects, the profiles with their access lists, and the stored batches. Each part refers
+/// to those before it alone.
 #[derive(Drop)]
 pub struct MigrationEdits {
     pub users: Vec<Edit>,
@@ -22,7 +22,7 @@ pub struct MigrationEdits {
     pub batches: Vec<Edit>,
 }
 
-/// What is put to bring tables of version 1 or 2 into those of version 3.
+/// The upserts that bring what tables of version 1 or 2 hold into those of version 3.
 pub fn migration_edits_on<S: Alter>(conn: &mut Connection<S>) -> Result<MigrationEdits, StoreFault>
     requires { conn.old.in_transaction ≡ false }
     ensures mode { conn.new.in_transaction ≡ false }

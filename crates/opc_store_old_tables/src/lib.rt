@@ -1,5 +1,5 @@
-//! The policy and the kept batches of tables of version 1 or 2, as puts into those of version 3. Each query names only
-//! columns that both older versions have, and is proved over both schemas.
+//! The policy and the stored batches of tables of version 1 or 2, as upserts into those of version 3. Each query names
+//! only columns that both older versions have, and is proved over both schemas.
 #![tactic(auto)]
 
 pub mod batches;

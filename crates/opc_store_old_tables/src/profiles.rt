@@ -57,7 +57,7 @@ fn profiles_in<S: Alter>(
     Ok(puts)
 }
 
-/// Puts of the profiles with their access lists, by the texts of their patterns.
+/// Upserts of the profiles with their access lists, by the texts of their patterns.
 pub fn profiles_on<S: Alter>(conn: &mut Connection<S>) -> Result<Vec<Edit>, StoreFault>
     requires { conn.old.in_transaction ≡ false }
     ensures mode { conn.new.in_transaction ≡ false }

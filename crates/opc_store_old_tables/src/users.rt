@@ -22,7 +22,7 @@ fn users_in(alloc: Global, rows: &[Row]) -> Result<Vec<Edit>, StoreFault>
     Ok(puts)
 }
 
-/// Puts of the users, in order.
+/// Upserts of the users, in order.
 pub fn users_on<S: Alter>(conn: &mut Connection<S>) -> Result<Vec<Edit>, StoreFault>
     requires { conn.old.in_transaction ≡ false }
     ensures mode { conn.new.in_transaction ≡ false }

@@ -36,7 +36,7 @@ use opc_terms::store_fault::StoreFault;
 use sqlite::{Alter, Connection, Error, Row, Transaction, params};
 use std::alloc::Global;
 
-/// The console at which an entry counts, as its column keeps it: no text where it counts at every console.
+/// The console at which an entry counts, as its column holds it: an empty text if it counts at every console.
 fn console_text(when: Option<&ConsoleName>) -> &str
     ensures text { result.now ≡ or_empty (option_copied when.entry) }
     ensures named { option_copied when.entry ≢ Some [] }
@@ -121,7 +121,7 @@ pub fn put_entry<S: Alter>(
     )
 }
 
-/// The entry for an id goes, at a console alone or, where none is given, at every console.
+/// Removes the entry for an id, at a console alone or, if none is given, at every console.
 pub fn remove_entry<S: Alter>(
     tx: &mut Transaction<'_, S>,
     class: Class,
@@ -183,7 +183,7 @@ pub fn entries_in(alloc: Global, rows: &[Row]) -> Result<Entries, StoreFault>
     ensures { (class : TheClass) → (pattern : List ℕ) → (entries : List TheEntry) → IsAccessList entries
         → rows.now ≡ map (entry_row class pattern) entries → IfOk result (λ v. v ≡ entries) }
 {
-    // Named for the prover, which else does not find the type of an entry's console.
+    // For the prover alone, which needs the type of an entry's console named.
     let _nowhere: Option<ConsoleName> = None;
     let mut entries = Entries::new(alloc);
     for row in rows {
@@ -212,7 +212,7 @@ pub fn access_list_on<S: Alter>(
     entries_in(alloc, rows.as_slice())
 }
 
-/// Its first entries, as many as asked for at most.
+/// Its first entries, at most as many as requested.
 pub fn entries_on<S: Alter>(
     alloc: Global,
     conn: &mut Connection<S>,
@@ -252,7 +252,7 @@ pub(crate) fn entry_rows_on<S: Alter>(
     )
 }
 
-/// The level of its entry for an id, at one console or, where none is given, at every console.
+/// The level of its entry for an id, at one console or, if none is given, at every console.
 pub fn level_for_on<S: Alter>(
     conn: &mut Connection<S>,
     class: Class,

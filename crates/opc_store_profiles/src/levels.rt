@@ -32,6 +32,7 @@ pub(crate) fn level_in(row: &Row, at: usize) -> Result<Level, StoreFault>
         2 => Ok(Level::Update),
         3 => Ok(Level::Control),
         4 => Ok(Level::Alter),
+        // Only damaged tables have another number.
         _ => Err(unreadable()),
     }
 }

@@ -19,6 +19,7 @@ fn pattern_in(row: &Row) -> &[u8]
 {
     match row.get_ref(1) {
         Ok(ValueRef::Text(text)) => text,
+        // Only damaged tables have no text here; the access list of such a row is then nobody's.
         _ => &[],
     }
 }

@@ -39,7 +39,7 @@ use opc_terms::store_fault::StoreFault;
 use sqlite::{Alter, Connection, Error, Row, Transaction, params};
 use std::alloc::Global;
 
-/// Sets what is there of a profile but for its access list, and answers how many there were.
+/// Sets what is there of a profile except its access list, and returns how many there were.
 fn update_profile<S: Alter>(tx: &mut Transaction<'_, S>, profile: &Profile) -> Result<usize, Error>
     ensures same_reference { tx.new.conn.ghost_name ≡ tx.old.conn.ghost_name }
     ensures stays { Stays S.Store tx.old.conn.now tx.new.conn.now result }
@@ -69,7 +69,7 @@ fn update_profile<S: Alter>(tx: &mut Transaction<'_, S>, profile: &Profile) -> R
     )
 }
 
-/// One more profile, for which the access list is still to come.
+/// Inserts a profile, whose access list is still to come.
 fn insert_profile<S: Alter>(tx: &mut Transaction<'_, S>, profile: &Profile) -> Result<(), Error>
     ensures same_reference { tx.new.conn.ghost_name ≡ tx.old.conn.ghost_name }
     ensures stays { Stays S.Store tx.old.conn.now tx.new.conn.now result }
@@ -95,7 +95,7 @@ fn insert_profile<S: Alter>(tx: &mut Transaction<'_, S>, profile: &Profile) -> R
     Ok(())
 }
 
-/// A profile, which keeps the access list of one that is there.
+/// Upserts a profile, which keeps the access list of the one that is there.
 pub fn put_profile<S: Alter>(tx: &mut Transaction<'_, S>, profile: &Profile) -> Result<(), Error>
     ensures same_reference { tx.new.conn.ghost_name ≡ tx.old.conn.ghost_name }
     ensures stays { Stays S.Store tx.old.conn.now tx.new.conn.now result }
@@ -142,11 +142,12 @@ fn class_in(row: &Row) -> Result<Class, StoreFault>
     match text_at(row, 0)? {
         "CONSOLE" => Ok(Class::Console),
         "OPERCMDS" => Ok(Class::Opercmds),
+        // Only damaged tables have another text.
         _ => Err(unreadable()),
     }
 }
 
-/// A profile, but for its access list, from the first columns of a row.
+/// A profile, but without its access list, from the first columns of a row.
 pub fn definition_in(alloc: Global, row: &Row) -> Result<Profile, StoreFault>
     ensures { (p : TheProfile) (rest : List TheValue) → row.now ≡ definition_row p ++ rest
         → IfOk result (λ v. v ≡ bare p) }
@@ -161,7 +162,7 @@ pub fn definition_in(alloc: Global, row: &Row) -> Result<Profile, StoreFault>
     })
 }
 
-/// A profile, but for its access list.
+/// A profile, but without its access list.
 pub fn profile_in(alloc: Global, row: &Row) -> Result<Profile, StoreFault>
     ensures { (p : TheProfile) → row.now ≡ profile_row p → IfOk result (λ v. v ≡ bare p) }
 {
@@ -179,7 +180,7 @@ fn definitions_in(alloc: Global, rows: &[Row]) -> Result<Vec<Profile>, StoreFaul
     Ok(definitions)
 }
 
-/// The profile of a class and a pattern, but for its access list.
+/// The profile of a class and a pattern, but without its access list.
 pub fn definition_on<S: Alter>(
     alloc: Global,
     conn: &mut Connection<S>,
@@ -207,7 +208,7 @@ pub fn definition_on<S: Alter>(
 pub const BY_CLASS: &str =
     "SELECT class, pattern, owner, uacc, warning, skey, head FROM profiles WHERE class = ?1 ORDER BY class, skey";
 
-/// The profiles of a class, in the order of their patterns, but for their access lists.
+/// The profiles of a class, in the order of their patterns, but without their access lists.
 pub fn definitions_on<S: Alter>(
     alloc: Global,
     conn: &mut Connection<S>,

@@ -61,17 +61,18 @@ fn text_of(bytes: &[u8]) -> Result<&str, StoreFault>
     }
 }
 
-/// The text of a column, where it lies in the row.
+/// The text of a column, as a slice of the row.
 pub fn text_at(row: &Row, at: usize) -> Result<&str, StoreFault>
     ensures { (text : List ℕ) → column row.now at ≡ Text text → IfOk result (λ v. v.now ≡ text) }
 {
     match row.get_ref(at) {
         Ok(ValueRef::Text(bytes)) => text_of(bytes),
+        // Only damaged tables have another type here.
         _ => Err(unreadable()),
     }
 }
 
-// The text of a column, or none where it is missing.
+// The text of a column, or none if it is missing.
 fn text_or_none_at(row: &Row, at: usize) -> Result<Option<&str>, StoreFault>
     ensures { (text : Option (List ℕ)) → column row.now at ≡ text_or_null text
         → IfOk result (λ v. option_copied v ≡ text) }
@@ -79,6 +80,7 @@ fn text_or_none_at(row: &Row, at: usize) -> Result<Option<&str>, StoreFault>
     match row.get_ref(at) {
         Ok(ValueRef::Null) => Ok(None),
         Ok(ValueRef::Text(bytes)) => Ok(Some(text_of(bytes)?)),
+        // Only damaged tables have another type here.
         _ => Err(unreadable()),
     }
 }
@@ -96,7 +98,7 @@ pub fn name_in<K: NameKind<N>, const N: usize>(
     }
 }
 
-/// A name of this kind, or none where it is missing.
+/// A name of this kind, or none if it is missing.
 pub fn name_or_none_in<K: NameKind<N>, const N: usize>(
     row: &Row,
     at: usize,
@@ -120,7 +122,7 @@ pub fn text_in(row: &Row, at: usize) -> Result<KeptText, StoreFault>
     Ok(KeptText::from(text))
 }
 
-/// A text, or none where it is missing.
+/// A text, or none if it is missing.
 pub fn text_or_none_in(row: &Row, at: usize) -> Result<Option<KeptText>, StoreFault>
     ensures { (text : Option (List ℕ)) → column row.now at ≡ text_or_null text → IfOk result (λ v. v ≡ text) }
 {
@@ -153,7 +155,7 @@ pub fn reply_in(row: &Row) -> Result<ReplyRow, StoreFault>
     })
 }
 
-/// The number of a reply, as a column keeps it.
+/// The number of a reply, as a column holds it.
 pub fn reply_number(id: ReplyId) -> u32
     ensures { result ≡ id }
 {

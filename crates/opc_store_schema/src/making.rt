@@ -42,7 +42,7 @@ const LAST_TABLES: [&str; 4] = [
     "CREATE TABLE entries (class TEXT NOT NULL, pattern TEXT NOT NULL, id TEXT NOT NULL, console TEXT NOT NULL, level INTEGER NOT NULL, PRIMARY KEY (class, pattern, id, console), UNIQUE (id, class, pattern, console), FOREIGN KEY (class, pattern) REFERENCES profiles ON DELETE CASCADE) STRICT",
 ];
 
-/// Those of the indexes that no key of a table gives.
+/// The indexes that no key of a table implies.
 const INDEXES: [&str; 3] = [
     "CREATE INDEX consoles_by_user ON consoles (usr, name)",
     "CREATE INDEX consoles_by_authority ON consoles (auth, online, name)",
@@ -63,7 +63,7 @@ pub fn create_last_tables<S: Alter>(tx: &mut Transaction<'_, S>) -> Result<(), E
     run_all(tx, &INDEXES)
 }
 
-/// Makes the tables in a database where nothing is defined, without rows.
+/// Makes the tables in a database in which nothing is defined, without rows.
 pub fn create_tables<S: Alter>(tx: &mut Transaction<'_, S>) -> Result<(), Error>
     ensures same_reference { tx.new.conn.ghost_name ≡ tx.old.conn.ghost_name }
     ensures stays { Stays S.Store tx.old.conn.now tx.new.conn.now result }
@@ -101,7 +101,7 @@ fn fill<S: Alter>(tx: &mut Transaction<'_, S>) -> Result<(), Error>
     Ok(())
 }
 
-/// Makes the tables, beside what is there, all or none: where nothing is defined, those of an empty state.
+/// Makes the tables, beside what is there, all or none: if nothing is defined, those of an empty state.
 pub fn make_tables<S: Alter>(conn: &mut Connection<S>) -> Result<(), Error>
     requires { conn.old.in_transaction ≡ false }
     ensures mode { conn.new.in_transaction ≡ false }

@@ -1,4 +1,4 @@
-//! Queries, which answer the fault of the store.
+//! Queries, which return the fault of the store.
 ghost use Rattle.std.specs.Prelude.{◌≡◌, false, Bool, List, filter, IfOk};
 ghost use Rattle.std.specs.List.{find};
 ghost use Rattle.sqlite.specs.Held.{state};
@@ -51,8 +51,8 @@ pub fn members_on<S: Alter, M: Drop, T: TableRow<M>>(
     decode_all::<_, T>(alloc, rows.as_slice())
 }
 
-/// The first member whose row a query gives, if it gives one: of all members the first that its test picks.
-/// The query should be in the order of the key, also for one row, so that what it gives is determined.
+/// The first member whose row a query gives, if it gives one: of all members, the first that its test selects. The
+/// query should be in the order of the key, even for one row, so that what it gives is determined.
 pub fn member_on<S: Alter, M: Drop, T: TableRow<M>>(
     conn: &mut Connection<S>,
     sql: &str,

@@ -35,8 +35,8 @@ use std::alloc::Global;
 const BY_HEAD: &str =
     "SELECT class, pattern, owner, uacc, warning, skey, head FROM profiles WHERE class = ?1 AND head = ?2 ORDER BY class, skey";
 
-/// The first profile that covers a resource, of those that a query selects, but for its access list, and how many were
-/// read for it. The rows are taken one at a time, and left at the first cover.
+/// The first profile that covers a resource, of those that a query selects, but without its access list, and how many
+/// were read for it. The rows are taken one at a time, and reading stops at the first cover.
 fn first_covering_on<S: Alter>(
     alloc: Global,
     conn: &mut Connection<S>,
@@ -54,6 +54,7 @@ fn first_covering_on<S: Alter>(
         (taken.profile ≡ option_map bare (find (covers resource.now) (select s)))
         × (taken.rows ≡ taken_for (covers resource.now) (select s))) }
 {
+    // For the prover alone: this call's clause states that outside a transaction all that is stored is committed.
     let _settled = conn.is_autocommit();
     let mut rows = match conn.query(sql, params) {
         Ok(rows) => rows,
@@ -82,7 +83,7 @@ fn first_covering_on<S: Alter>(
 }
 
 /// The first profile that covers a resource, in the order of the patterns, of those of a class with this very head, but
-/// for its access list, and how many were read for it.
+/// without its access list, and how many were read for it.
 pub(crate) fn first_with_head_on<S: Alter>(
     alloc: Global,
     conn: &mut Connection<S>,
@@ -164,8 +165,8 @@ pub fn first_on<S: Alter>(
     })
 }
 
-/// The profile of a class that decides a resource, but for its access list: the search by heads asks the tables for the
-/// prefixes of the name, from the whole name down to the empty one, and no more once a profile covers.
+/// The profile of a class that decides a resource, but without its access list: the search by heads asks the tables for
+/// the prefixes of the name, from the whole name down to the empty one, and no more once a profile covers.
 pub fn deciding_on<S: Alter>(
     alloc: Global,
     conn: &mut Connection<S>,

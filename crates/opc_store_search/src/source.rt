@@ -33,7 +33,7 @@ impl<S: Alter> ProfileSource for TableProfiles<'_, S> {
 
     ghost is_faithful = { λ source. HasCleanDisk (state S.Store source.conn.now) };
 
-    // The same connection, whose tables are looked at and not changed.
+    // The same connection, whose tables are read and not changed.
     ghost is_kept = { λ old new. (new.conn.ghost_name ≡ old.conn.ghost_name)
         × Looks S.Store old.conn.now new.conn.now unanswered };
 

@@ -12,7 +12,7 @@ ghost use Rattle.opc_store_sql.specs.Steps.{Stays, Ran, RanAll, Puts, Looks, Rea
 use sqlite::types::ValueRef;
 use sqlite::{Alter, Connection, Error, Row, Transaction};
 
-/// Runs one statement of a transaction and answers how many rows it changed.
+/// Runs one statement of a transaction and returns how many rows it changed.
 pub fn run<S: Alter>(
     tx: &mut Transaction<'_, S>,
     sql: &str,
@@ -39,7 +39,7 @@ pub fn run_all<S: Alter>(tx: &mut Transaction<'_, S>, statements: &[&str]) -> Re
     Ok(())
 }
 
-/// Puts a row at its key: `update` sets it where it is there, and `insert` adds it where it is not. Both take all of
+/// Upserts a row at its key: `update` sets it if it is there, and `insert` adds it if it is not. Both take all of
 /// `params`. What a keyed table's statements do to its rows is proved once, in proofs/Keyed.antt.
 pub fn put<S: Alter>(
     tx: &mut Transaction<'_, S>,
@@ -59,7 +59,7 @@ pub fn put<S: Alter>(
     Ok(())
 }
 
-/// The rows of a query, outside any transaction. A query changes nothing, also of what a crash may leave.
+/// The rows of a query, outside any transaction. A query changes nothing, not even what a crash may leave.
 pub fn read<S: Alter>(
     conn: &mut Connection<S>,
     sql: &str,
@@ -73,6 +73,7 @@ pub fn read<S: Alter>(
     ensures failed { HasCleanDisk (state S.Store conn.new)
         → IfErr result (FailsToQuery sql.now (bound params.now) (state S.Store conn.old) (state S.Store conn.new)) }
 {
+    // For the prover alone: this call's clause states that outside a transaction all that is stored is committed.
     let _settled = conn.is_autocommit();
     conn.query_all(sql, params)
 }

@@ -74,7 +74,7 @@ pub fn all_consoles<T: Tables>(alloc: Global, tables: &mut T) -> Result<String> 
     names(alloc, tables.consoles(alloc)?.as_slice())
 }
 
-/// The names of the consoles where a user is on.
+/// The names of the consoles where a user is logged on.
 pub fn consoles_of<T: Tables>(alloc: Global, tables: &mut T, user: &str) -> Result<String> {
     names(
         alloc,

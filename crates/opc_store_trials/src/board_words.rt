@@ -107,7 +107,7 @@ pub fn device_line(alloc: Global, device: &DeviceRow) -> Result<String> {
     Ok(format!(in alloc; "{number} {state} {volume} {unit}\n")?)
 }
 
-/// A console: its name, authority, mode, state and user, and `MONITOR` where it shows job messages.
+/// A console: its name, authority, mode, state and user, and `MONITOR` if it shows job messages.
 pub fn console_in(alloc: Global, words: &str) -> Result<ConsoleRow> {
     let words: Vec<&str> = words.split(' ').collect(alloc)?;
     let [name, auth, mode, state, user, monitor] = words.as_slice() else {

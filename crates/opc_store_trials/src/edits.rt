@@ -59,7 +59,7 @@ pub fn fill<T: Tables>(alloc: Global, tables: &mut T, file: &str) -> Result<()> 
     Ok(())
 }
 
-/// What a commit of edits answers, if it is a fault.
+/// The fault that a commit of edits returns, if it returns one.
 pub fn committed<T: Tables>(
     alloc: Global,
     tables: &mut T,

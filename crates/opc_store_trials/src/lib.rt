@@ -1,6 +1,6 @@
 //! What the lines of a table of cases do to tables of any kind: edits and changes of them, loads by key, and searches.
 //!
-//! A line is a verb and its words; a program of cases says which tables it is asked of. The lines:
+//! A line is a verb and its words; a program of cases determines on which tables it is tried. The lines:
 //!
 //! - `put KIND ROW` and `remove KIND KEY`: one more edit of the next change. A row of the policy, and one that is
 //!   removed, is a record of a policy file (`row`); `listed` is a profile with an entry; `-` is a part that is not

@@ -73,7 +73,7 @@ pub fn user<T: Tables>(alloc: Global, tables: &mut T, id: &str) -> Result<String
     }
 }
 
-/// The groups of a user, as many as asked for.
+/// The groups of a user, as many as requested.
 pub fn groups<T: Tables>(alloc: Global, tables: &mut T, key: &str) -> Result<String> {
     let (user, most) = key.split_once(' ').context("no number of groups")?;
     let groups = tables.groups_of(alloc, &UserId::read(user)?, most.parse::<u32>()?)?;
@@ -147,7 +147,7 @@ pub fn profiles<T: Tables>(alloc: Global, tables: &mut T, class: &str) -> Result
     ended(alloc, profiles_records(alloc, profiles.as_slice())?)
 }
 
-/// The entries of a profile, as many as asked for.
+/// The entries of a profile, as many as requested.
 pub fn entries<T: Tables>(alloc: Global, tables: &mut T, key: &str) -> Result<String> {
     let (pattern, most) = key.split_once(' ').context("no number of entries")?;
     let pattern = Pattern::read(pattern)?;

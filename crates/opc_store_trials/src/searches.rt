@@ -87,7 +87,8 @@ pub fn found_in_tables<T: Tables>(alloc: Global, tables: &mut T, key: &str) -> R
     Ok(lines)
 }
 
-/// What a search found: the profile but for its access list, how many heads were asked for, and how many profiles read.
+/// What a search found: the profile but without its access list, how many heads were searched, and how many profiles
+/// read.
 fn found_lines(alloc: Global, found: &Found) -> Result<String> {
     let mut rows = Vec::new(alloc);
     if let Some(profile) = &found.profile {

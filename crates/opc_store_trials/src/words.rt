@@ -21,7 +21,7 @@ pub fn nothing(alloc: Global) -> Result<String> {
     Ok(String::from_str(alloc, "nothing\n")?)
 }
 
-/// Adds a word to a line, after a space where it is not the first.
+/// Adds a word to a line, after a space if it is not the first.
 pub fn add_word(line: &mut String, word: &str) -> Result<()> {
     if !line.is_empty() {
         line.push(' ')?;
@@ -30,7 +30,7 @@ pub fn add_word(line: &mut String, word: &str) -> Result<()> {
     Ok(())
 }
 
-/// The whole text; one that has nothing says so.
+/// The whole text; an empty one is reported as such.
 pub fn ended(alloc: Global, mut text: String) -> Result<String> {
     if text.is_empty() {
         return nothing(alloc);

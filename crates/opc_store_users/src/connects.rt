@@ -102,7 +102,7 @@ fn groups_in(alloc: Global, rows: &[Row]) -> Result<Vec<GroupName>, StoreFault>
     Ok(groups)
 }
 
-/// The groups that a user is connected to, in order, as many as asked for at most.
+/// The groups that a user is connected to, in order, at most as many as requested.
 pub fn user_groups_on<S: Alter>(
     alloc: Global,
     conn: &mut Connection<S>,

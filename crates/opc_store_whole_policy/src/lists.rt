@@ -48,7 +48,7 @@ fn members_on<S: Alter>(alloc: Global, conn: &mut Connection<S>) -> Result<Membe
     })
 }
 
-/// The lists of the policy, each asked for once. The policy and the rows of a policy file are both made from these.
+/// The lists of the policy, each loaded once. The policy and the rows of a policy file are both made from these.
 pub fn lists_on<S: Alter>(alloc: Global, conn: &mut Connection<S>) -> Result<Lists, StoreFault>
     requires { conn.old.in_transaction ≡ false }
     ensures mode { conn.new.in_transaction ≡ false }

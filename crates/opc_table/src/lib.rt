@@ -63,7 +63,7 @@ fn started(words: &str, member: &UnitName, id: &UnitName) -> Resource
     Resource::of_words(words).with(member).with(id)
 }
 
-/// The resource of a unit: a started task's, or a job's, also where no unit or a user's session has the name.
+/// The resource of a unit: a started task's, or a job's, even if no unit or a user's session has the name.
 fn of_unit(job: &str, task: &str, kind: UnitKindAt, name: &UnitName) -> Resource
     requires job { IsTrue (is_resource job.now) }
     requires task { IsTrue (is_resource task.now) }
@@ -79,7 +79,7 @@ fn of_unit(job: &str, task: &str, kind: UnitKindAt, name: &UnitName) -> Resource
     }
 }
 
-/// The resource of a unit that is forced, where a user's session has a form of its own.
+/// The resource of a unit that is forced; a user's session has a form of its own.
 fn forced(kind: UnitKindAt, name: &UnitName) -> Resource
     ensures { result ≡ forced kind name.now }
 {
@@ -89,9 +89,9 @@ fn forced(kind: UnitKindAt, name: &UnitName) -> Resource
     }
 }
 
-/// What a command needs (MVS System Commands, RACF guide: resource names of operator commands), where the unit
-/// that it names is of this kind on the board. The kind counts for C name, FORCE, P and F alone. LOGON and LOGOFF
-/// need nothing here. It takes no memory.
+/// What a command needs (MVS System Commands, RACF guide: resource names of operator commands), if the unit that it
+/// names is of this kind on the board. The kind counts for C name, FORCE, P and F alone. LOGON and LOGOFF need nothing
+/// here. It takes no memory.
 pub fn need(command: &Command<'_>, kind: UnitKindAt) -> Option<Need>
     ensures { result ≡ need command.now kind }
 {

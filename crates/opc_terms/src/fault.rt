@@ -141,9 +141,9 @@ pub enum Fault {
     Empty,
     /// The line has more than 126 characters.
     TooLong,
-    /// The character at this byte is no printable ASCII one.
+    /// The character at this byte is not a printable ASCII one.
     BadCharacter { at: usize },
-    /// The verb, from the first byte to the last excluded, is no command's.
+    /// The verb, from the first byte to the last excluded, is not a command's.
     UnknownVerb { from: usize, to: usize },
     /// The operands, from the first byte to the last excluded, have no form of the command.
     BadOperand { from: usize, to: usize },
@@ -153,15 +153,15 @@ pub enum Fault {
     NoConsole,
     /// The console is offline.
     ConsoleOffline,
-    /// The console requires a logon, and nobody is on.
+    /// The console requires a logon, and nobody is logged on.
     LogonRequired,
     /// The user is revoked.
     Revoked,
     /// There is no such user, or the password is not the user's.
     BadLogon,
-    /// This user is on at the console.
+    /// This user is logged on at the console.
     AlreadyOn(UserId),
-    /// Nobody is on at the console.
+    /// Nobody is logged on at the console.
     NotOn,
     /// A profile of class CONSOLE denies the logon.
     DeniedConsole,
@@ -207,13 +207,13 @@ pub enum Fault {
     Missing(Subject),
     /// The one of this name is in use.
     InUse(Subject),
-    /// The batch of that number was kept with other rows.
+    /// The batch of that number was stored with other rows.
     BatchChanged,
     /// The store has users.
     NotEmpty,
     /// A row of a policy file, counted from 1, is bad; row 0 is the header.
     RowFault { row: u32, why: Why },
-    /// There is no memory left.
+    /// Memory was refused.
     NoMemory,
     /// The store failed.
     Store,

@@ -6,8 +6,8 @@ ghost use Rattle.opc_terms.specs.Modes.{modes, mode_text};
 
 use std::fmt;
 
-/// Whether a user has to be logged on at a console before commands are entered there, or the console acts for the
-/// user of its own name where nobody is on (MVS Planning: Operations, LOGON).
+/// Whether a user has to be logged on at a console before commands are entered there, or whether the console acts for
+/// the user of its own name if nobody is (MVS Planning: Operations, LOGON).
 #[derive(Clone, Copy, PartialEq, Eq)]
 pub enum Mode {
     Optional,
@@ -24,6 +24,7 @@ impl Mode {
             "OPTIONAL" => Some(Mode::Optional),
             "REQUIRED" => Some(Mode::Required),
             "AUTO" => Some(Mode::Auto),
+            // No other text is a mode.
             _ => None,
         }
     }

@@ -41,7 +41,7 @@ impl Rule {
         self.to_string(alloc)
     }
 
-    /// The words of a rule, or `-` where there is none.
+    /// The words of a rule, or `-` if there is none.
     pub fn text_or_none(alloc: Global, rule: Option<&Rule>) -> Result<String, AllocError>
         ensures { IfOk result (λ text. string_bytes text ≡ rule_text_or_none (option_copied rule.entry)) }
     {

@@ -36,7 +36,8 @@ fn status(rt: &HostRuntime) -> u8 {
     }
 }
 
-/// Standard output. A terminal is shown what it would act on or hide; a file or a program gets the bytes as they are.
+/// Standard output. On a terminal, what the terminal would act on or hide is shown escaped; a file or a program gets
+/// the bytes as they are.
 fn screen(rt: &HostRuntime) -> Screen<Stdout> {
     let inner = rt.stdout();
     Screen {

@@ -1,4 +1,4 @@
-//! Tables that fail, whatever they are asked.
+//! Tables that fail, whatever is asked of them.
 ghost use Rattle.opc_state.specs.State.{State};
 
 use opc_board::rows::{ConsoleRow, DeviceRow, ReplyRow, UnitRow};
@@ -20,7 +20,7 @@ use opc_terms::entry_id::EntryId;
 use opc_terms::store_fault::StoreFault;
 use std::alloc::Global;
 
-/// Nothing is promised of them, since they are never sure.
+/// Nothing is promised about them, since they are never sure.
 #[derive(Drop)]
 pub(super) struct FailingTables;
 

@@ -1,4 +1,4 @@
-//! What a list of requests is answered over tables that fail.
+//! How a list of requests is answered over tables that fail.
 use super::failing_tables::FailingTables;
 use opc_board::event::Event;
 use opc_gate::gate::Gate;

@@ -10,7 +10,7 @@ use std::io::{ErrorKind, Write};
 use std::process::Abort;
 use std::test::Fail;
 
-/// A writer that takes one byte at a time, so many, and then fails, or takes nothing more.
+/// A writer that takes one byte at a time, this many in all, and then fails, or takes nothing more.
 #[derive(Drop)]
 struct Narrow {
     bytes: Vec<u8>,
@@ -57,7 +57,7 @@ fn each_request_is_answered(rt: HostRuntime) -> Result<(), Fail> {
     Ok(())
 }
 
-/// A test that meets a fault ends: without memory by its want, else as failed.
+/// A test that meets a fault ends: as out of memory, or else as failed.
 fn end_of(rt: &impl Abort, fault: ScriptFault) -> Fail {
     assert!(rt; matches!(fault, ScriptFault::NoMemory));
     Fail::from(std::alloc::AllocError)
@@ -86,7 +86,7 @@ fn a_bad_line_is_reported_and_nothing_is_run(rt: HostRuntime) -> Result<(), Fail
     Ok(())
 }
 
-/// What is printed ends where the writer does, and its error is handed on.
+/// The output ends where the writer does, and its error is returned.
 fn stops_at(rt: &(impl AllocGlobal + Abort), room: usize, fails: bool) -> Result<(), Fail> {
     let bytes = Vec::with_capacity(rt.alloc(), PRINTED.len())?;
     let mut output = Watched::new(Narrow { bytes, room, fails });

@@ -1,4 +1,4 @@
-//! Tables of one console and the user who is on there, with three profiles and three rows of the account.
+//! Tables of one console and the user who is logged on there, with three profiles and three rows of the account.
 ghost use Rattle.opc_state.specs.State.{State};
 
 use opc_board::rows::{ConsoleRow, DeviceRow, ReplyRow, UnitRow};
@@ -24,7 +24,7 @@ use opc_terms::mode::Mode;
 use opc_terms::store_fault::StoreFault;
 use std::alloc::Global;
 
-/// Nothing is promised of them, since they are never sure. What no listing asks for fails.
+/// Nothing is promised about them, since they are never sure. What no listing asks for fails.
 #[derive(Drop)]
 pub(super) struct SmallRoom {
     pub(super) user: User,
@@ -34,7 +34,7 @@ fn name<T, E: Drop>(read: Result<T, E>) -> Result<T, StoreFault> {
     read.map_err(|_| StoreFault::Store)
 }
 
-/// A profile that gives nobody anything, but for the entry of a group at the console C1.
+/// A profile that gives nobody anything, except for the entry of a group at the console C1.
 fn profile(
     alloc: Global,
     pattern: &str,

@@ -43,7 +43,7 @@ fn a_read_that_fails_ends_it(rt: HostRuntime) -> Result<(), Fail> {
     Ok(())
 }
 
-// How many bytes are read of a request with a body of so many spaces, and more after it, and the fault.
+// How many bytes are read of a request with a body of this many spaces, and more after it, and the fault.
 fn taken(alloc: Global, length: usize) -> Result<(usize, Option<ReadingFault>), AllocError> {
     let mut text = format!(in alloc;
         "POST /consoles/C1/command HTTP/1.1\r\nContent-Length: {length}\r\n\r\n"

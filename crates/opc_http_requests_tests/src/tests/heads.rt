@@ -8,7 +8,7 @@ use std::test::Fail;
 
 const END: &str = "\r\n\r\n";
 
-// A head of so many fields, and so many bytes.
+// A head of this many fields and this many bytes.
 fn head(alloc: Global, fields: usize, length: usize) -> Result<String, AllocError> {
     let mut text = String::from_str(alloc, "GET /consoles/C1/profiles/CONSOLE HTTP/1.1\r\n")?;
     for _ in 1..fields {

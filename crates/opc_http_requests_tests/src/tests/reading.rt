@@ -18,7 +18,7 @@ pub(super) fn get(alloc: Global, path: &str) -> Result<String, AllocError> {
     format!(in alloc; "GET {path} HTTP/1.1\r\n\r\n")
 }
 
-// What a request says, as a line.
+// What a request contains, as a line.
 fn reported(alloc: Global, request: &Request) -> Result<String, AllocError> {
     match request {
         Request::Command { console, text } => {
@@ -56,7 +56,7 @@ fn reported(alloc: Global, request: &Request) -> Result<String, AllocError> {
     }
 }
 
-/// What is asked, as a line, or why nothing is.
+/// What the bytes ask for, as a line, or why that is nothing.
 pub(super) fn asked<R: Read + Drop>(
     alloc: Global,
     reader: R,

@@ -1,4 +1,4 @@
-//! What a strict service takes, and that what a web page can send is refused.
+//! What a strict service accepts, and that what a web page can send is refused.
 use super::reading::{asked, asked_strictly};
 use opc_http_head::refusal::HttpRefusal;
 use opc_http_requests::fault::ReadingFault;
@@ -8,12 +8,12 @@ use std::test::Fail;
 
 const FORBIDDEN: ReadingFault = ReadingFault::Refused(HttpRefusal::Forbidden);
 
-// A listing, asked with these fields.
+// A listing, requested with these fields.
 fn listing(alloc: Global, fields: &str) -> Result<String, AllocError> {
     format!(in alloc; "GET /consoles/C1/profiles/OPERCMDS HTTP/1.1\r\n{fields}\r\n")
 }
 
-// That a service takes a listing with these fields, strict at this port or not.
+// That a service accepts a listing with these fields, strict at this port or not.
 fn expect_taken(
     rt: &(impl AllocGlobal + Abort),
     port: Option<u16>,
@@ -45,7 +45,7 @@ fn expect_refused(
     Ok(())
 }
 
-// That a listing with these fields is taken, but not by a strict service at this port.
+// That a listing with these fields is accepted, but not by a strict service at this port.
 fn expect_forbidden(rt: &(impl AllocGlobal + Abort), port: u16, fields: &str) -> Result<(), Fail> {
     let text = listing(rt.alloc(), fields)?;
     expect_refused(rt, port, text.as_str(), FORBIDDEN)?;

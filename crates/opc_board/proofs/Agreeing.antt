@@ -1,4 +1,4 @@
--- What comes of a footprint, and what comes of the whole board.
+-- The result for a footprint, and the result for the whole board.
 use Rattle.std.proofs.Common.{◌≡◌, ℕ, Bool, true, false, not, cond, ◌==◌, if◌then◌else◌, List, [], ◌∷◌, Option, Some, None, Err, refl, ap, sym, ◌∙◌, arith}
 use Rattle.std.specs.List.{find}
 use Rattle.std.proofs.lemmas.Bool.Decides.{nat_tests}
@@ -37,7 +37,7 @@ is_not true e = refl
 is_not false e = absurd (cc)
 
 module _ (footprint : Footprint) where
-  -- what comes of the part, and what comes of the whole
+  -- the result for the part, and the result for the whole
   abbrev pub Agrees : BoardRows → BoardOutcome → BoardOutcome → Type 0
   Agrees b part whole = (part ≡ outcome_only footprint whole) × LeavesRest footprint b whole
 
@@ -61,7 +61,7 @@ module _ (footprint : Footprint) where
       go true more = (refl, tt)
       go false more = more
 
-  -- the same, where the faults are looked for on the board
+  -- the same, if the faults are looked for on the board
   pub faults_same : (b : BoardRows) (few faults : List (Bool × BoardFault)) (part whole : BoardOutcome) → few ≡ faults
       → Agrees b part whole → Agrees b (faults_or few part) (faults_or faults whole)
   faults_same b few faults part whole same h = rw same (faults_then b faults part whole h)

@@ -1,4 +1,4 @@
--- What becomes of consoles depends on them, and on another master.
+-- What happens to consoles depends on them, and on another master.
 use Rattle.std.proofs.Common.{◌≡◌, true, false, not, ◌&&◌, ◌||◌, if◌then◌else◌, List, [], ◌∷◌, Some, None, refl, ap, ap₂, sym, ◌∙◌}
 use Rattle.std.specs.List.{find}
 use Rattle.opc_rows.specs.Ordered.{Ascends, changed}

@@ -1,4 +1,4 @@
--- What becomes of devices depends on them.
+-- What happens to devices depends on them.
 use Rattle.std.proofs.Common.{◌≡◌, Bool, true, false, not, if◌then◌else◌, [], Some, None, Err, filter, refl, ap, sym, ◌∙◌}
 use Rattle.std.specs.Option.{is_some}
 use Rattle.opc_rows.specs.Ordered.{put}

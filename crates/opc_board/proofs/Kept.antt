@@ -91,7 +91,7 @@ without_unit_kept name b invariants = record {
   held = all_map (IsHeldRightly b.units) _ (freed name) (freed_held name b.units) b.devices invariants.held;
 }
 
--- a device stays held where its unit stays on the board
+-- a device stays held if its unit stays on the board
 stays_held : (units others : List UnitRow)
     → ((name : Name) → is_some (unit_in units name) ≡ true → is_some (unit_in others name) ≡ true)
     → (online : Bool) (unit : Option Name) → IsHeld units online unit → IsHeld others online unit

@@ -1,4 +1,4 @@
--- What becomes of replies, the log, messages and the day depends on the replies alone.
+-- What happens to replies, the log, messages and the day depends on the replies alone.
 use Rattle.std.proofs.Common.{◌≡◌, ℕ, Bool, true, false, not, ◌||◌, ◌==◌, if◌then◌else◌, List, [], ◌∷◌, ◌++◌, Err, refl, ap, ap₂, ◌∙◌}
 use Rattle.std.specs.Option.{is_some}
 use Rattle.opc_rows.specs.Ordered.{put}

@@ -1,4 +1,4 @@
--- What becomes of units depends on them, and on the devices that they have.
+-- What happens to units depends on them, and on the devices that they have.
 use Rattle.std.proofs.Common.{◌≡◌, Bool, true, false, not, cond, if◌then◌else◌, [], Option, Some, None, Err, filter, refl, ap, ap₂, ◌∙◌}
 use Rattle.std.specs.Option.{is_some}
 use Rattle.opc_rows.specs.Ordered.{put}

@@ -1,4 +1,4 @@
--- What becomes of consoles.
+-- What happens to consoles.
 use Rattle.std.specs.Prelude.{Bool, true, false, not, ◌&&◌, if◌then◌else◌, List, [], ◌∷◌, Option, Some, None}
 use Rattle.opc_names.specs.declared.auth.Auth.{Auth}
 use Rattle.opc_terms.specs.declared.mode.Mode.{Mode}
@@ -34,7 +34,7 @@ vary_console_online name b = do
   console ← found NoTarget (console_at b name)
   varied (record console { online = true }) b
 
--- V CN(name),OFFLINE: nobody is on there afterwards, unless it was offline already
+-- V CN(name),OFFLINE: nobody is logged on there afterwards, unless it was offline already
 abbrev pub put_offline : ConsoleRow → ConsoleRow
 put_offline c = if c.online then record c { online = false; user = None } else c
 
@@ -49,7 +49,7 @@ vary_console_auth name auth b = do
   console ← found NoTarget (console_at b name)
   varied (record console { auth = auth }) b
 
--- E CN(name): nobody is on there afterwards
+-- E CN(name): nobody is logged on there afterwards
 abbrev pub reset_console : Name → BoardRows → BoardOutcome
 reset_console name b = do
   console ← found NoTarget (console_at b name)
@@ -70,7 +70,7 @@ logged_on name user b = at_console name (λ c. record c { user = Some user }) b
 abbrev pub logged_off : Name → BoardRows → BoardRows
 logged_off name b = at_console name (λ c. record c { user = None }) b
 
--- a console with this authority and mode: a new one is online with nobody on, and another keeps all else
+-- a console with this authority and mode: a new one is online with nobody logged on, and another keeps all else
 abbrev pub new_console : Name → Auth → Mode → ConsoleRow
 new_console name auth mode = record {
   name = name;

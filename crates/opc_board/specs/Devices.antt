@@ -1,4 +1,4 @@
--- What becomes of devices.
+-- What happens to devices.
 use Rattle.std.specs.Prelude.{Bool, true, false, not, List, [], ◌∷◌, Some, None}
 use Rattle.std.specs.Option.{is_some, is_none}
 use Rattle.opc_rows.specs.Ordered.{put, changed}

@@ -67,7 +67,7 @@ leaving b name = record (unit_alone name) { devices = λ n. has (λ d. is_holder
 abbrev pub varying : BoardRows → Name → Footprint
 varying b name = record no_rows { consoles = λ n. is n name || has is_master (console_at b n) }
 
--- a user's session and the consoles where the user is on
+-- a user's session and the consoles where the user is logged on
 abbrev pub addressed : BoardRows → Name → Footprint
 addressed b user = record (unit_alone user) { consoles = λ n. has (λ c. is_holder user c.user) (console_at b n) }
 

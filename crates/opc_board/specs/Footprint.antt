@@ -106,7 +106,7 @@ abbrev pub LeavesRest : Footprint → BoardRows → BoardOutcome → Type 0
 LeavesRest footprint b (Ok d) = IsInOrder d.board × AreLeft footprint b d.board
 LeavesRest footprint b (Err fault) = Unit {0}
 
--- What comes of the rows of a footprint is, within the footprint, what comes of the whole board.
+-- The result for the rows of a footprint is, within the footprint, the result for the whole board.
 abbrev pub IsLocal : Footprint → BoardRows → (BoardRows → BoardOutcome) → Type 0
 IsLocal footprint b run = (run (only footprint b) ≡ outcome_only footprint (run b)) × LeavesRest footprint b (run b)
 
@@ -125,7 +125,8 @@ HasVaried footprint b name = (footprint.consoles name ≡ true)
     × (has_other_master name (only footprint b).consoles ≡ has_other_master name b.consoles)
 
 -- What the footprint of a command has to have: what the command names, and what it asks about others. A display of all
--- rows needs them all, and SE whether the user is on at some console. Any choice that has these rows will do.
+-- rows needs them all, and SE needs to know whether the user is logged on at some console. Any choice that has these
+-- rows will do.
 abbrev pub IsFootprintOf : Footprint → BoardRows → Command → Name → Type 0
 IsFootprintOf footprint b DisplayUnits console = (name : Name) → footprint.units name ≡ true
 IsFootprintOf footprint b (DisplayUnit name) console = footprint.units name.value ≡ true

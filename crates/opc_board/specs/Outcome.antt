@@ -46,12 +46,12 @@ abbrev pub ComesToOrNoMemory : (old new : BoardRows) → BoardOutcome → Result
 ComesToOrNoMemory old new outcome result =
     MatchResult result (λ _. outcome ≡ done new) (λ fault. (new ≡ old) × (fault ≢ NoMemory → outcome ≡ Err fault))
 
--- the first of these faults that is there, and else the outcome
+-- the first of these faults that applies, and otherwise the outcome
 abbrev pub faults_or : List (Bool × BoardFault) → BoardOutcome → BoardOutcome
 faults_or [] outcome = outcome
 faults_or ((there, fault) ∷ faults) outcome = if there then Err fault else faults_or faults outcome
 
--- what was looked up, or this fault where there is none
+-- what was looked up, or this fault if there is none
 abbrev pub found : {A : Type 0} → BoardFault → Option A → Result A BoardFault
 found fault (Some x) = Ok x
 found fault None = Err fault

@@ -1,4 +1,4 @@
--- What becomes of replies, the log, messages and the day.
+-- What happens to replies, the log, messages and the day.
 use Rattle.std.specs.Prelude.{ℕ, Bool, true, false, not, ◌||◌, ◌==◌, List, [], ◌∷◌, ◌++◌, Option, Some, None, filter}
 use Rattle.std.specs.Option.{is_some}
 use Rattle.std.specs.List.{list_any}
@@ -12,7 +12,7 @@ use Rattle.opc_board.specs.Units.{is_tsu, is_holder}
 use Rattle.opc_board.specs.Outcome.{BoardOutcome, done, done_with, faults_or, found, ◌>>=◌}
 use Rattle.opc_board.specs.Texts.{reply_line}
 
--- R id,text: the reply is open no more, and its answer is kept after all others
+-- R id,text: the reply is no longer open, and its answer is stored after all others
 abbrev pub without_reply : ℕ → BoardRows → BoardRows
 without_reply id b = record b { replies = filter (λ r. not (r.id == id)) b.replies }
 
@@ -36,7 +36,7 @@ ask id text b = faults_or (ask_faults id b) (done (record b {
   }) b.replies;
 }))
 
--- the user is on at some console
+-- the user is logged on at some console
 abbrev pub is_on : Name → BoardRows → Bool
 is_on user b = list_any (λ c. is_holder user c.user) b.consoles
 
@@ -48,7 +48,7 @@ is_session None = false
 abbrev pub has_session : Name → BoardRows → Bool
 has_session user b = is_session (unit_at b user)
 
--- SE 'text',USER=(user): the message is kept after all others
+-- SE 'text',USER=(user): the message is stored after all others
 abbrev pub send_faults : Name → BoardRows → List (Bool × BoardFault)
 send_faults user b = (not (is_on user b || has_session user b), NoTarget) ∷ []
 
@@ -60,7 +60,7 @@ send user text b = faults_or (send_faults user b) (done (record b {
   } ∷ [];
 }))
 
--- L 'text': the line is kept after all others
+-- L 'text': the line is stored after all others
 abbrev pub log_line : List ℕ → BoardRows → BoardOutcome
 log_line text b = done (record b { log = b.log ++ text ∷ [] })
 

@@ -1,4 +1,4 @@
--- What becomes of units.
+-- What happens to units.
 use Rattle.std.specs.Prelude.{ℕ, Bool, true, false, not, if◌then◌else◌, List, [], ◌∷◌, Option, Some, None, filter, map}
 use Rattle.std.specs.Option.{is_some}
 use Rattle.opc_rows.specs.Ordered.{put, changed}

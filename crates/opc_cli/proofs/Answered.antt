@@ -1,4 +1,4 @@
--- What is said of an option by its two cases.
+-- What holds of an option, by its two cases.
 use Rattle.std.proofs.Common.{◌≡◌, Option, Some, None, MatchOption, refl}
 use Rattle.std.specs.Prelude.{IfSome}
 

@@ -30,7 +30,7 @@ pub same_fault : {E : Type 0} (shown : E → Option (List ℕ)) (quiet reported 
     → one ≡ other → IsFaultReported shown quiet reported one → IsFaultReported shown quiet reported other
 same_fault shown quiet reported one other is h = subst (IsFaultReported shown quiet reported) is h
 
--- where the words ask for a task, and that was done
+-- if the words ask for a task, and that was done
 module _ {D : Type 0} (g : disk.Ghosts D) (is_fresh : Bool → D → Type 0) (image : Image) {W E : Type 0}
     (contents : W → Option (List ℕ)) (shown : E → Option (List ℕ)) (left : Option (List ℕ)) where
   pub task_done : (words : List (List ℕ)) (before first written : Watched W) (quiet heard reported : Watched E) (status : Status) (task : Task)

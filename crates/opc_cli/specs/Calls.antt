@@ -21,14 +21,14 @@ status_of_script (Err (BadLine number)) = BadInput
 status_of_script (Err NoMemory) = Failed
 status_of_script (Err (Output error)) = Failed
 
--- The status of a service: done where all clients were served, and failed where one could not be taken.
+-- The status of a service: done if all clients were served, and failed if one could not be accepted.
 abbrev pub status_of_service : {A : Type 0} → Result A ServeFault → Status
 status_of_service (Ok all) = Done
 status_of_service (Err fault) = Failed
 
 module _ {T : Type 0} (m : Meaning T) (old new : T) where
-  -- A script was run, or its bad line was printed and nothing was; and this is the number of its status. It was cut by
-  -- the output exactly where a write failed.
+  -- A script was run, or its bad line was printed and nothing was run; and this is the number of its status. It was cut
+  -- by the output if and only if a write failed.
   pub record IsScript {K : Type 0} (held : K → Option (List ℕ)) (has_failed : K → Bool) (script : List ℕ)
       (before written : K) (number : ℕ) : Type 0 where
     pub ran : Result Status ScriptFault
@@ -36,7 +36,7 @@ module _ {T : Type 0} (m : Meaning T) (old new : T) where
     pub failed : has_failed written ≡ (if is_cut_by_output ran then true else has_failed before)
     pub ends : number ≡ number_of (status_of_script ran)
 
-  -- So many clients were served, each waited for as long as it takes, or fewer; and this is the number of its status.
+  -- This many clients were served, each waited for as long as it takes, or fewer; and this is the number of its status.
   pub record IsService {C K : Type 0} (origins : Origins) (door : Door C K) (count number : ℕ) : Type 0 where
     pub served : Result (Unit {0}) ServeFault
     pub handled : AreHandled origins m door.link door.comes None old new count served

@@ -1,4 +1,4 @@
--- What is said of a database file whose tables were made now.
+-- What is reported of a database file whose tables were made now.
 use Rattle.std.specs.Prelude.{◌++◌, ℕ, List, codes}
 
 abbrev pub made_line : (path : List ℕ) → List ℕ

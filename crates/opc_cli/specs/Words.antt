@@ -26,7 +26,7 @@ use Rattle.opc_cli_program.specs.declared.work.Work.TheVariants as work
 use Rattle.opc_cli_works.specs.Works.{IsRunInMemory, IsWorkAt}
 use Rattle.opc_cli.specs.Made.{made_line}
 
--- the status of a work over a file: that of its end, or a failure where the file was not closed
+-- the status of a work over a file: that of its end, or a failure if the file was not closed
 abbrev pub status_of_work : {A B : Type 0} → Result Status Failure → (closed : Result A B) → Status
 status_of_work end (Ok files) = status_of_end end
 status_of_work end (Err kept) = Failed
@@ -37,17 +37,17 @@ module _ {E : Type 0} (shown : E → Option (List ℕ)) where
   IsFaultReported quiet reported fault = reported.failed ≡ false
       → IsReported fault (shown quiet.inner) (shown reported.inner)
 
-  -- Where it failed, its fault was.
+  -- If it failed, its fault was.
   abbrev pub IsEndReported : (quiet reported : Watched E) → Result Status Failure → Type 0
   IsEndReported quiet reported end = IfErr end (λ failure. IsFaultReported quiet reported failure.fault)
 
-  -- Of an export that made the tables, that was printed, unless a write failed. Of any other work nothing was.
+  -- For an export that made the tables, that was printed, unless a write failed. For any other work nothing was.
   abbrev pub IsMadeNoted : (quiet noted : Watched E) → (path : List ℕ) → Work → (are_made : Bool) → Type 0
   IsMadeNoted quiet noted path work.Export true = noted.failed ≡ false
       → Appends (shown quiet.inner) (shown noted.inner) (made_line path)
   IsMadeNoted quiet noted path task are_made = noted ≡ quiet
 
-  -- The fault of its end was, and then, where the file was not closed, that the store failed.
+  -- The fault of its end was printed, and then, if the file was not closed, that the store failed.
   abbrev pub IsWorkReported : {A B : Type 0} → (quiet reported : Watched E)
       → Result Status Failure → (closed : Result A B)
       → Type 0
@@ -56,7 +56,7 @@ module _ {E : Type 0} (shown : E → Option (List ℕ)) where
       (first : Watched E) × IsEndReported quiet first end × (reported.failed ≡ false → first.failed ≡ false)
       × IsFaultReported first reported Store
 
--- The program ran over new tables in memory. Of what the files of the system hold nothing is known.
+-- The program ran over new tables in memory. Nothing is known about what the files of the system hold.
 pub record IsDoneInMemory {W E : Type 0} (contents : W → Option (List ℕ)) (shown : E → Option (List ℕ))
     (left : Option (List ℕ)) (before written : Watched W) (quiet reported : Watched E) (status : Status)
     (policy : Option (Bor (List ℕ))) : Type 0 where
@@ -71,7 +71,7 @@ module _ {D : Type 0} (g : disk.Ghosts D) (is_fresh : Bool → D → Type 0) (im
     (contents : W → Option (List ℕ)) (shown : E → Option (List ℕ)) (left : Option (List ℕ)) (before written : Watched W)
     (quiet reported : Watched E) (status : Status) where
   -- The file was opened, the work done over its tables, and the file closed, or not. An export that made the tables
-  -- says so first.
+  -- reports that first.
   pub record IsDoneInFile (path : List ℕ) (work : Work) : Type 0 where
     pub end : Result Status Failure
     pub closed : Result (Files D) (Error × FileStore D g)

@@ -24,7 +24,7 @@ line_reported (Ok v) a c fault bytes is k = record { line = fault_line fault; is
 line_reported (Err e) a c fault bytes is k = tt
 
 module _ {A E : Type 0} (result : Result A E) (a b c : Option (List ℕ)) where
-  -- bytes, and then more where that went well
+  -- bytes, and then more if that went well
   pub then_appends : (first second : List ℕ) → Appends a b first → OnOk result (Appends b c second) → OnOk result (Grows a c)
   then_appends first second h k = go result k
     where

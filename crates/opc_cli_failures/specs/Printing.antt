@@ -8,7 +8,7 @@ use Rattle.opc_terms.specs.Faults.{fault_code, fault_text}
 abbrev pub fault_line : Fault → List ℕ
 fault_line fault = fault_code fault ++ codes " " ++ fault_text fault ++ 10 ∷ []
 
--- its code alone, where the line was not put together
+-- its code alone, if the line was not put together
 abbrev pub code_line : Fault → List ℕ
 code_line fault = fault_code fault ++ 10 ∷ []
 

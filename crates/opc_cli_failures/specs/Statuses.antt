@@ -20,8 +20,8 @@ number_of Refused = 1
 number_of BadInput = 2
 number_of Failed = 3
 
--- The status that a fault ends the program with: bad input, a failure where there was no memory or the store or a
--- device failed, or else a refusal.
+-- The status that a fault ends the program with: bad input; a failure if there was no memory or the store or a device
+-- failed; otherwise a refusal.
 abbrev pub status_of : Fault → Status
 status_of (RowFault row why) = BadInput
 status_of NoMemory = Failed
@@ -52,7 +52,7 @@ IsErrorAt at error failure = (failure.fault ≡ fault_of_kind (error_kind error)
 abbrev pub IsInputFailure : Failure → Type 0
 IsInputFailure failure = (failure.fault ≡ NoMemory) ⊎ ((error : Error) × IsErrorAt Input error failure)
 
--- What failed where the gate gives a fault: where its store did, that is the database.
+-- What failed if the gate returns a fault: if its store failed, that is the database.
 abbrev pub cause_in_gate : Fault → Option (Place × Reason)
 cause_in_gate Store = Some (Database, Unreadable)
 cause_in_gate fault = None

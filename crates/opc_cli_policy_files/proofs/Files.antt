@@ -1,4 +1,4 @@
--- A policy file of which one byte past the limit is read at most.
+-- A policy file of which at most one byte past the limit is read.
 use Rattle.std.proofs.Common.{◌≡◌, ◌≤◌, ◌<◌, ◌+◌, ◌⊎◌, ℕ, List, Option, Some, None, IfSome, inl, inr, length, take, subst, ◌∙◌, refl, arith}
 use Rattle.std.specs.Prelude.{IsUtf8}
 use Rattle.std.proofs.lemmas.List.{length-take, take_all}
@@ -42,7 +42,7 @@ pub unread : (left : Option (List ℕ)) (bytes : List ℕ) (fault : Fault) → A
 unread left bytes fault are (inl failed) = inl failed
 unread left bytes fault are (inr bad) = inr (refused left bytes fault are bad)
 
--- a file that was opened has left what its path holds, where that is known
+-- a file that was opened has left what its path holds, if that is known
 abbrev pub HasAll : (held left : Option (List ℕ)) → Type 0
 HasAll held left = IfSome held (λ bytes. left ≡ Some bytes)
 

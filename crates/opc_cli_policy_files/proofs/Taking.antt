@@ -22,7 +22,7 @@ pub kept_at_first : (a : Option (List ℕ)) → Keeps a a
 kept_at_first None = tt
 kept_at_first (Some xs) = refl
 
--- all that there was, where there were no more than so many
+-- all that there was, if there were no more than this many
 pub whole_read : (most : ℕ) (a b : Option (List ℕ)) (bytes : List ℕ) → Consumes a b bytes → IsAtEnd b
     → length bytes ≤ most → IfSome a (λ all. bytes ≡ take most all)
 whole_read most None b bytes read end fits = tt

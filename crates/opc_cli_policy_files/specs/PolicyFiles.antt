@@ -19,7 +19,7 @@ pub record IsPolicyFile (bytes : List ℕ) (rows : List Row) : Type 0 where
   pub utf8 : IsUtf8 bytes
   pub reads : policy_of bytes ≡ Ok rows
 
--- The bytes are a text, but no policy file, for this fault: the header's, or that of the first bad row.
+-- The bytes are a text, but not a policy file, for this fault: the header's, or that of the first bad row.
 pub record IsBadFile (bytes : List ℕ) (fault : Fault) : Type 0 where
   pub fits : length bytes ≤ policy_limit
   pub utf8 : IsUtf8 bytes
@@ -27,15 +27,15 @@ pub record IsBadFile (bytes : List ℕ) (fault : Fault) : Type 0 where
   pub reads : policy_of bytes ≡ Err bad
   pub reported : fault ≡ as_fault bad
 
--- too many, or no UTF-8
+-- too many, or not UTF-8
 abbrev pub IsNoText : List ℕ → Type 0
 IsNoText bytes = (policy_limit < length bytes) ⊎ ((length bytes ≤ policy_limit) × (IsUtf8 bytes → ⊥))
 
--- The bytes are no policy file, for this fault. If they are no text, that is reported as a bad header.
+-- The bytes are not a policy file, for this fault. If they are not a text, that is reported as a bad header.
 abbrev pub IsNoPolicyFile : List ℕ → Fault → Type 0
 IsNoPolicyFile bytes fault = (IsNoText bytes × (fault ≡ RowFault 0 Header)) ⊎ IsBadFile bytes fault
 
--- what a reader had left, where that is known
+-- what a reader had left, if that is known
 abbrev pub AreLeft : Option (List ℕ) → List ℕ → Type 0
 AreLeft left bytes = IfSome left (λ all. bytes ≡ all)
 
@@ -45,12 +45,12 @@ pub record AreRead (left : Option (List ℕ)) (rows : List Row) : Type 0 where
   pub whole : AreLeft left bytes
   pub file : IsPolicyFile bytes rows
 
--- what a reader had left is no policy file
+-- what a reader had left is not a policy file
 pub record IsRefused (left : Option (List ℕ)) (fault : Fault) : Type 0 where
   pub bytes : List ℕ
   pub whole : AreLeft left bytes
   pub no_file : IsNoPolicyFile bytes fault
 
--- No rows were read: there was no memory, the reader failed, or it gave no policy file.
+-- No rows were read: there was no memory, the reader failed, or it gave no valid policy file.
 abbrev pub IsUnread : Option (List ℕ) → Fault → Type 0
 IsUnread left fault = IsFailure fault ⊎ IsRefused left fault

@@ -17,7 +17,7 @@ use Rattle.opc_cli_failures.specs.Statuses.{IsFailure, status_of_end}
 use Rattle.opc_cli_words.specs.declared.question.Question.{Question}
 use Rattle.opc_cli_policy_files.specs.PolicyFiles.{AreRead, IsUnread}
 
--- the policy that rows make, one after another, of one with nothing in it
+-- the policy that rows make, one after another, out of an empty one
 abbrev pub policy_made : List Row → Result Policy Fault
 policy_made rows = policy_after rows (record {
   users = [];
@@ -40,7 +40,7 @@ status_of_verdict Denied = Refused
 status_of_verdict verdict = Done
 
 module _ {W : Type 0} (contents : W → Option (List ℕ)) (before written : W) where
-  -- What is explained is written, and the status is that of its verdict; where the question has no answer, its fault is
+  -- What is explained is written, and the status is that of its verdict; if the question has no answer, its fault is
   -- returned. Or there was no memory, or the output failed.
   abbrev pub IsAnswer : Result Explained Fault → Result Status Failure → Type 0
   IsAnswer answer (Ok status) =

@@ -19,7 +19,7 @@ use Rattle.opc_cli_words.specs.declared.serve.Serve.{Serve}
 use Rattle.opc_cli_program.specs.Services.{AreClients, IsNotBegun, IsPortService, IsServiceAt, IsSocketService}
 use Rattle.opc_cli_program.proofs.Uncached.{run}
 
--- What the tables represent at first, they do with their cache.
+-- What the tables represent at first, they represent with their cache.
 module _ {T : Type 0} (m : Meaning T) (old new : Cached T)
     (above : (s : State) → m.represents old.tables s → IsCached m old.tables old.recent s) where
   requests : (handled : Handled) → IsRunOf (cached_meaning m) old new

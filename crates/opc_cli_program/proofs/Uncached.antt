@@ -1,4 +1,4 @@
--- What is run over tables with a cache, said of the tables alone.
+-- What is run over tables with a cache, stated for the tables alone.
 use Rattle.std.proofs.Common.{◌⊎◌, inl, inr, ℕ, Bool, List, Option, Some, None, Result, Ok, Err, MatchOption, ap}
 use Rattle.opc_state.specs.Meaning.{Meaning}
 use Rattle.opc_state.specs.State.{State}
@@ -15,7 +15,7 @@ use Rattle.opc_cli_script.specs.Running.{IsAnswered, IsCut, IsNotBegun, IsScript
 use Rattle.opc_cli_script.specs.Scripts.{bad_line, requests_in}
 use Rattle.opc_cli_program.specs.Runs.{IsAnsweredInput, IsInputRun, IsNothingRun, IsRunOfBytes}
 
--- What the tables represent at first, they do with their cache.
+-- What the tables represent at first, they represent with their cache.
 module _ {T : Type 0} (m : Meaning T) (old new : Cached T)
     (above : (s : State) → m.represents old.tables s → IsCached m old.tables old.recent s) where
   pub run : (s : State) (rs : List (ℕ × Request)) (answers : List Answer) → IsRun (cached_meaning m) old new s rs answers

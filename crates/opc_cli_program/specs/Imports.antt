@@ -55,12 +55,12 @@ lines_text lines = flat_map (λ line. ended line.text) lines
 abbrev pub IsEnded : Result Status Failure → Type 0
 IsEnded end = MatchResult end (λ status. status ≡ Done) (λ failure. IsFailure failure.fault)
 
--- A text was written, and where that failed a prefix of it.
+-- A text was written, and if that failed, a prefix of it.
 abbrev pub IsWritten : List ℕ → (before written : Option (List ℕ)) → Result Status Failure → Type 0
 IsWritten text before written end = MatchResult end (λ _. Appends before written text)
     (λ _. AppendsPrefix before written text)
 
--- It failed exactly where a write did.
+-- It failed if and only if a write did.
 abbrev pub FailsAsWritten : {K : Type 0} → (K → Bool) → (before written : K) → Result Status Failure → Type 0
 FailsAsWritten has_failed before written end = has_failed written ≡ (if is_err end then true else has_failed before)
 
@@ -79,7 +79,7 @@ exported s = policy_text (rows_of s.policy s.board.consoles)
 
 module _ {T : Type 0} (m : Meaning T) (old new : T)
     (end : Result Status Failure) where
-  -- What becomes of a first policy over a state, and what a crash may leave: the state with it, in whole, or what it
+  -- What happens to a first policy over a state, and what a crash may leave: the state with it, as a whole, or what it
   -- might have left before.
   pub record IsTakenOver (s : State) (rows : List Row) : Type 0 where
     pub done : OnOk end (IsBootstrap m new s rows)
@@ -100,7 +100,7 @@ module _ {T : Type 0} (m : Meaning T) (old new : T)
       ⊎ ((rows : List Row) × AreRead left rows × IsFirstPolicy rows)
 
   module _ {K : Type 0} (held : K → Option (List ℕ)) (has_failed : K → Bool) (before written : K) where
-    -- Nothing was handled: there was no memory, the input failed, or it is no policy file.
+    -- Nothing was handled: there was no memory, the input failed, or it is not a policy file.
     pub record IsNotBegun (left : Option (List ℕ)) : Type 0 where
       pub unread : IsErrAnd end (λ failure. IsUnread left failure.fault)
       pub same : new ≡ old
@@ -113,8 +113,8 @@ module _ {T : Type 0} (m : Meaning T) (old new : T)
           → IsHandled m old new s moment r answer
       pub reported : IsReported held has_failed answer before written end
 
-    -- The rows are a batch with this number at the console that is named; where none is, they are a first policy, and
-    -- nothing is printed.
+    -- The rows are a batch with this number at the console that is named; if none is named, they are a first policy,
+    -- and nothing is printed.
     abbrev pub AreTaken : (moment batch : ℕ) → Option (List ℕ) → List Row → Type 0
     AreTaken moment batch (Some console) rows = IsOneStep moment (ImportOf console batch rows)
     AreTaken moment batch None rows = IsFirstPolicy rows × (written ≡ before)
@@ -124,8 +124,7 @@ module _ {T : Type 0} (m : Meaning T) (old new : T)
     IsImport left moment import = IsNotBegun left
         ⊎ ((rows : List Row) × AreRead left rows × AreTaken moment import.batch import.console rows)
 
-    -- Where the tables are sure, the policy file of their state was written. Where it is not begun, nothing was
-    -- printed.
+    -- If the tables are sure, the policy file of their state was written. If it is not begun, nothing was printed.
     pub record IsExport : Type 0 where
       pub ends : IsEnded end
       pub text : m.is_sure new → (s : State) → m.represents old s

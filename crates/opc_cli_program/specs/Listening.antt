@@ -1,4 +1,4 @@
--- Where the program listens, and what it says of it.
+-- Where the program listens, and what it prints about it.
 use Rattle.std.specs.Prelude.{◌≡◌, ◌++◌, ℕ, List, [], ◌∷◌, Option, codes, decimal}
 use Rattle.std.specs.Io.KnownBytes.{Appends}
 use Rattle.std.specs.Net.Addr.{ipv4_octets, MatchIp}
@@ -9,16 +9,16 @@ use Rattle.std.specs.declared.net.socket_addr.SocketAddr.{SocketAddr}
 abbrev pub IsLocalhost : SocketAddr → Type 0
 IsLocalhost address = MatchIp (socket_ip address) (λ v4. ipv4_octets v4 ≡ 127 ∷ 0 ∷ 0 ∷ 1 ∷ []) (λ v6. ⊥)
 
--- the line that says where
+-- the line that states where
 abbrev pub listening_line : ℕ → List ℕ
 listening_line port = codes "LISTENING 127.0.0.1:" ++ decimal port ++ codes "\n"
 
--- the line that says at which socket
+-- the line that states at which socket
 abbrev pub socket_line : List ℕ → List ℕ
 socket_line path = codes "LISTENING unix:" ++ path ++ codes "\n"
 
 module _ {P L : Type 0} (binds : P → SocketAddr → L → Type 0) (is_at : P → L → SocketAddr → Type 0) (ports : P) where
-  -- The listener was bound to the port of 127.0.0.1 that was asked for, and is at this port.
+  -- The listener was bound to the requested port of 127.0.0.1, and is at this port.
   pub record IsListening (asked : ℕ) (listener : L) (port : ℕ) : Type 0 where
     pub address : SocketAddr
     pub here : IsLocalhost address
@@ -28,7 +28,7 @@ module _ {P L : Type 0} (binds : P → SocketAddr → L → Type 0) (is_at : P �
     pub at : is_at ports listener given
     pub port_is : socket_port given ≡ port
 
-  -- A listener was bound to the port that was asked for, and the output says at which it is.
+  -- A listener was bound to the requested port, and the output states at which it is.
   abbrev pub ListensAt : (before after : Option (List ℕ)) → (asked port : ℕ) → Type 0
   ListensAt before after asked port = ((listener : L) × IsListening asked listener port)
       × Appends before after (listening_line port)
@@ -42,7 +42,7 @@ module _ {P B S : Type 0} (names : P → List ℕ → B → Type 0) (permits : P
     pub permitted : permits ports path mode
     pub listening : listens ports bound socket
 
-  -- And the output says at which path.
+  -- And the output states at which path.
   abbrev pub ListensBy : (before after : Option (List ℕ)) → (path : List ℕ) → (mode : ℕ) → Type 0
   ListensBy before after path mode = ((socket : S) × IsSocketAt path mode socket)
       × Appends before after (socket_line path)

@@ -42,20 +42,20 @@ IsEndOf (Err (BadLine number)) end = end ≡ Ok BadInput
 IsEndOf (Err NoMemory) end = IsErrAnd end (λ failure. failure.fault ≡ fault.NoMemory)
 IsEndOf (Err (Output error)) end = IsErrAnd end (IsErrorAt place.Output error)
 
--- what is read of what an input had left, where that is known: at most one byte past the limit
+-- what is read of what an input had left, if that is known: at most one byte past the limit
 abbrev pub AreScriptBytes : Option (List ℕ) → List ℕ → Type 0
 AreScriptBytes left bytes = IfSome left (λ all. bytes ≡ take (script_limit + 1) all)
 
 module _ {T : Type 0} (m : Meaning T) where
-  -- The bytes are run as a script where they are UTF-8. If they are not, that is reported as bad line 0.
+  -- The bytes are run as a script if they are UTF-8. If they are not, that is reported as bad line 0.
   abbrev pub IsRunOfBytes : (old new : T) → (script : List ℕ) → (before written : Option (List ℕ))
       → Result Status ScriptFault → Type 0
   IsRunOfBytes old new script before written ran =
       (IsUtf8 script × IsAnswered m old new script before written ran)
       ⊎ ((IsUtf8 script → ⊥) × (new ≡ old) × IsBadRun 0 before written ran)
 
-  -- Where a file of a first policy is named, what that file holds was taken as one, or not. `holds` says what the file
-  -- at a path holds, where that is known.
+  -- If a file of a first policy is named, what that file holds was taken as one, or not. `holds` states what the file
+  -- at a path holds, if that is known.
   abbrev pub IsNamedPolicyTaken : (holds : List ℕ → Option (List ℕ)) → (old new : T) → Option (Bor (List ℕ))
       → Result Status Failure → Type 0
   IsNamedPolicyTaken holds old new None end = (end ≡ Ok Done) × (new ≡ old)
@@ -69,7 +69,8 @@ module _ {T : Type 0} (m : Meaning T) where
       pub same : new ≡ old
       pub silent : written ≡ before
 
-    -- The bytes that the input gave were run, and it ended as they did: cut by the output exactly where a write failed.
+    -- The bytes that the input gave were run, and the run ended as they did: cut by the output if and only if a write
+    -- failed.
     pub record IsInputRun (old new : T) (left : Option (List ℕ)) (before written : K)
         (end : Result Status Failure) : Type 0 where
       pub script : List ℕ
@@ -85,7 +86,7 @@ module _ {T : Type 0} (m : Meaning T) where
     IsAnsweredInput old new left before written end =
         IsNothingRun old new before written end ⊎ IsInputRun old new left before written end
 
-    -- The first policy was taken, if one is named, and then the script run over the tables that it left. Where the
+    -- The first policy was taken, if one is named, and then the script was run over the tables that it left. If the
     -- policy was not taken, that is the end, and nothing is printed.
     pub record IsProgramRun (holds : List ℕ → Option (List ℕ)) (old new : T) (policy : Option (Bor (List ℕ)))
         (left : Option (List ℕ)) (before written : K) (end : Result Status Failure) : Type 0 where

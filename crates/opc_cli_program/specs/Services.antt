@@ -18,13 +18,13 @@ use Rattle.opc_cli_words.specs.declared.serve.Address.TheVariants.{Port, Socket}
 use Rattle.opc_cli_words.specs.declared.serve.Serve.{Serve}
 use Rattle.opc_cli_program.specs.Listening.{listening_line, socket_line}
 
--- How the program ends where serving came to this: well, or with the error of the call that failed.
+-- How the program ends if serving came to this: well, or with the error of the call that failed.
 abbrev pub IsEndOfService : {A : Type 0} → Result A ServeFault → Result Status Failure → Type 0
 IsEndOfService (Ok all) end = end ≡ Ok Done
 IsEndOfService (Err (Accept error)) end = IsErrAnd end (IsErrorAt place.Connection error)
 IsEndOfService (Err (Clock error)) end = IsErrAnd end (IsErrorAt place.Clock error)
 
--- from where a service at this port takes requests
+-- from where a service at this port accepts requests
 abbrev pub origins_at : (strict : Bool) → (port : ℕ) → Origins
 origins_at strict port = if strict then Only port else Any
 
@@ -35,32 +35,32 @@ module _ {T : Type 0} (m : Meaning T) where
     pub same : new ≡ old
 
   module _ {C K : Type 0} (door : Door C K) (old new : T) (serve : Serve) (end : Result Status Failure) where
-    -- As many connections as were asked for were served, with the timeout that was asked for; or fewer were, and then
-    -- none could be taken. The program ended so.
+    -- As many connections as requested were served, with the requested timeout; or fewer were, and then none could be
+    -- accepted. The program ended accordingly.
     pub record AreClients (origins : Origins) : Type 0 where
       pub served : Result (Unit {0}) ServeFault
       pub handled : AreHandled origins m door.link door.comes serve.timeout old new serve.count served
       pub ends : IsEndOfService served end
 
-    -- It failed before its first client; or it listened at a port, of which this was said, and then clients were served,
-    -- strictly where that was asked for.
+    -- It failed before its first client; or it listened at a port, which it printed, and then clients were served,
+    -- strictly if that was requested.
     abbrev pub IsPortService : (said : ℕ → Type 0) → Type 0
     IsPortService said =
         IsNotBegun old new end ⊎ ((port : ℕ) × said port × AreClients (origins_at serve.strict port))
 
-    -- It failed before its first client; or this was said of its socket, and then clients were served.
+    -- It failed before its first client; or it printed its socket, and then clients were served.
     abbrev pub IsSocketService : (said : Type 0) → Type 0
     IsSocketService said = IsNotBegun old new end ⊎ (said × AreClients Any)
 
   module _ {C D K : Type 0} (ports : Door C K) (sockets : Door D K) (old new : T) (serve : Serve)
       (end : Result Status Failure) where
-    -- The service at an address, of which this was said.
+    -- The service at an address, which it printed.
     abbrev pub IsServiceAt : (of_port : (asked port : ℕ) → Type 0) → (of_socket : List ℕ → ℕ → Type 0) → Address → Type 0
     IsServiceAt of_port of_socket (Port asked) = IsPortService ports old new serve end (of_port asked)
     IsServiceAt of_port of_socket (Socket path mode) =
         IsSocketService sockets old new serve end (of_socket path.now mode)
 
-    -- It failed before its first client, or the output says where the program listens, and then clients were served.
+    -- It failed before its first client, or the output states where the program listens, and then clients were served.
     abbrev pub IsService : (before written : Option (List ℕ)) → Type 0
     IsService before written = IsServiceAt (λ asked port. Appends before written (listening_line port))
         (λ path mode. Appends before written (socket_line path)) serve.address

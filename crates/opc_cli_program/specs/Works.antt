@@ -26,8 +26,8 @@ module _ {T : Type 0} (m : Meaning T) {W : Type 0}
       × IsImport m old new end (λ (w : Watched W). contents w.inner)
       (λ (w : Watched W). w.failed) before written left moment import)
 
-  -- Each work does what is said of it alone. `ports` and `sockets` say of where clients connect what is known of their
-  -- connections, `holds` what the file at a path holds.
+  -- Each work does what its own definition states. `ports` and `sockets` state what is known of the connections of
+  -- clients there, `holds` what the file at a path holds.
   abbrev pub IsDone : {C D K : Type 0} → (ports : Door C K) → (sockets : Door D K)
       → (holds : List ℕ → Option (List ℕ)) → Work → Type 0
   IsDone ports sockets holds (work.Run policy) =

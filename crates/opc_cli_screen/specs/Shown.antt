@@ -24,9 +24,9 @@ use Rattle.std.specs.Char.Escape.{escape_unicode}
 abbrev pub is_within : (low high code : ℕ) → Bool
 is_within low high code = nat_le low code && nat_le code high
 
--- Characters of no width of their own, and those that turn the direction of a text or end its line: the soft hyphen, the
--- marks of Arabic and Mongolian, the zero-width ones, separators, directions, operators, the byte order mark,
--- annotations and tags.
+-- Characters that have no width of their own, and those that turn the direction of a text or end its line: the soft
+-- hyphen, the marks of Arabic and Mongolian, the zero-width ones, separators, directions, operators, the byte order
+-- mark, annotations and tags.
 abbrev pub is_format : ℕ → Bool
 is_format code =
     code == 0xAD || (code == 0x61C || (code == 0x180E || (is_within 0x200B 0x200F code || (is_within 0x2028 0x202E code

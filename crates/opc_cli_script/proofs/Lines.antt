@@ -46,7 +46,7 @@ use Rattle.opc_cli_script.specs.Refusals.{IsLineUnread, IsUnread}
 use Rattle.opc_cli_script.specs.Reading.{is_space}
 use Rattle.opc_cli_script.specs.Scripts.{parts_in, request_in, is_bad, is_blank, bad_line, requests_in, script_limit}
 
--- none of the first elements, so many, passes
+-- none of the first elements, this many, passes
 abbrev pub NoneBefore : {X : Type 0} → (X → Bool) → List X → ℕ → Type 0
 NoneBefore p xs i = i ≤ position_or_len p xs
 
@@ -89,7 +89,7 @@ blank_asks_nothing (c ∷ line) h =
 abbrev asked_in : List ℕ → List (ℕ × Request)
 asked_in line = option_to_list (request_in line)
 
--- the first lines, so many, are read: none of them is bad, and these are their requests
+-- the first lines, this many, are read: none of them is bad, and these are their requests
 abbrev pub AreRead : List (List ℕ) → ℕ → List (ℕ × Request) → Type 0
 AreRead all at requests = NoneBefore is_bad all at × (requests ≡ flat_map asked_in (take at all))
 

@@ -61,7 +61,7 @@ numeral_is (c ∷ text) h = go (is_ascii_digit c) refl (all_of h)
     go true e k = ((omega arith, (digit_is c e, digits_are text k)), rw (no_plus c e) refl)
     go false e k = absurd (search (rules, k))
 
--- with so few digits they fit, and `parse` reads their value
+-- with this few digits they fit, and `parse` reads their value
 pub parsed_as : {E : Type 0} (text : List ℕ) (r : Result ℕ E) → is_number text ≡ true
     → nat_le (length text) moment_digits ≡ true → ParsesUnsigned 64 10 text r → result_ok r ≡ moment_in text
 parsed_as text (Ok x) is short parses = rw (is, short) (ap Some (parses.1 ∙ ap (digits_value 10) (numeral_is text is).1))

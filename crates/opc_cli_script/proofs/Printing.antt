@@ -38,7 +38,7 @@ use Rattle.opc_cli_script.specs.Statuses.{status_of}
 use Rattle.opc_cli_script.specs.Transcripts.{answer_text, transcript}
 use Rattle.opc_cli_script.proofs.Written.{appends_more, appends_none}
 
--- `same` names the output that it writes to, and `failed` says whether a write to it failed
+-- `same` names the output that it writes to, and `failed` states whether a write to it failed
 module _ {L N : Type 0} (heard : L → ℕ → Answer → L → Type 0) (same : L → N) (contents : L → Option (List ℕ)) (failed : L → Bool) (status : L → Status) where
   abbrev pub Prints : Type 0
   Prints = (l : L) (moment : ℕ) (answer : Answer) (n : L) → heard l moment answer n

@@ -85,7 +85,7 @@ separated_is text words h =
 abbrev pub IsWord : List ℕ → Type 0
 IsWord word = list_all (λ c. not (is_space c)) word ≡ true
 
--- where the first space is, if it stands after a word, or nowhere
+-- the place of the first space, if it stands after a word, or nowhere
 abbrev IsAt : List ℕ → List ℕ → Type 0
 IsAt word rest = position_or_len is_space (word ++ rest) ≡ length word
 

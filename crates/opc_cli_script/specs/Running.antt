@@ -18,7 +18,7 @@ pub record AppendsPrefix (old new : Option (List ℕ)) (text : List ℕ) : Type 
   pub len : ℕ
   pub prefix : Appends old new (take len text)
 
--- A text was not written in whole: there was no memory for it, and nothing was written, or the output took a prefix
+-- A text was not written as a whole: there was no memory for it, and nothing was written, or the output took a prefix
 -- alone.
 abbrev pub IsCutOff : ScriptFault → Option (List ℕ) → Option (List ℕ) → List ℕ → Type 0
 IsCutOff NoMemory before written text = written ≡ before
@@ -35,7 +35,7 @@ module _ {T : Type 0} (m : Meaning T) where
     pub text : Appends before written (transcript requests answers)
     pub ends : status ≡ status_of answers
 
-  -- The run ended at the first request whose answer was not written in whole. That request is the last one that is
+  -- The run ended at the first request whose answer was not written as a whole. That request is the last one that is
   -- handled.
   pub record IsCut (old new : T) (requests : List (ℕ × Request)) (before written : Option (List ℕ))
       (fault : ScriptFault) : Type 0 where
@@ -64,7 +64,7 @@ module _ {T : Type 0} (m : Meaning T) where
   IsScriptRun old new requests before written (Err fault) =
       IsNotBegun old new before written fault ⊎ IsCut old new requests before written fault
 
--- What is written says that the line is bad, or that was cut off.
+-- What is written states that the line is bad, or was cut off.
 abbrev pub IsBadLinePrinted : ℕ → (before written : Option (List ℕ)) → ScriptFault → Type 0
 IsBadLinePrinted number before written (BadLine found) =
     (found ≡ number) × Appends before written (bad_line_text number)

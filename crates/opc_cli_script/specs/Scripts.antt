@@ -41,7 +41,7 @@ is_number text = not (length text == 0) && list_all is_ascii_digit text
 abbrev pub moment_in : List ℕ → Option ℕ
 moment_in text = if is_number text && nat_le (length text) moment_digits then Some (digits_value 10 text) else None
 
--- `*` stands for the machine room; any other name is a console's, where the text is typed as it stands
+-- `*` stands for the machine room; any other name is a console's, where the text is typed verbatim
 abbrev pub request_of : List ℕ × List ℕ → Option Request
 request_of words =
     if bytes_eq words.0 (codes "*") then option_map Event (event_in words.1) else

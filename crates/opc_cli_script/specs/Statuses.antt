@@ -16,7 +16,7 @@ abbrev pub is_refused : Answer → Bool
 is_refused (answer.Refused fault rule) = true
 is_refused (answer.Done lines rule) = false
 
--- Failed where there was no memory or the store failed, else refused where anything was refused, else done.
+-- Failed if there was no memory or the store failed, otherwise refused if anything was refused, otherwise done.
 abbrev pub status_of : List Answer → Status
 status_of answers = if list_any is_aborted answers then Failed else
     (if list_any is_refused answers then Refused else Done)

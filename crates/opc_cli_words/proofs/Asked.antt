@@ -1,4 +1,4 @@
--- What is asked for by the values of options, and by the rows in which they were found.
+-- What is requested by the values of options, and by the rows in which they were found.
 use Rattle.std.proofs.Common.{◌≡◌, ◌∙◌, ℕ, List, [], Option, Some, codes, ap, ap₂, false, refl, subst, sym}
 use Rattle.std.specs.Option.{option_map_or}
 use Rattle.std.specs.Prelude.{None, option_map, unwrap_or}
@@ -86,7 +86,7 @@ module _ (one other : List ℕ → Option (List ℕ)) (same : (name : List ℕ) 
       )
       refl
 
--- a name and rows that are of one thing
+-- a name and rows that are about one thing
 module _ {B : Type 0} (name_of : B → List ℕ) (rows_in : B → List Row) where
   abbrev both : B → List ℕ × List Row
   both b = (name_of b, rows_in b)

@@ -36,7 +36,7 @@ is_free_line : is_simple_and_free command_line ≡ true
 unfolding clap_on_literals
 is_free_line = refl
 
--- where the words are those after the first of all that were given
+-- if the words are those after the first of all that were given
 module _ (built : Command) (is : app_of built ≡ command_line) (given after : List (String Global)) (rest : after ≡ drop 1 given) where
   same_words : map string_bytes after ≡ words_after given
   same_words = ap (map string_bytes) rest

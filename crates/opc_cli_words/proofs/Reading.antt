@@ -54,7 +54,7 @@ not_memory kind (inl help) memory = absurd (cc)
 not_memory kind (inr version) memory = absurd (cc)
 
 module _ {E : Type 0} (shown : E → Option (List ℕ)) (quiet reported : Watched E) where
-  -- where the command line takes the words
+  -- if the command line takes the words
   pub task_read : {W : Type 0} (output : W) (words : List (List ℕ)) → fault_of command_line words ≡ []
       → (found : Option (List ℕ × List Row)) → found ≡ subcommand_of command_line words
       → (result : Result Task Status) → IsTaskRead shown quiet reported found result → AreRead words shown output output quiet reported result
@@ -73,7 +73,7 @@ module _ {E : Type 0} (shown : E → Option (List ℕ)) (quiet reported : Watche
     help_reported kind help BadInput none = absurd none
     help_reported kind help Failed failure = failure
 
-    -- where it does not
+    -- if it does not
     pub kind_reported : (words : List (List ℕ)) (error : Error) → HasKind (fault_of command_line words) error
         → (status : Status) → IsKindReported shown before written quiet reported (kind_of error) status
         → AskForNone words shown before written quiet reported status

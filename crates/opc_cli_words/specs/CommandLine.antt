@@ -10,11 +10,11 @@ use Rattle.clap.specs.declared.builder.command.Command.TheViews.{out-Command}
 abbrev pub valued : List ℕ → Rule
 valued name = record (new_rule name) { long = Some name; action = Some Set; value_names = 1 }
 
--- one that has to be given
+-- one that is required
 abbrev pub needed : List ℕ → Rule
 needed name = record (valued name) { required = true }
 
--- one that has this value where it is not given
+-- one that has this default value
 abbrev pub preset : List ℕ → List ℕ → Rule
 preset name value = record (valued name) { defaults = value ∷ [] }
 
@@ -58,7 +58,7 @@ commands =
     ∷ command (codes "serve") serve_options
     ∷ []
 
--- the program before its commands: one of them has to be given, and the program's own name is none of the words
+-- the program before its commands: one of them is required, and the program's own name is none of the words
 abbrev pub program : App
 program = record {
   top = record (new_shape (codes "opcmds")) { subcommand_required = true; no_binary_name = true };

@@ -1,4 +1,4 @@
--- What is read of the words of the command line, and what is reported where they ask for no task.
+-- What is read of the words of the command line, and what is reported if they ask for no task.
 use Rattle.std.specs.Prelude.{
   ◌≡◌,
   ◌≢◌,
@@ -90,7 +90,7 @@ module _ {E : Type 0} (shown : E → Option (List ℕ)) (quiet reported : Watche
   IsHelpReported Failed = IsReportedFailure
 
 module _ {W E : Type 0} (shown : E → Option (List ℕ)) (before written : W) (quiet reported : Watched E) where
-  -- What is reported of an error of this kind, by the status.
+  -- What is reported about an error of this kind, by the status.
   abbrev pub IsKindReported : ErrorKind → Status → Type 0
   IsKindReported kind Done = IsHelp kind × (reported ≡ quiet)
   IsKindReported kind Refused = ⊥

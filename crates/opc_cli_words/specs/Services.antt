@@ -59,7 +59,7 @@ socket_modes =
     ∷ (codes "0666", permissions 6 6 6)
     ∷ []
 
--- the owner's alone, where none are given
+-- the owner's alone, if none are given
 abbrev pub mode_of : Option (List ℕ) → Option ℕ
 mode_of mode = lookup socket_modes (unwrap_or mode (codes "600"))
 

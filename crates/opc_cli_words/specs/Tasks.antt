@@ -50,7 +50,7 @@ is_name rule text = is_none (name_fault rule text)
 abbrev pub longest : ℕ → Option ℕ
 longest seconds = if seconds == 0 then None else Some (seconds * 1_000_000_000)
 
--- In these `value` is what the words give an option, by its name.
+-- In these, `value` is what the words give an option, by its name.
 module _ (value : List ℕ → Option (List ℕ)) where
   -- the value of an option that has one, and else nothing
   abbrev pub given : List ℕ → List ℕ
@@ -89,7 +89,7 @@ module _ (value : List ℕ → Option (List ℕ)) where
   abbrev pub timeout_option : Check
   timeout_option = (unread (codes "--timeout"), is_some timeout_of)
 
-  -- An exchange may take so long: for the seconds that are given, or without end where they are 0.
+  -- An exchange may take this long: for the seconds that are given, or without end if they are 0.
   abbrev pub IsWait : Option Duration → Type 0
   IsWait wait = option_map longest timeout_of ≡ Some (option_map as_nanos wait)
 

@@ -1,4 +1,4 @@
--- Two states in which a request is answered otherwise, whichever it is, but for RESUME.
+-- Two states in which a request is answered differently, whichever it is, except RESUME.
 use Rattle.std.proofs.Common.{◌≡◌, ◌∙◌, ◌⊎◌, inl, inr, ℕ, ◌==◌, false, true, List, [], ◌∷◌, Some, None, refl, sym, ap, arith}
 use Rattle.std.proofs.lemmas.Bool.Decides.{nat_tests}
 use Rattle.opc_names.specs.declared.auth.Auth.TheVariants.{Info}

@@ -92,7 +92,7 @@ input_failed : (failure : Failure) → IsInputFailure failure → IsFailure fail
 input_failed failure (inl memory) = inl memory
 input_failed failure (inr it) = subst IsFailure (sym it.1.0) (streams_are_failures _)
 
--- a script ends by a fault only where there was no memory, or the output failed
+-- a script ends by a fault only if there was no memory, or the output failed
 script_failed : (ran : Result Status ScriptFault) (failure : Failure) → IsEndOf ran (Err failure) → IsFailure failure.fault
 script_failed (Ok status) failure ends = absurd cc
 script_failed (Err (BadLine number)) failure ends = absurd cc

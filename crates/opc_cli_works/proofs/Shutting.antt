@@ -1,4 +1,4 @@
--- What a crash leaves at a request, or a fault of the disk that closes the tables, and what becomes of the requests
+-- What a crash leaves at a request, or a fault of the disk that closes the tables, and what happens to the requests
 -- after it.
 use Rattle.std.proofs.Common.{
   ◌≡◌,
@@ -93,7 +93,7 @@ grows s moment r (Refused fault rule) next (inr (inl full)) = same_length s next
 grows s moment r (Refused fault rule) next (inr (inr done)) =
     subst (λ (t : State). length s.account ≤ length t.account) (sym done.becomes) (refused_grows s moment r fault rule (outcome s r) done.answers)
 
--- What a request comes to has no shorter account, also where there is no number for its rows.
+-- What a request comes to has no shorter account, even if there is no number for its rows.
 after_grows : (n : ℕ) (moment : ℕ) (r : Input) → 2 ^ 63 ≤ n → n ≤ length (after (accounting n) moment r (outcome (accounting n) r)).account
 after_grows n moment r high =
     let s = accounting n in

@@ -96,14 +96,14 @@ module _ {D : Type 0} (g : disk.Ghosts D) where
       pub works : IsWorkAt {g = g} contents image work left before written end (Ok files) are_made
       pub clean : AreClean g files.log files.db
 
-    -- Where a script without a bad line was run, they hold tables of the state that its requests lead to,
+    -- If a script without a bad line was run, they hold tables of the state that its requests lead to,
     abbrev pub RunsAreKept : Type 0
     RunsAreKept =
         (s : State) (left : Option (List ℕ)) (before written : Watched W) (status : Status) (files : Files D)
         → IsWorkOver s (Run None) left before written (Ok status) files
         → IsKeptScript s left (contents before.inner) (contents written.inner) status files
 
-    -- and so do they after a first policy, which was taken before.
+    -- and they do the same after a first policy, which was taken before.
     abbrev pub FirstPoliciesAreKept : Type 0
     FirstPoliciesAreKept =
         (s : State) (path : Bor (List ℕ)) (left : Option (List ℕ)) (before written : Watched W) (status : Status)
@@ -111,7 +111,7 @@ module _ {D : Type 0} (g : disk.Ghosts D) where
         → IsWorkOver s (Run (Some path)) left before written (Ok status) files
         → IsKeptFirstRun s left (contents before.inner) (contents written.inner) status files
 
-    -- Where the run ends by a fault that is not of memory, the store or a device, the first policy was refused, nothing
+    -- If the run ends by a fault that is not of memory, the store or a device, the first policy was refused, nothing
     -- was printed, and they hold tables of the state as it was.
     abbrev pub RefusedPoliciesChangeNothing : Type 0
     RefusedPoliciesChangeNothing =
@@ -139,7 +139,8 @@ module _ {D : Type 0} (g : disk.Ghosts D) where
         → (rows : List Row) × AreRead left rows
         × ((first : State) × (bootstrapped rows s ≡ Ok first) × (written ≡ before) × HoldTablesOf files first)
 
-    -- An export writes the policy file of the state, whose tables they hold still; these do not count as made by it.
+    -- An export writes the policy file of the state, whose tables the files still hold; these do not count as made by
+    -- it.
     abbrev pub ExportsLeaveTheFile : Type 0
     ExportsLeaveTheFile =
         (s : State) (left : Option (List ℕ)) (before written : Watched W) (end : Result Status Failure)

@@ -1,4 +1,4 @@
--- What a crash leaves at a request, or a fault of the disk that closes the tables, and what becomes of the requests
+-- What a crash leaves at a request, or a fault of the disk that closes the tables, and what happens to the requests
 -- after it.
 use Rattle.std.specs.Prelude.{Bool, ◌⊎◌, ℕ, ⊤}
 use Rattle.sqlite_disk.specs.declared.Disk as disk
@@ -53,9 +53,9 @@ module _ {D : Type 0} (g : disk.Ghosts D) where
         → IsOpening image are_made again → HasCleanDisk (file_state again)
         → ¬ ¬ (Represents (file_state again).now s ⊎ Represents (file_state again).now next)
 
-  -- Where a crash leaves one state alone before a request, as after an opening or a change that is acknowledged, then
-  -- whatever becomes of the request, and of the tables, a crash leaves those of the state before it or of the state
-  -- after it, in whole.
+  -- If a crash leaves one state alone before a request, as after an opening or a change that is acknowledged, then
+  -- whatever happens to the request, and to the tables, a crash leaves those of the state before it or of the state
+  -- after it, as a whole.
   abbrev pub RequestsAreLeftWhole : Type 0
   RequestsAreLeftWhole =
       (old new : Held (FileStore D g)) (s : State) (moment : ℕ) (r : Input) (answer : Answer)

@@ -48,14 +48,14 @@ module _ {D : Type 0} {g : disk.Ghosts D} where
     pub settled : LeavesItself (file_state opened)
     pub adopted : HasCleanDisk (file_state opened) → IsAdopted image are_made opened
 
-  -- What is there is what was committed last; where the files are closed, it is in the database file.
+  -- What is there is what was committed last; if the files are closed, it is in the database file.
   abbrev pub IsEnd : Held (FileStore D g) → Result (Files D) (Error × FileStore D g) → Type 0
   IsEnd last closed =
       (IsTrue (file_state last).is_open → (file_state last).now ≡ (file_state last).committed)
       × IfOk closed (λ files. AreClean g files.log files.db → IsCopied last files)
 
-  -- The work was done over the tables that were opened, and the file was closed over what it left. Of what the files of
-  -- the system hold nothing is known, nor of what bytes come and go over its connections.
+  -- The work was done over the tables that were opened, and the file was closed over what it left. Nothing is known
+  -- about what the files of the system hold, nor about what bytes come and go over its connections.
   pub record IsWorkAt {W : Type 0} (contents : W → Option (List ℕ)) (image : Image) (work : Work)
       (left : Option (List ℕ)) (before written : Watched W) (end : Result Status Failure)
       (closed : Result (Files D) (Error × FileStore D g)) (are_made : Bool) : Type 0 where

@@ -29,7 +29,7 @@ accounts_kept : (edits : List Edit) (s : State) → (all_edited edits s).account
 accounts_kept [] s = refl
 accounts_kept (e ∷ edits) s = accounts_kept edits (edited e s) ∙ account_kept e s
 
--- edits and a row that leave the state as it is are nothing, where the edits are nothing then
+-- edits and a row that leave the state as it is are nothing, if the edits are nothing then
 pub nothing_changed : (edits : List Edit) (account : Option AccountRow) (s : State)
     → (all_edited edits s ≡ s → edits ≡ []) → with_account account (all_edited edits s) ≡ s
     → (no_edits edits && is_none account) ≡ true

@@ -93,7 +93,7 @@ module _ {T : Type 0} (m : Meaning T) where
   run_none now s represented = record { last = s; runs = refl; represented = represented; crash = λ left h. inl h; acknowledged = λ _. inr (refl, λ left h. h) }
 
 module _ {T : Type 0} (m : Meaning T) where
-  -- where the tables are sure, these are the answers of a run
+  -- if the tables are sure, these are the answers of a run
   abbrev pub IsSureRun : T → T → List (ℕ × Request) → List Answer → Type 0
   IsSureRun old new requests answers = m.is_sure new → (s : State) → m.represents old s → IsRun m old new s requests answers
 

@@ -22,7 +22,7 @@ pub record IsDecision (s : State) (moment : ℕ) (r : Input) (answer : Answer) (
   pub answers : answer ≡ answer_of (outcome s r)
   pub becomes : changed_by change s ≡ after s moment r (outcome s r)
 
--- There is nothing to write where the state stays as it is.
+-- There is nothing to write if the state stays as it is.
 abbrev pub IsNothingWhereSame : State → Change → Type 0
 IsNothingWhereSame s change = changed_by change s ≡ s → is_nothing change ≡ true
 
@@ -39,7 +39,7 @@ abbrev pub IsAcknowledged : {T : Type 0} → Meaning T → T → T → State →
 IsAcknowledged m old new s next =
     LeavesAlone m new next ⊎ ((next ≡ s) × LeavesAsBefore m old new)
 
--- the answer is that of the machine, and no word that the request was aborted
+-- the answer is that of the machine, and does not report that the request was aborted
 abbrev pub IsAnswered : Answer → Type 0
 IsAnswered answer = IsAborted answer → ⊥
 
@@ -49,14 +49,14 @@ pub record IsHandled {T : Type 0} (m : Meaning T) (old new : T) (s : State) (mom
   pub next : State
   pub step : Step s moment r answer next
   pub represented : m.represents new next
-  -- what it might have left before, or the state after the request, in whole
+  -- what it might have left before, or the state after the request, as a whole
   pub crash : (left : State) → m.may_leave new left → m.may_leave old left ⊎ (left ≡ after s moment r (outcome s r))
-  -- where the request leaves the state as it is, nothing but what it might have left before
+  -- if the request leaves the state as it is, nothing but what it might have left before
   pub idle : after s moment r (outcome s r) ≡ s → LeavesAsBefore m old new
   -- and once it is answered, the state after the request alone, or nothing was changed
   pub acknowledged : IsAnswered answer → IsAcknowledged m old new s next
 
--- The state is one that a request makes, in whole, of the one that the requests before it led to.
+-- The state is one that a request makes, as a whole, of the one that the requests before it led to.
 pub record IsMadeByOne (s : State) (requests : List (ℕ × Request)) (answers : List Answer) (made : State) : Type 0 where
   pub before : List (ℕ × Request)
   pub request : ℕ × Request
@@ -72,7 +72,7 @@ pub record IsRun {T : Type 0} (m : Meaning T) (old new : T) (s : State)
   pub last : State
   pub runs : Runs s (inputs_of requests) answers last
   pub represented : m.represents new last
-  -- what it might have left before, or a state that one of the requests makes, in whole
+  -- what it might have left before, or a state that one of the requests makes, as a whole
   pub crash : (left : State) → m.may_leave new left → m.may_leave old left ⊎ IsMadeByOne s requests answers left
   -- and once all are answered, the last state alone, or nothing was changed
   pub acknowledged : All IsAnswered answers → IsAcknowledged m old new s last

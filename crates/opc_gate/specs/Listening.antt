@@ -16,7 +16,7 @@ AreHeard heard (r ∷ requests) [] from to = ⊥
 
 module _ {T L : Type 0} (m : Meaning T)
     (heard : L → ℕ → Answer → L → Type 0) where
-  -- All requests are handled, and their answers are heard. Where the tables are sure, these are the answers of a run of
+  -- All requests are handled, and their answers are heard. If the tables are sure, these are the answers of a run of
   -- the machine.
   pub record IsHeardRun (old new : T) (requests : List (ℕ × Request)) (from to : L) : Type 0 where
     pub answers : List Answer

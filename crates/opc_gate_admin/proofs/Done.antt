@@ -19,7 +19,7 @@ pub if_ok : {A E : Type 0} {P Q : A → Type 0} (r : Result A E) → ((x : A) �
 if_ok (Ok x) f h = f x h
 if_ok (Err e) f h = h
 
--- where something is given
+-- if something is given
 pub given : {A E K : Type 0} (P : A → Type 0) (r : Result A E) → (K → IfOk r P) → IfOk r (λ x. K → P x)
 given P (Ok x) f = f
 given P (Err e) f = tt
@@ -45,7 +45,7 @@ pub one_edit : (s : State) (made : Result Policy Fault) (p : Policy) (e : Edit) 
 one_edit s made p e makes becomes changes o is =
     subst (λ x. IsOutcome s x o) (ap (λ t. does t [] None) becomes ∙ ap (policy_outcome s) (sym makes)) (one_change s (Ok (edited e s)) e refl changes o is)
 
--- where nothing is to be done, an effect without edits is the outcome
+-- if nothing is to be done, an effect without edits is the outcome
 pub left_alone : (s : State) (made : Result Policy Fault) → made ≡ Ok s.policy → (edits : Vec Edit Global)
     → edits.items ≡ [] → (r : Result Outcome StoreFault)
     → r ≡ Ok (Done (record { edits = edits; lines = []; rule = None })) → IfOk r (λ o. IsOutcome s (policy_outcome s made) o)
@@ -64,7 +64,7 @@ pub state_refused : (s : State) (made : Result State Fault) (f : Fault) → made
     → r ≡ Ok (Refused (record { fault = f; rule = None })) → IfOk r (λ o. IsOutcome s (state_outcome made) o)
 state_refused s made f makes r is = subst (λ x. IfOk x (λ o. IsOutcome s (state_outcome made) o)) (sym is) (ap state_outcome makes)
 
--- no master is lost where the board stays
+-- no master is lost if the board stays
 pub none_lost : (b : Bool) → (b && not b) ≡ false
 none_lost true = refl
 none_lost false = refl

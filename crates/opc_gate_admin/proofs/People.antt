@@ -142,7 +142,7 @@ deleted s id there used =
     there_is (has_user s.policy id) id (unless_in_use (is_in_use s.policy s.board id) id made) there
     ∙ ap (λ a. unless_in_use a id made) used
 
--- some pass a test where the list of those that pass it is not empty
+-- some pass a test if the list of those that pass it is not empty
 pub some_filtered : {A : Type 0} (test : A → Bool) (xs : List A) → not (length (filter test xs) == 0) ≡ list_any test xs
 some_filtered test [] = refl
 some_filtered {A} test (x ∷ xs) = go (test x) (some_filtered test xs)

@@ -69,7 +69,7 @@ put_is_found : (class : Class) (pattern : List ℕ) (q : Profile) (ps : List Pro
     → profile_of (with_profile q ps) class pattern ≡ Some q
 put_is_found class pattern q ps here = found_put profile_cmp (is_of class pattern) q ps here (λ r h. compares_equal class pattern q r here h)
 
--- so one that is put where it is other changes the profiles, and one that is put where it is the same does not
+-- so one that is put and differs changes the profiles, and one that is put and is the same does not
 put_differs : (s : State) (class : Class) (pattern : List ℕ) (p q : Profile)
     → profile_of s.policy.profiles class pattern ≡ Some p → is_of class pattern q ≡ true
     → with_profile q s.policy.profiles ≡ s.policy.profiles → p ≡ q
@@ -180,7 +180,7 @@ permission_again s class pattern e order there has = go (there_to_see _ there)
         ∙ ap (λ es. with_profile (record p { entries = es }) s.policy.profiles) stays
         ∙ found_again class pattern p s order found
 
--- an entry has a level where the list has it
+-- an entry has a level if the list has it
 found_any : (test : Entry → Bool) (entries : List Entry) → is_some (option_map (λ (e : Entry). e.level) (find test entries)) ≡ list_any test entries
 found_any test [] = refl
 found_any test (e ∷ es) = go (test e) (found_any test es)
@@ -200,7 +200,7 @@ is_listed : (s : State) (class : Class) (pattern id : List ℕ) (when : Option (
     → is_some (level_for s.policy class pattern id when) ≡ is_permitted s.policy class pattern id when
 is_listed s class pattern id when = listed_at (profile_of s.policy.profiles class pattern) when id
 
--- Where an entry has a level its profile is there,
+-- If an entry has a level, its profile is there;
 level_at : (p : Option Profile) (when : Option (List ℕ)) (id : List ℕ) (level : Level)
     → entry_level (option_map_or (λ (q : Profile). q.entries) p []) when id ≡ Some level
     → option_map (λ (q : Profile). entry_level q.entries when id) p ≡ Some (Some level)
@@ -213,7 +213,7 @@ pub level_loaded : (s : State) (class : Class) (pattern id : List ℕ) (asked wh
 level_loaded s class pattern id asked when level at loaded =
     sym (level_at (profile_of s.policy.profiles class pattern) when id level (ap (level_for s.policy class pattern id) (sym at) ∙ sym loaded))
 
--- where it has none the profile is asked for,
+-- if it has none, the profile is loaded,
 none_at : (p : Option Profile) (when : Option (List ℕ)) (id : List ℕ) → is_some p ≡ true
     → entry_level (option_map_or (λ (q : Profile). q.entries) p []) when id ≡ None
     → option_map (λ (q : Profile). entry_level q.entries when id) p ≡ Some None

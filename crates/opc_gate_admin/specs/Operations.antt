@@ -30,18 +30,18 @@ use Rattle.opc_machine.specs.Effects.{IsOutcome}
 use Rattle.opc_machine.specs.Outcome.{StateOutcome, ◌>>=◌, does, or_refused, refused}
 use Rattle.opc_machine.specs.Rights.{is_owner}
 
--- what is done where the policy becomes another one, or is left
+-- what is done if the policy becomes another one, or is left
 abbrev pub policy_outcome : State → Result Policy Fault → StateOutcome
 policy_outcome s (Ok p) = does (record s { policy = p }) [] None
 policy_outcome s (Err fault) = refused fault None
 
--- and where the state does
+-- and if the state does
 abbrev pub state_outcome : Result State Fault → StateOutcome
 state_outcome made = do
   new ← or_refused made
   does new [] None
 
--- Where the tables are sure, and represent a state with each key once, this is what the operation comes to.
+-- If the tables are sure, and represent a state with each key once, this is what the operation comes to.
 abbrev pub ComesTo : {T : Type 0} → Meaning T → T → T → Result Outcome StoreFault → Operation → Type 0
 ComesTo m old new result op = Loads m old new result
     (λ s o. IsKeyed s → IsOutcome s (state_outcome (changed s op)) o)
@@ -70,7 +70,7 @@ abbrev pub IsDoneBy : Edit → Outcome → Type 0
 IsDoneBy edit (Done effect) = (effect.edits.items ≡ edit ∷ []) × (effect.lines ≡ []) × (effect.rule ≡ None)
 IsDoneBy edit (Refused refusal) = ⊥
 
--- the level of the entry for an id in the access list of a profile, where there is such a profile
+-- the level of the entry for an id in the access list of a profile, if there is such a profile
 abbrev pub level_in : Policy → Class → List ℕ → List ℕ → Option (List ℕ) → Option (Option Level)
 level_in p class pattern id when = option_map (λ (q : Profile). entry_level q.entries when id)
     (profile_of p.profiles class pattern)

@@ -42,7 +42,7 @@ by_the_rule s c command need rule allows =
     ap (λ r. allowed r >>= λ why. acted (Some why) (effect s.board command c.name) >>= λ act. does
     (record s { board = act.board }) (filter (shown s c) act.lines) (Some why)) allows
 
--- what follows of a success
+-- what follows from a success
 pub if_ok : {V E : Type 0} {P Q : V → Type 0} (r : Result V E) → ((v : V) → P v → Q v) → IfOk r P → IfOk r Q
 if_ok (Ok v) follows h = follows v h
 if_ok (Err e) follows h = tt

@@ -1,4 +1,4 @@
--- What comes of the footprint of a command, an event, a logon or a logoff comes of the state.
+-- The result for the footprint of a command, an event, a logon or a logoff is the result for the state.
 use Rattle.std.proofs.Common.{◌≡◌, ℕ, List, [], Ok, Err, sym, ap, ◌∙◌}
 use Rattle.std.proofs.lemmas.List.{append-nil}
 use Rattle.opc_reader_commands.specs.declared.command.Command.{Command}
@@ -33,7 +33,7 @@ use Rattle.opc_gate_commands.specs.Acted.{IsActed}
 live_order : (b : BoardRows) → IsInOrder b → IsInOrder (without_history b)
 live_order b order = record { units = order.units; devices = order.devices; consoles = order.consoles; replies = order.replies }
 
--- what comes of the part came of a whole
+-- the result for the part is that for a whole
 record Came (footprint : Footprint) (live new : BoardRows) (lines : List Line) (o : BoardOutcome) : Type 0 where
   whole : BoardRows
   makes : o ≡ done_with whole lines
@@ -61,7 +61,7 @@ stopped : (footprint : Footprint) (o : BoardOutcome) (f : BoardFault) → outcom
 stopped footprint (Ok d) f h = absurd (cc)
 stopped footprint (Err g) f h = h
 
--- edits that lead from a footprint of a state's board to what came of it
+-- edits that lead from a footprint of a state's board to its result
 abbrev pub Leads : State → BoardRows → BoardRows → List Edit → Type 0
 Leads s old new edits = ((whole : BoardRows) → AreFootprints old new s whole → all_edited edits s ≡ with_board whole s)
     × ((whole : BoardRows) → AreFootprints old new s whole → all_edited edits s ≡ s → edits ≡ [])

@@ -1,4 +1,4 @@
--- The unit that a command names is the one of its name, and of the kind that its need goes by.
+-- The unit that a command names is the one of its name, and of the kind on which its need depends.
 use Rattle.std.proofs.Common.{◌≡◌, ℕ, Bool, true, false, if◌then◌else◌, List, [], ◌∷◌, Option, Some, None, Decides, IfSome, refl, sym, subst, rules}
 use Rattle.std.specs.List.{find}
 use Rattle.std.specs.Str.{bytes_eq}

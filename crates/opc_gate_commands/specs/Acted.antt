@@ -22,12 +22,12 @@ pub record IsActed (s : State) (o : BoardOutcome) (edits : List Edit) (lines : L
   pub becomes : all_edited edits s ≡ record s { board = board }
   pub idle : all_edited edits s ≡ s → edits ≡ []
 
--- There is nothing to write of a logon or a logoff at a console, by its footprint, where the state stays as it is.
+-- There is nothing to write for a logon or a logoff at a console, by its footprint, if the state stays as it is.
 abbrev pub AreNoneWhereSame : List ℕ → BoardRows → List Edit → Type 0
 AreNoneWhereSame console board edits = (s : State) → IsConsoleFootprint s console board → all_edited edits s ≡ s
     → edits ≡ []
 
--- What a command comes to that a rule allows: it acts on the board, and of its lines those are given that may be shown.
+-- What a command comes to, if a rule allows it: it acts on the board, and gives those of its lines that may be shown.
 abbrev pub allowed_command : State → ConsoleRow → Command → Rule → StateOutcome
 allowed_command s c command rule = acted (Some rule) (effect s.board command c.name) >>=
     λ act. does (record s { board = act.board }) (filter (shown s c) act.lines) (Some rule)

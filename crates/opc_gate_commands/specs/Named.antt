@@ -6,7 +6,7 @@ use Rattle.opc_board.specs.declared.board.BoardRows.{BoardRows}
 use Rattle.opc_board.specs.declared.rows.UnitRow.{UnitRow}
 use Rattle.opc_board.specs.Invariants.{unit_at}
 
--- the unit that a command names, if it is one whose need goes by what the unit is
+-- the unit that a command names, if the need of the command depends on what the unit is
 abbrev pub unit_named : BoardRows → Command → Option UnitRow
 unit_named b (command.Cancel name) = unit_at b name.value
 unit_named b (command.Force name) = unit_at b name.value

@@ -17,7 +17,7 @@ use Rattle.opc_gate_footprints.specs.declared.keys.BoardKeys.TheVariants as keys
 use Rattle.opc_gate_footprints.specs.BoardKeys.{HasKeys}
 use Rattle.opc_gate_footprints.specs.Loading.{HasLoaded, LoadsMore, IsConsoleFootprint, IsEventFootprint, IsPart, IsFootprint, IsWithin}
 
--- what follows of a success, and of what it gives
+-- what follows from a success, and from its value
 pub if_ok : {V E : Type 0} {P Q : V → Type 0} (r : Result V E) → ((v : V) → P v → Q v) → IfOk r P → IfOk r Q
 if_ok (Ok v) follows h = follows v h
 if_ok (Err e) follows h = tt

@@ -65,7 +65,7 @@ use Rattle.opc_gate_footprints.specs.Loading.{LoadsFirst, LoadsMore, IsPart, IsW
 use Rattle.opc_gate_footprints.proofs.Joining.{joins, there_joined}
 use Rattle.opc_gate_footprints.proofs.Taken.{each_at, first_by_keys, nothing_seen}
 
--- what follows of a success
+-- what follows from a success
 pub on_ok : {V E P Q : Type 0} (r : Result V E) → (P → Q) → OnOk r P → OnOk r Q
 on_ok (Ok v) follows h = follows h
 on_ok (Err e) follows h = tt
@@ -112,7 +112,7 @@ within_on a b c one other = record {
   replies = λ n h. other.replies n (one.replies n h);
 }
 
--- no row is a part of any state's board
+-- a board without rows is a part of any state's board
 pub nothing_is : (s : State) (part : BoardRows) → part ≡ record {
   units = [];
   devices = [];

@@ -27,7 +27,7 @@ or_false true b none = refl
 or_false false b none = sym none
 
 module _ {A : Type 0} (before : A → A → Bool) (is_at p : A → Bool) where
-  -- where none is at the key, none comes
+  -- if none is at the key, none comes
   none_more : (xs : List A) → AllByRecursion (λ x. is_at x ≡ false) xs → filter p xs ≡ filter (λ x. p x || is_at x) xs
   none_more [] none = refl
   none_more (x ∷ xs) none = ap₂ (λ c ws. cond c (x ∷ ws) ws) (or_false (p x) (is_at x) none.0) (none_more xs none.1)

@@ -80,7 +80,7 @@ module _ {A : Type 0} (m s p : A → Bool) where
   abbrev other : A → Bool
   other x = m x && not (p x)
 
-  -- where none is this one, the first that is there is another
+  -- if none is this one, the first that is there is another
   first_seen : (xs : List A) → AllByRecursion (λ x. p x ≡ false) xs
       → AllByRecursion (λ x. s x ≡ true) (take 1 (filter m xs)) → list_any other (filter s xs) ≡ list_any other xs
   first_seen [] others footprint = refl

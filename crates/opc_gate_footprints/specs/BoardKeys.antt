@@ -9,11 +9,11 @@ use Rattle.opc_state.specs.Loads.{masters}
 use Rattle.opc_gate_footprints.specs.declared.keys.BoardKeys.{BoardKeys}
 use Rattle.opc_gate_footprints.specs.declared.keys.BoardKeys.TheVariants as keys
 
--- two masters: one of them at least is another than any that is named
+-- two masters: at least one of them is another than any that is named
 abbrev pub HasMasters : Footprint → BoardRows → Type 0
 HasMasters footprint b = AllByRecursion (λ c. has_console_of footprint c ≡ true) (take 2 (masters b))
 
--- all consoles where a user is on
+-- all consoles where a user is logged on
 abbrev pub HasConsolesOf : Footprint → BoardRows → Name → Type 0
 HasConsolesOf footprint b user = AllByRecursion (λ c. is_holder user c.user ≡ true → has_console_of footprint c ≡ true)
     b.consoles

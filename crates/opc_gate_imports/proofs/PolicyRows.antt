@@ -63,7 +63,7 @@ use Rattle.opc_state.specs.Changes.{edited, all_edited, with_board}
 use Rattle.opc_gate_imports.specs.RowEdits.{AreEditsOf, consoles_alone, HaveNothingNew, edit_of, edits_of}
 use Rattle.opc_machine.specs.Bootstrap.{then_policy, policy_after, console_after, consoles_after, with_rows_of, with_rows, loses_master, mastered}
 
--- what follows of a success, or of a fault
+-- what follows from a success, or from a fault
 pub if_ok_both : {V E R : Type 0} {P Q : V → Type 0} (r : Result V E) → ((v : V) → P v → R → Q v) → IfOk r P → OnOk r R → IfOk r Q
 if_ok_both (Ok v) follows h k = follows v h k
 if_ok_both (Err e) follows h k = tt
@@ -145,7 +145,7 @@ ok_is p q h = cc
 not_err : (f : Fault) (q : Policy) → (let r : Result Policy Fault = Err f in r) ≡ Ok q → ⊥
 not_err f q h = cc
 
--- where a test lets a row pass, what it makes is so
+-- if a test lets a row pass, its result holds
 unless_ok : (b : Bool) (name : List ℕ) (made : Result Policy Fault) (q : Policy) → unless b name made ≡ Ok q → made ≡ Ok q
 unless_ok true name made q h = absurd (not_err _ q h)
 unless_ok false name made q h = h

@@ -38,12 +38,12 @@ edit_of (rows.Permit class pattern id level when) = Some (edit.PutEntry class pa
 abbrev pub edits_of : List Row → List Edit
 edits_of more = filter_map edit_of more
 
--- Rows that hold nothing but consoles, which are there as they say.
+-- Rows that hold nothing but consoles, which are on the board exactly like that.
 pub record HaveNothingNew (more : List Row) (s : State) : Type 0 where
   pub policy : edits_of more ≡ []
   pub board : consoles_after more s.board ≡ s.board
 
--- What rows ask of a board, and change of it: its consoles, and whether the day is halted besides.
+-- What rows ask about a board, and change of it: its consoles, and whether the day is halted besides.
 abbrev pub consoles_alone : BoardRows → BoardRows
 consoles_alone b = record {
   units = [];
@@ -56,7 +56,7 @@ consoles_alone b = record {
   halted = b.halted;
 }
 
--- Edits make one board of another, if there is anything to make, where these are what is seen of a state's and of
+-- Edits make one board of another, if there is anything to make and these are the footprints of a state's board and of
 -- another; and then they change the policy as rows do.
 pub record AreEditsOf (old new : BoardRows) (more : List Row) (edits : List Edit) : Type 0 where
   pub first : List Edit

@@ -96,7 +96,7 @@ module _ (s : State) (c : ConsoleRow) (profiles : List Profile) where
       (λ p. ap (λ o. sees_all o || is_owner o (Some p) || holds_read s c o p) (sym acts)
       ∙ ap (λ b. b || is_owner (Some u) (Some p) || holds_read s c (Some u) p) not_all) profiles)
 
--- what a listing comes to, by what was found out of the console that asks
+-- what a listing comes to, by what was found out about the console that asks
 pub account_reported : (s : State) (name : List ℕ) (from count : ℕ) (c : ConsoleRow) (u : Option User) (lines : List Line)
     → console_asking s name ≡ Ok c → u ≡ acting s c → sees_all u ≡ true
     → lines ≡ map account_line (asked_for from count s.account)

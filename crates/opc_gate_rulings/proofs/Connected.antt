@@ -60,7 +60,7 @@ among user group (c ∷ connects) = go (bytes_eq c.user user) (among user group 
     go true rest = ap₂ (λ a b. a || b) (mirrored c.group group) rest
     go false rest = rest
 
--- a connect is there where the group is among those of the user
+-- a connect is there if the group is among those of the user
 pub connected_is : (p : Policy) (user group : List ℕ) → is_connected p user group ≡ is_group (groups_of p.connects user) group
 connected_is p user group = among user group p.connects
 

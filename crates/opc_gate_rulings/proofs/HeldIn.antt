@@ -14,7 +14,7 @@ use Rattle.opc_policy_members.proofs.ListedGroups.{listed_groups_suffice}
 use Rattle.opc_state.specs.Loads.{access_list}
 use Rattle.opc_gate_rulings.specs.Held.{held_in, with_list}
 
--- what is shorter than was asked for is whole
+-- what is shorter than requested is whole
 pub whole : {A : Type 0} (xs ys : List A) (most : ℕ) → xs ≡ take most ys → length xs < most → xs ≡ ys
 whole xs ys most is few =
     let some : length xs ≡ length (take most ys) = ap length is in

@@ -17,7 +17,7 @@ use Rattle.opc_state.specs.State.{State, deciding_in}
 use Rattle.opc_gate_rulings.proofs.Found.{deciding_found}
 use Rattle.opc_gate_rulings.specs.Held.{class_ruling, held_in, with_list}
 
--- the verdict of a class is its ruling, where it has one
+-- the verdict of a class is its ruling, if it has one
 pub ruled : (active : Bool) (decided : Option Profile) (user : User) (console : Option (List ℕ)) (groups : List (List ℕ)) (needed : Level) (other : Ruling)
     → by_verdict (verdict active decided user console groups needed)
     (verdict_rule active decided user console groups needed) other ≡ unwrap_or
@@ -26,7 +26,7 @@ ruled false decided user console groups needed other = refl
 ruled true None user console groups needed other = refl
 ruled true (Some p) user console groups needed other = ruling_by_verdict p user console groups needed other
 
--- what else is ruled where a test is not passed
+-- the ruling otherwise, if a test is not passed
 pub unless : (test : Bool) (one other r : Ruling) → test ≡ false → r ≡ other → r ≡ (if test then one else other)
 unless true one other r not is = absurd (search (rules, not))
 unless false one other r not is = is
@@ -35,7 +35,7 @@ module _ (s : State) (class : Class) (resource : List ℕ) (user : User) (consol
   abbrev Rules : Option Profile → Option Ruling → Type 0
   Rules decided r = r ≡ class_ruling true decided user (Some console) (groups_of s.policy.connects user.id) needed
 
-  -- where none is found, none decides
+  -- if none is found, none decides
   pub none_rules : None ≡ option_map bare (deciding_in s.policy class resource) → Rules (deciding_in s.policy class resource) None
   none_rules = go (deciding_in s.policy class resource)
     where

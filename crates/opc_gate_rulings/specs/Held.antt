@@ -18,7 +18,7 @@ with_list p profile = record profile { entries = access_list p profile.class pro
 abbrev pub held_in : Policy → Profile → User → List ℕ → Level
 held_in p profile user console = held (with_list p profile) user (Some console) (groups_of p.connects user.id)
 
--- what the profile that decides in a class rules, where the class is active and one does
+-- what the profile that decides in a class rules, if the class is active and one decides
 abbrev pub class_ruling : Bool → Option Profile → User → Option (List ℕ) → List (List ℕ) → Level → Option Ruling
 class_ruling false decided user console groups needed = None
 class_ruling true None user console groups needed = None

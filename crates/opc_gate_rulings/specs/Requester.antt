@@ -1,4 +1,4 @@
--- What is found out of the console that asks, and of who acts there.
+-- What is found out about the console that asks, and about who acts there.
 use Rattle.std.specs.Prelude.{◌≡◌, ℕ, List, Result, Ok, Err}
 use Rattle.opc_board.specs.declared.rows.ConsoleRow.{ConsoleRow}
 use Rattle.opc_policy_members.specs.declared.policy.Policy.{Policy}
@@ -21,7 +21,7 @@ abbrev pub IsRequester : State → List ℕ → Asking → Type 0
 IsRequester s name (By asking) = (console_asking s name ≡ Ok asking.console) × (asking.user ≡ acting s asking.console)
 IsRequester s name (Refused refusal) = console_asking s name ≡ Err refusal
 
--- whoever is on where somebody asks is stored
+-- whoever is logged on at a console where somebody asks is stored
 abbrev pub IsOfStored : Policy → Asking → Type 0
 IsOfStored p (By asking) = IsConsoleOfStored p asking.console
 IsOfStored p (Refused refusal) = Unit {0}

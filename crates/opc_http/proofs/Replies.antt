@@ -46,7 +46,7 @@ not_read held reply before after (Err fault.Read) cut = absurd cut
 not_read held reply before after (Err (fault.Write handled)) cut = refl
 not_read held reply before after (Err (fault.NoMemory handled)) cut = refl
 
--- no read failed where what was read is refused
+-- no read failed if what was read is refused
 pub refused_read : (fault : ReadingFault) (why : HttpRefusal) → fault ≡ reading.Refused why → (old new : Bool)
     → new ≡ (if faults.is_read {A = Request} (Err fault) then true else old) → new ≡ old
 refused_read fault why is old new h = rw is at h

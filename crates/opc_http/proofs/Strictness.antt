@@ -1,4 +1,4 @@
--- An exchange with a web page where a service is strict.
+-- An exchange with a web page if a service is strict.
 use Rattle.std.proofs.Common.{◌≡◌, ℕ, List, Option, Result, Ok, Err, Some, subst}
 use Rattle.opc_machine.specs.declared.request.Request.{Request}
 use Rattle.opc_http_head.specs.declared.origins.Origins.TheVariants.{Only}

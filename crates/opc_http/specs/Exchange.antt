@@ -1,4 +1,4 @@
--- One exchange: what some bytes ask, what is replied to it, and what becomes of the tables.
+-- One exchange: what some bytes ask for, what is replied to it, and what happens to the tables.
 use Rattle.std.specs.Prelude.{◌≡◌, ℕ, Bool, true, false, List, Option, Result, Ok, Err, IfSome, is_ok}
 use Rattle.std.specs.Io.KnownBytes.{Appends}
 use Rattle.opc_io.specs.Writes.{AppendsPrefix}
@@ -17,7 +17,7 @@ use Rattle.opc_http.specs.declared.exchanging.LinkFault.{LinkFault}
 use Rattle.opc_http.specs.declared.exchanging.LinkFault.TheVariants as fault
 use Rattle.opc_http.specs.declared.exchanging.Served.{Served}
 
--- what is replied: the answer to a request, or the refusal of what is none
+-- what is replied: the answer to a request, or the refusal of what is not one
 abbrev pub Reply : Type 0
 Reply = Result Answer HttpRefusal
 
@@ -44,7 +44,7 @@ is_write (Err fault.Read) = false
 is_write (Err (fault.Write handled)) = true
 is_write (Err (fault.NoMemory handled)) = false
 
--- the bytes that the reader has left, where they are known, ask for this, and for nothing else, where requests are taken
+-- the bytes that the reader has left, if they are known, ask for this, and for nothing else, with requests accepted
 -- from there
 abbrev pub IsAsked : Origins → Option (List ℕ) → Result Request HttpRefusal → Type 0
 IsAsked origins left asked = IfSome left (λ all. AsksOnly origins all asked)
@@ -56,7 +56,7 @@ module _ {K : Type 0} (held : K → Option (List ℕ)) where
     pub status : served.status ≡ reply_status reply
     pub handled : served.handled ≡ is_ok reply
 
-  -- Of the response no more than some first bytes were written, and nothing where there was no memory for it.
+  -- No more than some first bytes of the response were written, and nothing if there was no memory for it.
   abbrev pub IsCutOff : Reply → K → K → LinkFault → Type 0
   IsCutOff reply before after fault.Read = ⊥
   IsCutOff reply before after (fault.Write handled) =
@@ -65,14 +65,14 @@ module _ {K : Type 0} (held : K → Option (List ℕ)) where
 
 module _ (origins : Origins) {T : Type 0} (m : Meaning T) where
   -- The request that is asked for was handled once, with this answer: a step of the access machine. What a crash may
-  -- leave goes by that answer.
+  -- leave depends on that answer.
   pub record IsOneStep (left : Option (List ℕ)) (old new : T) (moment : ℕ) (answer : Answer) : Type 0 where
     pub request : Request
     pub asked : IsAsked origins left (Ok request)
     pub handled : m.is_sure new → (s : State) → m.represents old s
         → IsHandled m old new s moment (input_of request) answer
 
-  -- The reply is the one to what is asked. Where that is no request, the tables are as they were.
+  -- The reply is the one to what is asked. If that is not a request, the tables are as they were.
   abbrev pub Replies : Option (List ℕ) → T → T → ℕ → Reply → Type 0
   Replies left old new moment (Ok answer) = IsOneStep left old new moment answer
   Replies left old new moment (Err refusal) = IsAsked origins left (Err refusal) × (new ≡ old)
@@ -92,8 +92,8 @@ module _ (origins : Origins) {T : Type 0} (m : Meaning T) where
       pub replies : Replies left old new moment reply
       pub cut_off : IsCutOff held reply before after fault
 
-    -- What a fault leaves: where nothing was read whole, or there was no memory and no request was handled, all is as
-    -- it was.
+    -- What a fault leaves: if nothing was read whole, or there was no memory and no request was handled, all is as it
+    -- was.
     abbrev pub IsFaulty : Option (List ℕ) → K → K → T → T → ℕ → LinkFault → Type 0
     IsFaulty left before after old new moment fault.Read = (after ≡ before) × (new ≡ old)
     IsFaulty left before after old new moment (fault.NoMemory false) = (after ≡ before) × (new ≡ old)

@@ -1,4 +1,4 @@
--- What bodies say, case by case.
+-- What bodies mean, case by case.
 use Rattle.std.proofs.Common.{◌≡◌, ◌≢◌, ◌∙◌, ℕ, List, refl, sym, ap, Some, None, Ok, Err, inl, inr}
 use Rattle.std.specs.Prelude.{IsUtf8}
 use Rattle.std.specs.Str.{is_utf8}
@@ -42,7 +42,7 @@ value-none bytes h = elim (cases_Bool (is_utf8 bytes)) [
 pub value-read : (bytes : List ℕ) (d : Data) → IsUtf8 bytes → read bytes ≡ Some d → value_in bytes ≡ Ok d
 value-read bytes d text e = rw (is_utf8-from_IsUtf8 bytes text, e) refl
 
--- a policy file that is no text
+-- a policy file that is not a text
 pub rows-none : (bytes : List ℕ) → ¬ (IsUtf8 bytes) → rows_in bytes ≡ Err BadRequest
 rows-none bytes h = elim (cases_Bool (is_utf8 bytes)) [
   | inl text ↦ absurd (h (IsUtf8-from_is_utf8 bytes text))
@@ -53,7 +53,7 @@ rows-none bytes h = elim (cases_Bool (is_utf8 bytes)) [
 pub rows-read : (bytes : List ℕ) (rows : List Row) → IsUtf8 bytes → policy_of bytes ≡ Ok rows → rows_in bytes ≡ Ok rows
 rows-read bytes rows text e = rw (is_utf8-from_IsUtf8 bytes text, e) refl
 
--- a bad row does not say that memory is out
+-- a bad row does not mean that memory was refused
 row-or-memory : (row : ℕ) (why : Why) → import.Row row why ≡ import.NoMemory → ⊥
 row-or-memory row why e = cc
 

@@ -1,4 +1,4 @@
--- What the bytes of a body say.
+-- What the bytes of a body mean.
 use Rattle.std.specs.Prelude.{ℕ, List, codes, Option, None, Result, Ok, Err, if◌then◌else◌}
 use Rattle.std.specs.Str.{is_utf8}
 use Rattle.serde_json.specs.Data.{Data}
@@ -36,7 +36,7 @@ command_in body = step.◌>>=◌ (value_in body) (λ value. required (text_of va
 abbrev pub operation_in : List ℕ → Result Operation HttpRefusal
 operation_in body = step.◌>>=◌ (value_in body) (λ value. required (operation_of value))
 
--- out of memory is no refusal, and never comes of a text
+-- out of memory is not a refusal, and never follows from a text
 abbrev pub refused_row : Result (List Row) ImportFault → Result (List Row) HttpRefusal
 refused_row (Ok rows) = Ok rows
 refused_row (Err (import.Row row why)) = Err (BadRow row why)

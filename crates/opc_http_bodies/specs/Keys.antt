@@ -1,4 +1,4 @@
--- What the keys of a JSON object say, each by itself.
+-- What the keys of a JSON object mean, each by itself.
 use Rattle.std.specs.Prelude.{◌==◌, ℕ, Bool, List, Option, Some, None, option_and_then, is_some, if◌then◌else◌}
 use Rattle.std.specs.Option.{option_map}
 use Rattle.serde_json.specs.Data.{Data, null, boolean, number, string, array, object}
@@ -23,7 +23,7 @@ members_count (string s) = 0
 members_count (array ds) = 0
 members_count (object ms) = members_len ms
 
--- that it has so many: where so many are found by their names, it has no other
+-- that it has this many keys: if this many are found by their names, it has no other
 abbrev pub has_keys : ℕ → Data → Option Unit
 has_keys n value = if members_count value == n then Some tt else None
 

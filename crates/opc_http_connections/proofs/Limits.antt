@@ -1,4 +1,4 @@
--- How much is read away.
+-- How much is drained.
 use Rattle.std.proofs.Common.{◌≤◌, ℕ, List, arith}
 use Rattle.std.specs.Prelude.{Option}
 use Rattle.opc_io.specs.Reads.{TakesAtMost}

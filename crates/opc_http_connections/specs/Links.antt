@@ -1,4 +1,4 @@
--- What is said of the connections to clients, and of the clock beside them.
+-- What is known of the connections to clients, and of the clock beside them.
 use Rattle.std.specs.Prelude.{ℕ, Bool, List, Option, Some, None, Result, Ok, Err, ⊤}
 use Rattle.std.specs.declared.io.Error.{Error}
 use Rattle.std.specs.declared.time.Duration.{Duration}
@@ -21,7 +21,7 @@ link_of limits shows reads remaining contents = record {
   contents = contents;
 }
 
--- What came of the next connection: two handles of it; or none, since it has no second one; or why none was accepted.
+-- The result of the next connection: two handles of it; or none, since it has no second one; or why none was accepted.
 abbrev pub Comes : {L C : Type 0} → (accepts : L → Result C Error → Type 0) → (clones : C → Result C Error → Type 0)
     → Result (Option (C × C)) Error → Type 0
 Comes {L = L} {C = C} accepts clones (Ok (Some handles)) =
@@ -30,7 +30,7 @@ Comes {L = L} {C = C} accepts clones (Ok None) =
     (listener : L) × (reader : C) × (error : Error) × accepts listener (Ok reader) × clones reader (Err error)
 Comes {L = L} {C = C} accepts clones (Err error) = (listener : L) × accepts listener (Err error)
 
--- where clients connect: what is said of their connections, and what comes of each
+-- where clients connect: what is known of their connections, and the result of each
 pub record Door (C K : Type 0) : Type 1 where
   pub link : Link C K
   pub comes : Result (Option (C × C)) Error → Type 0

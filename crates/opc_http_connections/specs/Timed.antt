@@ -44,19 +44,19 @@ is_interrupted (Ok n) = false
 is_interrupted (Err error) = is_interrupt (error_kind error)
 
 module _ {K : Type 0} (shows : K → Result Duration Error → Type 0) where
-  -- The deadline is so long after what the clock showed, as far as a time can be told. Where there is no limit there is
-  -- none.
+  -- The deadline is this long after what the clock showed, as far as a time can be represented. If there is no limit,
+  -- there is none.
   abbrev pub IsDue : K → (limit : Option Duration) → (deadline : Option Duration) → Type 0
   IsDue timer None deadline = deadline ≡ None
   IsDue timer (Some limit) deadline = (time : Duration) × shows timer (Ok time)
       × IsSomeAnd deadline (λ end. as_nanos end ≡ min (as_nanos time + as_nanos limit) max_nanos)
 
-  -- the earlier of the deadline, if there is one, and the end of so long a time
+  -- the earlier of the deadline, if there is one, and the end of this duration
   abbrev pub earlier : Option Duration → ℕ → ℕ
   earlier None soon = soon
   earlier (Some deadline) soon = min (as_nanos deadline) soon
 
-  -- The deadline was brought forward, so that it is so long after what the clock showed at the latest.
+  -- The deadline was brought forward, so that it is at most this long after what the clock showed.
   abbrev pub IsHurried : (longest : Duration) → K → (old new : Option Duration) → Type 0
   IsHurried longest timer old new = (time : Duration) × shows timer (Ok time)
       × IsSomeAnd new (λ end. as_nanos end ≡ earlier old (min (as_nanos time + as_nanos longest) max_nanos))
@@ -100,7 +100,7 @@ module _ {K : Type 0} (shows : K → Result Duration Error → Type 0) where
         (IsReady limits timer before deadline × calls before answer after)
         ⊎ (IsErrAnd answer (λ error. IsUnready limits timer before deadline error) × (after ≡ before))
 
-    -- The last of one or more tries answered so, and a signal interrupted each of so many before it.
+    -- The last of one or more tries answered like this, and a signal interrupted each of this many before it.
     abbrev pub AreTries : (interrupted : ℕ) → (before : C) → Result ℕ Error → (after : C) → Type 0
     AreTries zero before answer after = IsTry before answer after
     AreTries (suc n) before answer after =

@@ -102,7 +102,7 @@ number-of most text some digits short =
     let full : (length text == 0) ≡ false = grind (arith, nat_tests) in
     rw (full, digits, short) refl
 
--- bytes that are no text are no number
+-- bytes that are not a text are not a number
 pub no-number : (most : ℕ) (text : List ℕ) → ¬ (IsUtf8 text) → number_in most text ≡ None
 no-number most text bad = elim (cases_Bool (list_all is_ascii_digit text)) [
   | inl digits ↦ absurd (bad (IsUtf8-from_ascii text (digits-ascii text digits)))

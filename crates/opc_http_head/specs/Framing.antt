@@ -28,7 +28,7 @@ use Rattle.std.specs.Str.Parse.{digits_value}
 use Rattle.opc_http_head.specs.declared.refusal.HttpRefusal.{HttpRefusal}
 use Rattle.opc_http_head.specs.declared.refusal.HttpRefusal.TheVariants.{BadRequest, TooLarge}
 
--- a field: its name, and its value without the spaces and tabs round it
+-- a field: its name, and its value without the spaces and tabs around it
 abbrev pub FieldLine : Type 0
 FieldLine = List ℕ × List ℕ
 
@@ -49,7 +49,7 @@ only [] = Ok None
 only (value ∷ []) = Ok (Some value)
 only (value ∷ other ∷ rest) = Err BadRequest
 
--- decimal digits, one at least and so many at most
+-- decimal digits, at least one and at most this many
 abbrev pub number_in : ℕ → List ℕ → Option ℕ
 number_in most text =
     if (not (length text == 0) && list_all is_ascii_digit text)

@@ -28,7 +28,7 @@ pub record IsUnfinished (buf : List ℕ) : Type 0 where
   pub no_head : HasNoRequest buf
   pub may_become : MayBecomeRequest buf
 
--- A read that looks for the head may be made after bytes that are unfinished. It gives 1,024 bytes at most, of the
+-- A read that looks for the head may be made after bytes that are unfinished. It gives at most 1,024 bytes, of the
 -- first 8,192.
 pub record MayLook (before : List ℕ) (count : ℕ) : Type 0 where
   pub unfinished : IsUnfinished before

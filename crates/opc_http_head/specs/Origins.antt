@@ -1,4 +1,4 @@
--- From where requests are taken: from anywhere, or from nothing that a web page can send.
+-- From where requests are accepted: from anywhere, or from nothing that a web page can send.
 use Rattle.std.specs.Prelude.{
   ℕ,
   Bool,
@@ -34,7 +34,7 @@ has_value (value ∷ rest) = true
 abbrev pub has_field : (name : List ℕ) → List FieldLine → Bool
 has_field name fields = has_value (values_of name fields)
 
--- A browser says of each request that a page makes where the page is from, or how far from here.
+-- A browser states for each request that a page makes where the page is from, or how far from here.
 abbrev pub is_from_page : List FieldLine → Bool
 is_from_page fields = has_field (codes "origin") fields || has_field (codes "sec-fetch-site") fields
 
@@ -60,11 +60,11 @@ is_only_host port (value ∷ other ∷ rest) = false
 abbrev pub names_host : (port : ℕ) → List FieldLine → Bool
 names_host port fields = is_only_host port (values_of (codes "host") fields)
 
--- no web page sent these fields, by what they say, and they are for what is served at the port
+-- no web page sent these fields, by what they state, and they are for what is served at the port
 abbrev pub is_local : (port : ℕ) → List FieldLine → Bool
 is_local port fields = not (is_from_page fields) && names_host port fields
 
--- that a request with these fields is taken
+-- that a request with these fields is accepted
 abbrev pub admitted : Origins → List FieldLine → Result Unit HttpRefusal
 admitted Any fields = Ok tt
 admitted (Only port) fields = if is_local port fields then Ok tt else Err Forbidden

@@ -11,12 +11,12 @@ abbrev pub ◌>>=◌ : {A B : Type 0} → Result A HttpRefusal → (A → Result
 Ok x >>= f = f x
 Err e >>= f = Err e
 
--- what does not read is a bad request
+-- what is not valid is a bad request
 abbrev pub required : {A : Type 0} → Option A → Result A HttpRefusal
 required None = Err BadRequest
 required (Some x) = Ok x
 
--- a fault says the refusal, or that memory was out
+-- a fault states the refusal, or that memory was refused
 abbrev pub Refuses : {A : Type 0} → AskFault → Result A HttpRefusal → Type 0
 Refuses (fault.Refused why) asked = asked ≡ Err why
 Refuses fault.NoMemory asked = ⊤

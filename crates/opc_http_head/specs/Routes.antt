@@ -33,12 +33,12 @@ abbrev pub after_part : List ℕ → List ℕ
 after_part [] = []
 after_part (b ∷ rest) = if b == 47 then b ∷ rest else after_part rest
 
--- the part of a path at a place, counted from 0 for what stands before the first slash
+-- the part of a path at a place, counted from 0 for the text before the first slash
 abbrev pub part_at : ℕ → List ℕ → List ℕ
 part_at zero path = part path
 part_at (suc n) path = part_at n (drop 1 (after_part path))
 
--- the first if the bytes are none, else the second
+-- the first if there are no bytes, otherwise the second
 abbrev pub if_none : {A : Type 0} → List ℕ → A → A → A
 if_none [] a b = a
 if_none (x ∷ rest) a b = b
@@ -52,7 +52,7 @@ abbrev pub two_parts : {A : Type 0} → A → List ℕ → Option A
 two_parts route p = if_none (part p) None
     (if starts_with nat_eq (after_part p) (codes "/") then last_part route (drop 1 (after_part p)) else None)
 
--- what stands after a console
+-- what follows a console
 abbrev pub tail_route : List ℕ → Option Route
 tail_route r =
     if bytes_eq r (codes "/command") then Some Command
@@ -70,11 +70,11 @@ console_route q = if_none (part q) None (tail_route (after_part q))
 abbrev pub route_of : List ℕ → Option Route
 route_of path = if starts_with nat_eq path (codes "/consoles/") then console_route (drop 10 path) else None
 
--- a route as `matchit` keeps it: its tokens, its text, the places of its names in the text
+-- a route as `matchit` stores it: its tokens, its text, the places of its names in the text
 abbrev pub kept : List ℕ → List ℕ → List (ℕ × ℕ) → Route → List ℕ × RouteOf Route
 kept pattern text names route = (pattern, record { pattern = pattern; text = text; names = names; value = route })
 
--- what stands after the console, as tokens
+-- what follows the console, as tokens
 abbrev pub import_tail : List ℕ
 import_tail = codes "/import/" ++ param_token ∷ []
 

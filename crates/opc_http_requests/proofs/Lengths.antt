@@ -1,4 +1,4 @@
--- A body that is read has 65,536 bytes at most.
+-- A body that is read has at most 65,536 bytes.
 use Rattle.std.proofs.Common.{◌≡◌, ◌≤◌, ℕ, List, [], ◌∷◌, codes, Some, None, Ok, Err, nat_le, inl, inr, arith}
 use Rattle.std.specs.Prelude.{Option, Result}
 use Rattle.std.proofs.lemmas.Bool.{cases_Bool}

@@ -118,7 +118,7 @@ module _ (origins : Origins) {S : Type 0} (left : S → Option (List ℕ)) (give
             (body-may origins buf headers spans plan found is) body.reads.count last body.bytes body.reads.are;
       }
 
-  -- without a head no more is read than where a head may be
+  -- without a head no more is read than a head may have
   few-headless : (first last : S) (all rest bytes : List ℕ) (n : ℕ) → AreReads left gives (MayRead origins) first [] n last bytes
       → all ≡ bytes ++ rest → NoHead all → length bytes ≤ 8192
   few-headless first last all rest bytes zero are is none = let empty : length bytes ≡ 0 = ap length are.1 in omega (arith, empty)
@@ -157,7 +157,7 @@ module _ (origins : Origins) {S : Type 0} (left : S → Option (List ℕ)) (give
     headed = λ head has. record { taken = bytes; consumes = c; few = few-headed first last all rest bytes head n are c has };
   }
 
-  -- so no read goes past the end of the body, but for the last one that looks for the head
+  -- so no read goes past the end of the body, except the last one that looks for the head
   pub stops : (first last : S) → ReadsOnly left gives (MayRead origins) first [] last → IfSome (left first) (λ all. StopsAtEnd origins all (left last))
   stops first last only =
       let made = begins left gives (MayRead origins) first [] only.reads.count last only.bytes only.reads.are in

@@ -100,7 +100,7 @@ module _ (origins : Origins) where
       let left_is : drop spans.len (buf ++ left) ≡ drop (length (print_request f.head)) all = rw (c, f.parts.len) refl in
       asks-only all r (inr (record { head = f.head; has = f.has; is = rw is (sym (rw (f.parts.path, left_is) at p)) }))
 
--- so many bytes are no more than more
+-- this many bytes are no more than more
 takes-fewer : (few most : ℕ) (before after : Option (List ℕ)) → few ≤ most → TakesAtMost few before after → TakesAtMost most before after
 takes-fewer few most before after low t = record { taken = t.taken; consumes = t.consumes; few = let h = t.few in omega (arith, h, low) }
 
@@ -159,14 +159,14 @@ pub fault-weaker : {A : Type 0} (r : Result A ReadingFault) (P Q : HttpRefusal �
 fault-weaker (Ok a) P Q f h = tt
 fault-weaker (Err fault) P Q f h = refused-weaker fault P Q f h
 
--- where nothing was found
+-- if nothing was found
 pub none-found : {A : Type 0} (known : Option (List ℕ)) (found : Option A) (P : List ℕ → Type 0) (Q : List ℕ → A → Type 0) → ((a : A) → found ≡ Some a → ⊥)
     → IfSome known (λ all. MatchOption found (P all) (Q all)) → IfSome known P
 none-found None found P Q none h = tt
 none-found (Some all) None P Q none h = h
 none-found (Some all) (Some a) P Q none h = absurd (none a refl)
 
--- where something was
+-- if something was
 pub some-found : {A : Type 0} (known : Option (List ℕ)) (found : Option A) (a : A) (P : List ℕ → Type 0) (Q : List ℕ → A → Type 0) → found ≡ Some a
     → IfSome known (λ all. MatchOption found (P all) (Q all)) → IfSome known (λ all. Q all a)
 some-found None found a P Q is h = tt

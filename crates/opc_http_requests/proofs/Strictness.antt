@@ -1,4 +1,4 @@
--- What a strict service takes.
+-- What a strict service accepts.
 use Rattle.std.proofs.Common.{◌≡◌, ◌∙◌, ℕ, List, Ok, Err, inl, inr, true, false, drop, length, map, refl, subst, sym}
 use Rattle.std.specs.Prelude.{Result}
 use Rattle.std.proofs.lemmas.Bool.{cases_Bool}

@@ -1,4 +1,4 @@
--- Bytes that are no text are no path and no name.
+-- Bytes that are not a text are neither a path nor a name.
 use Rattle.std.proofs.Common.{◌≡◌, ◌<◌, ℕ, zero, suc, true, List, [], ◌∷◌, refl, Some, None, Err, inl, inr, lit<, rules, arith}
 use Rattle.std.specs.Prelude.{IsUtf8}
 use Rattle.std.specs.List.{list_all}

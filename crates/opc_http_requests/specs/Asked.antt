@@ -18,12 +18,12 @@ abbrev pub body_part : Result Plan HttpRefusal → ℕ
 body_part (Ok plan) = plan.length
 body_part (Err why) = 0
 
--- how many bytes are read at most to find a head: the last read is made before its last byte is there, and gives 1,024
--- at most
+-- how many bytes are read at most to find a head: the last read is made before its last byte is there, and gives at
+-- most 1,024
 abbrev pub looked_through : RequestHead → ℕ
 looked_through head = min 8192 (length (print_request head) + 1023)
 
--- where requests are taken from there
+-- with requests accepted from there
 module _ (origins : Origins) where
   -- the bytes have a head, and that is what it comes to
   pub record AsksByHead (all : List ℕ) (asked : Result Request HttpRefusal) : Type 0 where
@@ -45,7 +45,7 @@ module _ (origins : Origins) where
   request_length head = length (print_request head) + body_part
       (plan_of origins head.method head.target (map name_and_value head.fields))
 
-  -- A read of the body may be made where its head is there and it is not, and ends with it.
+  -- A read of the body may be made if its head is there and the body is not, and ends with the body.
   pub record MayReadBody (before : List ℕ) (count : ℕ) : Type 0 where
     pub head : RequestHead
     pub has : HasHead before head
@@ -55,7 +55,7 @@ module _ (origins : Origins) where
   abbrev pub MayRead : List ℕ → ℕ → Type 0
   MayRead before count = MayLook before count ⊎ MayReadBody before count
 
-  -- No read goes past the end of the body, but for the last one of those that look for the head.
+  -- No read goes past the end of the body, except the last one of those that look for the head.
   pub record StopsAtEnd (all : List ℕ) (after : Option (List ℕ)) : Type 0 where
     pub headless : NoHead all → TakesAtMost 8192 (Some all) after
     pub headed : (head : RequestHead) → HasHead all head

@@ -2,7 +2,7 @@
 use Rattle.std.specs.Prelude.{◌≡◌, ◌≤◌, ◌<◌, ◌+◌, ◌++◌, ℕ, Bool, true, false, List, length, Option}
 use Rattle.std.specs.Io.KnownBytes.{Consumes, IsAtEnd}
 
--- the buffer has so many bytes, or the source is at its end before
+-- the buffer has this many bytes, or the source is at its end before
 abbrev pub IsWhole : ℕ → Bool → Option (List ℕ) → List ℕ → Type 0
 IsWhole most true after buf = most ≤ length buf
 IsWhole most false after buf = (length buf < most) × IsAtEnd after
@@ -14,7 +14,7 @@ pub record ReadsTo (most : ℕ) (whole : Bool) (before after : Option (List ℕ)
   pub buffer : new ≡ old ++ moved
   pub is : IsWhole most whole after new
 
--- A read of what ends at that length may be made before it is there, and ends with it. It gives 1,024 bytes at most.
+-- A read of what ends at that length may be made before it is there, and ends with it. It gives at most 1,024 bytes.
 pub record MayFill (most : ℕ) (before : List ℕ) (count : ℕ) : Type 0 where
   pub short : length before < most
   pub within : length before + count ≤ most

@@ -23,7 +23,7 @@ is_read (Err (Refused refusal)) = false
 is_read (Err Read) = true
 is_read (Err NoMemory) = false
 
--- what holds of the refusal, where the fault is one
+-- what holds of the refusal, if the fault is one
 abbrev pub IfRefused : ReadingFault → (HttpRefusal → Type 0) → Type 0
 IfRefused (Refused refusal) holds = holds refusal
 IfRefused Read holds = ⊤

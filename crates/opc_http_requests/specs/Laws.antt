@@ -10,8 +10,8 @@ use Rattle.opc_http_head.specs.declared.refusal.HttpRefusal.{HttpRefusal}
 use Rattle.opc_http_head.specs.declared.refusal.HttpRefusal.TheVariants.{Forbidden}
 use Rattle.opc_http_requests.specs.Asked.{AsksOnly}
 
--- The bytes have a head that no web page sent, by its fields, and that is for what is served at the port; or a head that
--- does not say so.
+-- The bytes have a head that no web page sent, by its fields, and that is for what is served at the port; or a head
+-- that does not state this.
 pub record IsFromHere (port : ℕ) (all : List ℕ) : Type 0 where
   pub head : RequestHead
   pub has : HasHead all head
@@ -26,12 +26,12 @@ pub record MayBeFromPage (port : ℕ) (all : List ℕ) : Type 0 where
 abbrev pub WebPagesAreForbidden : Type 0
 WebPagesAreForbidden = (port : ℕ) (all : List ℕ) → MayBeFromPage port all → AsksOnly (Only port) all (Err Forbidden)
 
--- What is asked for is from here.
+-- What is requested is from here.
 abbrev pub WhatIsAskedIsFromHere : Type 0
 WhatIsAskedIsFromHere = (port : ℕ) (all : List ℕ) (request : Request)
     → AsksOnly (Only port) all (Ok request) → IsFromHere port all
 
--- What is from here asks for what it asks for without strictness.
+-- What is from here asks for the same as without strictness.
 abbrev pub AsksForTheSame : Type 0
 AsksForTheSame = (port : ℕ) (all : List ℕ) (asked : Result Request HttpRefusal) → IsFromHere port all
     → AsksOnly Any all asked → AsksOnly (Only port) all asked

@@ -1,4 +1,4 @@
--- What the path of a request says: its route, and its values.
+-- What the path of a request states: its route, and its values.
 use Rattle.std.specs.Prelude.{
   ℕ,
   Bool,

@@ -1,4 +1,4 @@
--- What the head of a request says of its route and its body.
+-- What the head of a request states about its route and its body.
 use Rattle.std.specs.Prelude.{ℕ, List, codes, map, take, Result, Ok, Err, if◌then◌else◌}
 use Rattle.std.specs.Str.{bytes_eq}
 use Rattle.httparse.specs.Spans.{header_bytes, span_bytes}
@@ -29,12 +29,12 @@ abbrev pub method_text : Method → List ℕ
 method_text Get = codes "GET"
 method_text Post = codes "POST"
 
--- that a route is asked by its method
+-- that a request has its route's method
 abbrev pub has_method : List ℕ → Route → Result Unit HttpRefusal
 has_method method route = if bytes_eq method (method_text (method_of route)) then Ok tt else Err
     (MethodNotAllowed (method_of route))
 
--- the route and the length of the body, or the first refusal: that it is not taken from there comes first
+-- the route and the length of the body, or the first refusal: that it is not accepted from there comes first
 abbrev pub plan_of : Origins → (method target : List ℕ) → (fields : List FieldLine) → Result Plan HttpRefusal
 plan_of origins method target fields = do
   _ ← admitted origins fields
@@ -44,7 +44,7 @@ plan_of origins method target fields = do
   length ← body_length fields
   Ok (record { route = route; length = length })
 
--- the same of the head that these bytes begin with, where the spans find its parts
+-- the same for the head that these bytes begin with, if the spans find its parts
 abbrev pub plan_in : Origins → List ℕ → List HeaderSpan → RequestSpans → Result Plan HttpRefusal
 plan_in origins buf headers spans = plan_of origins (span_bytes buf spans.method) (span_bytes buf spans.path)
     (map (header_bytes buf) (take spans.headers headers))

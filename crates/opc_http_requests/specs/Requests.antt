@@ -15,7 +15,7 @@ use Rattle.opc_http_requests.specs.Paths.{batch_in, class_in, console_in, count_
 use Rattle.opc_http_requests.specs.Plans.{plan_of}
 use Rattle.opc_http_requests.specs.declared.plan.Plan.{Plan}
 
--- so many bytes, where there are as many
+-- this many bytes, if there are as many
 abbrev pub body_in : ℕ → List ℕ → Result (List ℕ) HttpRefusal
 body_in n left = if nat_le n (length left) then Ok (take n left) else Err BadRequest
 

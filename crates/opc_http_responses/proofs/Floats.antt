@@ -1,4 +1,4 @@
--- Texts are no floats.
+-- Texts are not floats.
 use Rattle.std.proofs.Common.{◌≡◌, ℕ, List, [], ◌∷◌, false, refl}
 use Rattle.serde_json.specs.Written.{has_float, items_have_float}
 use Rattle.opc_board.specs.declared.line.Line.{Line}

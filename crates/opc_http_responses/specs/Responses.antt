@@ -22,7 +22,7 @@ abbrev pub method_text : Method → List ℕ
 method_text Get = codes "GET"
 method_text Post = codes "POST"
 
--- the method that the path has, where another was asked
+-- the method that the path has, if another was used
 abbrev pub allow_field : Option Method → List ℕ
 allow_field None = []
 allow_field (Some method) = line (codes "Allow: " ++ method_text method)
@@ -55,6 +55,6 @@ allowed NotFound = None
 allowed TooLarge = None
 allowed (BadRow row why) = None
 
--- the response to what is no request
+-- the response to what is not a request
 abbrev pub refusal_response : HttpRefusal → List ℕ
 refusal_response refusal = response_text (refusal_status refusal) (allowed refusal) (refusal_body refusal)

@@ -22,7 +22,7 @@ abbrev pub is_within : ℕ → ℕ → ℕ → Bool
 is_within first last code = nat_le first code && nat_le code last
 
 -- What cannot be read is a bad request; who may not is forbidden; a console that is not there is not found; what the
--- state does not allow is in conflict with it; the rest are failures here.
+-- state does not allow is in conflict with it; the rest are failures of the service.
 abbrev pub status_of_code : ℕ → ℕ
 status_of_code code =
     if is_within 1 6 code || (code == 60) then 400

@@ -34,26 +34,26 @@ handled_with handled moment request answer = record {
 }
 
 -- The reply is the answer to the request that is asked for, which is the one more that was handled. Or it refuses what
--- is asked, and there is no more.
+-- is asked, and no more was handled.
 abbrev pub IsReplied : Origins → (left : Option (List ℕ)) → (old new : Handled) → ℕ → Reply → Type 0
 IsReplied origins left old new moment (Ok answer) =
     (request : Request) × IsAsked origins left (Ok request) × (new ≡ handled_with old moment request answer)
 IsReplied origins left old new moment (Err refusal) = IsAsked origins left (Err refusal) × (new ≡ old)
 
--- What is written more is the response of a reply, or a part of it.
+-- What is written in addition is the response of a reply, or a part of it.
 abbrev pub IsWritten : Reply → (before after : Option (List ℕ)) → Result Served LinkFault → Type 0
 IsWritten reply before after (Ok served) = IsReported (λ held. held) reply before after served
 IsWritten reply before after (Err fault) = IsCutOff (λ held. held) reply before after fault
 
--- A reply was come to, and its response written, or a part of it.
+-- A reply was reached, and its response written, or a part of it.
 pub record RepliesOnce (origins : Origins) (old : Handled) (left : Option (List ℕ)) (moment : ℕ)
     (before after : Option (List ℕ)) (ended : Result Served LinkFault) (new : Handled) : Type 0 where
   pub reply : Reply
   pub replied : IsReplied origins left old new moment reply
   pub written : IsWritten reply before after ended
 
--- An exchange, by what was handled in it: a reply was come to; or the reader failed or there was no memory, nothing was
--- handled, and nothing written.
+-- An exchange, by what was handled in it: a reply was reached; or the reader failed or there was no memory, nothing was
+-- handled, and nothing was written.
 abbrev pub IsConversation : Origins → (old : Handled) → (left : Option (List ℕ)) → ℕ → (before after : Option (List ℕ))
     → Result Served LinkFault → (new : Handled) → Type 0
 IsConversation origins old left moment before after (Err fault.Read) new = (after ≡ before) × (new ≡ old)
@@ -66,7 +66,7 @@ IsConversation origins old left moment before after (Ok served) new =
     RepliesOnce origins old left moment before after (Ok served) new
 
 module _ {T : Type 0} (m : Meaning T) where
-  -- What was handled is a run of the machine, at moments that may be ones. Where nothing was, nothing changed.
+  -- What was handled is a run of the machine, at moments that may be ones. If nothing was, nothing changed.
   pub record IsRunOf (old new : T) (handled : Handled) : Type 0 where
     pub moments : All (λ (r : ℕ × Request). r.0 ≤ LAST_MOMENT) handled.requests
     pub run : m.is_sure new → (s : State) → m.represents old s
@@ -74,8 +74,8 @@ module _ {T : Type 0} (m : Meaning T) where
     pub idle : handled.requests ≡ [] → new ≡ old
 
 module _ (origins : Origins) {T : Type 0} (m : Meaning T) where
-  -- An exchange over tables: what was left of the reader's bytes was asked for and handled, and what the writer holds
-  -- more is the reply, or a part of it.
+  -- An exchange over tables: what was left of the reader's bytes was requested and handled, and what the writer holds
+  -- in addition is the reply, or a part of it.
   pub record IsExchange (old : T) (left : Option (List ℕ)) (moment : ℕ) (before after : Option (List ℕ))
       (ended : Result Served LinkFault) (new : T) : Type 0 where
     pub served : IfOk ended (IsServed origins m (λ held. held) left before after old new moment)
@@ -84,9 +84,9 @@ module _ (origins : Origins) {T : Type 0} (m : Meaning T) where
 
   module _ {C K : Type 0} (link : Link C K) (comes : Result (Option (C × C)) Error → Type 0)
       (timeout : Option Duration) where
-    -- What so many connections make of the tables. Each client had one exchange, over its connection and at its moment,
-    -- for so long a time by some clock; or fewer had, and then none could be taken. The requests that were handled are
-    -- those that they asked, their answers those that they were replied, and both are a run of the machine.
+    -- What this many connections make of the tables. Each client had one exchange, over its connection and at its
+    -- moment, for this long by some clock; or fewer had, and then none could be accepted. The requests that were
+    -- handled are those that they asked for, their answers are those of the replies, and both are a run of the machine.
     pub record AreHandled {A : Type 0} (old new : T) (count : ℕ) (end : Result A ServeFault) : Type 0 where
       pub handled : Handled
       pub timer : K

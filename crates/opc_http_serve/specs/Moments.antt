@@ -8,7 +8,7 @@ use Rattle.std.specs.declared.io.ErrorKind.TheVariants.{InvalidData}
 use Rattle.std.specs.declared.time.Duration.{Duration}
 use Rattle.opc_http_serve.specs.declared.clock.TheConstants.{LAST_MOMENT}
 
--- what the clock says of a time before 1970
+-- what the clock shows for a time before 1970
 abbrev pub is_before_1970 : ErrorKind → Bool
 is_before_1970 InvalidData = true
 is_before_1970 kind = false

@@ -34,7 +34,7 @@ module _ {C K G : Type 0} (link : Link C K) (origins : Origins)
     (exchanged : G → Option (List ℕ) → ℕ → Option (List ℕ) → Option (List ℕ) → Result Served LinkFault → G → Type 0)
   where
     -- One exchange was made over the client's connection, at its moment, and nothing else was written to it. It read
-    -- nothing but by its deadline, and only what it asked for; then a little more was read away.
+    -- nothing but by its deadline, and only what it asked for; then a little more was drained.
     pub record IsServed (came gone : Arrival C K) (old new : G) : Type 0 where
       pub ended : Result Served LinkFault
       pub made : exchanged old (link.remaining came.reader.handle) came.moment (link.contents came.writer.handle)
@@ -47,7 +47,7 @@ module _ {C K G : Type 0} (link : Link C K) (origins : Origins)
 
     module _ {D : Type 0} (accepts : D → Result (Option (C × C)) Error → D → Type 0)
         (clock_says : D → Result Duration Error → D → Type 0) (timer : K) (timeout : Option Duration) where
-      -- A client came, whose exchange has so long a time, and was served.
+      -- A client came, whose exchange has this much time, and was served.
       pub record IsClient (met : D) (was : G) (last : D) (new : G) : Type 0 where
         pub came : Arrival C K
         pub gone : Arrival C K
@@ -59,12 +59,12 @@ module _ {C K G : Type 0} (link : Link C K) (origins : Origins)
       IsTurn met was last new = IsClient met was last new ⊎ (IsLost accepts met last × (new ≡ was))
 
       module _ (first : D) (old : G) where
-        -- So many connections came, and their clients were served in the order in which they came.
+        -- This many connections came, and their clients were served in the order in which they came.
         abbrev pub AreServed : ℕ → D → G → Type 0
         AreServed zero last new = (last ≡ first) × (new ≡ old)
         AreServed (suc n) last new = (met : D) × (was : G) × AreServed n met was × IsTurn met was last new
 
-        -- Some were, and then none could be taken.
+        -- Some were, and then none could be accepted.
         pub record IsCutShort (count : ℕ) (fault : ServeFault) (last : D) (new : G) : Type 0 where
           pub done : ℕ
           pub fewer : done < count
@@ -72,18 +72,18 @@ module _ {C K G : Type 0} (link : Link C K) (origins : Origins)
           pub served : AreServed done met new
           pub failed : Arrives accepts clock_says link.shows timer timeout met (Err fault) last
 
-    -- Connections came as is said here, wherever from.
+    -- Connections came as stated here, wherever from.
     module _ (comes : Result (Option (C × C)) Error → Type 0) (timer : K) (timeout : Option Duration) where
-      -- So many clients were served.
+      -- This many clients were served.
       abbrev pub ServesAll : G → ℕ → G → Type 0
       ServesAll old count new = AreServed {D = ⊤} (λ _ handles _. comes handles) (λ _ _ _. ⊤) timer timeout tt old count tt new
 
-      -- Fewer were, and then none could be taken.
+      -- Fewer were, and then none could be accepted.
       abbrev pub ServesFewer : G → ℕ → ServeFault → G → Type 0
       ServesFewer old count fault new =
           IsCutShort {D = ⊤} (λ _ handles _. comes handles) (λ _ _ _. ⊤) timer timeout tt old count fault tt new
 
-      -- What serving so many clients comes to.
+      -- What serving this many clients comes to.
       abbrev pub ServesClients : {A : Type 0} → G → ℕ → Result A ServeFault → G → Type 0
       ServesClients old count (Ok all) new = ServesAll old count new
       ServesClients old count (Err fault) new = ServesFewer old count fault new

@@ -1,4 +1,4 @@
--- A text that is cut so is read as the whole text is, and no record of it has more than eleven fields.
+-- A text that is cut like this is read as the whole text is, and no record of it has more than eleven fields.
 use Rattle.std.proofs.Common.{◌≡◌, ◌∙◌, ◌+◌, ◌-◌, ◌≤◌, ℕ, zero, suc, Bool, true, false, cond, List, [], ◌∷◌, ◌++◌, length, take, drop, Option, Some, None, IfSome, Err, Decides, sym, refl, ap, subst, inl, inr, arith, add-one}
 use Rattle.std.specs.Prelude.{◌==◌, ◌&&◌, nat_eq}
 use Rattle.std.specs.List.{AllByRecursion, starts_with}
@@ -78,7 +78,7 @@ cut_alike : (k : ℕ) (s : State) (xs : List ℕ)
 unfolding records_from
 cut_alike k s xs = first_alike k _ _ (alike xs s [] [] 0 refl (omega arith))
 
--- a part that is cut so is read as the whole is
+-- a part that is cut like this is read as the whole is
 pub read_alike : (xs part : List ℕ) → cut st.StartRecord 0 xs ≡ part → length part ≤ length xs → AreReadAlike part xs
 read_alike xs part is fits =
     ap rows_of (fuel (length part + 1) (length xs + 1) st.StartRecord part (omega arith) (omega arith))
@@ -161,7 +161,7 @@ unmarked xs r is fails =
 
 -- ---- what is read after the mark
 
--- after so many bytes the text begins, and a part of it with them
+-- after this many bytes the text begins, and a part of it with them
 abbrev pub Begins : List ℕ → ℕ → Type 0
 Begins xs start = (strip_bom xs ≡ drop start xs) × ((n : ℕ) → strip_bom (take (start + n) xs) ≡ take n (drop start xs))
 

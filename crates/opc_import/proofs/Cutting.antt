@@ -1,4 +1,4 @@
--- A text that is cut at the eleventh field of its first record that has so many: its records.
+-- A text that is cut at the eleventh field of its first record that has that many: its records.
 use Rattle.std.proofs.Common.{◌≡◌, ◌∙◌, ◌⊎◌, ◌+◌, ◌<◌, ◌≤◌, ℕ, Bool, true, false, cond, List, [], ◌∷◌, ◌++◌, length, get_or, take, drop, Option, Some, None, sym, refl, ap, inl, inr, arith}
 use Rattle.std.specs.Prelude.{◌==◌}
 use Rattle.std.proofs.lemmas.Bool.Decides.{nat_tests}
@@ -40,7 +40,7 @@ begins_eleventh act.EndRecord n = false
 begins_eleventh act.Skip n = false
 begins_eleventh act.Copy n = false
 
--- a text up to the eleventh field of a record, from a state with so many fields ended
+-- a text up to the eleventh field of a record, from a state with this many fields ended
 unfoldable pub cut : State → ℕ → List ℕ → List ℕ
 cut s n [] = []
 cut s n (c ∷ rest) =
@@ -95,7 +95,7 @@ stays st.InQuoted c h = either_stays (c == 34) (st.AfterQuote, act.Skip) (st.InQ
 stays st.AfterQuote c h = either_stays (c == 34) (st.InQuoted, act.Copy) (in_field default_config c) (λ _. refl) (field_stays c)
 stays st.InEscape c h = λ _. refl
 
--- so does a byte that ends a field
+-- and so does a byte that ends a field
 
 abbrev EndsWithin : State × Action → Type 0
 EndsWithin p = p.1 ≡ act.EndField → is_within p.0 ≡ true

@@ -1,4 +1,4 @@
--- Fields of rows have no double quotes and no line ends, so that only commas call for quotes.
+-- Fields of rows have no double quotes and no line ends, so that only commas require quotes.
 use Rattle.std.proofs.Common.{◌≡◌, ◌∙◌, ◌≤◌, ◌+◌, ◌++◌, ◌∷◌, [], ℕ, suc, List, Bool, true, false, sym, refl, ap, cond, arith, inl, inr, length, codes}
 use Rattle.std.specs.Prelude.{Option, Some, None, ◌==◌, ◌||◌, not, map}
 use Rattle.std.specs.List.{All, AllByRecursion, flat_map, join_with_byte, list_all, list_any, position, position_or_len}
@@ -249,7 +249,7 @@ record-plain (row.Permit c p i l w) valid = (
   ),
 )
 
--- of the bytes that call for quotes only the comma is plain
+-- of the bytes that require quotes only the comma is plain
 needs-comma : (c : ℕ) → is_plain c ≡ true → needs_byte default_writer c ≡ (c == 44)
 needs-comma c h = go (c == 44) (c == 34) (c == 13) (c == 10) h
   where

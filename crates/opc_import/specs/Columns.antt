@@ -83,11 +83,11 @@ reason column.Restricted = why.Restricted
 abbrev pub header : Record
 header = map column_name columns
 
--- the field of a record in a column, empty where the record is too short
+-- the field of a record in a column, empty if the record is too short
 abbrev pub field_in : Column → Record → List ℕ
 field_in column fields = unwrap_or (field_at fields (place column)) []
 
--- the name of each of some columns stands in it
+-- the name of each of some columns is its field
 abbrev pub has_names : List Column → Record → Bool
 has_names columns fields = list_all (λ column. bytes_eq (field_in column fields) (column_name column)) columns
 
@@ -95,7 +95,7 @@ abbrev pub is_header : List Column → Record → Bool
 is_header columns fields = (length fields == length columns) && has_names columns fields
 
 -- How many fields the rows have below a header: as many as there are columns, or, in a file without the last two, those
--- that every file has; none where it is no header.
+-- that every file has; none if it is not a header.
 abbrev pub width_of : Record → Option ℕ
 width_of fields =
     if is_header columns fields then Some (length columns)

@@ -1,4 +1,4 @@
--- What the fields of a record say, each by itself.
+-- What the fields of a record mean, each by itself.
 use Rattle.std.specs.Prelude.{
   ℕ,
   Bool,
@@ -63,7 +63,7 @@ name_of rule text = if is_none (name_fault rule text) then Some text else None
 abbrev pub entry_id_of : List ℕ → Option (List ℕ)
 entry_id_of text = if is_none (entry_fault text) then Some text else None
 
--- the console that an entry is for alone; an empty text says that it is for every console
+-- the console that an entry is for alone; an empty text means that it is for every console
 abbrev pub when_of : List ℕ → Option (Option (List ℕ))
 when_of text = if length text == 0 then Some None else option_map Some (name_of console_rule text)
 
@@ -75,7 +75,7 @@ abbrev pub decoded : Result (List ℕ) FromHexError → Option (Option (List ℕ
 decoded (Ok bytes) = Some (Some bytes)
 decoded (Err e) = None
 
--- a digest is 32 bytes as 64 digits; an empty text says that there is none
+-- a digest is 32 bytes as 64 digits; an empty text means that there is none
 abbrev pub digest_of : List ℕ → Option (Option (List ℕ))
 digest_of text =
     if length text == 0 then Some None

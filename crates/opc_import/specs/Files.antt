@@ -1,4 +1,4 @@
--- What a text says as a policy file.
+-- What a text means as a policy file.
 use Rattle.std.specs.Prelude.{◌+◌, ℕ, List, [], ◌∷◌, ◌++◌, Option, Some, None, Result, Ok, Err}
 use Rattle.csv.specs.Reading.{default_config, records, strip_bom}
 use Rattle.opc_policy_members.specs.declared.row.Row.{Row}
@@ -15,7 +15,7 @@ with_row number (Err reason) rest = Err (fault.Row number reason)
 with_row number (Ok row) (Ok rows) = Ok (row ∷ rows)
 with_row number (Ok row) (Err e) = Err e
 
--- the rows of the data records of so many fields from this number on, or the first fault
+-- the rows of the data records with this many fields, from this number on, or the first fault
 unfoldable pub rows_from : ℕ → ℕ → List Record → Result (List Row) ImportFault
 rows_from width number [] = Ok []
 rows_from width number (fields ∷ rest) =
@@ -36,7 +36,7 @@ rows_of (fields ∷ rest) = rows_below (width_of fields) rest
 abbrev pub policy_of : List ℕ → Result (List Row) ImportFault
 policy_of text = rows_of (records default_config (strip_bom text))
 
--- rows before what the records that are left say
+-- rows before the meaning of the records that are left
 abbrev pub after_rows : List Row → Result (List Row) ImportFault → Result (List Row) ImportFault
 after_rows rows (Ok more) = Ok (rows ++ more)
 after_rows rows (Err e) = Err e

@@ -30,7 +30,7 @@ abbrev pub ◌>>=◌ : {A B : Type 0} → Result A Why → (A → Result B Why) 
 Ok x >>= f = f x
 Err e >>= f = Err e
 
--- what a reader of texts has for the field in a column, else that the column is bad
+-- what a reader of texts has for the field in a column, otherwise that the column is bad
 abbrev pub read_in : {A : Type 0} → Column → (List ℕ → Option A) → Record → Result A Why
 read_in column reader fields = ok_or (reader (field_in column fields)) (reason column)
 
@@ -163,11 +163,11 @@ row_by_kind fields = do
   kind ← read_in column.Kind (lookup kinds) fields
   row_of_kind kind fields
 
--- how many rows a file has at most
+-- how many rows a file may have
 abbrev pub most_rows : ℕ
 most_rows = 10000
 
--- the row that a record is, as the data record of this number in a file of so many columns, or what is wrong with it
+-- the row that a record is, as the data record of this number in a file of this many columns, or what is wrong with it
 -- first
 abbrev pub row_of : ℕ → ℕ → Record → Result Row Why
 row_of width number fields =

@@ -81,7 +81,7 @@ abbrev pub fault_by_kind : Option Kind → Record → Option Why
 fault_by_kind None fields = Some why.Kind
 fault_by_kind (Some kind) fields = first_fault kind fields columns
 
--- what is wrong first with the data record of this number in a file of so many columns, if anything is
+-- what is wrong first with the data record of this number in a file of this many columns, if anything is
 abbrev pub record_fault : ℕ → ℕ → Record → Option Why
 record_fault width number fields =
     if length fields == width then
@@ -94,7 +94,7 @@ abbrev pub fault_of : {A : Type 0} → Result A Why → Option Why
 fault_of (Ok x) = None
 fault_of (Err reason) = Some reason
 
--- A record is a row exactly where nothing is wrong with it, and else has its first fault.
+-- A record is a row if and only if nothing is wrong with it, and otherwise has its first fault.
 abbrev pub FirstFaultIsNamed : Type 0
 FirstFaultIsNamed = (width number : ℕ) (fields : Record)
     → fault_of (row_of width number fields) ≡ record_fault width number fields

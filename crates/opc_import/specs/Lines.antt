@@ -10,7 +10,7 @@ use Rattle.opc_policy_members.specs.declared.row.Row.{Row}
 use Rattle.opc_import.specs.Columns.{Record, header}
 use Rattle.opc_import.specs.Rows.{record_of}
 
--- a field as it is written: in double quotes where it has a comma
+-- a field as it is written: in double quotes if it has a comma
 abbrev pub written_field : List ℕ → List ℕ
 written_field field = if list_any (λ c. c == 44) field then 34 ∷ (field ++ (34 ∷ [])) else field
 

@@ -17,7 +17,7 @@ use Rattle.csv.specs.declared.reader.Reader.{Reader}
 use Rattle.csv.specs.declared.reader.Trim.TheVariants as trim
 use Rattle.opc_import.specs.Columns.{Record}
 
--- the records of some bytes from a state, where the bytes are known
+-- the records of some bytes from a state, if the bytes are known
 abbrev pub records_of_source : State → Option (List ℕ) → List Record
 records_of_source s None = []
 records_of_source s (Some xs) = records_from default_config (length xs + 1) s xs

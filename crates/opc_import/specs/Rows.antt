@@ -56,7 +56,7 @@ kind_of (row.Console name auth mode) = kind.Console
 kind_of (row.Profile class pattern uacc owner warning) = kind.Profile
 kind_of (row.Permit class pattern id level when) = kind.Permit
 
--- what a row says in a column that its kind uses; nothing in the others
+-- what a row has in a column that its kind uses; nothing in the others
 abbrev pub text_in : Column → Row → List ℕ
 text_in column.Kind row = kind_text (kind_of row)
 text_in column.Class (row.Class class active) = class_text class
@@ -92,7 +92,7 @@ abbrev pub IsValidWhen : Option (List ℕ) → Type 0
 IsValidWhen None = ⊤
 IsValidWhen (Some console) = name_fault console_rule console ≡ None
 
--- the names and the digest that a row says in a column are such
+-- the names and the digest that a row has in a column are such
 abbrev pub IsValidIn : Column → Row → Type 0
 IsValidIn column.Name (row.Group name) = name_fault group_rule name ≡ None
 IsValidIn column.Name (row.User user) = name_fault user_rule user.id ≡ None
@@ -107,6 +107,6 @@ IsValidIn column.Digest (row.User user) = digest_of (digest_text user.digest) �
 IsValidIn column.When (row.Permit class pattern id level when) = IsValidWhen when
 IsValidIn column row = ⊤
 
--- so in each column
+-- and in each column
 abbrev pub IsValid : Row → Type 0
 IsValid row = (column : Column) → IsValidIn column row

@@ -1,4 +1,4 @@
--- What it says of each test that a request is done, or refused.
+-- What follows about each test if a request is done, or refused.
 use Rattle.std.proofs.Common.{◌≡◌, inl, inr, ℕ, Bool, true, false, not, List, Option, Some, None, Result, Ok, Err, refl, ap, subst, rules}
 use Rattle.opc_terms.specs.declared.fault.Fault.{Fault}
 use Rattle.opc_terms.specs.declared.rule.Rule.{Rule}

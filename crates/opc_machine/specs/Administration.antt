@@ -51,14 +51,15 @@ use Rattle.opc_machine.specs.Rights.{console_asking, may_change, right_fault}
 abbrev pub has_name : Policy → List ℕ → Bool
 has_name p name = has_user p name || has_group p name
 
--- whether an access list has an entry for an id and for a console alone or, where none is given, for every console
+-- whether an access list has an entry for an id and for a console alone or, if none is given, for every console
 abbrev pub has_entry_for : Option (List ℕ) → List ℕ → Profile → Bool
 has_entry_for when id p = list_any (is_for when id) p.entries
 
 abbrev pub is_permitted : Policy → Class → List ℕ → List ℕ → Option (List ℕ) → Bool
 is_permitted p class pattern id when = option_map_or (has_entry_for when id) (profile_of p.profiles class pattern) false
 
--- A user is in use who is connected to a group, owns a profile, has an entry in an access list, or is on at a console.
+-- A user is in use who is connected to a group, owns a profile, has an entry in an access list, or is logged on at a
+-- console.
 abbrev pub is_in_use : Policy → BoardRows → List ℕ → Bool
 is_in_use p b id = is_named p id || is_on id b
 
@@ -78,7 +79,7 @@ definition class pattern owner uacc warning = record {
 
 -- The policy after an operation, or the fault of the first thing in the way, in the order in which the operation lists
 -- its fields (RACF guide: the commands of these names). A profile that is altered keeps its access list, and one that
--- is deleted takes it along. Consoles are no part of a policy.
+-- is deleted takes it along. Consoles are not part of a policy.
 abbrev pub policy_changed : BoardRows → Operation → Policy → Result Policy Fault
 policy_changed b (operation.AddUser id special auditor digest restricted) p =
     unless (has_name p id) id

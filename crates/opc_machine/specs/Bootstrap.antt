@@ -29,7 +29,7 @@ abbrev pub consoles_after : List Row → BoardRows → BoardRows
 consoles_after [] b = b
 consoles_after (row ∷ more) b = consoles_after more (console_after row b)
 
--- where an online console has AUTH MASTER, one has it afterwards
+-- if an online console has AUTH MASTER, one has it afterwards
 abbrev pub loses_master : BoardRows → BoardRows → Bool
 loses_master old new = has_master old.consoles && not (has_master new.consoles)
 

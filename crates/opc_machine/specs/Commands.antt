@@ -1,4 +1,4 @@
--- What a command comes to, and what an event.
+-- What a command comes to, and what an event comes to.
 use Rattle.std.specs.Prelude.{
   Bool,
   true,
@@ -63,7 +63,7 @@ command_or (Err f) = refused (line_fault f) None
 abbrev pub command_in : List ℕ → Result Command Refusal
 command_in text = command_or (reading text)
 
--- what the unit is that a command names, if it is one whose need goes by that
+-- what the unit is that a command names, if the need of the command depends on that
 abbrev pub kind_named : BoardRows → Command → UnitKindAt
 kind_named b (command.Cancel name) = kind_at b name.value
 kind_named b (command.Force name) = kind_at b name.value
@@ -100,15 +100,15 @@ is_display command.DisplayConsoles = true
 is_display command.DisplayReplies = true
 is_display other = false
 
--- A command that needs something: where it is allowed it acts on the board, and of its lines those are given that
--- may be shown.
+-- A command that needs something: if it is allowed, it acts on the board, and gives those of its lines that may be
+-- shown.
 abbrev pub board_command : State → ConsoleRow → Command → Need → StateOutcome
 board_command s c command need = do
   rule ← allowed (ruling s c need)
   act ← acted (Some rule) (effect s.board command c.name)
   does (record s { board = act.board }) (filter (shown s c) act.lines) (Some rule)
 
--- nobody may be on already
+-- nobody may be logged on already
 abbrev pub nobody_on : Option (List ℕ) → Result (Unit {0}) Refusal
 nobody_on None = Ok tt
 nobody_on (Some user) = refused (fault.AlreadyOn user) None

@@ -1,4 +1,4 @@
--- What is found out of a request without a change, against what the machine comes to.
+-- What is found out about a request without a change, against what the machine comes to.
 use Rattle.std.specs.Prelude.{◌≡◌, [], Ok, Err}
 use Rattle.opc_state.specs.State.{State}
 use Rattle.opc_state.specs.Changes.{all_edited}
@@ -7,7 +7,7 @@ use Rattle.opc_machine.specs.declared.outcome.Outcome.{Outcome}
 use Rattle.opc_machine.specs.declared.outcome.Outcome.TheVariants.{Done, Refused}
 use Rattle.opc_machine.specs.Outcome.{StateOutcome}
 
--- The effect is the one that the machine comes to, and has no edits where it leaves the state as it is.
+-- The effect is the one that the machine comes to, and has no edits if it leaves the state as it is.
 pub record IsEffect (s : State) (o : StateOutcome) (effect : Effect) : Type 0 where
   pub makes : o ≡ Ok (record { state = all_edited effect.edits.items s; lines = effect.lines; rule = effect.rule })
   pub idle : all_edited effect.edits.items s ≡ s → effect.edits.items ≡ []

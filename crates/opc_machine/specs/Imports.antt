@@ -65,14 +65,14 @@ same_rows [] [] = true
 same_rows (row ∷ more) (row' ∷ more') = same_row row row' && same_rows more more'
 same_rows all others = false
 
--- the batch of a number, if it is kept
+-- the batch of a number, if it is stored
 abbrev pub batch_of : List Batch → ℕ → Option Batch
 batch_of batches number = find (λ (b : Batch). b.number == number) batches
 
 abbrev pub batch_line : ℕ → List ℕ → Line
 batch_line number what = plain (codes "BATCH " ++ decimal number ++ codes " " ++ what)
 
--- a new number: the rows are taken one after another, all of them or none, and the batch is kept
+-- a new number: the rows are taken one after another, all of them or none, and the batch is stored
 abbrev pub new_batch : State → ℕ → List Row → StateOutcome
 new_batch s number all = do
   new ← or_refused (with_rows all s)
@@ -83,7 +83,7 @@ new_batch s number all = do
     }) new.batches;
   }) (batch_line number (codes "KEPT") ∷ []) None
 
--- a number that is kept: nothing is done, where its rows are these
+-- a number that is stored: nothing is done, if its rows are these
 abbrev pub same_batch : State → ℕ → List Row → Batch → StateOutcome
 same_batch s number all kept = if same_rows kept.rows all then does s (batch_line number (codes "AGAIN") ∷ []) None else
     refused BatchChanged None
@@ -92,7 +92,7 @@ abbrev pub batch_outcome : State → ℕ → List Row → Option Batch → State
 batch_outcome s number all None = new_batch s number all
 batch_outcome s number all (Some kept) = same_batch s number all kept
 
--- The right is asked before the number: nobody else learns what is kept.
+-- The right is tested before the number: nobody else learns what is stored.
 abbrev pub import_outcome : State → List ℕ → ℕ → List Row → StateOutcome
 import_outcome s name number all = do
   c ← console_asking s name

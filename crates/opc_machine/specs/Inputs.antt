@@ -13,7 +13,7 @@ pub data Input : Type 0 where
   Admin : (console : List ℕ) → (operation : Operation) → Input
   -- the profiles of a class
   ListProfiles : (console : List ℕ) → (class : Class) → Input
-  -- rows of the account from a number on, at most so many
+  -- rows of the account from a number on, at most this many
   ListAccount : (console : List ℕ) → (from count : ℕ) → Input
   -- the rows of a written policy, as a batch with a number
   Import : (console : List ℕ) → (batch : ℕ) → (rows : List Row) → Input

@@ -33,7 +33,7 @@ abbrev pub account_line : ℕ × AccountRow → Line
 account_line (number, row) =
     plain (columns (decimal number ∷ decimal row.moment ∷ row.console ∷ row.user ∷ row.code ∷ row.rule ∷ []))
 
--- Rows of the account, where it may be shown at the console.
+-- Rows of the account, if it may be shown at the console.
 abbrev pub account_outcome : State → List ℕ → ℕ → ℕ → StateOutcome
 account_outcome s name from count = do
   c ← console_asking s name

@@ -27,7 +27,7 @@ does s lines rule = Ok (record { state = s; lines = lines; rule = rule })
 abbrev pub refused : {A : Type 0} → Fault → Option Rule → Result A Refusal
 refused fault rule = Err (record { fault = fault; rule = rule })
 
--- what was looked up, or this fault where there is none
+-- what was looked up, or this fault if there is none
 abbrev pub found : {A : Type 0} → Fault → Option A → Result A Refusal
 found fault (Some x) = Ok x
 found fault None = refused fault None
@@ -36,7 +36,7 @@ abbrev pub refuse_if : Fault → Option Rule → Bool → Result (Unit {0}) Refu
 refuse_if fault rule true = refused fault rule
 refuse_if fault rule false = Ok tt
 
--- what came of it, or its fault, which no rule decided
+-- its result, or its fault, which no rule decided
 abbrev pub or_refused : {A : Type 0} → Result A Fault → Result A Refusal
 or_refused (Ok x) = Ok x
 or_refused (Err fault) = refused fault None

@@ -21,7 +21,7 @@ use Rattle.opc_machine.specs.Outcome.{◌>>=◌, refused}
 use Rattle.opc_machine.specs.Rulings.{acting, logon_denial}
 use Rattle.opc_machine.specs.Commands.{console_for, denial_fault}
 
--- the console that asks: it is there and online, and the logon rule has nothing against it
+-- the console that asks: it is there and online, and the logon rule does not deny it
 abbrev pub unless_denied : Option Rule → Result (Unit {0}) Refusal
 unless_denied None = Ok tt
 unless_denied (Some rule) = refused (denial_fault rule) (Some rule)
@@ -47,7 +47,7 @@ is_owner None p = false
 is_owner (Some u) None = false
 is_owner (Some u) (Some p) = bytes_eq p.owner u.id
 
--- whether somebody owns the profile that an operation changes, where its owner may do so
+-- whether somebody owns the profile that an operation changes, if its owner may do so
 abbrev pub owns_changed : Policy → Option User → Operation → Bool
 owns_changed p user (operation.RAlter class pattern owner uacc warning) =
     is_owner user (profile_of p.profiles class pattern)

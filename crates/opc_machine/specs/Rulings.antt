@@ -1,4 +1,4 @@
--- Who acts at a console, what is ruled on what a command needs, and what may be shown.
+-- Who acts at a console, how a command's need is ruled on, and what may be shown.
 use Rattle.std.specs.Prelude.{Bool, true, false, ◌&&◌, if◌then◌else◌, ℕ, List, [], Option, Some, None, codes}
 use Rattle.std.specs.Option.{is_none, option_and_then, option_or}
 use Rattle.opc_names.specs.declared.class.Class.TheVariants.{Opercmds, Console}
@@ -27,12 +27,12 @@ is_auto Auto = true
 is_auto Optional = false
 is_auto Required = false
 
--- a console's own user: the one whose id is its name, where its mode is AUTO and such a user is stored
+-- a console's own user: the one whose id is its name, if its mode is AUTO and such a user is stored
 abbrev pub own_user : State → ConsoleRow → Option (List ℕ)
 own_user s c = if is_auto c.mode && has_user s.policy c.name then Some c.name else None
 
--- The user for whom a console acts: the one who is on; where nobody is, the console's own (MVS Planning: Operations,
--- LOGON(AUTO)).
+-- The user for whom a console acts: the one who is logged on; if nobody is, the console's own (MVS Planning:
+-- Operations, LOGON(AUTO)).
 abbrev pub acting_user : State → ConsoleRow → Option (List ℕ)
 acting_user s c = option_or c.user (own_user s c)
 
@@ -53,14 +53,14 @@ abbrev pub is_revoked : Option User → Bool
 is_revoked (Some u) = u.revoked
 is_revoked None = false
 
--- why the logon rule denies whatever is asked at a console, if it does: somebody has to be on, and whoever acts may
--- not be revoked
+-- why the logon rule denies whatever is asked at a console, if it does: somebody has to be logged on, and whoever acts
+-- may not be revoked
 abbrev pub logon_denial : State → ConsoleRow → Option Rule
 logon_denial s c =
     if is_required c.mode && is_none c.user then Some rule.LogonRequired else
     (if is_revoked (acting s c) then Some rule.Revoked else None)
 
--- by the profile that decides in class OPERCMDS, or, where nobody acts or none decides, by the console's AUTH
+-- by the profile that decides in class OPERCMDS, or, if nobody acts or none decides, by the console's AUTH
 abbrev pub access_ruling : State → ConsoleRow → Option User → Need → Ruling
 access_ruling s c user need = policy_ruling (is_active s.policy.active Opercmds)
     (deciding_in s.policy Opercmds need.resource) user (Some c.name) (groups_acting s user) c.auth need
@@ -75,7 +75,7 @@ abbrev pub ruling : State → ConsoleRow → Need → Ruling
 ruling s c need = denied_or (logon_denial s c) (access_ruling s c (acting s c) need)
 
 -- The ruling on a user who logs on at a console: nobody who is revoked, and READ on the console's name in class
--- CONSOLE. Where that is undecided the user is admitted.
+-- CONSOLE. If that is undecided, the user is admitted.
 abbrev pub console_access : State → ConsoleRow → User → Ruling
 console_access s c user =
     by_verdict (verdict (is_active s.policy.active Console) (deciding_in s.policy Console c.name) user (Some c.name)
@@ -87,7 +87,7 @@ console_access s c user =
 abbrev pub logon_ruling : State → ConsoleRow → User → Ruling
 logon_ruling s c user = if user.revoked then Denied rule.Revoked else console_access s c user
 
--- what showing a line needs: nothing where it is plain, and READ where it is about a unit or a console
+-- what showing a line needs: nothing if it is plain, and READ if it is about a unit or a console
 abbrev pub to_show : List ℕ → List ℕ → Option Need
 to_show words name = Some (record { resource = qualified words name; level = Read; group = Info })
 
@@ -104,6 +104,6 @@ abbrev pub passes : State → ConsoleRow → Option Need → Bool
 passes s c None = true
 passes s c (Some need) = is_allowed (ruling s c need)
 
--- A line may be shown at a console where what that needs is allowed there.
+-- A line may be shown at a console if what that needs is allowed there.
 abbrev pub shown : State → ConsoleRow → Line → Bool
 shown s c line = passes s c (need_to_show line.item)

@@ -1,4 +1,4 @@
--- What is put into a list in order comes last, where it is greater than all that is there.
+-- What is put into a list in order comes last, if it is greater than all that is there.
 use Rattle.std.proofs.Common.{◌≡◌, ◌++◌, Bool, true, false, cond, List, [], ◌∷◌, Some, Ordering, Less, Equal, Greater, find, refl, ap, ◌∙◌}
 use Rattle.std.specs.BTreeSet.{insert_key, replace_key}
 use Rattle.std.specs.Cmp.{IsTotalOrder}
@@ -36,7 +36,7 @@ module _ {X : Type 0} (cmp : X → X → Ordering) (total : IsTotalOrder cmp) wh
   replace_last (x ∷ xs) y all = ap (λ o. match_ordering o (y ∷ x ∷ xs) (y ∷ xs) (x ∷ replace_key cmp xs y))
       (greater x y all.0) ∙ ap (λ zs. x ∷ zs) (replace_last xs y all.1)
 
-  -- and where one of its key is in the middle, it takes its place
+  -- and if one of its key is in the middle, it takes its place
   pub replace_middle : (xs : List X) (y z : X) (ys : List X) → AllByRecursion (λ x. is_lt (cmp x y) ≡ true) xs
       → cmp y z ≡ Equal → replace_key cmp (xs ++ z ∷ ys) y ≡ xs ++ y ∷ ys
   replace_middle [] y z ys all same = ap (λ o. match_ordering o (y ∷ z ∷ ys) (y ∷ ys) (z ∷ replace_key cmp ys y)) same

@@ -1,4 +1,4 @@
--- A board that comes of a command or an event meets the invariants, and its users are stored, where that held before.
+-- A board that results from a command or an event meets the invariants, and its users are stored, if that held before.
 use Rattle.std.proofs.Common.{◌≡◌, ℕ, Bool, true, false, not, if◌then◌else◌, List, [], ◌∷◌, ◌++◌, ◌==◌, Option, Some, None, Ok, Err, refl, ap}
 use Rattle.std.specs.List.{AllByRecursion}
 use Rattle.std.specs.Option.{is_some}
@@ -110,7 +110,7 @@ use Rattle.opc_board.proofs.Kept.{
 use Rattle.opc_state.specs.Invariants.{IsConsoleOfStored}
 use Rattle.opc_machine.proofs.Inversion.{is_on}
 
--- a fault that is not there
+-- a fault that does not apply
 abbrev pub IsAbsent : Bool × BoardFault → Type 0
 IsAbsent fault = fault.0 ≡ false
 

@@ -150,7 +150,7 @@ pub none_found : {X : Type 0} (p : X → Bool) (xs : List X) → AllByRecursion 
 none_found p [] none = refl
 none_found p (x ∷ xs) none = ap (λ b. cond b (Some x) (find p xs)) none.0 ∙ none_found p xs none.1
 
--- a name of a user is no group's, where no group's name is a user's
+-- a name of a user is not a group's, if no group's name is a user's
 no_group : (p : Policy) (id : List ℕ) → has_user p id ≡ true → (groups : List (List ℕ))
     → AllByRecursion (λ (g : List ℕ). has_user p g ≡ false) groups → is_group groups id ≡ false
 no_group p id there [] apart = refl

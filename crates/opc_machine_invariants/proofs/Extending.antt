@@ -82,7 +82,7 @@ pub or_right : (a b : Bool) → (a || b) ≡ false → b ≡ false
 or_right true b h = absurd (search (rules, h))
 or_right false b h = h
 
--- a user that is put is found by its name, and else the others are
+-- a user that is put is found by its name, and otherwise the others are
 pub some_replaced : {K : Type 0} (cmp : K → K → Ordering) (test : K → Bool) (k : K) (xs : List K)
     → ((x : K) → cmp k x ≡ Equal → test x ≡ test k)
     → is_some (find test (replace_key cmp xs k)) ≡ (test k || is_some (find test xs))
@@ -143,7 +143,7 @@ fewer_found {K} test keep (x ∷ xs) none = go (keep x) (test x) refl none (fewe
     go true false so h later = ap (λ (t : Bool). is_some (if t then Some x else find test (filter keep xs))) so ∙ later h
     go false false so h later = later h
 
--- where no element passes a test, what holds of those that don't holds of all
+-- if no element passes a test, what holds of those that don't holds of all
 pub all_unless : {K : Type 0} (test : K → Bool) (P Q : K → Type 0) → ((x : K) → test x ≡ false → P x → Q x) → (xs : List K)
     → list_any test xs ≡ false → AllByRecursion P xs → AllByRecursion Q xs
 all_unless test P Q turns [] none all = tt

@@ -99,7 +99,7 @@ use Rattle.opc_machine_invariants.proofs.Policies.{IfMade}
 use Rattle.opc_machine_invariants.proofs.PoliciesChanged.{policy_kept, rows_kept}
 use Rattle.opc_machine_invariants.proofs.Extending.{Extends, board_on}
 
--- where something is done the state meets the invariants
+-- if something is done, the state meets the invariants
 abbrev pub IfDoes : StateOutcome → Type 0
 IfDoes (Ok effect) = HasInvariants effect.state
 IfDoes (Err refusal) = Unit {0}

@@ -1,4 +1,4 @@
--- What an operation or a row makes of a policy is in the order of the keys, where the policy before was.
+-- What an operation or a row makes of a policy is in the order of the keys, if the policy before was.
 use Rattle.std.proofs.Common.{◌≡◌, ℕ, Bool, true, false, not, ◌&&◌, List, [], ◌∷◌, Option, Some, None, Result, Ok, Err, is_some, refl, ap, subst, ◌∙◌, rules}
 use Rattle.std.specs.BTreeSet.{insert_key, replace_key}
 use Rattle.std.specs.Cmp.{IsTotalOrder}

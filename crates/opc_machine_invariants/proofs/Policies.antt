@@ -1,4 +1,4 @@
--- A policy that comes of an operation or a row names users and groups that it has, where the one before did.
+-- A policy that results from an operation or a row names users and groups that it has, if the one before did.
 use Rattle.std.proofs.Common.{
   ◌≡◌,
   ℕ,

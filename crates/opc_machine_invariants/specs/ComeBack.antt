@@ -1,4 +1,4 @@
--- A written policy that is exported, and taken by new tables.
+-- A written policy that is exported, and imported into new tables.
 use Rattle.std.specs.Prelude.{◌≡◌, List, Ok, map}
 use Rattle.opc_policy_members.specs.declared.policy.Policy.{Policy}
 use Rattle.opc_board.specs.declared.rows.ConsoleRow.{ConsoleRow}
@@ -16,7 +16,7 @@ as_defined c = new_console c.name c.auth c.mode
 abbrev pub written : Policy → List ConsoleRow → State
 written p consoles = record empty { policy = p; board = record empty.board { consoles = map as_defined consoles } }
 
--- What is exported of a state that meets its invariants comes back.
+-- What is exported from a state that meets its invariants comes back.
 abbrev pub ExportsComeBack : Type 0
 ExportsComeBack = (s : State) → HasInvariants s
     → bootstrapped (rows_of s.policy s.board.consoles) empty ≡ Ok (written s.policy s.board.consoles)

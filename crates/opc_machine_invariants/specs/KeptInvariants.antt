@@ -36,7 +36,7 @@ pub record HasInvariants (s : State) : Type 0 where
 abbrev pub EmptyHasInvariants : Type 0
 EmptyHasInvariants = HasInvariants empty
 
--- and they say that what a state keeps by keys is found by them.
+-- and by them, what a state keeps by keys is found by the keys.
 abbrev pub InvariantsGiveKeys : Type 0
 InvariantsGiveKeys = (s : State) → HasInvariants s → IsKeyed s
 

@@ -1,4 +1,4 @@
--- Where a command acts.
+-- When a command acts.
 use Rattle.std.proofs.Common.{◌≡◌, inl, inr, Bool, true, false, not, if◌then◌else◌, Option, Some, None, Ok, filter, refl, sym, ap, subst, ◌∙◌, rules, codes}
 use Rattle.std.specs.List.{Contains}
 use Rattle.opc_policy.proofs.MostSpecific.{to_filter, of_filter}
@@ -66,7 +66,7 @@ lists_exactly s console command why lines rule new acts line =
       (λ h. subst (λ l. Contains l line) (sym is) (to_filter (shown s console) acts.act.lines line h.0 h.1)),
     )
 
--- the console that is named, where it is there and online
+-- the console that is named, if it is there and online
 pub console_back : (o : Option ConsoleRow) (c : ConsoleRow) → o ≡ Some c → c.online ≡ true
     → (found fault.NoConsole o >>= λ d. refuse_if fault.ConsoleOffline None (not d.online) >>= λ _. Ok d) ≡ Ok c
 console_back o c there online =

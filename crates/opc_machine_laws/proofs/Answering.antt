@@ -44,7 +44,7 @@ use Rattle.opc_machine_laws.proofs.Denying.{IsLogonRule, logon_rule}
 use Rattle.opc_machine_laws.proofs.Knowing.{known_back}
 use Rattle.opc_machine_laws.proofs.Naming.{IsProper, logon_proper, ruling_proper}
 
--- what comes of a line that is heard is what comes of its command
+-- the result of a line that is heard is that of its command
 pub heard_so : (s : State) (name text : List ℕ) (c : ConsoleRow) (k : Command) → IsHeard s name text c k
     → command_outcome s name text ≡ typed s c k (need_of s.board k)
 heard_so s name text c k heard =

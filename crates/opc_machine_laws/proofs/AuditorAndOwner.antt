@@ -16,7 +16,7 @@ use Rattle.opc_machine.specs.Machine.{first_refusal, outcome}
 use Rattle.opc_machine.specs.declared.outcome.Refusal.{Refusal}
 use Rattle.opc_machine_laws.proofs.Worked.{base, console, day, plain, plainly, policy, texts_in, user}
 
--- AUDIT, an auditor, is on at C1, SECADM at C2, CARL at C5
+-- AUDIT, an auditor, is logged on at C1, SECADM at C2, CARL at C5
 abbrev with_opercmds : Bool → State
 with_opercmds active = record base {
   policy = record policy {

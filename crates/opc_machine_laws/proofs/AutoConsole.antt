@@ -102,11 +102,11 @@ own_user_is_denied piece = refl
 own_user_is_accounted : user_acting nobody_on asked ≡ Some (codes "C4")
 own_user_is_accounted = refl
 
--- nobody is on who could log off
+-- nobody is logged on who could log off
 nobody_logs_off : refusal_in (comes_to nobody_on None command.Logoff) ≡ Some (record { fault = fault.NotOn; rule = None })
 nobody_logs_off = refl
 
--- once CARL is on, CARL acts
+-- once CARL is logged on, CARL acts
 carl_is_denied : (piece : Piece) → refusal_in (comes_to carl_on (Some (codes "CARL")) (cancel (codes "BACKUP") piece)) ≡ Some (record {
   fault = fault.DeniedProfile;
   rule = Some (held_of (codes "MVS.CANCEL.JOB.*") level.None level.Update);
@@ -126,7 +126,7 @@ own_user_cancels : (piece : Piece) → rule_in (comes_to nobody_on None (cancel 
 unfolding held
 own_user_cancels piece = refl
 
--- who is not on
+-- who is not logged on
 nobody_is_shown : texts_in (comes_to nobody_on None command.DisplayConsoles) ≡ codes "C4       ONLINE  -- INFO -" ∷ []
 unfolding held
 nobody_is_shown = refl
@@ -163,7 +163,7 @@ revoked_changes_nothing = refl
 special_administers : first_refusal with_auto (input.Admin (codes "SECADM") (operation.AddGroup (codes "DAY"))) ≡ None
 special_administers = refl
 
--- its user is in use as any other: not by the console
+-- its user is in use like any other: not by the console
 own_user_is_not_in_use : first_refusal (record with_auto {
   board = record with_auto.board {
     consoles = own (codes "GUS") auth.Info None ∷ own (codes "SECADM") auth.Info None

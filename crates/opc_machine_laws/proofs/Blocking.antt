@@ -66,7 +66,7 @@ use Rattle.opc_machine_laws.specs.ObstacleLaws.{first_obstacle}
 use Rattle.opc_machine_laws.proofs.AtNames.{console_becomes, goes_offline, offline_name}
 use Rattle.opc_machine_laws.proofs.Hindering.{lost_master}
 
--- these are all that is in the way of an outcome, which else ends so
+-- these are all that is in the way of an outcome, which otherwise ends like this
 pub record Blocks (E : BoardOutcome → Type 0) (all : List (Bool × BoardFault)) (o : BoardOutcome) : Type 0 where
   pub refused : (f : BoardFault) → first_obstacle all ≡ Some f → o ≡ Err f
   pub ends : first_obstacle all ≡ None → E o
@@ -92,7 +92,7 @@ module _ (E : BoardOutcome → Type 0) where
       go None h = record { refused = λ g k. ap Err (search (rules, k)); ends = λ k. absurd (search (rules, k)) }
       go (Some x) h = record { refused = (h x refl).refused; ends = (h x refl).ends }
 
--- what may be in the way of a swap, where both devices are there
+-- what may be in the way of a swap, if both devices are there
 abbrev both : Option DeviceRow → Option DeviceRow → List (Bool × BoardFault)
 both one other = (not (is_online one), DeviceState) ∷ (not (is_online other), DeviceState)
     ∷ (not (has_volume one), NoVolume) ∷ (has_volume other, DeviceState) ∷ (is_used other, DeviceState) ∷ []

@@ -1,16 +1,16 @@
--- What holds wherever the board does something.
+-- What holds if the board does something.
 use Rattle.std.proofs.Common.{◌≡◌, Bool, true, false, if◌then◌else◌, List, [], ◌∷◌, Option, Some, None, Ok, Err, refl}
 use Rattle.std.specs.List.{AllByRecursion}
 use Rattle.opc_board.specs.declared.board.BoardRows.{BoardRows}
 use Rattle.opc_board.specs.declared.fault.BoardFault.{BoardFault}
 use Rattle.opc_board.specs.Outcome.{BoardOutcome, ◌>>=◌, faults_or, found}
 
--- where something is done, the board is of this kind afterwards
+-- if something is done, the board is of this kind afterwards
 abbrev pub IfActs : (BoardRows → Type 0) → BoardOutcome → Type 0
 IfActs P (Ok act) = P act.board
 IfActs P (Err f) = Unit {0}
 
--- a fault that is not there
+-- a fault that does not apply
 abbrev pub IsAbsent : Bool × BoardFault → Type 0
 IsAbsent fault = fault.0 ≡ false
 

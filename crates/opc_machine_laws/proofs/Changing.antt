@@ -1,4 +1,4 @@
--- Where administration, listings and imports are done.
+-- When administration, listings and imports are done.
 use Rattle.std.proofs.Common.{
   ◌≡◌,
   ◌⊎◌,
@@ -88,7 +88,7 @@ or_refused_ok (Err f) x h = absurd (search (rules, h))
 lines_of_done : (lines others : List Line) (why because : Option Rule) → Done lines why ≡ Done others because → (lines ≡ others) × (why ≡ because)
 lines_of_done lines others why because h = (search (rules, h), search (rules, h))
 
--- the console that asks may ask, and the other way round
+-- the console that asks may ask, and the converse
 asking_is : (s : State) (name : List ℕ) (c : ConsoleRow) → console_asking s name ≡ Ok c → MayAsk s name c
 asking_is s name c h =
     let a = bind_ok (console_for s name) (λ d. unless_denied (logon_denial s d) >>= λ _. Ok d) c h in
@@ -219,7 +219,7 @@ account_wherever s moment name from count c answer new asks may (inr (inr done))
     ∙ ap (λ b. refuse_if NotSpecial None (not b) >>= λ _. does s shown None) may in
     inr (done.answers ∙ ap answer_of comes, done.becomes ∙ ap (after s moment (input.ListAccount name from count)) comes)
 
--- what comes of a batch
+-- the result of a batch
 again_is : (s : State) (number : ℕ) (all : List Row) (kept : Batch) (reached : StateEffect)
     → (if same_rows kept.rows all then does s (batch_line number (codes "AGAIN") ∷ []) None else refused BatchChanged
     None) ≡ Ok reached
@@ -285,7 +285,7 @@ imports_only s moment name number all lines why new (inr (inr done)) =
       batch_is s number all lines new (batch_of s.batches number) refl d.0 u.2 d.2 ends,
     )
 
--- where SPECIAL imports, it comes to what comes of the batch
+-- if SPECIAL imports, it comes to the result of the batch
 pub import_right : (s : State) (name : List ℕ) (number : ℕ) (all : List Row) (c : ConsoleRow) → MayAsk s name c
     → is_special (acting s c) ≡ true → import_outcome s name number all ≡ batch_outcome s number all
     (batch_of s.batches number)

@@ -45,7 +45,7 @@ use Rattle.opc_machine_laws.specs.ActingLaws.{
   WhoIsOnComesFirst,
 }
 
--- whether the user who acts is revoked, where nobody has to be on
+-- whether the user who acts is revoked, if nobody has to be logged on
 abbrev revoked_only : Option User → Option Rule
 revoked_only u = if is_revoked u then Some rule.Revoked else None
 
@@ -112,7 +112,7 @@ acts_alone s c here is =
       nobody = acts_for s c None is;
     }
 
--- an AUTO console where nobody is on
+-- an AUTO console where nobody is logged on
 module _ (s : State) (c : ConsoleRow) (auto : c.mode ≡ Auto) (nobody : c.user ≡ None) where
   not_required : (is_required c.mode && is_none c.user) ≡ false
   not_required = ap (λ m. is_required m && is_none c.user) auto

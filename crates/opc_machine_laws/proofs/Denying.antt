@@ -1,4 +1,4 @@
--- Refusals of authority name their rule, whatever is asked.
+-- Refusals for lack of authority name their rule, whatever is asked.
 use Rattle.std.proofs.Common.{
   ℕ,
   Bool,
@@ -53,7 +53,7 @@ use Rattle.opc_machine.specs.Rights.{right_fault}
 use Rattle.opc_machine.specs.Rulings.{acting, is_required, is_revoked, logon_denial}
 use Rattle.opc_machine_laws.proofs.Plain.{IsPlain}
 
--- what is in the way of a change is neither of authority nor aborted
+-- what is in the way of a change is neither about authority nor aborted
 abbrev pub IfInTheWay : {A : Type 0} → Result A Fault → Type 0
 IfInTheWay (Ok x) = Unit {0}
 IfInTheWay (Err f) = IsPlain f

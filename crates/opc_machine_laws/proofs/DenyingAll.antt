@@ -199,12 +199,12 @@ outcome_reported s (input.ListAccount name from count) = account_reported s name
 outcome_reported s (input.Import name batch all) = import_reported s name batch all
 outcome_reported s (input.Event e) = event_reported s e
 
--- of what is refused in the end, too
+-- and the same for what is refused in the end
 pub reported_of : (s : State) (r : Input) (f : Fault) (why : Option Rule) → Refused f why ≡ answer_of (outcome s r) → IsReportedBy s r f why
 reported_of s r f why answers = let P : StateOutcome → Type 0 = IfRefused (IsReported s r)
     in subst P (refused_is (outcome s r) f why answers) (outcome_reported s r)
 
--- what the board refuses is no refusal of authority
+-- what the board refuses is not a refusal for lack of authority
 by_board : (s : State) (r : Input) (f : Fault) (why : Rule) → IsRefusedByBoard s r f why → IsOfAuthority f → ⊥
 by_board s (input.Command name text) f why way authority = board_has_none way.refused (subst IsOfAuthority way.returned authority)
 by_board s (input.Admin name operation) f why way authority = way

@@ -45,7 +45,7 @@ module _ (s : State) (c : ConsoleRow) (words name : List ℕ) where
   is_shown : MayBeShown s c words name → passes s c (Some to_read) ≡ true
   is_shown may = ap is_allowed may.1
 
--- a line is shown as what it is about
+-- a line is shown if what it is about is
 about : (s : State) (c : ConsoleRow) (line : Line) (i : Item) → line.item ≡ i → shown s c line ≡ passes s c (need_to_show i)
 about s c line i is = ap (λ x. passes s c (need_to_show x)) is
 

@@ -1,4 +1,4 @@
--- What each command and each event does, and that an online console with AUTH MASTER stays where there was one.
+-- What each command and each event does, and that an online console with AUTH MASTER stays if there was one.
 use Rattle.std.proofs.Common.{
   ◌≡◌,
   inl,

@@ -21,7 +21,7 @@ module _ {A : Type 0} (p : A → Bool) (f : A → A) (y : A) where
       go false is g later = ap (λ b. cond b (Some x) (find p (changed p f xs))) is ∙ later g
 
 module _ {A : Type 0} (p q : A → Bool) (f : A → A) (y : A) where
-  -- which nobody sees who looks for others
+  -- which a look-up for others does not see
   pub find_others : q y ≡ false → q (f y) ≡ false → (xs : List A) → find p xs ≡ Some y → find q (changed p f xs) ≡ find q xs
   find_others before after [] at = refl
   find_others before after (x ∷ xs) at = go (p x) at (find_others before after xs)
@@ -75,7 +75,7 @@ module _ {A : Type 0} (before : A → A → Bool) (x : A) where
       go true later = ap (λ c. cond c (Some x) (find p (y ∷ ys))) other
       go false later = ap (cond (p y) (Some y)) later
 
-  -- no master is lost where a console comes
+  -- no master is lost if a console comes
   pub any_put : (q : A → Bool) (xs : List A) → list_any q xs ≡ true → list_any q (put before x xs) ≡ true
   any_put q [] there = absurd (cc)
   any_put q (y ∷ ys) there = go (before x y) (q y) refl there (any_put q ys)

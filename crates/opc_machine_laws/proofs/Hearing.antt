@@ -1,4 +1,4 @@
--- What is done of what is typed, and in which turn.
+-- Which of the typed lines are done, and in which order.
 use Rattle.std.proofs.Common.{◌≡◌, ◌⊎◌, inl, inr, List, [], ◌∷◌, Some, refl, ap}
 use Rattle.opc_terms.specs.declared.need.Need.{Need}
 use Rattle.opc_reader_commands.specs.declared.command.Command.{Command}

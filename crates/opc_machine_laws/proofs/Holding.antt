@@ -314,7 +314,7 @@ count_at_their_console p u console groups =
     same_levels p (record p { entries = filter (is_here console) p.entries }) u console groups refl (first_here p u console groups None refl)
     (λ w is. first_here p u console groups (Some w) (subst (λ o. option_eq bytes_eq (Some w) o ≡ true) (sym is) (itself w)))
 
--- without what is given everyone
+-- without what is given to everyone
 module _ (p : Profile) (u : User) (groups : List (List ℕ)) where
   named_so : (when : Option (List ℕ)) (id : List ℕ) → (bytes_eq id u.id || list_any (bytes_eq id) groups) ≡ true
       → (e : Entry) → is_for when id e ≡ true → is_named u groups e ≡ true

@@ -39,7 +39,7 @@ module _ (s : State) (id password : List ℕ) (user : User) where
       ∙ ap (λ (d : Option (List ℕ)). if is_password password d then Some user else None) known.digest
       ∙ ap (λ (b : Bool). if b then Some user else None) ((bytes_eq-Decides (sha256 password) (sha256 password)).1 refl)
 
--- where it is nobody's
+-- if it is nobody's
 pub unknown : (s : State) (id password : List ℕ) → ((user : User) → IsKnown s id password user → ⊥) → known_by s id password ≡ None
 unknown s id password nobody = go (known_by s id password) refl
   where

@@ -99,7 +99,7 @@ use Rattle.opc_machine_laws.specs.LeavingLaws.{
   WhatIsDoneLeavesRest,
 }
 
--- where something is done, its state is of this kind
+-- if something is done, its state is of this kind
 abbrev pub IfDoes : (State → Type 0) → StateOutcome → Type 0
 IfDoes P (Ok effect) = P effect.state
 IfDoes P (Err refusal) = Unit {0}

@@ -35,7 +35,7 @@ of_found : {A : Type 0} (fault : BoardFault) (o : Option A) (next : A → BoardO
 of_found fault None next h = refl
 of_found fault (Some x) next h = h x
 
--- Where a command does something these are its lines.
+-- If a command does something, these are its lines.
 abbrev AreLines : BoardRows → Command → BoardOutcome → Type 0
 AreLines b k o = (act : BoardDone) → o ≡ Ok act → act.lines ≡ lines_on b k
 

@@ -1,4 +1,4 @@
--- Where users are logged on and off.
+-- When users are logged on and off.
 use Rattle.std.proofs.Common.{◌≡◌, inl, inr, ℕ, true, false, List, [], Option, Some, None, Ok, refl, sym, ap, subst, ◌∙◌, rules, codes}
 use Rattle.std.specs.Option.{is_none, is_some}
 use Rattle.opc_terms.specs.declared.fault.Fault.TheVariants as fault

@@ -48,7 +48,7 @@ one_command text k other it_reads also =
     let same : ◌≡◌ {A = Result Command ReadFault} (Ok other) (Ok k) = sym (reads_so text other also) ∙ reads_so text k it_reads in
     search (rules, same)
 
--- both of what is said of a board
+-- both statements about a board
 abbrev Both : List ℕ → Command → BoardRows → BoardRows → Type 0
 Both name k old new = HasDone name k old new × StaysMastered old new
 

@@ -1,4 +1,4 @@
--- Refusals of authority name their rule.
+-- Refusals for lack of authority name their rule.
 use Rattle.std.proofs.Common.{
   ◌≡◌,
   ◌⊎◌,
@@ -95,7 +95,7 @@ use Rattle.opc_machine_laws.proofs.Plain.{IsPlain}
 use Rattle.opc_machine_laws.proofs.Reasons.{decides_in_class}
 use Rattle.opc_machine.proofs.Inversion.{allowed_ok, console_is, command_is, found_ok}
 
--- A rule that a refusal names denies, or allowed what the board refused; one that names none is neither of authority
+-- A rule that a refusal names denies, or allowed what the board refused; one that names none is neither about authority
 -- nor aborted.
 abbrev pub IsReportedBy : State → Input → Fault → Option Rule → Type 0
 IsReportedBy s r f None = IsPlain f
@@ -138,7 +138,7 @@ board_has_none board.WrongKind h = h
 board_has_none board.ReplyExists h = h
 board_has_none board.NoMemory h = h
 
--- a ruling that denies names a rule of the kind that its fault says
+-- a ruling that denies names a rule of the kind that its fault requires
 abbrev pub IsProper : (Rule → Fault) → Ruling → Type 0
 IsProper fault_of (Allowed rule) = Unit {0}
 IsProper fault_of (Denied rule) = IsNamedBy (fault_of rule) rule

@@ -68,7 +68,7 @@ board_reported board.WrongKind = record { number = refl; alone = board_alone boa
 board_reported board.ReplyExists = record { number = refl; alone = board_alone board.ReplyExists }
 board_reported board.NoMemory = record { number = refl; alone = board_alone board.NoMemory }
 
--- and so of a line
+-- and the same for a line
 abbrev line_of : Fault → Option ReadFault
 line_of fault.Empty = Some line.Empty
 line_of fault.TooLong = Some line.TooLong

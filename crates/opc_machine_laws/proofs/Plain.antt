@@ -1,4 +1,4 @@
--- Which faults are neither of authority nor those of a request that is aborted.
+-- Which faults are neither about authority nor those of a request that is aborted.
 use Rattle.std.proofs.Common.{◌≡◌, inl, inr, Bool, true, false, if◌then◌else◌, List, [], ◌∷◌, Option, Some, None, Ok, Err, rules, subst}
 use Rattle.std.specs.List.{AllByRecursion}
 use Rattle.opc_terms.specs.declared.fault.Fault.{Fault}

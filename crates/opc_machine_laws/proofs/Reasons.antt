@@ -1,4 +1,4 @@
--- Why something is ruled as it is.
+-- Why a ruling is what it is.
 use Rattle.std.proofs.Common.{
   ◌≡◌,
   ◌⊎◌,
@@ -106,7 +106,7 @@ said_by : (b : Bool) (why : Rule) (other : Ruling) → by_verdict (if b then ver
 said_by true why other = refl
 said_by false why other = refl
 
--- by the profile that decides, or by what decides where none does
+-- by the profile that decides, or by what decides if none does
 by_profile : (s : State) (c : ConsoleRow) (user : User) (class : Class) (resource : List ℕ) (needed : Level)
     (other : Ruling) (a : Bool) → is_active s.policy.active class ≡ a → (d : Option Profile)
     → deciding_in s.policy class resource ≡ d

@@ -1,4 +1,4 @@
--- What is stored, connected, named, and who is on.
+-- What is stored, connected, named, and who is logged on.
 use Rattle.std.proofs.Common.{
   ◌≡◌,
   ◌⊎◌,
@@ -195,7 +195,7 @@ named_back p id (inr (q, in_it, is)) =
 pub named_is : NamedIsWhoIsNamed
 named_is p id = (is_named_in p id, named_back p id)
 
--- who is on
+-- who is logged on
 
 held_by : (user : Name) (o : Option Name) → is_holder user o ≡ true → o ≡ Some user
 held_by user None h = absurd (cc)

@@ -61,7 +61,7 @@ use Rattle.opc_machine_laws.specs.TakingLaws.{
   with_console_of,
 }
 
--- the state that is made of a policy and a board, where no last master is lost
+-- the state that is made of a policy and a board, if the last master is not lost
 pub record IsMade (s : State) (board : BoardRows) (r : Result Policy Fault) (new : State) : Type 0 where
   pub policy : Policy
   pub makes : r ≡ Ok policy

@@ -54,8 +54,8 @@ user id special auditor revoked = record { id = id; special = special; auditor =
 abbrev pub plain : List ℕ → User
 plain id = user id false false false
 
--- ANNA and CARL are on, and OLD, who is revoked; DORA is connected to a group, EMIL is in an access list, FRED owns a
--- profile, and GUS is not in use
+-- ANNA and CARL are logged on, and OLD, who is revoked; DORA is connected to a group, EMIL is in an access list, FRED
+-- owns a profile, and GUS is not in use
 abbrev pub users : List User
 users =
     plain (codes "ANNA") ∷ plain (codes "CARL") ∷ plain (codes "DORA") ∷ plain (codes "EMIL") ∷ plain (codes "FRED") ∷ plain (codes "GUS")
@@ -118,7 +118,7 @@ base = record {
   batches = record { number = 7; rows = day } ∷ [];
 }
 
--- what comes of it
+-- the result of it
 
 abbrev pub plainly : Fault → Option Refusal
 plainly f = Some (record { fault = f; rule = None })
@@ -176,7 +176,7 @@ nobody_is_not_special = refl
 not_owner : refused_at (codes "C1") (operation.RDelete Opercmds (codes "A.B")) ≡ plainly fault.NotOwner
 not_owner = refl
 
--- also of a profile that is not there
+-- and the same of a profile that is not there
 not_owner_of_none : refused_at (codes "C1") (operation.RDelete Opercmds (codes "C")) ≡ plainly fault.NotOwner
 not_owner_of_none = refl
 

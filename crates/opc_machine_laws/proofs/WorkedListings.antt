@@ -44,7 +44,7 @@ deactivates_class = refl
 last_master : refusal (operation.DefineConsole (codes "C2") auth.All Optional) ≡ plainly fault.LastMaster
 last_master = refl
 
--- the user stays on
+-- the user stays logged on
 sets_console : option_map (λ (s : State). s.board.consoles)
     (state_in (outcome
     (record base {

@@ -32,27 +32,27 @@ pub record ActsAs (s : State) (console other : ConsoleRow) : Type 0 where
   pub profiles : (p : Profile) → profile_shown s console p ≡ profile_shown s other p
   pub account : account_shown s console ≡ account_shown s other
 
--- What is accounted of a console names this user, or nobody.
+-- What is accounted for a console names this user, or nobody.
 abbrev pub IsAccountedTo : State → ConsoleRow → Option (List ℕ) → Type 0
 IsAccountedTo s console user =
     (moment : ℕ) (r : Input) (name code : List ℕ) (why : Option Rule) → console_of r ≡ Some name
     → console_at s.board name ≡ Some console
     → (account_row s moment r code why).user ≡ text_or (codes "-") user
 
--- A console acts for this user, or for nobody, and so it is accounted.
+-- A console acts for this user, or for nobody, and is accounted like that.
 pub record ActsFor (s : State) (console : ConsoleRow) (user : Option (List ℕ)) : Type 0 where
   pub acts : IsActing s console user
   pub returned : IsAccountedTo s console user
 
--- An AUTO console where nobody is on acts for the user of its own name, as if that user were on, where such a user is
--- stored,
+-- An AUTO console where nobody is logged on acts for the user of its own name, as if that user were logged on, if such
+-- a user is stored,
 abbrev pub AutoConsolesActForTheirOwn : Type 0
 AutoConsolesActForTheirOwn =
     (s : State) (console : ConsoleRow) → console.mode ≡ Auto → console.user ≡ None
     → has_user s.policy console.name ≡ true
     → ActsFor s console (Some console.name) × ActsAs s console (record console { user = Some console.name })
 
--- By its authority alone: as an OPTIONAL console where nobody is on.
+-- By its authority alone: as an OPTIONAL console where nobody is logged on.
 pub record ActsAlone (s : State) (console : ConsoleRow) : Type 0 where
   pub logon : logon_denial s console ≡ None
   pub rulings : (need : Need) → ruling s console need ≡ console_ruling console.auth need
@@ -61,24 +61,24 @@ pub record ActsAlone (s : State) (console : ConsoleRow) : Type 0 where
   pub account : account_shown s console ≡ false
   pub nobody : ActsFor s console None
 
--- and else for nobody.
+-- and otherwise for nobody.
 abbrev pub OtherAutoConsolesActAlone : Type 0
 OtherAutoConsolesActAlone =
     (s : State) (console : ConsoleRow) → console.mode ≡ Auto → console.user ≡ None
     → has_user s.policy console.name ≡ false → ActsAlone s console
 
--- So does an OPTIONAL console where nobody is on, whoever is stored.
+-- An OPTIONAL console where nobody is logged on does the same, whoever is stored.
 abbrev pub OptionalConsolesActAlone : Type 0
 OptionalConsolesActAlone = (s : State) (console : ConsoleRow) → console.mode ≡ Optional → console.user ≡ None
     → ActsAlone s console
 
--- Who is on comes first: whatever the mode, a console acts for the user who is on.
+-- Whoever is logged on comes first: whatever the mode, a console acts for the user who is logged on.
 abbrev pub WhoIsOnComesFirst : Type 0
 WhoIsOnComesFirst =
     (s : State) (console : ConsoleRow) (user : List ℕ) → console.user ≡ Some user
     → ActsFor s console (Some user) × ActsAs s console (record console { mode = Optional })
 
--- A REQUIRED console where nobody is on acts for nobody, whoever is stored.
+-- A REQUIRED console where nobody is logged on acts for nobody, whoever is stored.
 abbrev pub RequiredConsolesActForNobody : Type 0
 RequiredConsolesActForNobody = (s : State) (console : ConsoleRow)
     → console.mode ≡ Required → console.user ≡ None → ActsFor s console None

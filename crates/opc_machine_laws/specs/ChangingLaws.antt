@@ -27,13 +27,13 @@ use Rattle.opc_machine.specs.declared.operation.Operation.{Operation}
 use Rattle.opc_machine.specs.Rights.{account_shown, is_special, may_change, profile_shown}
 use Rattle.opc_machine.specs.Rulings.{acting, logon_denial}
 
--- A console may ask: it is there and online, and the logon rule has nothing against it.
+-- A console may ask: it is there and online, and the logon rule does not deny it.
 pub record MayAsk (s : State) (name : List ℕ) (console : ConsoleRow) : Type 0 where
   pub there : console_at s.board name ≡ Some console
   pub online : console.online ≡ true
   pub logon : logon_denial s console ≡ None
 
--- Administration is done only where the policy of that moment gives the right, and does what it says,
+-- Administration is done only if the policy of that moment gives the right, and does what it states,
 abbrev pub AdministersOnlyWhereAllowed : Type 0
 AdministersOnlyWhereAllowed =
     (s : State) (moment : ℕ) (name : List ℕ) (o : Operation) (lines : List Line) (why : Option Rule) (new : State)
@@ -41,7 +41,7 @@ AdministersOnlyWhereAllowed =
     → (console : ConsoleRow) × MayAsk s name console × (may_change s console o ≡ true) × (changed s o ≡ Ok new)
     × (lines ≡ []) × (why ≡ None)
 
--- and wherever it does, unless something is in the way or the request is aborted.
+-- and whenever it does, unless something is in the way or the request is aborted.
 abbrev pub AdministersWhereverAllowed : Type 0
 AdministersWhereverAllowed =
     (s : State) (moment : ℕ) (name : List ℕ) (o : Operation) (console : ConsoleRow) (next : State) (answer : Answer)
@@ -76,7 +76,7 @@ ListsProfilesWhereverAsked =
 abbrev pub MoreSpecificProfilesComeFirst : Type 0
 MoreSpecificProfilesComeFirst = (s : State) → IsKeyed s → AreMostSpecificFirst s.policy.profiles
 
--- The account is listed only where it may be shown,
+-- The account is listed only if it may be shown,
 abbrev pub ListsAccountOnlyWhereShown : Type 0
 ListsAccountOnlyWhereShown =
     (s : State) (moment : ℕ) (name : List ℕ) (from count : ℕ) (lines : List Line) (why : Option Rule) (new : State)
@@ -84,7 +84,7 @@ ListsAccountOnlyWhereShown =
     → (console : ConsoleRow) × MayAsk s name console × (account_shown s console ≡ true)
     × (lines ≡ map account_line (asked_for from count s.account)) × (new ≡ s)
 
--- and wherever it may, unless the request is aborted.
+-- and whenever it may, unless the request is aborted.
 abbrev pub ListsAccountWhereverShown : Type 0
 ListsAccountWhereverShown =
     (s : State) (moment : ℕ) (name : List ℕ) (from count : ℕ) (console : ConsoleRow) (answer : Answer) (new : State)
@@ -92,8 +92,8 @@ ListsAccountWhereverShown =
     → Step s moment (input.ListAccount name from count) answer new
     → IsAborted answer ⊎ ((answer ≡ Done (map account_line (asked_for from count s.account)) None) × (new ≡ s))
 
--- The first line is the row that was asked for, by its number, and each next line the next row; 0 asks for the first
--- row, as 1 does. There is a line for each row up to the count, and no other.
+-- The first line is the requested row, by its number, and each next line the next row; 0 requests the first row, as 1
+-- does. There is a line for each row up to the count, and no other.
 pub record IsPage (from count : ℕ) (account : List AccountRow) (lines : List Line) : Type 0 where
   pub within : (k : ℕ) (row : AccountRow)
       → k < count → slice_get account (from - 1 + k) ≡ Some row → slice_get lines k ≡ Some
@@ -107,7 +107,7 @@ AccountIsPaged =
     → Step s moment (input.ListAccount name from count) (Done lines why) new
     → IsPage from count s.account lines
 
--- The batch is kept with these very rows, and nothing changes.
+-- The batch is stored with these very rows, and nothing changes.
 pub record IsKeptAgain (s : State) (batch : ℕ) (rows : List Row) (lines : List Line) (new : State) : Type 0 where
   pub kept : Batch
   pub found : batch_of s.batches batch ≡ Some kept
@@ -115,7 +115,7 @@ pub record IsKeptAgain (s : State) (batch : ℕ) (rows : List Row) (lines : List
   pub returned : lines ≡ batch_line batch (codes "AGAIN") ∷ []
   pub same : new ≡ s
 
--- The number is new: all rows are taken, and the batch is kept.
+-- The number is new: all rows are taken, and the batch is stored.
 pub record IsTakenWhole (s : State) (batch : ℕ) (rows : List Row) (lines : List Line) (new : State) : Type 0 where
   pub unknown : batch_of s.batches batch ≡ None
   pub next : State
@@ -123,7 +123,7 @@ pub record IsTakenWhole (s : State) (batch : ℕ) (rows : List Row) (lines : Lis
   pub returned : lines ≡ batch_line batch (codes "KEPT") ∷ []
   pub becomes : new ≡ record next { batches = with_batch (record { number = batch; rows = rows }) next.batches }
 
--- An import is done only for SPECIAL, and then all of it, or nothing where it was done before.
+-- An import is done only for SPECIAL, and then all of it, or nothing if it was done before.
 abbrev pub ImportsOnlyWhereAllowed : Type 0
 ImportsOnlyWhereAllowed =
     (s : State) (moment : ℕ) (name : List ℕ) (batch : ℕ) (rows : List Row) (lines : List Line) (why : Option Rule)
@@ -131,7 +131,7 @@ ImportsOnlyWhereAllowed =
     → (console : ConsoleRow) × MayAsk s name console × (is_special (acting s console) ≡ true)
     × (IsKeptAgain s batch rows lines new ⊎ IsTakenWhole s batch rows lines new)
 
--- It is done wherever SPECIAL asks: with a new number all rows are taken, unless one is refused,
+-- It is done whenever SPECIAL asks: with a new number all rows are taken, unless one is refused,
 abbrev pub ImportsWhereverAllowed : Type 0
 ImportsWhereverAllowed =
     (s : State) (moment : ℕ) (name : List ℕ) (batch : ℕ) (rows : List Row) (console : ConsoleRow) (next : State)
@@ -145,7 +145,7 @@ ImportsWhereverAllowed =
       }) next.batches;
     }))
 
--- and with a number that is kept, nothing.
+-- and with a number that is stored, nothing.
 abbrev pub RepeatsWhereverAllowed : Type 0
 RepeatsWhereverAllowed =
     (s : State) (moment : ℕ) (name : List ℕ) (batch : ℕ) (rows : List Row) (console : ConsoleRow) (kept : Batch)
@@ -154,6 +154,6 @@ RepeatsWhereverAllowed =
     → kept.rows ≡ rows → Step s moment (input.Import name batch rows) answer new
     → IsAborted answer ⊎ ((answer ≡ Done (batch_line batch (codes "AGAIN") ∷ []) None) × (new ≡ s))
 
--- Two batches are the same where their rows are equal.
+-- Two batches are the same if their rows are equal.
 abbrev pub SameRowsAreEqual : Type 0
 SameRowsAreEqual = (one other : List Row) → (same_rows one other ≡ true) ↔ (one ≡ other)

@@ -35,8 +35,8 @@ MayBeShown s console words name = (why : Rule) × (ruling s console (record {
   group = Info;
 }) ≡ Allowed why)
 
--- The line of a unit or a console is about it. It is shown exactly where that may be. A plain line, as that of a device
--- or a reply, always is.
+-- The line of a unit or a console is about it. It is shown if and only if that may be. A plain line, as that of a
+-- device or a reply, always is.
 pub record AreAbout (s : State) (console : ConsoleRow) : Type 0 where
   pub units : (unit : UnitRow) → (unit_line unit).item ≡ item.Unit unit.name
   pub consoles : (row : ConsoleRow) → (console_line row).item ≡ item.Console row.name
@@ -112,8 +112,8 @@ CommandsReportTheirLines =
     → Acts s console k why (Done lines rule) new
     → lines ≡ filter (shown s console) (lines_on s.board k)
 
--- A board that is in order goes by the names of its units and consoles and the numbers of its devices, by their ASCII
--- codes, and by the numbers of its replies.
+-- A board that is in order is sorted by the names of its units and consoles and the numbers of its devices, by their
+-- ASCII codes, and by the numbers of its replies.
 pub record GoesByName (b : BoardRows) : Type 0 where
   pub units : IsInKeyOrder (slice_cmp nat_cmp) (λ (unit : UnitRow). unit.name) b.units
   pub devices : IsInKeyOrder (slice_cmp nat_cmp) (λ (device : DeviceRow). device.number) b.devices

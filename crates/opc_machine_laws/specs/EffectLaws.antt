@@ -20,7 +20,7 @@ use Rattle.opc_machine.specs.declared.request.Answer.TheVariants.{Done}
 use Rattle.opc_machine.specs.Inputs as input
 use Rattle.opc_machine.specs.Machine.{Step}
 
--- What stood at a key has become another by this change, and at every other key stands what stood there.
+-- What was at a key has become another by this change, and at every other key is what was there.
 pub record Becomes {K R : Type 0} (old new : K → Option R) (key : K) (change : R → R → Type 0) : Type 0 where
   pub was : R
   pub now : R
@@ -29,7 +29,7 @@ pub record Becomes {K R : Type 0} (old new : K → Option R) (key : K) (change :
   pub changed : change was now
   pub others : (other : K) → other ≢ key → new other ≡ old other
 
--- One comes, where none stood.
+-- One comes where none was.
 pub record Comes {K R : Type 0} (old new : K → Option R) (key : K) (row : R) : Type 0 where
   pub free : old key ≡ None
   pub here : new key ≡ Some row
@@ -94,18 +94,18 @@ pub record DevicesSwap (from to : Name) (old new : BoardRows) : Type 0 where
 abbrev pub ConsoleBecomes : Name → (ConsoleRow → ConsoleRow → Type 0) → BoardRows → BoardRows → Type 0
 ConsoleBecomes name change old new = Becomes (console_at old) (console_at new) name change × OnlyConsoles old new
 
--- An online console goes offline, and nobody is on there any more; one that is offline stays as it is.
+-- An online console goes offline, and nobody is logged on there any more; one that is offline stays as it is.
 abbrev pub GoesOffline : ConsoleRow → ConsoleRow → Type 0
 GoesOffline was now = (was.online ≡ true → now ≡ record was { online = false; user = None })
     × (was.online ≡ false → now ≡ was)
 
--- The user is on at some console, or has a session.
+-- The user is logged on at some console, or has a session.
 abbrev pub MayBeNotified : Name → BoardRows → Type 0
 MayBeNotified user b = ((c : ConsoleRow) × Contains b.consoles c × (c.user ≡ Some user))
     ⊎ ((unit : UnitRow) × (unit_at b user ≡ Some unit) × (unit.kind ≡ Tsu))
 
--- A command typed at a console does this, and nothing else. It ends, marks or moves what it names; text is kept after
--- all that was kept before.
+-- A command typed at a console does this, and nothing else. It ends, marks or moves what it names; text is stored after
+-- all that was stored before.
 abbrev pub HasDone : Name → Command → BoardRows → BoardRows → Type 0
 HasDone at command.DisplayUnits old new = new ≡ old
 HasDone at (command.DisplayUnit name) old new = new ≡ old

@@ -45,15 +45,15 @@ OfflineConsolesAreAnswered =
     → console_at s.board name ≡ Some console → console.online ≡ false
     → IsRefusedBy s r fault.ConsoleOffline
 
--- The line that is typed is no command.
+-- The line that is typed is not a command.
 abbrev pub BadLinesAreAnswered : Type 0
 BadLinesAreAnswered =
     (s : State) (name text : List ℕ) (console : ConsoleRow) (bad : ReadFault) → console_at s.board name ≡ Some console
     → console.online ≡ true → IsReadFault text bad
     → IsRefusedBy s (input.Command name text) (line_fault bad)
 
--- Somebody is on where a user is to log on; the password is not the user's, or there is no such user; nobody is on who
--- could log off.
+-- Somebody is logged on already at a LOGON; the password is not the user's, or there is no such user; nobody is logged
+-- on who could log off.
 abbrev pub IsOutOfTurn : State → List ℕ → List ℕ → ConsoleRow → Fault → Type 0
 IsOutOfTurn s name text console (fault.AlreadyOn user) =
     (id : Operand (List ℕ)) × (password : Operand (List ℕ)) × IsHeard s name text console (command.Logon id password)
@@ -69,12 +69,12 @@ abbrev pub LogonFaultsAreAnswered : Type 0
 LogonFaultsAreAnswered = (s : State) (name text : List ℕ) (console : ConsoleRow) (fault : Fault)
     → IsOutOfTurn s name text console fault → IsRefusedBy s (input.Command name text) fault
 
--- A profile that is changed wants its owner, or SPECIAL, and all else SPECIAL.
+-- To change a profile takes its owner, or SPECIAL; everything else takes SPECIAL.
 abbrev pub missing_right : Option (Class × List ℕ) → Fault
 missing_right None = fault.NotSpecial
 missing_right (Some profile) = fault.NotOwner
 
--- The console may ask, and not for this: the right is missing, whatever else is in the way.
+-- The console may ask, but not for this: the right is missing, whatever else is in the way.
 abbrev pub LacksRight : State → Input → ConsoleRow → Fault → Type 0
 LacksRight s (input.Admin name o) console returned =
     MayAsk s name console × (may_change s console o ≡ false) × (returned ≡ missing_right (changed_profile o))
@@ -88,7 +88,7 @@ abbrev pub MissingRightsAreAnswered : Type 0
 MissingRightsAreAnswered = (s : State) (r : Input) (console : ConsoleRow) (fault : Fault) → LacksRight s r console fault
     → IsRefusedBy s r fault
 
--- The right is there, and something is in the way of the change, or of a row; or the batch is kept with other rows.
+-- The right is there, and something is in the way of the change, or of a row; or the batch is stored with other rows.
 abbrev pub AdministrationFaultsAreAnswered : Type 0
 AdministrationFaultsAreAnswered =
     (s : State) (name : List ℕ) (o : Operation) (console : ConsoleRow) (fault : Fault) → MayAsk s name console

@@ -32,7 +32,7 @@ use Rattle.opc_board.specs.Replies.{has_session, is_on, is_session}
 use Rattle.opc_machine_laws.specs.EffectLaws.{HasDone}
 use Rattle.opc_machine_laws.specs.ObstacleLaws.{first_obstacle}
 
--- whether a unit is there that C may end, and what is so of a device that is there
+-- whether a unit is there that C may end, and what holds of a device that is there
 abbrev pub is_cancelable : Option UnitRow → Bool
 is_cancelable None = false
 is_cancelable (Some unit) = unit.cancelable
@@ -49,8 +49,8 @@ abbrev pub is_used : Option DeviceRow → Bool
 is_used None = false
 is_used (Some device) = is_some device.unit
 
--- What may be in the way of a command, in the order of its report. That the last online console with AUTH MASTER
--- were lost comes after all of this.
+-- What may be in the way of a command, in the order of its report. That the last online console with AUTH MASTER would
+-- be lost comes after all of this.
 abbrev pub board_obstacles : BoardRows → Command → List (Bool × BoardFault)
 board_obstacles b (command.Cancel name) =
     (is_none (unit_at b name.value), NoUnit)
@@ -106,7 +106,7 @@ pub record LosesMaster (b : BoardRows) (at : Name) (k : Command) (outcome : Boar
   pub lost : (has_master b.consoles ≡ true → has_master new.consoles ≡ true) → ⊥
   pub refused : outcome ≡ Err LastMaster
 
--- Without any of these it acts, unless by that.
+-- Without any of these it acts, unless that would happen.
 abbrev pub IsDoneOrLosesMaster : BoardRows → Name → Command → BoardOutcome → Type 0
 IsDoneOrLosesMaster b at k outcome = ((act : Done) × (outcome ≡ Ok act)) ⊎ LosesMaster b at k outcome
 
@@ -114,7 +114,7 @@ abbrev pub CommandsActWithoutObstacle : Type 0
 CommandsActWithoutObstacle = (b : BoardRows) (at : Name) (k : Command) → first_obstacle (board_obstacles b k) ≡ None
     → IsDoneOrLosesMaster b at k (effect b k at)
 
--- So it is with events.
+-- The same holds of events.
 abbrev pub event_obstacles : BoardRows → Event → List (Bool × BoardFault)
 event_obstacles b (event.JobIn name kind cancelable) = (b.halted, Halted) ∷ (is_some (unit_at b name), UnitExists) ∷ []
 event_obstacles b (event.JobEnd name) = (is_none (unit_at b name), NoUnit) ∷ []

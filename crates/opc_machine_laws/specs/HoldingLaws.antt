@@ -30,7 +30,7 @@ use Rattle.opc_policy_members.specs.declared.user.User.{User}
 use Rattle.opc_policy_members.specs.Access.{entry_level, first_level, highest_level}
 use Rattle.opc_policy_members.specs.Held.{held}
 
--- An entry is for the user, for a group of the user, or for everyone, which is for nobody who is RESTRICTED.
+-- An entry is for the user, for a group of the user, or for everyone, which does not include RESTRICTED users.
 abbrev pub IsForUser : User → List (List ℕ) → Entry → Type 0
 IsForUser u groups e = (e.id ≡ u.id) ⊎ (Contains groups e.id ⊎ ((e.id ≡ codes "*") × (u.restricted ≡ false)))
 
@@ -42,8 +42,8 @@ pub record Gives (p : Profile) (u : User) (console : Option (List ℕ)) (groups 
   pub for_user : IsForUser u groups e
   pub enough : includes e.level needed ≡ true
 
--- Whoever holds a level above NONE holds it by such an entry, or by the universal access, which nobody has who is
--- RESTRICTED.
+-- Whoever holds a level above NONE holds it by such an entry, or by the universal access, which RESTRICTED users do not
+-- have.
 abbrev pub LevelsAreGiven : Type 0
 LevelsAreGiven =
     (p : Profile) (u : User) (console : Option (List ℕ)) (groups : List (List ℕ)) (needed : Level)
@@ -77,7 +77,7 @@ EntriesCountAtTheirConsole =
 abbrev pub is_named : User → List (List ℕ) → Entry → Bool
 is_named u groups e = bytes_eq e.id u.id || list_any (bytes_eq e.id) groups
 
--- A RESTRICTED user has nothing of what is given everyone: the user holds the same without universal access, and
+-- A RESTRICTED user has nothing of what is given to everyone: the user holds the same without universal access, and
 -- without the entries for others.
 abbrev pub RestrictedUsersAreNamed : Type 0
 RestrictedUsersAreNamed =
@@ -87,7 +87,7 @@ RestrictedUsersAreNamed =
       entries = filter (is_named u groups) p.entries;
     }) u console groups ≡ held p u console groups
 
--- The first source that has a level decides, also where it is NONE.
+-- The first source that has a level decides, even if it is NONE.
 -- Without the entries for a console: the user's own entry, then the highest for a group, then that for everyone, then
 -- the universal access. None of the later ones raises it, and none lowers it.
 pub record IsByFirstSource (p : Profile) (u : User) (groups : List (List ℕ)) : Type 0 where

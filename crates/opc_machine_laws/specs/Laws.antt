@@ -65,8 +65,8 @@ pub record IsAllowed (s : State) (name text : List ℕ) (console : ConsoleRow) (
   pub needs : need_of s.board command ≡ Some need
   pub allowed : ruling s console need ≡ Allowed why
 
--- The command acts: it is done by that rule, the board is the one that it makes, and of its lines those are given
--- that may be shown. The policy stays.
+-- The command acts: it is done by that rule, the board is the one that it makes, and it gives those of its lines that
+-- may be shown. The policy stays.
 pub record Acts (s : State) (console : ConsoleRow) (command : Command) (why : Rule) (answer : Answer)
     (new : State) : Type 0 where
   pub act : BoardDone
@@ -75,7 +75,7 @@ pub record Acts (s : State) (console : ConsoleRow) (command : Command) (why : Ru
   pub board : new.board ≡ act.board
   pub policy : new.policy ≡ s.policy
 
--- A command that needs something acts only where the policy of that moment allows it,
+-- A command that needs something acts only if the policy of that moment allows it,
 abbrev pub ActsOnlyWhereAllowed : Type 0
 ActsOnlyWhereAllowed =
     (s : State) (moment : ℕ) (name text : List ℕ) (command : Command) (need : Need) (lines : List Line)
@@ -85,7 +85,7 @@ ActsOnlyWhereAllowed =
     → (console : ConsoleRow) × (rule : Rule) × IsAllowed s name text console command rule
     × Acts s console command rule (Done lines why) new
 
--- and wherever it does, unless the board is in the way or the request is aborted.
+-- and whenever it does, unless the board is in the way or the request is aborted.
 abbrev pub ActsWhereverAllowed : Type 0
 ActsWhereverAllowed =
     (s : State) (moment : ℕ) (name text : List ℕ) (console : ConsoleRow) (command : Command) (why : Rule)
@@ -108,7 +108,7 @@ OnlyWhatIsHeardIsDone =
     → (console : ConsoleRow) × (command : Command) × IsHeard s name text console command
     × (IsSession command ⊎ ((need : Need) × (need_of s.board command ≡ Some need)))
 
--- Of the lines of a command that acts, a unit's or a console's is listed exactly where it may be shown.
+-- Of the lines of a command that acts, a unit's or a console's is listed if and only if it may be shown.
 abbrev pub ListsExactlyWhatMayBeShown : Type 0
 ListsExactlyWhatMayBeShown =
     (s : State) (console : ConsoleRow) (command : Command) (why : Rule) (lines : List Line) (rule : Option Rule)
@@ -120,8 +120,8 @@ pub record IsKnown (s : State) (id password : List ℕ) (user : User) : Type 0 w
   pub stored : user_of s.policy.users id ≡ Some user
   pub digest : user.digest ≡ Some (sha256 password)
 
--- A LOGON may let the user on: the line is heard, nobody is on, the password is the user's, and the policy of this
--- moment allows it.
+-- A LOGON may admit the user: the line is heard, nobody is logged on, the password is the user's, and the policy of
+-- this moment allows it.
 pub record IsAdmitted (s : State) (name text : List ℕ) (console : ConsoleRow) (id password : Operand (List ℕ))
     (user : User) (why : Rule) : Type 0 where
   pub heard : IsHeard s name text console (command.Logon id password)
@@ -129,14 +129,14 @@ pub record IsAdmitted (s : State) (name text : List ℕ) (console : ConsoleRow) 
   pub known : IsKnown s id.value password.value user
   pub allowed : logon_ruling s console user ≡ Allowed why
 
--- The user is on, by that rule, and the policy stays.
+-- The user is logged on, by that rule, and the policy stays.
 pub record LogsOn (s : State) (console : ConsoleRow) (id : List ℕ) (why : Rule) (answer : Answer) (new : State) : Type
     0 where
   pub answered : answer ≡ Done [] (Some why)
   pub board : new.board ≡ logged_on console.name id s.board
   pub policy : new.policy ≡ s.policy
 
--- A user is logged on only where the policy of that moment allows it,
+-- A user is logged on only if the policy of that moment allows it,
 abbrev pub LogsOnOnlyWhereAllowed : Type 0
 LogsOnOnlyWhereAllowed =
     (s : State) (moment : ℕ) (name text : List ℕ) (id password : Operand (List ℕ)) (lines : List Line)
@@ -145,7 +145,7 @@ LogsOnOnlyWhereAllowed =
     → (console : ConsoleRow) × (user : User) × (rule : Rule) × IsAdmitted s name text console id password user rule
     × LogsOn s console id.value rule (Done lines why) new
 
--- and wherever it does, unless the request is aborted.
+-- and whenever it does, unless the request is aborted.
 abbrev pub LogsOnWhereverAllowed : Type 0
 LogsOnWhereverAllowed =
     (s : State) (moment : ℕ) (name text : List ℕ) (console : ConsoleRow) (id password : Operand (List ℕ)) (user : User)
@@ -153,13 +153,13 @@ LogsOnWhereverAllowed =
     → IsAdmitted s name text console id password user why → Step s moment (input.Command name text) answer new
     → IsAborted answer ⊎ LogsOn s console id.value why answer new
 
--- Nobody is on any more, which no rule decides, and the policy stays.
+-- Nobody is logged on any more, which no rule decides, and the policy stays.
 pub record LogsOff (s : State) (console : ConsoleRow) (answer : Answer) (new : State) : Type 0 where
   pub answered : answer ≡ Done [] None
   pub board : new.board ≡ logged_off console.name s.board
   pub policy : new.policy ≡ s.policy
 
--- LOGOFF is done only where somebody is on,
+-- LOGOFF is done only if somebody is logged on,
 abbrev pub LogsOffOnlyWhereSomebodyIsOn : Type 0
 LogsOffOnlyWhereSomebodyIsOn =
     (s : State) (moment : ℕ) (name text : List ℕ) (lines : List Line) (why : Option Rule) (new : State)
@@ -167,7 +167,7 @@ LogsOffOnlyWhereSomebodyIsOn =
     → (console : ConsoleRow) × IsHeard s name text console command.Logoff × (is_some console.user ≡ true)
     × LogsOff s console (Done lines why) new
 
--- and wherever somebody is, unless the request is aborted.
+-- and whenever somebody is, unless the request is aborted.
 abbrev pub LogsOffWhereverSomebodyIsOn : Type 0
 LogsOffWhereverSomebodyIsOn =
     (s : State) (moment : ℕ) (name text : List ℕ) (console : ConsoleRow) (answer : Answer) (new : State)
@@ -183,7 +183,7 @@ pub record IsRefusal (s : State) (moment : ℕ) (r : Input) (fault : Fault) (why
   pub batches : new.batches ≡ s.batches
   pub account : new.account ≡ s.account ++ account_row s moment r (fault_code fault) why ∷ []
 
--- One that is aborted leaves all.
+-- One that is aborted leaves everything.
 abbrev pub RefusalsChangeNothing : Type 0
 RefusalsChangeNothing =
     (s : State) (moment : ℕ) (r : Input) (fault : Fault) (why : Option Rule) (new : State)
@@ -195,12 +195,12 @@ abbrev pub AbortsChangeNothing : Type 0
 AbortsChangeNothing = (s : State) (moment : ℕ) (r : Input) (fault : Fault) (why : Option Rule) (new : State)
     → IsAborted (Refused fault why) → Step s moment r (Refused fault why) new → new ≡ s
 
--- Only two answers give a request up: there was no memory, or the store failed.
+-- Only two answers abort a request: there was no memory, or the store failed.
 abbrev pub AbortsWithoutMemoryOrStore : Type 0
 AbortsWithoutMemoryOrStore = (answer : Answer) → IsAborted answer → (answer ≡ Refused fault.NoMemory None)
     ⊎ (answer ≡ Refused fault.Store None)
 
--- the refusals of authority
+-- the refusals for lack of authority
 abbrev pub IsOfAuthority : Fault → Type 0
 IsOfAuthority fault.LogonRequired = Unit {0}
 IsOfAuthority fault.Revoked = Unit {0}
@@ -225,7 +225,7 @@ IsOfConsole rule.LogonRequired = ⊥
 IsOfConsole rule.Revoked = ⊥
 
 -- what kind of rule each of them names, and no other fault names a rule that denies: the logon rule, a profile of the
--- class that was asked, or a console's group
+-- class that was searched, or a console's group
 abbrev pub IsNamedBy : Fault → Rule → Type 0
 IsNamedBy fault.LogonRequired why = why ≡ rule.LogonRequired
 IsNamedBy fault.Revoked why = why ≡ rule.Revoked
@@ -243,8 +243,8 @@ pub record IsRuledOut (s : State) (name text : List ℕ) (why : Rule) : Type 0 w
   pub needs : need_of s.board command ≡ Some need
   pub denied : ruling s console need ≡ Denied why
 
--- The line is a LOGON of a user with the user's password, where nobody is on, and the policy of this moment does not
--- let that user on, by this rule.
+-- The line is a LOGON of a user with the user's password, where nobody is logged on, and the policy of this moment does
+-- not admit that user, by this rule.
 pub record IsKeptOff (s : State) (name text : List ℕ) (why : Rule) : Type 0 where
   pub console : ConsoleRow
   pub id : Operand (List ℕ)
@@ -270,7 +270,7 @@ IsDeniedBy s (input.ListAccount name from count) why = IsShutOut s name why
 IsDeniedBy s (input.Import name batch rows) why = IsShutOut s name why
 IsDeniedBy s (input.Event e) why = ⊥
 
--- A refusal of authority names its rule, and that rule denies by the policy of that moment.
+-- A refusal for lack of authority names its rule, and that rule denies by the policy of that moment.
 abbrev pub RefusalsOfAuthorityNameTheirRule : Type 0
 RefusalsOfAuthorityNameTheirRule =
     (s : State) (moment : ℕ) (r : Input) (fault : Fault) (why : Option Rule) (new : State) → IsOfAuthority fault
@@ -305,7 +305,7 @@ DenialsAreAnswered =
     → Step s moment r answer new
     → IsAborted answer ⊎ ((fault : Fault) × IsNamedBy fault why × (answer ≡ Refused fault (Some why)))
 
--- Where the board is in the way of what is allowed, its fault is answered with the rule that allowed it.
+-- If the board is in the way of what is allowed, its fault is answered with the rule that allowed it.
 abbrev pub BoardFaultsAreAnswered : Type 0
 BoardFaultsAreAnswered =
     (s : State) (moment : ℕ) (name text : List ℕ) (fault : Fault) (why : Rule) (answer : Answer) (new : State)
@@ -331,7 +331,7 @@ RequestsAreJudgedInTurn =
     (new : State) → Runs s (before ++ r ∷ later) answers new
     → IsJudgedInTurn s before r later answers new
 
--- Where nothing is asked nothing is answered, and nothing changes.
+-- If nothing is asked, nothing is answered, and nothing changes.
 abbrev pub NothingAskedChangesNothing : Type 0
 NothingAskedChangesNothing = (s : State) (answers : List Answer) (new : State)
     → Runs s [] answers new → (answers ≡ []) × (new ≡ s)

@@ -1,4 +1,4 @@
--- What a request leaves as it is, to those who keep account.
+-- What a request leaves as it is, to those who read the account.
 use Rattle.std.specs.Prelude.{◌≡◌, ◌⊎◌, ℕ, true, List, [], ◌∷◌, ◌++◌, Option, Some, None, Ok, Err, codes}
 use Rattle.opc_terms.specs.declared.rule.Rule.{Rule}
 use Rattle.opc_terms.specs.declared.rule.Rule.TheVariants as rule
@@ -33,7 +33,7 @@ IsWarned (Some rule.LogonRequired) = ⊥
 IsWarned (Some rule.Revoked) = ⊥
 IsWarned None = ⊥
 
--- The batches after an import: with this one where its number is new, and as they were where it is kept.
+-- The batches after an import: with this one if its number is new, and as they were if it is stored.
 pub record IsBatchKept (s : State) (number : ℕ) (batch : Batch) (new : State) : Type 0 where
   pub fresh : batch_of s.batches number ≡ None → new.batches ≡ with_batch batch s.batches
   pub known : (kept : Batch) → batch_of s.batches number ≡ Some kept → new.batches ≡ s.batches
@@ -45,8 +45,8 @@ AreBatchesLeft s (input.Import name number rows) new = IsBatchKept s number (rec
 }) new
 AreBatchesLeft s other new = new.batches ≡ s.batches
 
--- What is done leaves the account and the batches as they are. Its row is added exactly where a warning alone let it
--- pass, and an import keeps its batch.
+-- What is done leaves the account and the batches as they are. Its row is added if and only if a warning alone let it
+-- pass, and an import stores its batch.
 pub record LeavesRest (s : State) (moment : ℕ) (r : Input) (why : Option Rule) (new : State) : Type 0 where
   pub account : (IsWarned why × (new.account ≡ s.account ++ account_row s moment r (codes "WARN") why ∷ []))
       ⊎ ((IsWarned why → ⊥) × (new.account ≡ s.account))
@@ -103,21 +103,21 @@ EventsOnlyDoTheirEffect =
     → Step s moment (input.Event e) (Done lines why) new
     → (act : BoardDone) × Happens s e act (Done lines why) new
 
--- It happens wherever the board lets it, unless it is aborted,
+-- It happens whenever the board lets it, unless it is aborted,
 abbrev pub EventsHappenWhereverPossible : Type 0
 EventsHappenWhereverPossible =
     (s : State) (moment : ℕ) (e : Event) (act : BoardDone) (answer : Answer) (new : State)
     → event_effect s.board e ≡ Ok act → Step s moment (input.Event e) answer new
     → IsAborted answer ⊎ Happens s e act answer new
 
--- and is else refused by the board's fault.
+-- and is otherwise refused by the board's fault.
 abbrev pub EventFaultsAreAnswered : Type 0
 EventFaultsAreAnswered =
     (s : State) (moment : ℕ) (e : Event) (fault : BoardFault) (answer : Answer) (new : State)
     → event_effect s.board e ≡ Err fault → Step s moment (input.Event e) answer new
     → IsAborted answer ⊎ (answer ≡ Refused (board_fault fault) None)
 
--- Whatever is asked and whatever happens: where an online console has AUTH MASTER, one has it afterwards.
+-- Whatever is asked and whatever happens: if an online console has AUTH MASTER, one has it afterwards.
 abbrev pub StepsKeepAMaster : Type 0
 StepsKeepAMaster = (s : State) (moment : ℕ) (r : Input) (answer : Answer) (new : State)
     → Step s moment r answer new → KeepsMaster s new

@@ -19,8 +19,8 @@ use Rattle.opc_board.specs.declared.rows.UnitRow.{UnitRow}
 use Rattle.opc_board.specs.Invariants.{Name, kind_at, unit_at}
 use Rattle.opc_machine.specs.Commands.{need_of}
 
--- A command needs what the table says: of C, FORCE, P and F by the kind of the unit that is there, of others whatever
--- is there.
+-- A command needs what the table defines: C, FORCE, P and F by the kind of the unit that is there, others whatever is
+-- there.
 abbrev pub IsNeeded : BoardRows → Command → Option Need → Type 0
 IsNeeded b (command.Cancel name) needed = needed ≡ need (command.Cancel name) (kind_at b name.value)
 IsNeeded b (command.Force name) needed = needed ≡ need (command.Force name) (kind_at b name.value)
@@ -53,7 +53,7 @@ abbrev pub by : Group → Level → List ℕ → Option Need
 by group level resource = Some (record { resource = resource; level = level; group = group })
 
 -- How a resource names a unit: a started task by its member and its name, a session by a word of its own under FORCE
--- alone, and all else as a job, also what is not on the board; 46 is the period.
+-- alone, and everything else as a job, even what is not on the board; 46 is the period.
 abbrev pub of_kind : List ℕ → UnitKind → Name → List ℕ
 of_kind session Job name = codes "JOB." ++ name
 of_kind session (Stc member) name = codes "STC." ++ member ++ 46 ∷ name

@@ -11,7 +11,7 @@ use Rattle.opc_board.specs.declared.fault.BoardFault.{BoardFault}
 use Rattle.opc_board.specs.declared.fault.BoardFault.TheVariants as board
 use Rattle.opc_machine.specs.Faults.{board_fault, line_fault}
 
--- the number of what is in the way on the board; of refused memory that of a request that is aborted
+-- the number of what is in the way on the board; for refused memory that of a request that is aborted
 abbrev pub board_number : BoardFault → List ℕ
 board_number board.NoUnit = codes "E30"
 board_number board.NonCancelable = codes "E31"
@@ -29,7 +29,7 @@ board_number board.WrongKind = codes "E42"
 board_number board.ReplyExists = codes "E45"
 board_number board.NoMemory = codes "E90"
 
--- of what is wrong with a line, and the text that says where
+-- of what is wrong with a line, and the text that states where
 abbrev pub line_number : ReadFault → List ℕ
 line_number line.Empty = codes "E01"
 line_number line.TooLong = codes "E02"
@@ -54,7 +54,7 @@ pub record HasItsNumber (fault : BoardFault) : Type 0 where
 abbrev pub BoardFaultsAreDistinct : Type 0
 BoardFaultsAreDistinct = (fault : BoardFault) → HasItsNumber fault
 
--- so is each fault of a line, with its place.
+-- and so is each fault of a line, with its place.
 pub record HasItsPlace (fault : ReadFault) : Type 0 where
   pub number : fault_code (line_fault fault) ≡ line_number fault
   pub text : fault_text (line_fault fault) ≡ line_text fault
@@ -64,8 +64,8 @@ abbrev pub LineFaultsAreDistinct : Type 0
 LineFaultsAreDistinct = (fault : ReadFault) → HasItsPlace fault
 
 -- the number of every fault of a request: 1 to 6 of its line, 10 to 17 of its console and logon, 20 and 21 of the
--- policy, 30 to 45 of the board, 50 to 60 of administration, and from 90 on where it is aborted or the tables are not
--- ours
+-- policy, 30 to 45 of the board, 50 to 60 of administration, and from 90 on if it is aborted or the tables are another
+-- program's
 abbrev pub number : Fault → ℕ
 number fault.Empty = 1
 number fault.TooLong = 2

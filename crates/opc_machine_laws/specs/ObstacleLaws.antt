@@ -39,13 +39,13 @@ use Rattle.opc_machine_laws.specs.TakingLaws.{IsDoneTo, KeepsMaster}
 abbrev pub is_defined : Policy → Class → List ℕ → Bool
 is_defined p class pattern = is_some (profile_of p.profiles class pattern)
 
--- whether an access list has an entry for an id, and for a console alone or, where none is given, for every console
+-- whether an access list has an entry for an id, and for a console alone or, if none is given, for every console
 abbrev pub is_listed : Policy → Class → List ℕ → List ℕ → Option (List ℕ) → Bool
 is_listed p class pattern id when = option_map_or (λ (profile : Profile). list_any (is_for when id) profile.entries)
     (profile_of p.profiles class pattern) false
 
--- What may be in the way of an operation, in the order of its report: a name that a user or a group has already,
--- one that is not stored, a user whom a connect, an owner or an access list names, or who is on.
+-- What may be in the way of an operation, in the order of its report: a name that a user or a group has already, one
+-- that is not stored, a user whom a connect, an owner or an access list names, or who is logged on.
 abbrev pub obstacles : State → Operation → List (Bool × Fault)
 obstacles s (operation.AddUser id special auditor digest restricted) =
     (has_user s.policy id || has_group s.policy id, Exists id) ∷ []
@@ -82,7 +82,7 @@ abbrev pub ObstaclesAreFaults : Type 0
 ObstaclesAreFaults = (s : State) (o : Operation) (fault : Fault) → first_obstacle (obstacles s o) ≡ Some fault
     → changed s o ≡ Err fault
 
--- Without any it is done, unless the last online console with AUTH MASTER were lost by it.
+-- Without any it is done, unless the last online console with AUTH MASTER would be lost by it.
 pub record IsDoneOrLastMaster (s : State) (o : Operation) : Type 0 where
   pub new : State
   pub done : IsDoneTo s o new

@@ -20,8 +20,8 @@ pub record ProfileLeaves (class : Class) (pattern : List ℕ) (old new : Policy)
   pub others : (c : Class) (p : List ℕ) →
       IsOther c p class pattern → profile_of new.profiles c p ≡ profile_of old.profiles c p
 
--- An operation that defines, alters or permits leaves what the row of an import leaves: what it names as it says, and
--- all else as it was. One that deletes leaves nothing of what it names, and all else.
+-- An operation that defines, alters or permits leaves what the row of an import leaves: what it names as it states, and
+-- everything else as it was. One that deletes leaves nothing of what it names, and everything else.
 abbrev pub HasChanged : Operation → Policy → Policy → Type 0
 HasChanged (operation.AddUser id special auditor digest restricted) old new =
     HasTaken (rows.User (record {

@@ -60,7 +60,7 @@ pub record IsSpelled (v : Verb) : Type 0 where
 abbrev pub VerbsAreSpelledSo : Type 0
 VerbsAreSpelledSo = (v : Verb) → IsSpelled v
 
--- A text that is typed says what stands between its apostrophes, with each pair as one, or itself in upper case.
+-- A text that is typed means what is between its apostrophes, with each pair as one, or itself in upper case.
 abbrev pub TypedTextsSay : Type 0
 TypedTextsSay = (typed : List ℕ) → Says typed (text_value typed)
 

@@ -1,4 +1,4 @@
--- Who may administer, see profiles and the account, and import, to those who are to.
+-- Who may administer, see profiles and the account, and import, to those who will.
 use Rattle.std.specs.Prelude.{◌≡◌, ◌⊎◌, ◌↔◌, ℕ, true, List, Option, Some, None}
 use Rattle.opc_names.specs.Authority.{includes}
 use Rattle.opc_names.specs.declared.class.Class.{Class}
@@ -43,7 +43,7 @@ RightsAreOfSpecialAndOwners = (s : State) (console : ConsoleRow) (o : Operation)
 abbrev pub SeesAll : User → Type 0
 SeesAll user = (user.special ≡ true) ⊎ (user.auditor ≡ true)
 
--- a profile is seen by its owner too, and by whoever holds READ in it,
+-- a profile is also seen by its owner, and by whoever holds READ in it,
 pub record MaySeeProfile (s : State) (console : ConsoleRow) (p : Profile) : Type 0 where
   pub user : User
   pub acts : acting s console ≡ Some user

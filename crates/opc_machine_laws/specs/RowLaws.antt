@@ -44,8 +44,8 @@ IsWritten other = Unit {0}
 abbrev pub IsOther : {A B : Type 0} → A → B → A → B → Type 0
 IsOther a b c d = a ≡ c → b ≡ d → ⊥
 
--- A user row, say, leaves the user of its id exactly as the row says, with the flags that it names and no other, and
--- each other user as before.
+-- A user row, for example, leaves the user of its id exactly as the row states, with the flags that it names and no
+-- other, and each other user as before.
 pub record IsKept {K R : Type 0} (old new : K → R) (key : K) (row : R) : Type 0 where
   pub here : new key ≡ row
   pub others : (other : K) → other ≢ key → new other ≡ old other
@@ -103,7 +103,8 @@ abbrev pub RowsDoWhatTheySay : Type 0
 RowsDoWhatTheySay = (row : Row) (old new : Policy) → AllByRecursion HasPattern old.profiles → IsWritten row
     → after_row row old ≡ Ok new → HasTaken row old new
 
--- A console row sets the authority and the mode of a console that is there; a new console is online with nobody on.
+-- A console row sets the authority and the mode of a console that is there; a new console is online with nobody logged
+-- on.
 pub record ConsoleIsDefined (name : Name) (auth : Auth) (mode : Mode) (old new : BoardRows) : Type 0 where
   pub kept : (c : ConsoleRow) → console_at old name ≡ Some c
       → console_at new name ≡ Some (record c { auth = auth; mode = mode })
@@ -155,7 +156,7 @@ row_obstacles p (rows.Profile class pattern uacc owner warning) = (not (has_user
 row_obstacles p (rows.Permit class pattern id level when) =
     (not (is_defined p class pattern), Missing pattern) ∷ (not (has_holder p id), Missing id) ∷ []
 
--- A row is taken where nothing is in its way.
+-- A row is taken if nothing is in its way.
 abbrev pub RowsAreTakenWithoutObstacle : Type 0
 RowsAreTakenWithoutObstacle = (row : Row) (old : Policy) → first_obstacle (row_obstacles old row) ≡ None
     → (new : Policy) × (after_row row old ≡ Ok new)
@@ -167,7 +168,7 @@ RowObstaclesAreFaults =
     → AreTaken before s.policy reached → first_obstacle (row_obstacles reached row) ≡ Some fault
     → with_rows (before ++ row ∷ more) s ≡ Err fault
 
--- where none has, they are refused if the last online console with AUTH MASTER were lost by all of them.
+-- if none has, they are refused if the last online console with AUTH MASTER would be lost by all of them.
 abbrev pub RowsKeepAMasterOrAreRefused : Type 0
 RowsKeepAMasterOrAreRefused =
     (all : List Row) (s : State) (policy : Policy) (board : BoardRows) → AreTaken all s.policy policy
@@ -177,7 +178,7 @@ RowsKeepAMasterOrAreRefused =
     }) → ⊥)
     → with_rows all s ≡ Err LastMaster
 
--- A batch that is kept is found by its number from then on, and each other one as before.
+-- A batch that is stored is found by its number from then on, and each other one as before.
 abbrev pub BatchesAreKept : Type 0
 BatchesAreKept = (batch : Batch) (batches : List Batch)
     → IsKept (batch_of batches) (batch_of (with_batch batch batches)) batch.number (Some batch)

@@ -1,4 +1,4 @@
--- Why something is ruled as it is, to those who are ruled on.
+-- Why a ruling is what it is, to those on whom it is made.
 use Rattle.std.specs.Prelude.{◌≡◌, ◌⊎◌, ℕ, Bool, true, false, not, ◌&&◌, ◌||◌, List, Option, Some, None}
 use Rattle.opc_names.specs.declared.class.Class.{Class}
 use Rattle.opc_names.specs.declared.class.Class.TheVariants.{Console, Opercmds}
@@ -20,7 +20,7 @@ use Rattle.opc_board.specs.declared.rows.ConsoleRow.{ConsoleRow}
 use Rattle.opc_state.specs.State.{State, deciding_in}
 use Rattle.opc_machine.specs.Rulings.{acting, logon_denial, logon_ruling, ruling}
 
--- what is said, and why
+-- what is ruled, and why
 abbrev pub said : Bool → Rule → Ruling
 said true why = Allowed why
 said false why = Denied why
@@ -29,8 +29,8 @@ said false why = Denied why
 abbrev pub held_at : State → ConsoleRow → User → Profile → Level
 held_at s console user p = held p user (Some console.name) (groups_of s.policy.connects user.id)
 
--- A profile of an active class decides: it allows a user who holds what is needed, and others where it only warns. The
--- rule names it, and names a warning exactly where that alone lets pass.
+-- A profile of an active class decides: it allows a user who holds what is needed, and others if it only warns. The
+-- rule names it, and names a warning if and only if that alone lets the request pass.
 pub record IsByProfile (s : State) (console : ConsoleRow) (user : User) (class : Class) (resource : List ℕ)
     (needed : Level) (ruled : Ruling) : Type 0 where
   pub profile : Profile
@@ -45,16 +45,16 @@ pub record IsByProfile (s : State) (console : ConsoleRow) (user : User) (class :
 abbrev pub IsUndecided : State → Class → List ℕ → Type 0
 IsUndecided s class resource = (is_active s.policy.active class ≡ false) ⊎ (deciding_in s.policy class resource ≡ None)
 
--- At a REQUIRED console nobody is on.
+-- At a REQUIRED console nobody is logged on.
 abbrev pub IsUnattended : ConsoleRow → Type 0
 IsUnattended console = (console.mode ≡ Required) × (console.user ≡ None)
 
--- The logon rule denies first where somebody has to be on,
+-- The logon rule denies first if somebody has to be logged on,
 pub record IsDeniedUnattended (console : ConsoleRow) (denial : Option Rule) : Type 0 where
   pub unattended : IsUnattended console
   pub says : denial ≡ Some rule.LogonRequired
 
--- then where whoever acts is revoked,
+-- then if whoever acts is revoked,
 pub record IsDeniedRevoked (s : State) (console : ConsoleRow) (denial : Option Rule) : Type 0 where
   pub attended : IsUnattended console → ⊥
   pub user : User
@@ -62,7 +62,7 @@ pub record IsDeniedRevoked (s : State) (console : ConsoleRow) (denial : Option R
   pub revoked : user.revoked ≡ true
   pub says : denial ≡ Some rule.Revoked
 
--- and else nothing.
+-- and otherwise nothing.
 pub record IsFree (s : State) (console : ConsoleRow) (denial : Option Rule) : Type 0 where
   pub attended : IsUnattended console → ⊥
   pub trusted : (user : User) → acting s console ≡ Some user → user.revoked ≡ false
@@ -96,7 +96,8 @@ RulingsSayWhy = (s : State) (console : ConsoleRow) (need : Need) → IsRuledByLo
     ⊎ (IsRuledByProfile s console need (ruling s console need)
     ⊎ IsRuledByConsole s console need (ruling s console need))
 
--- A user who logs on is refused where revoked, then ruled on by the profile of CONSOLE that decides, and else admitted.
+-- A user who logs on is refused if revoked, then ruled on by the profile of CONSOLE that decides, and otherwise
+-- admitted.
 pub record IsRuledAtLogon (s : State) (console : ConsoleRow) (user : User) (ruled : Ruling) : Type 0 where
   pub revoked : user.revoked ≡ true → ruled ≡ Denied rule.Revoked
   pub trusted : user.revoked ≡ false → IsByProfile s console user Console console.name Read ruled

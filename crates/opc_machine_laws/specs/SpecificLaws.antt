@@ -5,8 +5,8 @@ use Rattle.opc_names.specs.declared.token.Token.TheVariants.{Literal, Percent, S
 use Rattle.opc_names.specs.Order.{Before}
 use Rattle.opc_names.specs.Patterns.{covers_text}
 
--- What a token stands for: a character for itself, `%` for any one that is no period, `*` for any number of those, and
--- `**` for any text.
+-- What a token stands for: a character for itself, `%` for any one that is not a period, `*` for any number of those,
+-- and `**` for any text.
 abbrev pub StandsFor : Token → List ℕ → Type 0
 StandsFor (Literal c) text = text ≡ c ∷ []
 StandsFor Percent text = (c : ℕ) × (text ≡ c ∷ []) × (c ≢ 46)
@@ -18,7 +18,7 @@ pub record IsNarrower (t u : Token) : Type 0 where
   pub within : (text : List ℕ) → StandsFor t text → StandsFor u text
   pub other : t ≢ u
 
--- Where two patterns differ first, the one comes before whose token stands for less.
+-- At the first difference of two patterns, the one comes before whose token stands for less.
 abbrev pub NarrowerComesFirst : Type 0
 NarrowerComesFirst = (common rest others : List Token) (t u : Token) → IsNarrower t u
     → Before (common ++ t ∷ rest) (common ++ u ∷ others)

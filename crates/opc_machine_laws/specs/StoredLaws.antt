@@ -13,8 +13,8 @@ use Rattle.opc_board.specs.Invariants.{Name}
 use Rattle.opc_board.specs.Replies.{is_on}
 use Rattle.opc_state.specs.Loads.{is_connected, is_named}
 
--- A user is stored where one has that id, and a group where its name is there; an entry of an access list may be for
--- either, or for everyone.
+-- A user is stored if one has that id, and a group if its name is there; an entry of an access list may be for either,
+-- or for everyone.
 pub record NamesAreStored (p : Policy) (name : List ℕ) : Type 0 where
   pub user : (has_user p name ≡ true) ↔ ((u : User) × Contains p.users u × (u.id ≡ name))
   pub found : (u : User) → user_of p.users name ≡ Some u → Contains p.users u × (u.id ≡ name)
@@ -42,7 +42,7 @@ IsNamedIn p id =
 abbrev pub NamedIsWhoIsNamed : Type 0
 NamedIsWhoIsNamed = (p : Policy) (id : List ℕ) → (is_named p id ≡ true) ↔ IsNamedIn p id
 
--- A user is on at a console of the board, online or not.
+-- A user is logged on at a console of the board, online or not.
 abbrev pub OnIsWhoIsOn : Type 0
 OnIsWhoIsOn = (user : Name) (b : BoardRows)
     → (is_on user b ≡ true) ↔ ((c : ConsoleRow) × Contains b.consoles c × (c.user ≡ Some user))

@@ -21,7 +21,7 @@ use Rattle.opc_machine.specs.Administration.{changed}
 use Rattle.opc_machine.specs.Bootstrap.{bootstrapped, with_rows}
 use Rattle.opc_machine.specs.Imports.{batch_of}
 
--- The state has these users and is else as it was, and so for other parts of it.
+-- The state has these users and is otherwise as it was, and the same for other parts of it.
 abbrev pub HasUsers : State → List User → State → Type 0
 HasUsers old users new = new ≡ record old { policy = record old.policy { users = users } }
 
@@ -103,7 +103,7 @@ IsDoneTo old (operation.DefineConsole name auth mode) new =
 abbrev pub OperationsDoWhatTheySay : Type 0
 OperationsDoWhatTheySay = (s : State) (o : Operation) (new : State) → changed s o ≡ Ok new → IsDoneTo s o new
 
--- Where an online console has AUTH MASTER, one has it afterwards.
+-- If an online console has AUTH MASTER, one has it afterwards.
 abbrev pub KeepsMaster : State → State → Type 0
 KeepsMaster old new = has_master old.board.consoles ≡ true → has_master new.board.consoles ≡ true
 
@@ -115,7 +115,7 @@ abbrev pub AreTaken : List Row → Policy → Policy → Type 0
 AreTaken [] old new = new ≡ old
 AreTaken (row ∷ more) old new = (next : Policy) × (after_row row old ≡ Ok next) × AreTaken more next new
 
--- and so are their consoles, which have none.
+-- and the same for their consoles, which have none.
 abbrev pub with_console_of : Row → BoardRows → BoardRows
 with_console_of (rows.Console name auth mode) b = console_defined name auth mode b
 with_console_of other b = b
@@ -135,7 +135,7 @@ pub record AreTakenWhole (all : List Row) (old new : State) : Type 0 where
 abbrev pub RowsAreTakenInTurn : Type 0
 RowsAreTakenInTurn = (all : List Row) (s new : State) → (with_rows all s ≡ Ok new) ↔ AreTakenWhole all s new
 
--- The batch that is kept of a number is one of that number, and where none is found none has it.
+-- The batch that is stored under a number has that number, and if none is found, none has it.
 pub record IsFoundByNumber (batches : List Batch) (number : ℕ) (kept : Option Batch) : Type 0 where
   pub found : (batch : Batch) → kept ≡ Some batch → Contains batches batch × (batch.number ≡ number)
   pub none : kept ≡ None → (batch : Batch) → Contains batches batch → batch.number ≢ number
@@ -143,7 +143,7 @@ pub record IsFoundByNumber (batches : List Batch) (number : ℕ) (kept : Option 
 abbrev pub BatchesAreFoundByNumber : Type 0
 BatchesAreFoundByNumber = (batches : List Batch) (number : ℕ) → IsFoundByNumber batches number (batch_of batches number)
 
--- A first policy is taken as the rows of an import are, and only where no user is stored.
+-- A first policy is taken as the rows of an import are, and only if no user is stored.
 pub record IsFirst (all : List Row) (s : State) : Type 0 where
   pub stored : (user : User) → Contains s.policy.users user → bootstrapped all s ≡ Err NotEmpty
   pub empty : s.policy.users ≡ [] → bootstrapped all s ≡ with_rows all s

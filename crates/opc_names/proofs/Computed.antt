@@ -87,7 +87,7 @@ suffix_whole p = (λ h. ⊎_elim (λ k. ([], [], refl, k)) (λ k. absurd k) h, �
 through : {A B C : Type 0} → A ↔ B → B ↔ C → A ↔ C
 through f g = (λ h. g.0 (f.0 h), λ h. f.1 (g.1 h))
 
--- some suffix of a name is covered exactly where the name splits before one that is
+-- some suffix of a name is covered if and only if the name splits before one that is
 some_suffix : (p : List (List Token)) → ((r : List (List ℕ)) → IsTrue (covers p r) ↔ Covers p r) → (r : List (List ℕ))
     → IsTrue (list_any (covers p) (suffixes r)) ↔ CoversSuffix p r
 some_suffix p is [] = through (or_is (covers p []) false (is []) (λ h. false≢true h, λ h. absurd h)) (suffix_whole p)

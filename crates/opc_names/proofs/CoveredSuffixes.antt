@@ -1,4 +1,4 @@
--- Of each suffix of a name, whether a pattern covers it.
+-- For each suffix of a name, whether a pattern covers it.
 use Rattle.std.proofs.Common.{
   ◌≡◌,
   ℕ,
@@ -62,7 +62,7 @@ pub two_suffixes : (p : List (List Token)) (s : List ℕ) (r : List (List ℕ)) 
 two_suffixes p s [] = omega arith
 two_suffixes p s (x ∷ r) = omega arith
 
--- no qualifier is left exactly where there is no text
+-- no qualifier is left if and only if there is no text
 pub none_is_empty : (text : Option (Bor (List ℕ))) (b : Bool) → is_some text ≡ not b → b ≡ is_empty (map tokens (qualifiers_left (option_copied text)))
 none_is_empty None true e = refl
 none_is_empty None false e = cc
@@ -87,7 +87,7 @@ any_covered : (p : List (List Token)) (rs : List (List (List ℕ))) → list_any
 any_covered p [] = refl
 any_covered p (r ∷ rs) = ap (λ b. covers p r || b) (any_covered p rs)
 
--- after `**`, a suffix is covered where it or a shorter one was
+-- after `**`, a suffix is covered if it or a shorter one was
 pub prepended_stars : (q : List Token) (p : List (List Token)) (r : List (List ℕ)) → any_from_here (covered_suffixes p r) ≡ covered_suffixes ((Stars ∷ q) ∷ p) r
 prepended_stars q p [] = refl
 prepended_stars q p (s ∷ r) = let here = any_covered p (suffixes (s ∷ r)) in let rest = prepended_stars q p r in cc

@@ -51,7 +51,7 @@ prefix_through (Percent ∷ q) s t r n m k = (s ++ r, refl)
 prefix_through (Star ∷ q) s t r n m k = (s ++ r, refl)
 prefix_through (Stars ∷ q) s t r n m k = (s ++ r, refl)
 
--- the head after the first qualifier, where that is not `**`
+-- the head after the first qualifier, if that is not `**`
 prefix_after : (q : List Token) (p : List (List Token)) (r : List (List ℕ)) → IsPart q
     → ((r : List (List ℕ)) → Covers p r → IsPrefix (head (spell p)) (spell_name r)) → Covers (q ∷ p) r → BeginsOther q
     → IsPrefix (head (spell (q ∷ p))) (spell_name r)
@@ -123,7 +123,7 @@ before_stars (Percent ∷ q) t w h b = inl tt
 before_stars (Star ∷ q) t w h b = inl tt
 before_stars (Stars ∷ q) t w h b = absurd b
 
--- two patterns after a first qualifier, where that of the first is not `**`
+-- two patterns after a first qualifier, if that of the first is not `**`
 order_after : (x : List Token) (p q : List (List Token)) (r : List (List ℕ)) (opened : Bool) → IsPart x
     → AllByRecursion IsPart q → Covers (x ∷ p) r → Covers q r → length (head (spell q)) < length (head (spell (x ∷ p)))
     → BeginsOther x

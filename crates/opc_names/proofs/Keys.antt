@@ -120,7 +120,7 @@ keys_after opened (t ∷ p) (u ∷ q) a b =
       | inr (inr e) ↦ rw (more_cmp (key_byte t) (key_byte u) e.2) (λ k. cc, λ k. ⊎_elim (λ h. absurd (e.0 h)) (λ h. absurd (e.1 h.0)) k)
     ]
 
--- whether a list ends in `*` or `**`, where `opened` says it of what stands before it
+-- whether a list ends in `*` or `**`; `opened` states it for what is before it
 abbrev ends : Bool → List Token → Bool
 ends opened [] = opened
 ends opened (t ∷ ts) = ends (is_open t) ts

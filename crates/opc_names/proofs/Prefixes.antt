@@ -57,7 +57,7 @@ numbers_are_in_order a (u ∷ us) (v ∷ vs) e h k = by (nat_cmp u v) refl (rank
 abbrev order : List ℕ → List ℕ → Ordering
 order = slice_cmp nat_cmp
 
--- equal members decide nothing, and others all
+-- equal members decide nothing, and others everything
 carried : (r o p : Ordering) → (p ≢ Equal → o ≡ p) → ordering_then r p ≢ Equal → ordering_then r o ≡ ordering_then r p
 carried Less o p rest h = refl
 carried Equal o p rest h = rest h
@@ -99,7 +99,7 @@ zeros_come_last (suc k) (x ∷ xs) e h = by (nat_cmp x 0) (ranks x 0) (zeros_com
     by Equal m rest n = rest n
     by Greater m rest n = refl
 
--- zeros after two texts, up to one length, keep their order, where they leave one
+-- zeros after two texts, up to one length, keep their order, if they leave one
 texts : (xs ys : List ℕ) (k j : ℕ) → length xs + k ≡ length ys + j
     → order (xs ++ replicate k 0) (ys ++ replicate j 0) ≢ Equal
     → order xs ys ≡ order (xs ++ replicate k 0) (ys ++ replicate j 0)
@@ -158,13 +158,13 @@ numbers_report x y us vs h = rw (h.x_is, h.y_is)
     (numbers_are_in_order 0 (take 8 us) (take 8 vs)
     (omega (arith, length-take-le 8 us h.long, length-take-le 8 vs (omega (arith, h.long, h.lengths)))) h.ours h.theirs)
 
--- where these differ they decide the order
+-- if these differ, they decide the order
 pub prefixes_decide : (x y : ℕ) (us vs : List ℕ) → ArePrefixes x y us vs → x ≢ y → (nat_cmp x y ≡ order us vs) × (nat_cmp x y ≢ Equal)
 prefixes_decide x y us vs h differ =
     let reported = numbers_report x y us vs h in
     let unequal : order (take 8 us) (take 8 vs) ≢ Equal = (λ z. differ (same_number x y (reported ∙ z))) in
     (reported ∙ sym (prefixes 8 us vs h.lengths unequal), λ z. differ (same_number x y z))
 
--- and else it is that of the rest
+-- and otherwise it is that of the rest
 pub prefixes_pass : (x y : ℕ) (us vs : List ℕ) → ArePrefixes x y us vs → x ≡ y → order us vs ≡ order (drop 8 us) (drop 8 vs)
 prefixes_pass x y us vs h same = after 8 us vs h.lengths (sym (numbers_report x y us vs h) ∙ sym (nat_cmp_is x y Equal same))

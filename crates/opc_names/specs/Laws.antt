@@ -9,7 +9,7 @@ use Rattle.opc_names.specs.Order.{Before, sort_key, head}
 use Rattle.opc_names.specs.Patterns.{tokens, covers, Covers, CoversText}
 use Rattle.opc_names.specs.declared.token.Token.{Token}
 
--- `covers` is true exactly where the pattern covers
+-- `covers` is true if and only if the pattern covers
 abbrev pub CoversComputes : Type 0
 CoversComputes = (p : List (List Token)) (r : List (List ℕ)) → IsTrue (covers p r) ↔ Covers p r
 

@@ -107,7 +107,7 @@ is_qualifier alphabet [] = false
 is_qualifier Generic (c ∷ q) = bytes_eq (c ∷ q) (42 ∷ 42 ∷ []) || star_only_last (c ∷ q)
 is_qualifier alphabet (c ∷ q) = true
 
--- where the first part begins that is no qualifier, if the first of them begins at this place
+-- where the first part begins that is not a qualifier, if the first of them begins at this place
 abbrev pub bad_part : Alphabet → ℕ → List (List ℕ) → Option ℕ
 bad_part alphabet at [] = None
 bad_part alphabet at (q ∷ parts) = if is_qualifier alphabet q then bad_part alphabet (at + length q + 1) parts else Some

@@ -1,4 +1,4 @@
--- Bytes in an array, with zeros after them. The model of `Bytes` cites this page, and inner contracts do.
+-- Bytes in an array, with zeros after them. The model of `Bytes` cites this page, and so do inner contracts.
 use Rattle.std.specs.Prelude.{◌≡◌, ℕ, ◌+◌, ◌*◌, ◌-◌, ◌≤◌, ◌<◌, List, [], ◌∷◌, ◌++◌, length, take, drop, replicate}
 use Rattle.std.proofs.Common.{arith}
 use Rattle.std.proofs.lemmas.List.{take-append-drop, length-take-le}

@@ -59,8 +59,8 @@ EndsInStar (Percent ∷ q) = EndsInStar q
 EndsInStar (Star ∷ q) = q ≡ []
 EndsInStar (Stars ∷ q) = ⊥
 
--- What a pattern covers, from qualifier to qualifier: `**` stands for any number of qualifiers, none among
--- them; any other for one that it matches; and the last one, where it ends in `*`, also for all that follow.
+-- What a pattern covers, from qualifier to qualifier: `**` stands for any number of qualifiers, or none; any other for
+-- one that it matches; and the last one, if it ends in `*`, also for all that follow.
 abbrev pub Covers : List (List Token) → List (List ℕ) → Type 0
 Covers [] [] = ⊤
 Covers [] (s ∷ r) = ⊥
@@ -98,9 +98,9 @@ abbrev pub suffixes : List (List ℕ) → List (List (List ℕ))
 suffixes [] = [] ∷ []
 suffixes (s ∷ r) = (s ∷ r) ∷ suffixes r
 
--- whether a pattern covers a name: `**` and the rest, where the rest covers some suffix of it; any other
--- qualifier and the rest, where it matches the first of the name, and the rest covers what follows that, or it
--- is the last one and ends in `*`
+-- whether a pattern covers a name: `**` and the rest, if the rest covers some suffix of it; any other qualifier and the
+-- rest, if it matches the first of the name, and the rest covers what follows that, or it is the last one and ends in
+-- `*`
 abbrev pub covers : List (List Token) → List (List ℕ) → Bool
 covers [] [] = true
 covers [] (s ∷ r) = false

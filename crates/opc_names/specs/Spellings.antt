@@ -22,7 +22,7 @@ use Rattle.opc_names.specs.declared.auth.Auth.TheVariants.{
   SysIoCons,
 }
 
--- what a table has for a text: the first that is spelled so
+-- what a table has for a text: the first entry with this spelling
 abbrev pub lookup : {A : Type 0} → List (List ℕ × A) → List ℕ → Option A
 lookup [] text = None
 lookup (row ∷ rows) text = if bytes_eq text row.0 then Some row.1 else lookup rows text

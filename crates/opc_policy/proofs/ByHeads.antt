@@ -100,7 +100,7 @@ module _ (profiles : List Profile) (name : List ℕ) (patterns : HavePatterns pr
           (longer_heads_come_first d.pattern q.pattern name (patterns d m) (patterns q n) h.1 c
           (omega (arith, e, l))))
 
--- what is known before a head of length k is asked for
+-- what is known before a head of length k is searched
 pub record Asked (profiles : List Profile) (name : List ℕ) (k rows : ℕ) : Type 0 where
   pub within : k ≤ length name
   pub count : rows ≡ longer name k profiles

@@ -44,7 +44,7 @@ use Rattle.opc_policy_members.specs.Profiles.{is_before}
 use Rattle.opc_policy_members.specs.declared.profile.Profile.{Profile}
 use Rattle.opc_policy.specs.Examined.{head_of, with_head, read_until, examined}
 
--- exactly one of two tests holds where a third does
+-- exactly one of two tests holds if and only if a third does
 abbrev pub OneOf : Bool → Bool → Bool → Type 0
 OneOf a b c = ((a ≡ true) × (b ≡ false) × (c ≡ true)) ⊎ (((a ≡ false) × (b ≡ true) × (c ≡ true)) ⊎ ((a ≡ false) × (b ≡ false) × (c ≡ false)))
 

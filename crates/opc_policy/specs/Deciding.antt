@@ -8,8 +8,8 @@ use Rattle.opc_policy_members.specs.declared.profile.Profile.{Profile}
 abbrev pub IsBefore : Profile → Profile → Type 0
 IsBefore p q = Before (tokens p.pattern) (tokens q.pattern)
 
--- The most specific profile of a resource among some: the one that covers it and that no other one that
--- covers it is before; none where none covers it (RACF guide: the most specific profile).
+-- The most specific profile of a resource among some: the one that covers it and that comes before every other one that
+-- covers it; none if none covers it (RACF guide: the most specific profile).
 abbrev pub IsDeciding : List Profile → List ℕ → Option Profile → Type 0
 IsDeciding profiles resource None = (q : Profile) → Contains profiles q → CoversText q.pattern resource → ⊥
 IsDeciding profiles resource (Some p) = Contains profiles p × CoversText p.pattern resource

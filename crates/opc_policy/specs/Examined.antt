@@ -22,20 +22,19 @@ head_length (Some p) = length (head_of p)
 abbrev pub with_head : List ℕ → List Profile → List Profile
 with_head text profiles = filter (λ (p : Profile). bytes_eq (head_of p) text) profiles
 
--- whether a profile is of a class, and has a head where one is asked for
+-- whether a profile is of a class, and has the requested head, if one is given
 abbrev pub is_chosen : Class → Option (List ℕ) → Profile → Bool
 is_chosen class None p = same_class p.class class
 is_chosen class (Some text) p = same_class p.class class && bytes_eq (head_of p) text
 
--- The profiles that are read, in the order of their patterns, up to the first that covers: it and those before
--- it; all of them where none covers.
+-- The profiles that are read, in the order of their patterns, up to the first that covers: it and those before it; all
+-- of them if none covers.
 abbrev pub read_until : Option Profile → List Profile → List Profile
 read_until None profiles = profiles
 read_until (Some d) profiles = filter (λ (p : Profile). not (is_before d p)) profiles
 
--- Which profiles a search by heads reads. Where one decides: those whose head the name begins with and is
--- longer than its own, and those with its head that are it or before it; else all whose head the name begins
--- with.
+-- Which profiles a search by heads reads. If one decides: those whose head the name begins with and is longer than its
+-- own, and those with its head that are it or before it; otherwise all whose head the name begins with.
 abbrev pub is_examined : Option Profile → List ℕ → Profile → Bool
 is_examined None name p = starts_with nat_eq name (head_of p)
 is_examined (Some d) name p =

@@ -1,4 +1,4 @@
--- What the profile that decides says of a user, and the ruling on a command.
+-- What the profile that decides rules on a user, and the ruling on a command.
 use Rattle.std.specs.Prelude.{ℕ, Bool, true, false, ◌||◌, ◌&&◌, not, List, Option, Some, None, if◌then◌else◌}
 use Rattle.opc_names.specs.declared.auth.Auth.{Auth}
 use Rattle.opc_names.specs.declared.level.Level.{Level}
@@ -14,16 +14,16 @@ use Rattle.opc_policy_members.specs.declared.user.User.{User}
 use Rattle.opc_policy.specs.declared.verdict.Verdict.{Verdict}
 use Rattle.opc_policy.specs.declared.verdict.Verdict.TheVariants.{Allowed, Undecided, Denied}
 
--- The verdict of a class on a user at a console and a level, by the profile that decides in it: undecided where the
--- class is inactive or none decides; allowed where the user holds the level, or the profile only warns; else denied.
+-- The verdict of a class on a user at a console and a level, by the profile that decides in it: undecided if the class
+-- is inactive or none decides; allowed if the user holds the level, or the profile only warns; otherwise denied.
 abbrev pub verdict : Bool → Option Profile → User → Option (List ℕ) → List (List ℕ) → Level → Verdict
 verdict false decided user console groups needed = Undecided
 verdict true None user console groups needed = Undecided
 verdict true (Some p) user console groups needed =
     if includes (held p user console groups) needed || p.warning then Allowed else Denied
 
--- the rule of a profile for whoever holds a level in it: with a warning where the level is not enough and the profile
--- only warns
+-- the rule of a profile for whoever holds a level in it: with a warning if the level is not enough and the profile only
+-- warns
 abbrev pub rule_at : Profile → Level → Level → Rule
 rule_at p level needed = rules.Profile p.class p.pattern level needed (not (includes level needed) && p.warning)
 
@@ -36,7 +36,7 @@ ruling_at p level needed = if includes level needed
 abbrev pub profile_rule : Profile → User → Option (List ℕ) → List (List ℕ) → Level → Rule
 profile_rule p user console groups needed = rule_at p (held p user console groups) needed
 
--- the ruling of a profile on a user, where it decides
+-- the ruling of a profile on a user, if it decides
 abbrev pub profile_ruling : Profile → User → Option (List ℕ) → List (List ℕ) → Level → Ruling
 profile_ruling p user console groups needed = ruling_at p (held p user console groups) needed
 
@@ -51,13 +51,13 @@ abbrev pub console_ruling : Auth → Need → Ruling
 console_ruling auth need = if enters auth need.group then rulings.Allowed (rules.ConsoleGroup need.group auth) else
     rulings.Denied (rules.ConsoleGroup need.group auth)
 
--- a verdict that decides is final; where it is undecided something else decides
+-- a verdict that decides is final; if it is undecided, something else decides
 abbrev pub by_verdict : Verdict → Rule → Ruling → Ruling
 by_verdict Allowed rule other = rulings.Allowed rule
 by_verdict Denied rule other = rulings.Denied rule
 by_verdict Undecided rule other = other
 
--- what a ruling says, and its rule
+-- the verdict of a ruling, and its rule
 abbrev pub verdict_of : Ruling → Verdict
 verdict_of (rulings.Allowed rule) = Allowed
 verdict_of (rulings.Denied rule) = Denied
@@ -66,8 +66,8 @@ abbrev pub rule_of : Ruling → Rule
 rule_of (rulings.Allowed rule) = rule
 rule_of (rulings.Denied rule) = rule
 
--- The ruling on a command at a console, where logon is no question: by the verdict on the user for whom the
--- console acts; where there is none, or the verdict is undecided, by the authority of the console.
+-- The ruling on a command at a console, apart from any logon rule: by the verdict on the user for whom the console
+-- acts; if there is none, or the verdict is undecided, by the authority of the console.
 abbrev pub ruling : Bool → Option Profile → Option User → Option (List ℕ) → List (List ℕ) → Auth → Need → Ruling
 ruling active decided None console groups auth need = console_ruling auth need
 ruling active decided (Some user) console groups auth need =

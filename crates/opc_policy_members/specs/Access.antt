@@ -21,11 +21,11 @@ entry_cmp e f = ordering_then (slice_cmp nat_cmp e.id f.id) (option_cmp (slice_c
 abbrev pub AreInOrder : List Entry → Type 0
 AreInOrder entries = AllPairs (λ (e f : Entry). entry_cmp e f ≡ Less) entries
 
--- an access list with an entry at its place, where it replaces the one for its id and console
+-- an access list with an entry at its place, in which it replaces the one for its id and console
 abbrev pub with_entry : Entry → List Entry → List Entry
 with_entry entry entries = replace_key entry_cmp entries entry
 
--- whether an entry is for an id, and for this console alone or, where none is given, for every console
+-- whether an entry is for an id, and for this console alone or, if none is given, for every console
 abbrev pub is_for : Option (List ℕ) → List ℕ → Entry → Bool
 is_for when id entry = bytes_eq entry.id id && option_eq bytes_eq entry.when when
 
@@ -37,7 +37,7 @@ entry_level entries when id = option_map (λ (e : Entry). e.level) (find (is_for
 abbrev pub higher_level : Level → Level → Level
 higher_level level other = if includes level other then level else other
 
--- the higher of two levels, of those that are there
+-- the higher of two levels, if they are there
 abbrev pub higher : Option Level → Option Level → Option Level
 higher None level = level
 higher (Some level) None = Some level
@@ -53,9 +53,9 @@ highest_level entries when (group ∷ groups) =
 abbrev pub everyone_level : List Entry → Option (List ℕ) → User → Option Level
 everyone_level entries when user = if user.restricted then None else entry_level entries when (codes "*")
 
--- The level of the first source that has one, among the entries with one condition: the user's own entry, the
--- highest entry for a connect group of the user, the entry for everyone. A source that has a level decides also
--- where it is NONE: no later one raises it.
+-- The level of the first source that has one, among the entries with one condition: the user's own entry, the highest
+-- entry for a connect group of the user, the entry for everyone. The first source present decides, even if its level is
+-- NONE: no later one raises it.
 abbrev pub first_level : List Entry → Option (List ℕ) → User → List (List ℕ) → Option Level
 first_level entries when user groups = option_or (entry_level entries when user.id)
     (option_or (highest_level entries when groups) (everyone_level entries when user))

@@ -8,7 +8,7 @@ use Rattle.opc_policy_members.specs.declared.entry.Entry.{Entry}
 use Rattle.opc_policy_members.specs.declared.profile.Profile.{Profile}
 use Rattle.opc_policy_members.specs.declared.user.User.{User}
 
--- what a profile gives those for whom it has no entry: its universal access, of which a RESTRICTED user has nothing
+-- what a profile gives those for whom it has no entry: its universal access, of which a RESTRICTED user gets nothing
 abbrev pub universal_level : Profile → User → Level
 universal_level profile user = if user.restricted then level.None else profile.uacc
 

@@ -35,22 +35,22 @@ has_group policy name = is_group policy.groups name
 abbrev pub has_holder : Policy → List ℕ → Bool
 has_holder policy id = bytes_eq id (codes "*") || has_user policy id || has_group policy id
 
--- what a row makes, where what has this name is not in the way
+-- what a row makes, if what has this name is not in the way
 abbrev pub unless : Bool → List ℕ → Result Policy Fault → Result Policy Fault
 unless is_there name made = if is_there then Err (Exists name) else made
 
--- and where it is stored
+-- and if it is stored
 abbrev pub needing : Bool → List ℕ → Result Policy Fault → Result Policy Fault
 needing is_there name made = if is_there then made else Err (Missing name)
 
--- The policy after a profile is defined, with its access list where it is new.
+-- The policy after a profile is defined, with its access list if it is new.
 abbrev pub after_definition : Profile → Policy → Result Policy Fault
 after_definition profile p = needing (has_user p profile.owner) profile.owner
     (Ok (record p { profiles = with_definition profile p.profiles }))
 
--- The policy after a row, or its fault. A row defines or replaces and never deletes. A user and a group never
--- have one name. What a row needs has to be stored, in the order in which the row lists it. A group or a connect
--- that is there stays, and a profile keeps its access list. Consoles are no part of a policy.
+-- The policy after a row, or its fault. A row defines or replaces and never deletes. A user and a group never have one
+-- name. What a row needs has to be stored, in the order in which the row lists it. A group or a connect that is there
+-- stays, and a profile keeps its access list. Consoles are not part of a policy.
 abbrev pub after_row : Row → Policy → Result Policy Fault
 after_row (rows.Class class active) p = Ok (record p { active = with_active class active p.active })
 after_row (rows.Group name) p = unless (has_user p name) name (Ok (record p { groups = with_group name p.groups }))

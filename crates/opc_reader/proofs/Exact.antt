@@ -1,4 +1,4 @@
--- A line is read as a command exactly where the definition has one.
+-- A line is read as a command if and only if the definition has one.
 use Rattle.std.proofs.Common.{
   ◌≡◌,
   ℕ,
@@ -314,7 +314,7 @@ ok_err c fault x = absurd (subst IsOkAt x tt) where
   IsOkAt (Ok d) = Unit {0}
   IsOkAt (Err d) = ⊥
 
--- a line that is no command is answered by its first fault
+-- a line that is not a command is answered by its first fault
 pub fault_so : (line : List ℕ) (fault : ReadFault) → IsReadFault line fault → reading line ≡ Err fault
 fault_so line fault (inl e) = rw e refl
 fault_so line fault (inr (e, none, same)) = by_verb (lookup verbs (folded (verb_place (trimmed line)).text)) refl where

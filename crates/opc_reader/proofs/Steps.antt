@@ -1,4 +1,5 @@
--- The step over one part of a form, in both directions: what is typed so is read, and what is read is typed so.
+-- The step over one part of a form, in both directions: what is typed like this is read, and what is read is typed like
+-- this.
 use Rattle.std.proofs.Common.{
   ◌≡◌,
   ◌≢◌,
@@ -330,7 +331,7 @@ fixed_found w d c s h =
     let found = cond_some (bytes_eq (folded s.text) w) d c h in
     (found.1, back_last (Word w) s (bytes_same _ _ found.0))
 
--- a text after a quoted text, where it begins with another character than the apostrophe
+-- a text after a quoted text, if it begins with another character than the apostrophe
 no_quote : (c : ℕ) (w a b : List ℕ) → (c == 39) ≡ false → folded a ≡ c ∷ w → opens_quote (a ++ b) ≡ false
 no_quote c w [] b h e = cc
 no_quote c w (d ∷ a) b h e =

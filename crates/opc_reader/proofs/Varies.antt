@@ -100,7 +100,7 @@ device_no_console o ps s h (a, b, e, (typed, value, fine), rest) = none_is_left 
       let text : folded a ≡ codes "CN" = ap folded seam ∙ sym (take-map to_ascii_uppercase 2 found.0) ∙ ap (take 2) found.2 in
       absurd (short_device (rw text at fault))
 
--- what stands after the name, in upper case
+-- what follows the name, in upper case
 auth_text : (o : Operand Auth) (s : Stretch) → AreTyped (Word (codes "),AUTH=") ∷ Authority o ∷ []) s → (b : List ℕ) × (folded s.text ≡ codes "),AUTH=" ++ b)
 auth_text o s (a, b, e, typed, rest) = (folded b, ap folded e ∙ map-append to_ascii_uppercase a b ∙ ap (λ x. x ++ folded b) typed)
 

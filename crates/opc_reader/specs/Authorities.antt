@@ -1,5 +1,5 @@
--- How an authority may be typed: one word, or SYS, IO and CONS as a list in parentheses, in any order and none
--- twice. `SYS` and `(SYS)` are the same.
+-- How an authority may be typed: one word, or SYS, IO and CONS as a list in parentheses, in any order and none twice.
+-- `SYS` and `(SYS)` are the same.
 use Rattle.std.specs.Prelude.{ℕ, List, [], ◌∷◌, codes}
 use Rattle.opc_names.specs.declared.auth.Auth.{Auth}
 use Rattle.opc_names.specs.declared.auth.Auth.TheVariants.{

@@ -45,7 +45,7 @@ use Rattle.opc_reader.specs.Operands.{number}
 use Rattle.opc_reader_commands.specs.Quotes.{OpensQuote, IsQuoted}
 use Rattle.opc_reader_commands.specs.Stretches.{Stretch, folded}
 
--- a part of what stands after a verb
+-- a part of what follows a verb
 pub data Part : Type 0 where
   Word : List ℕ → Part
   Name : NameRule → Operand (List ℕ) → Part
@@ -119,13 +119,13 @@ parts Halt = Word (codes "EOD") ∷ []
 parts (Logon user password) = Name user_rule user ∷ Word (codes ",") ∷ Name user_rule password ∷ []
 parts Logoff = []
 
--- `D A,L` is the list, and no unit L
+-- `D A,L` is the list, never the unit L
 abbrev pub IsMeant : Command → Type 0
 IsMeant (DisplayUnit name) = name.value ≢ codes "L"
 IsMeant c = ⊤
 
--- How a part may be typed: words and names in any case; a name's value is in upper case. Any text is quoted where
--- it begins with an apostrophe, and else plain and not empty.
+-- How a part may be typed: words and names in any case; a name's value is in upper case. Any text is quoted if it
+-- begins with an apostrophe, and otherwise plain and not empty.
 abbrev pub IsTyped : Part → Stretch → Type 0
 IsTyped (Word w) s = folded s.text ≡ w
 IsTyped (Name rule o) s = (o.typed ≡ s) × (o.value ≡ folded s.text) × (name_fault rule o.value ≡ None)

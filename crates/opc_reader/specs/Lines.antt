@@ -1,4 +1,4 @@
--- Which lines are commands, and the first fault of those that are none.
+-- Which lines are commands, and the first fault of those that are not.
 use Rattle.std.specs.Prelude.{
   ◌≡◌,
   ◌≤◌,
@@ -75,9 +75,9 @@ AreSpaces text = list_all is_space text ≡ true
 abbrev pub IsBare : List ℕ → Type 0
 IsBare text = (prefix_len is_space text ≡ 0) × (suffix_len is_space text ≡ 0)
 
--- A line of at most 126 typeable characters is read as a command: spaces or none, a spelling of its verb in any
--- case, one or more spaces, its operands part by part, spaces or none. A command without operands has no spaces
--- between verb and operands.
+-- A line of at most 126 typeable characters is read as a command: spaces or none, a spelling of its verb in any case,
+-- one or more spaces, its operands part by part, spaces or none. A command without operands has no spaces between verb
+-- and operands.
 pub record Reads (line : List ℕ) (c : Command) : Type 0 where
   pub before : List ℕ
   pub verb : List ℕ
@@ -99,11 +99,11 @@ pub record Reads (line : List ℕ) (c : Command) : Type 0 where
 abbrev pub skip_spaces : Stretch → Stretch
 skip_spaces s = after (prefix_len is_space s.text) s
 
--- a line without the spaces round it
+-- a line without the spaces around it
 abbrev pub trimmed : List ℕ → Stretch
 trimmed line = skip_spaces (prefix (length line - suffix_len is_space line) (record { text = line; from = 0 }))
 
--- up to its first space, and from the next character on that is none
+-- up to its first space, and from the next character on that is not a space
 abbrev pub verb_place : Stretch → Stretch
 verb_place s = prefix (prefix_len (λ c. not (is_space c)) s.text) s
 
@@ -113,8 +113,8 @@ operands_place s = skip_spaces (after (prefix_len (λ c. not (is_space c)) s.tex
 abbrev pub span : Stretch → Span
 span s = record { from = s.from; to = s.from + length s.text }
 
--- Where a quoted text stands that isn't closed: after the first comma of F and R, whatever stands before it, and
--- as the first operand of SE and L. 44 is the comma.
+-- The place of a quoted text that isn't closed: after the first comma of F and R, whatever is before it, and as the
+-- first operand of SE and L. 44 is the comma.
 abbrev pub open_at : ℕ → List ℕ → Option ℕ
 open_at at text = if is_open text then Some at else None
 
@@ -145,8 +145,8 @@ early_fault line =
     some_fault (position (λ c. not (is_typeable c)) line) BadCharacter
     (quote_fault (lookup verbs (folded (verb_place (trimmed line)).text)) (trimmed line)))
 
--- The first fault of a line. Operands are bad where nothing earlier is wrong and yet no command reads; their place
--- is all of them, up to the end of the trimmed line.
+-- The first fault of a line. Operands are bad if nothing earlier is wrong and yet no command reads; their place is all
+-- of them, up to the end of the trimmed line.
 abbrev pub IsReadFault : List ℕ → ReadFault → Type 0
 IsReadFault line fault =
     (early_fault line ≡ Some fault) ⊎

@@ -58,15 +58,15 @@ abbrev pub ◌>>=◌ : {A B : Type 0} → Option A → (A → Option B) → Opti
 None >>= f = None
 (Some x) >>= f = f x
 
--- the value, where nothing is left
+-- the value, if nothing is left
 abbrev pub only : {A : Type 0} → A → Stretch → Option A
 only x s = if length s.text == 0 then Some x else None
 
--- the value, where a word is all
+-- the value, if a word is all
 abbrev pub fixed : {A : Type 0} → List ℕ → A → Stretch → Option A
 fixed w x s = if bytes_eq (folded s.text) w then Some x else None
 
--- A name is the run of name characters, and what stands after it begins with no other.
+-- A name is the run of name characters, and no name character follows it.
 abbrev pub name_operand : NameRule → ℕ → Stretch → Option (Operand (List ℕ) × Stretch)
 name_operand rule n s =
     if is_none (name_fault rule (folded (take n s.text))) then Some (
@@ -120,7 +120,7 @@ display s =
       name ← last_name unit_rule rest
       Some (DisplayUnit name)))))
 
--- after `U=` a user, else a name
+-- after `U=` a user, otherwise a name
 abbrev pub cancel_after : Option Stretch → Stretch → Option Command
 cancel_after (Some rest) s = do
   user ← last_name user_rule rest

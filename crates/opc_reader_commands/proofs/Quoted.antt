@@ -58,7 +58,7 @@ pub some_of_map : (o : Option ℕ) (k n : ℕ) → option_map (λ m. m + k) o �
 some_of_map None k n h = cc
 some_of_map (Some m) k n h = (m, refl, cc)
 
--- where a closing apostrophe ends the list, the list before it is a text of doubled apostrophes
+-- if a closing apostrophe ends the list, the list before it is a text of doubled apostrophes
 pub quote_found : (b : List ℕ) (n : ℕ) → closing_len b ≡ Some n → n ≡ length b → (text : List ℕ) × (b ≡ doubled text ++ 39 ∷ [])
 quote_found [] n h all = cc
 quote_found (c ∷ []) n h all =

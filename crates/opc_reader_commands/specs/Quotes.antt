@@ -69,20 +69,19 @@ abbrev pub opens_quote : List ℕ → Bool
 opens_quote [] = false
 opens_quote (c ∷ cs) = c == 39
 
--- the text of what stands after the first apostrophe, up to the one that closes it
+-- the text after the first apostrophe, up to the one that closes it
 abbrev pub unquoted : List ℕ → List ℕ
 unquoted [] = []
 unquoted (c ∷ []) = if c == 39 then [] else c ∷ []
 unquoted (c ∷ (d ∷ cs)) =
     if c == 39 then (if d == 39 then 39 ∷ unquoted cs else []) else c ∷ unquoted (d ∷ cs)
 
--- what a text says
+-- what a text means
 abbrev pub text_value : List ℕ → List ℕ
 text_value [] = []
 text_value (c ∷ cs) = if c == 39 then unquoted cs else folded (c ∷ cs)
 
--- a quoted text says what stands between its apostrophes, with each pair as one; another says itself in
--- upper case
+-- a quoted text means what is between its apostrophes, with each pair as one; another means itself in upper case
 pub record Says (typed value : List ℕ) : Type 0 where
   pub between : (text : List ℕ) → typed ≡ quoted text → value ≡ text
   pub plain : (OpensQuote typed → ⊥) → value ≡ folded typed

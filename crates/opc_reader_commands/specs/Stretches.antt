@@ -19,6 +19,6 @@ prefix n s = record { text = take n s.text; from = s.from }
 abbrev pub after : ℕ → Stretch → Stretch
 after n s = record { text = drop n s.text; from = s.from + n }
 
--- what stands after a word, where the stretch begins with it in any case
+-- what follows a word, if the stretch begins with it in any case
 unfoldable pub word : List ℕ → Stretch → Option Stretch
 word w s = if bytes_eq (folded (take (length w) s.text)) w then Some (after (length w) s) else None

@@ -2,7 +2,7 @@
 use Rattle.std.proofs.Common.{zero, suc, ◌≡◌, ℕ, ◌<◌, ◌≤◌, List, [], ◌∷◌, get_or, length, map, set, refl, ap₂, arith, sym, subst}
 use Rattle.opc_rows.specs.Ordered.{IsChangedAtEach}
 
--- the first so many elements have become what they may become, and the others are as they were
+-- the first elements, this many, have become what they may become, and the others are as they were
 abbrev pub IsChangedUpTo : {A : Type 0} → (A → A → Type 0) → ℕ → List A → List A → Type 0
 IsChangedUpTo becomes zero xs ys = ys ≡ xs
 IsChangedUpTo becomes (suc n) [] ys = ys ≡ []

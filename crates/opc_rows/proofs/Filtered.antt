@@ -233,7 +233,7 @@ module _ {A : Type 0} where
           order.0))
       go false here more = more
 
-  -- each element is found by its own key, where no two have one key
+  -- each element is found by its own key, if no two have one key
   pub found_each : (at : A → A → Bool) (before : A → A → Bool) → ((x : A) → at x x ≡ true)
       → ((x y : A) → before x y ≡ true → at x y ≡ false) → (xs : List A) → Ascends before xs
       → AllByRecursion (λ x. find (λ y. at y x) xs ≡ Some x) xs
@@ -249,7 +249,7 @@ module _ {A : Type 0} where
       further [] after found = tt
       further (y ∷ ys) after found = (ap (λ c. cond c (Some x) (find (λ z. at z y) xs)) (apart x y after.0) ∙ found.0, further ys after.1 found.1)
 
-  -- whether any passes, where all that pass are kept
+  -- whether any passes, if all that pass are kept
   pub any_seen : (q s : A → Bool) (xs : List A) → AllByRecursion (λ x. q x ≡ true → s x ≡ true) xs → list_any q (filter s xs) ≡ list_any q xs
   any_seen q s [] seen = refl
   any_seen q s (x ∷ xs) seen = go (q x) (s x) refl refl (any_seen q s xs seen.1)

@@ -89,7 +89,7 @@ ascends_changed before p f left right (x ∷ xs) order = elim (p x) as (λ b. p 
 ] refl
 
 module _ {A : Type 0} (before : A → A → Bool) (trans : (x y z : A) → before x y ≡ true → before y z ≡ true → before x z ≡ true) where
-  -- an element put in its place, where each element is before or after it
+  -- an element put in its place, if each element is before or after it
   pub ascends_put : (x : A) (xs : List A) → AllByRecursion (λ y. before x y ≡ false → before y x ≡ true) xs
       → Ascends before xs → Ascends before (put before x xs)
   ascends_put x [] apart order = (tt, tt)

@@ -110,7 +110,7 @@ pub changed_one : {A : Type 0} (p : A → Bool) (becomes : A → A → Type 0) (
     → position p xs ≡ Some i → y ≡ get_or xs i y → becomes y z → ws ≡ set xs i z → IsChangedAtOne p becomes xs ws
 changed_one p becomes xs i y z ws at is made same = rw (found_there p xs i y at is) (z, (made, same ∙ changed_at p (λ _. z) xs i y z at is refl))
 
--- all are kept where none passes
+-- all are kept if none passes
 kept : {A : Type 0} (p : A → Bool) (xs : List A) → AllByRecursion (λ x. p x ≡ false) xs → filter (λ x. not (p x)) xs ≡ xs
 kept p [] none = refl
 kept p (x ∷ xs) none = let here : p x ≡ false = none.0 in rw here (ap (λ ws. x ∷ ws) (kept p xs none.1))

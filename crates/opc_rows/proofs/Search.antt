@@ -58,14 +58,14 @@ later before (x ∷ xs) i zero d order lt within = absurd (omega arith)
 later before (x ∷ xs) zero (suc j) d order lt within = all_at (λ y. before x y ≡ true) xs j d order.0 (omega arith)
 later before (x ∷ xs) (suc i) (suc j) d order lt within = later before xs i j d order.1 (omega arith) (omega arith)
 
--- none is found where the test fails at each place
+-- none is found if the test fails at each place
 nowhere : {A : Type 0} (p : A → Bool) (xs : List A) → ((k : ℕ) (d : A) → k < length xs → p (get_or xs k d) ≡ false) → find p xs ≡ None
 nowhere p [] fails = refl
 nowhere p (x ∷ xs) fails =
     let here : p x ≡ false = fails 0 x (omega arith) in
     rw here (nowhere p xs (λ k d within. fails (suc k) d (omega arith)))
 
--- no row is dropped or changed where none is found
+-- no row is dropped or changed if none is found
 pub filter_nowhere : {A : Type 0} (p : A → Bool) (xs : List A) → find p xs ≡ None → xs ≡ filter (λ x. not (p x)) xs
 filter_nowhere p [] = λ none. refl
 filter_nowhere p (x ∷ xs) = elim (p x) as
@@ -126,7 +126,7 @@ module _ {K R : Type 0} (cmp : K → K → Ordering) (total : IsTotalOrder cmp) 
           later (comes_before cmp key_of) xs k (k + 1) d order (omega arith) lt in
           ap is_lt (mirrored _ _ (less_is _ here))
 
-  -- the row that a binary search ends at is the first of its key, and where it ends at none there is none
+  -- the row that a binary search ends at is the first of its key, and if it ends at none there is none
   pub searched : (xs : List R) (key : K) (r : Result ℕ ℕ) → IsInKeyOrder cmp key_of xs → IsSearchInRange r (length xs)
       → IsBinarySearchResult (λ row. cmp (key_of row) key) xs r
       → MatchResult r (λ at. position (λ row. eq (key_of row) key) xs ≡ Some at) (λ _. find (λ row. eq (key_of row) key) xs ≡ None)
@@ -169,7 +169,7 @@ module _ {K R : Type 0} (cmp : K → K → Ordering) (total : IsTotalOrder cmp) 
         ] refl
       ] refl
 
-  -- where the rows begin that a key is less than
+  -- the place from which a key is less than the rows
   pub cut_by_key : (xs : List R) (key : K) (at : ℕ)
       → IsPartitionPoint (λ row. not (is_lt (cmp key (key_of row))) ≡ true)
       (λ row. not (is_lt (cmp key (key_of row))) ≡ false) xs at

@@ -27,8 +27,8 @@ abbrev pub changed : {A : Type 0} → (A → Bool) → (A → A) → List A → 
 changed p f [] = []
 changed p f (x ∷ xs) = if p x then f x ∷ xs else x ∷ changed p f xs
 
--- The first element of this kind has become one that it may become, and all others are as they were. Where there is
--- none of this kind, so are all.
+-- The first element of this kind has become one that it may become, and all others are as they were. If there is none
+-- of this kind, so are all.
 abbrev pub IsChangedAtOne : {A : Type 0} → (A → Bool) → (A → A → Type 0) → List A → List A → Type 0
 IsChangedAtOne {A} p becomes old new =
     MatchOption (find p old) (new ≡ old) (λ x. (y : A) × (becomes x y × (new ≡ changed p (λ _. y) old)))

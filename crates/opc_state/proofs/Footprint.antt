@@ -1,4 +1,4 @@
--- What differs within a footprint is what differs at all, where the other rows are the same.
+-- What differs within a footprint is what differs at all, if the other rows are the same.
 use Rattle.std.proofs.Common.{◌≡◌, ◌++◌, ℕ, Bool, true, false, not, List, filter, map, Some, Ordering, refl, sym, ap, ap₂, ◌∙◌, eqb-true}
 use Rattle.std.specs.Cmp.{IsTotalOrder}
 use Rattle.std.specs.List.{find}

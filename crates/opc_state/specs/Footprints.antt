@@ -6,13 +6,13 @@ use Rattle.opc_board.specs.Footprint.{AreLeft, IsInOrder, Footprint, only}
 use Rattle.opc_state.specs.Difference.{board_difference}
 use Rattle.opc_state.specs.State.{State}
 
--- The edits between the footprints of two boards are those between the boards, where the other rows are the same.
+-- The edits between the footprints of two boards are those between the boards, if the other rows are the same.
 abbrev pub DifferencesAreLocal : Type 0
 DifferencesAreLocal =
     (footprint : Footprint) (old new : BoardRows) → IsInOrder old → IsInOrder new → AreLeft footprint old new
     → board_difference (only footprint old) (only footprint new) ≡ board_difference old new
 
--- One board is what is seen of a state's, with empty histories. The other is what is seen of a whole one, whose other
+-- One board is a footprint of a state's, with empty histories. The other is a footprint of a whole one, whose other
 -- rows are those of the state.
 pub record AreFootprints (old new : BoardRows) (s : State) (whole : BoardRows) : Type 0 where
   pub footprint : Footprint

@@ -25,7 +25,7 @@ IsConnectOfStored p c = (has_user p c.user ≡ true) × (has_group p c.group ≡
 abbrev pub IsEntryOfStored : Policy → Entry → Type 0
 IsEntryOfStored p e = has_holder p e.id ≡ true
 
--- so are the owner of a profile and whom its access list names
+-- and so are the owner of a profile and whoever its access list names
 abbrev pub IsProfileOfStored : Policy → Profile → Type 0
 IsProfileOfStored p profile = (has_user p profile.owner ≡ true) × AllByRecursion (IsEntryOfStored p) profile.entries
 
@@ -35,7 +35,7 @@ pub record IsPolicy (p : Policy) : Type 0 where
   pub connects : AllByRecursion (IsConnectOfStored p) p.connects
   pub profiles : AllByRecursion (IsProfileOfStored p) p.profiles
 
--- whoever is on at a console is stored
+-- whoever is logged on at a console is stored
 abbrev pub IsConsoleOfStored : Policy → ConsoleRow → Type 0
 IsConsoleOfStored p c = IfSome c.user (λ id. has_user p id ≡ true)
 

@@ -20,7 +20,7 @@ use Rattle.opc_board.specs.Units.{is_holder}
 use Rattle.opc_state.specs.declared.account.AccountRow.{AccountRow}
 use Rattle.opc_state.specs.declared.change.Batch.{Batch}
 
--- the devices that a unit has, and the consoles where a user is on
+-- the devices that a unit has, and the consoles where a user is logged on
 abbrev pub devices_of : BoardRows → Name → List DeviceRow
 devices_of b unit = filter (λ d. is_holder unit d.unit) b.devices
 
@@ -59,10 +59,10 @@ is_named p id = list_any (λ (c : Connect). bytes_eq c.user id) p.connects
 abbrev pub numbered : List AccountRow → List (ℕ × AccountRow)
 numbered account = enumerate_from 1 account
 
--- those from a number on, as many as are asked for at most
+-- those from a number on, at most as many as requested
 abbrev pub asked_for : ℕ → ℕ → List AccountRow → List (ℕ × AccountRow)
 asked_for from count account = take count (drop (from - 1) (numbered account))
 
--- the rows of a batch that is kept
+-- the rows of a batch that is stored
 abbrev pub batch_rows : List Batch → ℕ → Option (List Row)
 batch_rows batches number = option_map (λ (b : Batch). b.rows) (find (λ (b : Batch). b.number == number) batches)

@@ -1,4 +1,4 @@
--- Which pattern decides goes by the classes and the patterns of the profiles alone.
+-- Which pattern decides depends on the classes and the patterns of the profiles alone.
 use Rattle.std.proofs.Common.{◌≡◌, ℕ, Bool, true, false, cond, ◌&&◌, List, [], ◌∷◌, Option, Some, None, map, Less, Equal, Greater, refl, sym, ap, ◌∙◌, rules}
 use Rattle.std.specs.BTreeSet.{replace_key}
 use Rattle.std.specs.Cmp.Lexicographic.{slice_cmp}
@@ -85,7 +85,7 @@ itself Greater e = absurd (search (rules, e))
 some_is : (x y : Profile) → Some x ≡ Some y → x ≡ y
 some_is x y h = search (rules, h)
 
--- the order goes by names
+-- the order depends on names
 by_name : (q r x : Profile) → name_of q ≡ name_of r → profile_cmp q x ≡ profile_cmp r x
 by_name q r x same = ap (λ (n : Name). ordering_then (class_cmp n.0 x.class) (pattern_cmp n.1 x.pattern)) same
 

@@ -33,18 +33,18 @@ pattern_of p = p.pattern
 abbrev pub deciding_pattern : Policy → Name → Option (List ℕ)
 deciding_pattern p name = option_map pattern_of (deciding_in p name.0 name.1)
 
--- Each cached name has the pattern that decides it, or none where none does.
+-- Each cached name has the pattern that decides it, or none if none does.
 abbrev pub IsRight : Policy → Entries → Type 0
 IsRight p entries = (e : Name × Option (List ℕ)) → Contains entries e → e.1 ≡ deciding_pattern p e.0
 
--- Tables represent a state, and what is cached of it is right. Where anything is cached the state is in the order of
--- its keys, so that its profiles are found by their patterns.
+-- Tables represent a state, and what is cached of it is right. If anything is cached, the state is in the order of its
+-- keys, so that its profiles are found by their patterns.
 pub record IsCached {T : Type 0} (m : Meaning T) (tables : T) (entries : Entries) (s : State) : Type 0 where
   pub represented : m.represents tables s
   pub right : IsRight s.policy entries
   pub keyed : (e : Name × Option (List ℕ)) → Contains entries e → IsKeyed s
 
--- One more name is kept, or memory was refused for it.
+-- One more name is cached, or memory was refused for it.
 abbrev pub IsKeptWith : Entries → Entries → Name → Option (List ℕ) → Type 0
 IsKeptWith old new name pattern = (new ≡ old) ⊎ (new ≡ put_entries same_name (lru_cache old 256) name pattern)
 

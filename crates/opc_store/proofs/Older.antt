@@ -45,14 +45,14 @@ both_err (Err y) P R Q f p q = f y p q
 
 module _ {S : Type 0} (g : Ghosts S) (version : ℕ) (old asked : Held S) (live : IsLive (state g old))
     (looks : (let r : Result ℕ Error = Ok version in Looks g old asked r)) where
-  -- asked for its version, the database is what it was
+  -- after its version was read, the database is what it was
   begun : HasCleanDisk (state g asked) → (v : Older) (s : State) → AreOldTablesOf v (state g old).now.trees s → RepresentsOld v (state g asked).now s
   begun clean v s are =
       let is_open = looks.opened clean in
       subst (λ (d : Database). RepresentsOld v d s) (sym (looks.same clean is_open))
       (found_old v (state g old).now s (live (looks.was_open clean is_open)).0 are)
 
-  -- what a copy leaves
+  -- what a migration leaves
   abbrev Leaves : Held S → Type 0
   Leaves new = Survives (state g asked) (state g new) (λ db. (v : Older) → (s : State) → RepresentsOld v (state g asked).now s → AreTablesOf db s)
 

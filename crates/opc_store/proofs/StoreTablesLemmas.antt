@@ -20,7 +20,7 @@ use Rattle.opc_store_schema.proofs.KeyOrder.{is_keyed}
 pub fits_of : (db : Database) (s : State) → Represents db s → Fits s
 fits_of db s h = let n = h.ordered.numbered in record { account = n.0; answered = n.1; log = n.2; messages = n.3 }
 
--- what an error says only of an open connection
+-- what an error states only about an open connection
 if_open : {X E : Type 0} (P Q : Type 0) (r : Result X E) → (P → OnErr r Q) → OnErr r (P → Q)
 if_open P Q (Ok x) h = tt
 if_open P Q (Err e) h = h
@@ -53,7 +53,7 @@ module _ {S : Type 0} (g : Ghosts S) where
   found P a b (Err e) h returns clean s was = tt
   found P a b (Ok x) h returns clean s was = returns clean s (was (h.was_open clean (h.opened clean)))
 
-  -- where it gave a value, the state is in the order of its keys
+  -- if it gave a value, the state is in the order of its keys
   pub keyed : {X E : Type 0} (a b : Held S) (r : Result X E) → Looks g a b r → IsSure g b → (s : State) → RepresentsIfOpen g a s → IfOk r (λ _. IsKeyed s)
   keyed a b (Err e) h clean s was = tt
   keyed a b (Ok x) h clean s was = let tables = was (h.was_open clean (h.opened clean)) in is_keyed s tables.ordered

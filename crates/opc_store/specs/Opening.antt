@@ -60,11 +60,11 @@ opening_fault fault.NoMemory = the_fault.NoMemory
 opening_fault fault.Store = the_fault.Store
 opening_fault (fault.NotOurs version) = the_fault.NotOurs version
 
--- out of memory is kept apart from every other cause
+-- out of memory is distinguished from every other cause
 abbrev pub open_fault : Error → OpenFault
 open_fault error = of_store (fault_of error)
 
--- A meta that cannot be asked, since it has no such column or is not there, names none.
+-- A meta whose version cannot be read, since it has no such column or is not there, names none.
 abbrev pub unasked : Error → OpenFault
 unasked (SqlInputError error) = fault.NotOurs 0
 unasked error = open_fault error
@@ -73,16 +73,16 @@ unasked error = open_fault error
 abbrev pub IsOlder : ℕ → Type 0
 IsOlder version = (version ≡ 1) ⊎ (version ≡ 2)
 
--- asked for its version, it named an older one
+-- its version was read, and is an older one
 abbrev pub WasOlder : {S : Type 0} → Ghosts S → State → Type 0
 WasOlder {S} g old = (asked : Held S) × (version : ℕ) × NamesVersion version old (state g asked) × IsOlder version
 
--- asked for its version, it named this one, or an older one before it was copied
+-- its version was read, and is this one, or was an older one before it was migrated
 abbrev pub IsKnown : {S : Type 0} → Ghosts S → State → State → Type 0
 IsKnown g old new = NamesVersion made_version old new ⊎ WasOlder g old
 
--- Why a database with names of ours is not opened: its version is none that is known, or it cannot be asked for it, or
--- it is out of memory, or its tables are older and the copy fails.
+-- Why a database with names of ours is not opened: its version is unknown, or cannot be read, or it is out of memory,
+-- or its tables are older and the migration fails.
 abbrev pub IsRefused : {S : Type 0} → Ghosts S → OpenFault → State → State → Type 0
 IsRefused g returned old new =
     ((version : ℕ) × NamesVersion version old new × (¬ IsOlder version) × (version ≢ made_version)
@@ -90,13 +90,13 @@ IsRefused g returned old new =
     ⊎ (((error : Error) × FailsToQuery version_query [] old new error × (returned ≡ unasked error))
     ⊎ ((returned ≡ fault.NoMemory) ⊎ ((returned ≡ fault.Store) × WasOlder g old)))
 
--- the fault says nothing of a version
+-- the fault states nothing about a version
 abbrev pub IsNoVersion : OpenFault → Type 0
 IsNoVersion returned = (returned ≡ fault.NoMemory) ⊎ (returned ≡ fault.Store)
 
--- What a crash may leave of an opening, besides what it might have left before: where no name is ours, the tables
--- beside what was there, and those of the empty state where nothing was defined; where the tables were older, those of
--- the same state in this version.
+-- What a crash may leave of an opening, besides what it might have left before: if no name is ours, the tables beside
+-- what was there, and those of the empty state if nothing was defined; if the tables were older, those of the same
+-- state in this version.
 abbrev pub MayLeave : {S : Type 0} → Ghosts S → Held S → Trees → Type 0
 MayLeave g old db =
     (IsFalse (has_our_name old.schema) × AreMadeOver g old db × (old.schema ≡ no_schema → AreTablesOf db empty))
@@ -144,7 +144,7 @@ pub record FailsToAdopt {S : Type 0} (g : Ghosts S) (image : Image) (returned : 
   pub refused : HasCleanDisk (state g left) → IsTrue (has_our_name (state g opened).now.schema)
       → IsRefused g returned (state g opened) (state g left)
   pub unharmed : HasCleanDisk (state g left) → IsTrue (state g left).is_open → (state g left).now ≡ (state g opened).now
-  -- where a version is answered, a crash leaves what it would have left before the question
+  -- if a version is answered, a crash leaves what it would have left before the question
   pub survives : Survives (state g opened) (state g left) (λ db. IsNoVersion returned × MayLeave g opened db)
 
 -- Why an opening at a path fails: the files are not opened, or what they held is not adopted.

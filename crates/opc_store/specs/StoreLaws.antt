@@ -14,19 +14,19 @@ use Rattle.opc_store.specs.Opening.{LeavesItself}
 use Rattle.opc_store.specs.StoreTables.{IsShut, IsSure, store_meaning}
 
 module _ {S : Type 0} (g : Ghosts S) (m : Meaning (Held S)) where
-  -- Where a crash leaves one state alone, whatever trees it may leave are tables of that: none are of another state, or
-  -- of none.
+  -- If a crash leaves one state alone, whatever trees it may leave are tables of that state: none are of another state,
+  -- or of none.
   abbrev pub LeavesTables : Type 0
   LeavesTables = (h : Held S) (s : State) → ((left : State) → m.may_leave h left → left ≡ s) → IsSure g h
       → (trees : Trees) → (state g h).may_leave trees → ¬ ¬ AreTablesOf trees s
 
-  -- Where a crash leaves what is there, as after an opening, it leaves alone the state that is there.
+  -- If a crash leaves what is there, as after an opening, it leaves alone the state that is there.
   abbrev pub LeavesWhatIsThere : Type 0
   LeavesWhatIsThere = (h : Held S) (s : State) → LeavesItself (state g h) → Represents (state g h).now s
       → (left : State) → m.may_leave h left → left ≡ s
 
--- A source over tables may be asked at any time. It has the profiles of the state that they represent, and what it
--- answers counts where the disk returned what was written.
+-- A source over tables may be searched at any time. It has the profiles of the state that they represent, and what it
+-- answers counts if the disk returned what was written.
 pub record IsSourceOfState {S : Type 0} (g : Ghosts S) (has : Held S → List Profile → Type 0)
     (is_ready is_faithful : Held S → Type 0) : Type 0 where
   pub ready : (h : Held S) → is_ready h
@@ -34,12 +34,13 @@ pub record IsSourceOfState {S : Type 0} (g : Ghosts S) (has : Held S → List Pr
   pub faithful : (h : Held S) → IsSure g h → is_faithful h
 
 module _ {S : Type 0} (g : Ghosts S) where
-  -- A load of closed tables answers a fault, and they stay closed: what it keeps says so,
+  -- A load of closed tables answers a fault, and they stay closed: the clause of what it keeps states so,
   abbrev pub ShutTablesGiveNothing : (V E : Type 0) → Type 0
   ShutTablesGiveNothing V E = (old new : Held S) (result : Result V E) → Looks g old new result → IsSure g new
       → IsShut g old → IsErr result × IsShut g new
 
-  -- and so does what it answers, where two states differ in what is asked: closed tables count as those of both.
+  -- and so does the clause of what it answers, if two states differ in what is loaded: closed tables count as those of
+  -- both.
   abbrev pub ShutTablesReturnNothing : (V W E : Type 0) → Type 0
   ShutTablesReturnNothing V W E =
       (old new : Held S) (result : Result V E) (part : V → W) (asked : State → W)

@@ -68,7 +68,7 @@ console_returned old new s was name =
     (λ c. and_true _ ∙ same_texts c.name name) console_asked old new was.rows.schema s.board.consoles
     was.ordered.consoles was.rows.holds.consoles
 
--- ---- those where a user is on
+-- ---- those where a user is logged on
 
 abbrev pub consoles_of : Asked
 consoles_of = record consoles {
@@ -81,7 +81,7 @@ pub consoles_of_asked : IsAsked consoles_of
 unfolding understood everything
 consoles_of_asked = record { selects = refl; unlisted = refl; plain = (refl, refl); shows = λ schema base. refl }
 
--- the row of a console, as it is with the user on
+-- the row of a console, as it is with the user logged on
 abbrev with_user : List ℕ → ConsoleRow → Row
 with_user user c = console_row (record c { user = Some user })
 

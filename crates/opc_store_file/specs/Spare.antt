@@ -6,8 +6,8 @@ use Rattle.opc_store_file.specs.declared.spare.Found.{Found}
 abbrev pub is_spare_database : Found → ℕ → Bool
 is_spare_database found length = found.is_made && length == 0
 
--- More than one byte stands where at most one stood before. So the file may be half made, and the log has the mark that
--- says so.
+-- More than one byte is there now, and at most one was before. So the file may be half made, and the log has the mark
+-- that records that.
 abbrev pub may_be_half_made : Found → ℕ → Bool
 may_be_half_made found length = nat_le found.length 1 && nat_lt 1 length
 

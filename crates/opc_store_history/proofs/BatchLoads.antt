@@ -51,7 +51,7 @@ batch_returned old new s was number =
     (λ b. b.number == number) (λ b. and_true _ ∙ equal_numbers b.number number) batch_asked old new was.rows.schema
     s.batches was.ordered.batches was.rows.holds.batches
 
--- the rows of a batch are read back from the text that is kept
+-- the rows of a batch are read back from the text that is stored
 pub read_back : (batches : List Batch) (number : ℕ) → AllByRecursion IsReadBack batches → (text : List ℕ)
     → Some text ≡ kept_text batches number → (b : Batch) × (policy_of text ≡ Ok b.rows)
     × (batch_rows batches number ≡ Some b.rows)

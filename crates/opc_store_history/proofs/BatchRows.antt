@@ -1,4 +1,4 @@
--- What the statements on kept batches do.
+-- What the statements on stored batches do.
 use Rattle.std.proofs.Common.{◌≡◌, ℕ, ◌==◌, pos, List, [], ◌∷◌, map, filter, not, length, codes, Bool, true, false, Ok, refl, sym, ap, ap₂, subst, ◌∙◌}
 use Rattle.std.specs.List.{flat_map, filter_map}
 use Rattle.std.specs.BTreeSet.{replace_key}

@@ -8,7 +8,7 @@ use Rattle.opc_state.specs.declared.account.AccountRow.{AccountRow}
 use Rattle.opc_state.specs.declared.change.Batch.{Batch}
 use Rattle.opc_store_schema.specs.Represented.{account_shown}
 
--- the rows of an account from a number on, as many as asked at most
+-- the rows of an account from a number on, at most as many as requested
 abbrev pub account_page : ℕ → ℕ → List AccountRow → List AccountRow
 account_page from count account = take count (drop (from - 1) account)
 
@@ -16,7 +16,7 @@ account_page from count account = take count (drop (from - 1) account)
 abbrev pub numbered_shown : ℕ × AccountRow → Row
 numbered_shown p = Int (pos p.0) ∷ account_shown p.1
 
--- the policy file of a batch that is kept
+-- the policy file of a batch that is stored
 abbrev pub kept_text : List Batch → ℕ → Option (List ℕ)
 kept_text batches number = option_map (λ (b : Batch). policy_text b.rows)
     (find (λ (b : Batch). b.number == number) batches)

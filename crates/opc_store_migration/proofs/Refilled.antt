@@ -27,7 +27,7 @@ use Rattle.opc_store_old_tables.specs.Read.{by_text, user_puts, connect_puts, pr
 use Rattle.opc_store_old_tables.proofs.ProfileLoads.{same_profiles}
 use Rattle.opc_store_migration.specs.Between.{emptied, put_into}
 
--- ---- puts change their own part
+-- ---- upserts change their own part
 
 users_put : (us : List User) (s : State) → all_edited (user_puts us) s ≡ with_users (put_all user_cmp user_total s.policy.users us) s
 users_put [] s = refl

@@ -1,4 +1,4 @@
--- What the tables hold between the steps of a copy.
+-- What the tables hold between the steps of a migration.
 use Rattle.std.specs.Prelude.{ℕ, List, [], ◌∷◌, map, take}
 use Rattle.sqlite_value.specs.Order.{Row}
 use Rattle.opc_state.specs.declared.change.Batch.{Batch}
@@ -18,7 +18,7 @@ lasting_rows c = take 13 (as_list c)
 abbrev pub without_last : Contents → Contents
 without_last c = record c { usr = []; connects = []; profiles = []; entries = [] }
 
--- the state without what is put anew
+-- the state without what is upserted anew
 abbrev pub emptied : State → State
 emptied s = with_batches [] (with_profiles [] (with_connects [] (with_users [] s)))
 
@@ -29,7 +29,7 @@ between version text_of s = record (contents_of (emptied s)) {
   batches = map (old_batch_row text_of) s.batches;
 }
 
--- the state with what is put, part by part
+-- the state with what is upserted, part by part
 abbrev pub put_into : MigrationEdits → State → State
 put_into puts s = all_edited puts.batches.items
     (all_edited puts.profiles.items (all_edited puts.connects.items (all_edited puts.users.items s)))

@@ -1,4 +1,4 @@
--- What the query on the kept batches of an older version reads.
+-- What the query on the stored batches of an older version reads.
 use Rattle.std.proofs.Common.{
   ◌≡◌,
   ℕ,
@@ -61,7 +61,7 @@ batches_returned version old new s was rows h =
     (λ x y h. rw (number_cmp x.number y.number, h)) (λ _. refl) (batches_asked version) old new has.schema s.batches
     was.state.batches has.batches rows h
 
--- what was read of the rows so far is that of members of which P holds, up to here
+-- what was read of the rows so far is that of members with P, up to here
 module _ {X Y V : Type 0} (P : X → Type 0) (row : X → Y) (of : X → V) where
   record IsHere (xs : List X) (i : ℕ) (y : Y) : Type 0 where
     x : X

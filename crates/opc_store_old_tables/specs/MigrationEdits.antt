@@ -1,4 +1,4 @@
--- The puts that bring a state's policy and its batches into empty tables.
+-- The upserts that bring a state's policy and its batches into empty tables.
 use Rattle.std.specs.Prelude.{◌≡◌}
 use Rattle.opc_state.specs.State.{State}
 use Rattle.opc_store_old_tables.specs.declared.edits.MigrationEdits.{MigrationEdits}

@@ -38,14 +38,14 @@ old_entry_row class pattern e = Text (class_text class) ∷ Text pattern ∷ Tex
 abbrev pub old_entry_rows : Profile → List Row
 old_entry_rows p = map (old_entry_row p.class p.pattern) p.entries
 
--- a batch is kept as a text, whatever its header
+-- a batch is stored as a text, whatever its header
 abbrev pub old_batch_values : (Batch → List ℕ) → Batch → Row
 old_batch_values text_of b = Null ∷ Text (text_of b) ∷ []
 
 abbrev pub old_batch_row : (Batch → List ℕ) → Batch → Row
 old_batch_row text_of b = numbered_row (old_batch_values text_of) b.number b
 
--- the rows of each table: those of version 3, but for these
+-- the rows of each table: those of version 3, except these
 abbrev pub old_contents : Older → (Batch → List ℕ) → State → Contents
 old_contents version text_of s = record (contents_of s) {
   meta = version_row (version_number version) ∷ [];
@@ -62,12 +62,12 @@ IsUnrestricted u = u.restricted ≡ false
 abbrev pub IsPlain : Entry → Type 0
 IsPlain e = e.when ≡ None
 
--- each text says the rows of its batch
+-- each text has the rows of its batch
 abbrev pub AreSaid : (Batch → List ℕ) → List Batch → Type 0
 AreSaid text_of batches = AllByRecursion (λ (b : Batch). policy_of (text_of b) ≡ Ok b.rows) batches
 
 -- A state that these tables can represent: in order, nobody is RESTRICTED, no entry is at a console, and each batch has
--- a text that says its rows.
+-- a text with its rows.
 pub record IsOldState (text_of : Batch → List ℕ) (s : State) : Type 0 where
   pub ordered : IsOrdered (with_batches [] s)
   pub users : AllByRecursion IsUnrestricted s.policy.users
@@ -81,7 +81,7 @@ pub record RepresentsOld (version : Older) (db : Database) (s : State) : Type 0 
   pub state : IsOldState text_of s
   pub tables : HasTables (old_schema version) (as_list (old_contents version text_of s)) db
 
--- The same of trees alone, as an open finds them: they list the tables, and hold the rows.
+-- The same for trees alone, as an opening finds them: they list the tables, and hold the rows.
 pub record AreOldTablesOf (version : Older) (trees : Trees) (s : State) : Type 0 where
   pub text_of : Batch → List ℕ
   pub state : IsOldState text_of s

@@ -30,7 +30,7 @@ FindsOld g old new result asked =
     HasCleanDisk (state g new) → (version : Older) (s : State) → RepresentsOld version (state g old).now s
     → IfOk result (asked s)
 
--- by the texts of their class and their pattern, since there may be no sort key to go by
+-- by the texts of their class and their pattern, since there may be no sort key to sort by
 abbrev pub text_order : Profile → Profile → Ordering
 text_order p q = ordering_then (name_cmp (class_text p.class) (class_text q.class)) (name_cmp p.pattern q.pattern)
 
@@ -45,7 +45,7 @@ AreAmong profiles some = AllByRecursion (λ (p : Profile). profile_of profiles p
 abbrev pub batch_shown : (Batch → List ℕ) → Batch → Row
 batch_shown text_of b = Int (pos b.number) ∷ Text (text_of b) ∷ []
 
--- the puts of these, one after another
+-- the upserts of these, one after another
 abbrev pub user_puts : List User → List Edit
 user_puts users = map (λ (u : User). edit.PutUser u) users
 

@@ -1,4 +1,4 @@
--- The tables of versions 1 and 2, where they differ from those of version 3.
+-- The tables of versions 1 and 2 that differ from those of version 3.
 use Rattle.std.specs.Prelude.{ℕ, true, false, [], ◌∷◌, fold, get_or, None, codes}
 use Rattle.sqlite_schema.specs.declared.schema.Action.TheVariants.{NoAction, Cascade}
 use Rattle.sqlite.specs.Table.{Table}
@@ -41,7 +41,7 @@ old_entries_table = table_of (codes "entries")
     ∷ column_of Integer true (codes "level") ∷ []) None (1 ∷ 2 ∷ 3 ∷ []) ((1 ∷ 2 ∷ 3 ∷ []) ∷ [])
     (reference_to (1 ∷ 2 ∷ []) (codes "profiles") Cascade ∷ [])
 
--- the lasting tables come first, as in version 3, and there are no indexes but those of the keys
+-- the lasting tables come first, as in version 3, and there are no indexes except those of the keys
 abbrev pub old_schema : Older → Schema
 old_schema version = fold created lasting_schema
     (old_usr_table ∷ connects_table ∷ old_profiles_table version ∷ old_entries_table ∷ [])

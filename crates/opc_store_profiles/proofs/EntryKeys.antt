@@ -44,7 +44,7 @@ idle olds news = go (length news == 0)
     go true = refl
     go false = refl
 
--- where an access list changes
+-- what changes if an access list does
 module _ (s : State) (class : Class) (pattern : List ℕ) (p : Profile) (it : Split class pattern s.policy.profiles p) (change : List Entry → List Entry) where
   abbrev pub after : List Profile
   after = with_profile (listing class pattern s.policy.profiles p it change) s.policy.profiles
@@ -56,7 +56,7 @@ module _ (s : State) (class : Class) (pattern : List ℕ) (p : Profile) (it : Sp
     entries = flat_map entry_rows after;
   } in c) (same_profiles class pattern s.policy.profiles p it change)
 
--- ---- consoles, as the column keeps them
+-- ---- consoles, as the column holds them
 
 pub same_consoles : (a b : Option (List ℕ)) → a ≢ Some [] → b ≢ Some [] → bytes_eq (or_empty a) (or_empty b) ≡ option_eq bytes_eq a b
 same_consoles None None h k = refl

@@ -186,7 +186,7 @@ entries_returned old new s was class pattern =
     (columns_rise _ (list_ordered s was.ordered class pattern)) (list_rows s was.ordered class pattern)
     was.rows.holds.entries
 
--- ---- so many entries at most
+-- ---- at most this many entries
 
 abbrev pub first_entries : Asked
 first_entries = record entries {

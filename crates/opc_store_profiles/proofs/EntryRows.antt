@@ -114,7 +114,7 @@ use Rattle.opc_store_schema.proofs.ProfileTexts.{
 use Rattle.opc_store_schema.proofs.AccessLists.{split, Split, is_of_means, listing, split_entries, entries_hit, entries_rest, no_entries, all_entries}
 use Rattle.opc_store_profiles.proofs.EntryKeys.{same_rows, idle, after, same_contents, tied_consoles, at_console}
 
--- ---- an entry goes
+-- ---- an entry is removed
 
 module _ (old new : SqlState) (count : ℕ) (s : State) (was : Tabulates old.now s) (class : Class) (pattern id : List ℕ)
     (when : Option (List ℕ)) (named : when ≢ Some []) where

@@ -147,7 +147,7 @@ module _ {X : Type 0} (cmp : X → X → Ordering) (total : IsTotalOrder cmp) wh
       go more zero d p q = ap is_lt (total.antisymm y x) ∙ turned_back (cmp x y) up.0.0
       go more (suc k) d p q = rw add-one (rw add-one at (more k d (omega arith) (omega arith)))
 
--- what follows of members of which more is known
+-- what follows of members about which more is known
 ascending_of : {X : Type 0} (F : X → Type 0) (R S : X → X → Type 0) → ((a b : X) → F a → F b → R a b → S a b)
     → (xs : List X) → AllByRecursion F xs → IsAscending R xs → IsAscending S xs
 ascending_of F R S weaker [] all up = tt

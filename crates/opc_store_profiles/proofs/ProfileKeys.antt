@@ -27,7 +27,7 @@ use Rattle.opc_store_schema.proofs.AccessLists.{is_of_means}
 pub same_rows : (xs ys rows : List Row) → IsPermutation xs ys → HasRows xs rows → HasRows ys rows
 same_rows xs ys rows same h = record { each = IsPermutation-trans _ _ _ (IsPermutation-sym _ _ same) h.each; kept = h.kept }
 
--- ---- what rows of profiles that go set off: nothing, where no entry is left of them
+-- ---- what rows of profiles that are removed set off: nothing, if no entry of them is left
 
 pub record IsOnEntries (olds : List Row) (w : Work) : Type 0 where
   pub tree : w.child.tree ≡ entries_at.tree

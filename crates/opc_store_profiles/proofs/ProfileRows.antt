@@ -113,7 +113,7 @@ use Rattle.opc_store_schema.proofs.ProfileTexts.{
 use Rattle.opc_store_schema.proofs.AccessLists.{split, entries_left, profiles_left, entries_lack, keeping, same_entries, profile_replaced, comes_in}
 use Rattle.opc_store_profiles.proofs.ProfileKeys.{same_rows, profile_works, HasKey, lacks, no_child, lacks_is, IsProfile, keyed, all_profiles}
 
--- ---- a profile goes, after its access list
+-- ---- a profile is removed, after its access list
 
 module _ (old new : SqlState) (count : ℕ) (s : State) (class : Class) (pattern : List ℕ) where
   abbrev pub left : List Profile
@@ -190,7 +190,7 @@ module _ (old new : SqlState) (count : ℕ) (s : State) (class : Class) (pattern
 
 -- ---- a profile is put
 
--- where each row that goes is replaced, nothing acts
+-- if each row that goes is replaced, nothing acts
 idle_update : (olds news : List Row) → (length news == 0) ≡ false → works the_schema Enforced 0 profiles_at.tree olds news ≡ []
 unfolding same_name joined
 idle_update olds news some = go (length news == 0) some

@@ -12,7 +12,7 @@ use Rattle.opc_store_sql.specs.Order.{text_cmp}
 use Rattle.opc_store_schema.specs.Represented.{entry_rows}
 use Rattle.opc_store_schema.specs.State.{IsAccessList}
 
--- a text; what is none reads as the empty one
+-- a text; what is not one reads as the empty one
 abbrev pub text_of : Value → List ℕ
 text_of (Text text) = text
 text_of other = []
@@ -31,7 +31,7 @@ is_of pattern row = bytes_eq (pattern_in row) pattern
 abbrev pub AreByPattern : List Row → Type 0
 AreByPattern = IsAscending (λ row other. is_gt (text_cmp (pattern_in row) (pattern_in other)) ≡ false)
 
--- Of some rows those of its pattern are the access list of a profile.
+-- Of some rows, those of its pattern are the access list of a profile.
 abbrev pub HasList : List Row → Profile → Type 0
 HasList rows p = (filter (is_of p.pattern) rows ≡ entry_rows p) × IsAccessList p.entries
 

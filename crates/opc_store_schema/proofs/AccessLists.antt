@@ -88,7 +88,7 @@ module _ (class : Class) (pattern : List ℕ) where
   pub split : (ps : List Profile) (p : Profile) → Rises profile_cmp ps → profile_of ps class pattern ≡ Some p → Split ps p
   split ps p up found = parts profile_cmp (is_of class pattern) profile_total ties ps p up found
 
-  -- ---- a profile goes, with its access list
+  -- ---- a profile is removed, with its access list
 
   same_test : (p : Profile) (b : Bool) → is_of class pattern p ≡ b → AllByRecursion (λ v. not (has_profile class pattern v) ≡ not b) (entry_rows p)
   same_test p b is = all-map (λ v. not (has_profile class pattern v) ≡ not b) (entry_row p.class p.pattern)
@@ -204,7 +204,7 @@ module _ (class : Class) (pattern : List ℕ) where
           IsPermutation-trans _ _ _ (IsPermutation-same _ _ both)
           (IsPermutation-trans _ _ _ middle (IsPermutation-same _ _ (ap (map profile_row) (sym replaced_here))))
 
-    -- where it is not there, it comes in
+    -- if it is not there, it comes in
     module _ (differ : KeysDiffer) (valid : IsPattern x.pattern)
         (patterns : AllByRecursion (λ (p : Profile). IsPattern p.pattern) ps)
         (absent : profile_of ps class pattern ≡ None) where
@@ -282,7 +282,7 @@ module _ (class : Class) (pattern : List ℕ) where
       whole_entries : flat_map entry_rows ps ≡ flat_map entry_rows it.prefix ++ (entry_rows p ++ flat_map entry_rows it.back)
       whole_entries = ap (flat_map entry_rows) it.whole ∙ flat_map-append entry_rows it.prefix (p ∷ it.back)
 
-      -- those that the test picks are those of the one access list
+      -- those that the test selects are those of the one access list
       pub entries_hit : filter (has_entry class pattern id console) (flat_map entry_rows ps) ≡ map
           (entry_row p.class p.pattern) (filter (is_at id console) p.entries)
       entries_hit =
@@ -314,7 +314,7 @@ module _ (class : Class) (pattern : List ℕ) where
           (filter-append lacks (entry_rows p) (flat_map entry_rows it.back)
           ∙ ap₂ (λ (a b : List Row). a ++ b) mine (keeps_all _ _ (lack_entry it.back it.after))))
 
-    -- of a profile that is not there no entry is picked
+    -- of a profile that is not there no entry is selected
     pub no_entries : (ps : List Profile) → profile_of ps class pattern ≡ None → filter (has_entry class pattern id console) (flat_map entry_rows ps) ≡ []
     no_entries ps absent = filter_none _ _ (lack_entry ps (none_picked profile_cmp (is_of class pattern) ps absent))
 

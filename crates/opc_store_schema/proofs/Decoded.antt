@@ -164,7 +164,7 @@ module _ (trees : Trees) (s : State) (ordered : IsOrdered s) (holds : Holds tree
   abbrev ps : List Profile
   ps = s.policy.profiles
 
-  -- the entries that the test picks are those of the profile
+  -- the entries that the test selects are those of the profile
   listed_here : (p : Profile) → profile_of ps p.class p.pattern ≡ Some p → IsAccessList p.entries → entries_in trees p.class p.pattern ≡ p.entries
   listed_here p here list =
       let own = is_entry_of p.class p.pattern in

@@ -210,7 +210,7 @@ module _ (s : State) (h : IsOrdered s) where
       go None absent = list
       go (Some p) here = found_one (λ (q : Profile). IsAccessList q.entries) (is_of profile.class profile.pattern) s.policy.profiles p h.entries here
 
-  -- where it is there
+  -- if it is there
   pub definition_kept : (profile : Profile) → IsPattern profile.pattern → (p : Profile)
       → profile_of s.policy.profiles profile.class profile.pattern ≡ Some p
       → IsOrdered (with_profiles (with_definition profile s.policy.profiles) s)

@@ -1,4 +1,4 @@
--- Where one table changes, the others have the rows that they had.
+-- If one table changes, the others have the rows that they had.
 use Rattle.std.proofs.Common.{◌≡◌, ◌≢◌, ℕ, List, slice_get, set, Some, true, refl, subst}
 use Rattle.sqlite.specs.Order.{Row}
 use Rattle.sqlite.specs.Table.{Table}
@@ -156,7 +156,7 @@ module _ (c : Contents) (old new : Database) (was : IsMade c old) where
   pub with_entries : Changes entries_at (λ rows. record c { entries = rows })
   with_entries = changed 16 entries_at (λ rows. record c { entries = rows }) refl refl (λ rows. refl)
 
--- where nothing changes, so do no others
+-- if nothing changes, neither do others
 pub spares_all : (c : Contents) (db : Database) (table : Table) → IsMade c db → Spares the_schema table db.trees db
 spares_all c db table was = record {
   schema_is = was.schema;

@@ -1,4 +1,4 @@
--- What becomes of the state that tables represent, and what a fault says.
+-- What happens to the state that tables represent, and what a fault means.
 use Rattle.sqlite.specs.Effect.{Database}
 use Rattle.sqlite.specs.declared.error.Error.{Error}
 use Rattle.sqlite.specs.declared.error.Error.TheVariants.{SqliteFailure}

@@ -1,4 +1,4 @@
--- What the rows of tables say: the values of their columns, read back, and the profiles with their access lists.
+-- What the rows of tables mean: the values of their columns, read back, and the profiles with their access lists.
 use Rattle.std.specs.Prelude.{
   ℕ,
   pos,
@@ -35,7 +35,7 @@ use Rattle.opc_policy_members.specs.Profiles.{profile_cmp}
 pub use Rattle.opc_state.specs.Loads.{bare}
 use Rattle.opc_store_schema.specs.Placed.{entries_at, profiles_at}
 
--- a value of another kind says nothing
+-- a value of another kind means nothing
 abbrev pub text_said : Value → List ℕ
 text_said (Text text) = text
 text_said _ = []
@@ -51,7 +51,7 @@ abbrev pub text_or_none : Value → Option (List ℕ)
 text_or_none (Text text) = Some text
 text_or_none _ = None
 
--- no text says no name
+-- what is not a text is not a name
 abbrev pub name_or_none : List ℕ → Option (List ℕ)
 name_or_none [] = None
 name_or_none (c ∷ cs) = Some (c ∷ cs)
@@ -71,7 +71,7 @@ level_of n = if n == 0 then level.None else if n == 1 then level.Read else if n 
 abbrev pub values_of : List Row → List Row
 values_of rows = map (λ (r : Row). drop 1 r) rows
 
--- a profile, but for its access list
+-- a profile, but without its access list
 abbrev pub profile_said : Row → Profile
 profile_said v = record {
   class = class_said (column v 0);

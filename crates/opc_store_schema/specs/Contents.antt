@@ -23,7 +23,7 @@ use Rattle.opc_store_schema.specs.Placed.{
   entries_at,
 }
 
--- The rows that each table has. Where the key is a number, the number stands first, as the rowid, and its own column is
+-- The rows that each table has. If the key is a number, the number stands first, as the rowid, and its own column is
 -- NULL.
 pub record Contents : Type 0 where
   pub meta : List Row

@@ -19,7 +19,7 @@ our_names = map (λ (t : Table). t.name) the_tables ++ map (λ (i : ℕ × Index
 abbrev pub is_ours : List ℕ → Bool
 is_ours name = list_any (same_name name) our_names
 
--- A table or an index has such a name. Those that the database cannot read are kept among the views, with the name of
+-- A table or an index has such a name. Those that the database cannot read are listed among the views, with the name of
 -- the table.
 abbrev pub has_our_name : Schema → Bool
 has_our_name schema = list_any (λ (t : Table). is_ours t.name) schema.tables
@@ -33,7 +33,7 @@ abbrev pub number_of : Value → ℕ
 number_of (Int (pos n)) = n
 number_of _ = 0
 
--- The version that the rows of meta name: the whole number above 0 that the only one has, or else 0.
+-- The version that the rows of meta name: the whole number above 0 that the only one has, or otherwise 0.
 abbrev pub version_of : List Row → ℕ
 version_of (row ∷ []) = number_of (column row 0)
 version_of _ = 0

@@ -83,7 +83,7 @@ user_row u = Text u.id ∷ flag u.special ∷ flag u.auditor ∷ flag u.revoked 
 abbrev pub connect_row : Connect → Row
 connect_row c = Text c.user ∷ Text c.group ∷ []
 
--- a profile but for its access list, and for what is computed of its pattern
+-- a profile without its access list, and without what is computed from its pattern
 abbrev pub definition_row : Profile → Row
 definition_row p = Text (class_text p.class) ∷ Text p.pattern ∷ Text p.owner ∷ Int (pos (level_rank p.uacc))
     ∷ flag p.warning ∷ []
@@ -92,7 +92,7 @@ definition_row p = Text (class_text p.class) ∷ Text p.pattern ∷ Text p.owner
 abbrev pub profile_row : Profile → Row
 profile_row p = definition_row p ++ Blob (sort_key p.pattern) ∷ Text (head (tokens p.pattern)) ∷ []
 
--- no text where no name is given
+-- no text if no name is given
 abbrev pub or_empty : Option (List ℕ) → List ℕ
 or_empty None = []
 or_empty (Some name) = name
@@ -221,7 +221,7 @@ pub record Represents (db : Database) (s : State) : Type 0 where
   pub ordered : IsOrdered s
   pub rows : Tabulates db s
 
--- The same of trees alone, as an open finds them: they list the tables, and hold the rows.
+-- The same for trees alone, as an opening finds them: they list the tables, and hold the rows.
 pub record AreTablesOf (trees : Trees) (s : State) : Type 0 where
   pub ordered : IsOrdered s
   pub lists : Lists (trees catalog_tree) the_schema

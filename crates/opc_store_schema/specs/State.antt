@@ -18,12 +18,12 @@ use Rattle.opc_store_sql.specs.Order.{Rises}
 abbrev pub CanBeNumbered : {X : Type 0} → List X → Type 0
 CanBeNumbered xs = length xs < 2 ^ 63
 
--- so in the account and in the histories
+-- and so in the account and in the histories
 abbrev pub AreNumbered : State → Type 0
 AreNumbered s = CanBeNumbered s.account × CanBeNumbered s.board.answered × CanBeNumbered s.board.log
     × CanBeNumbered s.board.messages
 
--- the text of a batch says its rows
+-- the text of a batch has its rows
 abbrev pub IsReadBack : Batch → Type 0
 IsReadBack b = policy_of (policy_text b.rows) ≡ Ok b.rows
 

@@ -123,7 +123,7 @@ the_indexes = (2, consoles_by_user) ∷ (2, consoles_by_authority) ∷ (4, devic
 
 -- In the order in which they are made. A table is at the tree after those of the tables before it, each of which has
 -- one for itself and one for each key that is not its rowid; the trees of the indexes come after all of them. So a
--- database of an older version comes to the same schema where its last tables are dropped and these made.
+-- database of an older version gets the same schema if its last tables are dropped and these are made.
 abbrev pub lasting_schema : Schema
 lasting_schema = fold created no_schema lasting_tables
 

@@ -81,7 +81,7 @@ are_profiles ps patterns up =
 -- ---- the first that covers
 
 module _ (resource : List ℕ) where
-  -- where it stands, if one covers
+  -- its place, if one covers
   record Found (xs : List Profile) : Type 0 where
     prefix : List Profile
     d : Profile
@@ -131,7 +131,7 @@ module _ (resource : List ℕ) where
         count = ap (λ b. cond b 1 (1 + taken_for (covers resource) xs)) e ∙ (let c = f.count in omega arith);
       })
 
-  -- what is found first decides, and so many are read for it
+  -- what is found first decides, and this many are read for it
   pub record Decides (xs : List Profile) : Type 0 where
     pub decides : find (covers resource) xs ≡ deciding xs resource
     pub reads : taken_for (covers resource) xs ≡ length (read_until (find (covers resource) xs) xs)

@@ -62,7 +62,7 @@ module _ (s : State) (ordered : IsOrdered s) (class : Class) (head : Option (Lis
         go None e h = (sym e ∙ decides, reads n many ∙ ap (λ (o : Option Profile). length (read_until o asked)) e)
         go (Some d) e h = absurd cc
 
-    -- one was found, but for its access list
+    -- one was found, but without its access list
     pub record Whole (q : Profile) : Type 0 where
       pub d : Profile
       pub is : q ≡ bare d

@@ -60,12 +60,12 @@ use Rattle.opc_store_sql.proofs.Places.{placed, place_cmp, placed_row, placed_ro
 use Rattle.opc_store_sql.proofs.Queries.{Lists, Pages, selecting, paging, alone, answered, paged, passes, shown}
 use Rattle.opc_store_sql.proofs.Quiet.{ShowsNothing, understood_quiet}
 
--- so many columns, from this one on, where 0 is the rowid
+-- this many columns, from this one on, where 0 is the rowid
 abbrev pub columns : ℕ → ℕ → List Term
 columns at zero = []
 columns at (suc n) = col 1 at ∷ columns (at + 1) n
 
--- ORDER BY so many columns, from this one on
+-- ORDER BY this many columns, from this one on
 abbrev pub by_columns : ℕ → ℕ → List (Term × Key)
 by_columns at zero = []
 by_columns at (suc n) = (col 1 at, ascending Binary) ∷ by_columns (at + 1) n
@@ -222,7 +222,7 @@ module _ (a : Asked) (params : Row) where
           (answered a.tree a.tests a.project a.order old.now.trees params old.now.schema rows
           (answers a.schema a.text (query a) is params old new has rows h))
 
-    -- where each row passes
+    -- if each row passes
     pub returned_all_numbers : ((x : X) → picks (row x) ≡ true) → IsAsked a → (old new : State) → old.now.schema ≡ a.schema
         → (xs : List X) → Rises cmp xs → old.now.trees a.tree ≡ map row xs → (rows : List Row)
         → Shown a.text params old new rows
@@ -267,7 +267,7 @@ module _ (a : Asked) (params : Row) where
             listed row shape cmp a.tree a.tests a.project a.order params (λ v. picks (Null ∷ v)) (λ v. returns (Null ∷ v))
             p db.trees (passes_values db.trees) (shows_values db.trees) passing shows less xs rows up had lists
 
-      -- where each row passes
+      -- if each row passes
       pub returned_all_shown : ((x : X) → picks (Null ∷ row x) ≡ true) → IsAsked a → (old new : State)
           → old.now.schema ≡ a.schema → (xs : List X) → Rises cmp xs → HasRows (map row xs) (old.now.trees a.tree)
           → (rows : List Row) → Shown a.text params old new rows → rows ≡ map shape xs
@@ -286,7 +286,7 @@ module _ (a : Asked) (params : Row) where
           (λ v. returns (Null ∷ v)) old.now.trees (passes_values old.now.trees) (shows_values old.now.trees) shows
           less have xs rows up mine had lists
 
-    -- and where that is the whole row
+    -- and if that is the whole row
     module _ {X : Type 0} (row : X → Row) (cmp : X → X → Ordering) (whole : (x : X) → (returns (Null ∷ row x)).1 ≡ row x)
         (less : (x y : X) → cmp x y ≡ Less → output_cmp (query a) (returns (Null ∷ row x)) (returns (Null ∷ row y)) ≡ Less) where
       module _ (p : X → Bool) (passing : (x : X) → picks (Null ∷ row x) ≡ p x) where
@@ -307,7 +307,7 @@ module _ (a : Asked) (params : Row) where
             let it = begins a.schema a.text (query a) is params old has rows h in
             (it.0, sym (answer_is old.now xs up had (rows ++ it.0) it.1))
 
-      -- where each row passes
+      -- if each row passes
       pub returned_all : ((x : X) → picks (Null ∷ row x) ≡ true) → IsAsked a → (old new : State) → old.now.schema ≡ a.schema
           → (xs : List X) → Rises cmp xs → HasRows (map row xs) (old.now.trees a.tree)
           → (rows : List Row) → Shown a.text params old new rows → rows ≡ map row xs

@@ -1,4 +1,4 @@
--- What DROP TABLE does, where no foreign key acts on the table's rows.
+-- What DROP TABLE does, if no foreign key acts on the table's rows.
 use Rattle.std.proofs.Common.{◌≡◌, ℕ, List, [], ◌∷◌, ◌++◌, length, arith, slice_get, Bool, true, false, cond, Some, None, Ok, sym, ap, subst, ◌∙◌}
 use Rattle.std.specs.Bool.{MatchBool}
 use Rattle.sqlite.specs.Order.{Row}

@@ -25,7 +25,7 @@ use Rattle.opc_store_sql.proofs.Written.{Spares, adds_at_end}
 
 pub record History (X : Type 0) : Type 0 where
   pub schema : Schema
-  -- where the schema has it, and itself
+  -- its place in the schema, and itself
   pub place : ℕ
   pub table : Table
   pub insert : List ℕ
@@ -50,8 +50,8 @@ module _ {X : Type 0} (k : History X) where
     pub gives : (x : X) → value_rows (params x) width (length terms / width) terms ≡ (Null ∷ k.values x) ∷ []
     pub stores : (x : X) → StoresAsIs k.table.columns (k.values x)
 
-  -- one more, after those that are there; and where its number is one that a table can hold, there are not more rows
-  -- than that
+  -- one more, after those that are there; and if its number is one that a table can hold, there are not more rows than
+  -- that
   pub record Grows (old new : State) (xs : List X) (x : X) : Type 0 where
     pub spares : Spares k.schema k.table old.now.trees new.now
     pub rows : new.now.trees k.table.tree ≡ numbered_rows k.values 1 (xs ++ x ∷ [])

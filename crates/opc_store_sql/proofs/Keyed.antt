@@ -1,5 +1,5 @@
--- A table whose key are its first columns, with its three statements: INSERT of a row, UPDATE of all columns at its
--- key, DELETE at a key.
+-- A table whose key consists of its first columns, with its three statements: INSERT of a row, UPDATE of all columns at
+-- its key, DELETE at a key.
 use Rattle.std.proofs.Common.{
   ◌≡◌,
   ◌≢◌,
@@ -80,7 +80,7 @@ use Rattle.opc_store_sql.proofs.Written.{Spares, Takes, Sets, Adds, takes, sets,
 -- its rows are those of members of X, of which no two have a key in common
 pub record Keyed (X : Type 0) : Type 0 where
   pub schema : Schema
-  -- where the schema has it, and itself, at its tree
+  -- its place in the schema, and itself, at its tree
   pub place : ℕ
   pub table : Table
   -- how many columns are the key
@@ -91,12 +91,12 @@ pub record Keyed (X : Type 0) : Type 0 where
   pub row : X → Row
   pub cmp : X → X → Ordering
 
--- so many parameters, from this one on
+-- this many parameters, from this one on
 abbrev pub parameters : ℕ → ℕ → List Term
 parameters first zero = []
 parameters first (suc n) = col 0 first ∷ parameters (first + 1) n
 
--- so many columns are those parameters, from these on
+-- this many columns are those parameters, from these on
 abbrev pub same_columns : ℕ → ℕ → List Term
 same_columns first zero = []
 same_columns first (suc n) = op2 (Compare Eq Binary) (col 1 (first + 1)) (col 0 first) ∷ same_columns (first + 1) n
@@ -107,7 +107,7 @@ StoresAsIs [] values = Unit {0}
 StoresAsIs (c ∷ cs) [] = Unit {0}
 StoresAsIs (c ∷ cs) (v ∷ values) = (cast c.kind v ≡ v) × StoresAsIs cs values
 
--- where rows with this key go, or get another (not `deletes`), nothing is done to their children by this reference
+-- if rows with this key go, or get another (not `deletes`), nothing is done to their children by this reference
 abbrev spared_by : ℕ → Option Deed → Option ParentKey → Bool
 spared_by tree None key = true
 spared_by tree (Some deed) None = true
@@ -208,7 +208,7 @@ none_flat : {A B : Type 0} (f : A → List B) (p : A → Bool) → ((x : A) → 
 none_flat f p none [] h = refl
 none_flat f p none (x ∷ xs) h = let both = and_parts (p x) (list_all p xs) h in rw (none x both.0, none_flat f p none xs both.1)
 
--- where no reference acts, no row that goes or gets another key sets anything off
+-- if no reference acts, no row that goes or gets another key sets anything off
 pub nothing_acts : (schema : Schema) (tree : ℕ) → is_idle schema tree true ≡ true → is_idle schema tree false ≡ true
     → (olds news : List Row) → works schema Enforced 0 tree olds news ≡ []
 nothing_acts schema tree deletes changes olds news = go (length news == 0)

@@ -58,7 +58,7 @@ pub any_flat_map : {X Y : Type 0} (test : Y → Bool) (of : X → List Y) (p : X
 any_flat_map test of p same [] = refl
 any_flat_map test of p same (x ∷ xs) = list_any-append test (of x) (flat_map of xs) ∙ ap₂ (λ a b. a || b) (same x) (any_flat_map test of p same xs)
 
--- one is found where one passes
+-- one is found if one passes
 pub any_found : {X : Type 0} (p : X → Bool) (xs : List X) → list_any p xs ≡ is_some (find p xs)
 any_found p [] = refl
 any_found {X} p (x ∷ xs) = go (p x) (any_found p xs)
@@ -78,7 +78,7 @@ pub any_or : {X : Type 0} (p q : X → Bool) (xs : List X) → list_any (λ x. p
 any_or p q [] = refl
 any_or p q (x ∷ xs) = ap (λ b. (p x || q x) || b) (any_or p q xs) ∙ or_shared (p x) (q x) (list_any p xs) (list_any q xs)
 
--- of as many as pass a test, the first is there where one passes
+-- of as many as pass a test, the first is there if one passes
 first_of : {X Y : Type 0} (p : Y → Bool) (xs : List X) (ys : List Y) → length xs ≡ length (filter p ys) → not (length (take 1 xs) == 0) ≡ list_any p ys
 first_of p [] [] many = refl
 first_of p (x ∷ xs) [] many = absurd (omega arith)

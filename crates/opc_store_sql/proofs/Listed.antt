@@ -1,5 +1,5 @@
--- The answer of a query on one table that goes by the key, where the table has one row for each member of a list in
--- that order: for each member that passes what is shown of its row.
+-- The answer of a query on one table that goes by the key, if the table has one row for each member of a list in that
+-- order: for each member that passes, what is shown of its row.
 use Rattle.std.proofs.Common.{◌≡◌, ℕ, List, map, drop, filter, Bool, Ordering, Less, sym, ap, subst, ◌∙◌, IsPermutation}
 use Rattle.std.proofs.lemmas.List.Sorted.{IsPermutation-map, IsPermutation-trans}
 use Rattle.sqlite.specs.Order.{Row}
@@ -46,7 +46,7 @@ module _ {X : Type 0} (row shape : X → Row) (cmp : X → X → Ordering) (tree
       let is : lists.ordered ≡ map (λ x. out (row x)) picked = sorted_unique (output_cmp query) (output_cmp_total query) _ _ strict given lists.sorted in
       lists.are ∙ (ap (map (λ (o : Output). o.1)) is ∙ (map-map (λ (o : Output). o.1) (λ x. out (row x)) picked ∙ map_same _ _ itself picked))
 
--- The same where the table's key is the rowid, and its rows are those of the members.
+-- The same if the table's key is the rowid, and its rows are those of the members.
 module _ {X : Type 0} (row : X → Row) (cmp : X → X → Ordering) (tree : ℕ) (tests project : List Term)
     (order : List (Term × Key)) (params : Row) (out : X → Output) (p : X → Bool) (db : Trees)
     (picks : (x : X) → passes tree tests project order db params (row x) ≡ p x)
@@ -67,7 +67,7 @@ module _ {X : Type 0} (row : X → Row) (cmp : X → X → Ordering) (tree : ℕ
       let is : lists.ordered ≡ map out picked = sorted_unique (output_cmp query) (output_cmp_total query) _ _ strict given lists.sorted in
       lists.are ∙ (ap (map (λ (o : Output). o.1)) is ∙ map-map (λ (o : Output). o.1) out picked)
 
--- The same of a part of a table: the rows that a test picks are those of the members of a list in the order of the
+-- The same for a part of a table: the rows that a test selects are those of the members of a list in the order of the
 -- query.
 module _ {X : Type 0} (row shape : X → Row) (cmp : X → X → Ordering) (tree : ℕ) (tests project : List Term) (order : List (Term × Key)) (params : Row)
     (q : Row → Bool) (out : Row → Output) (db : Trees)

@@ -105,7 +105,7 @@ module _ {S : Type 0} (g : Ghosts S) where
           same = λ clean is_open. h.same clean is_open ∙ before.same (omega (arith, h.survives.clean)) (h.was_open clean is_open);
         }
 
-    -- what held of the tables at first holds where a query gave a value
+    -- what held of the tables at first holds if a query gave a value
     pub looked_on : {Y F : Type 0} (y : Y) → (let q : Result Y F = Ok y in Looks g b c q) → HasCleanDisk (state g c)
         → (P : Database → Type 0) → P (state g a).now → P (state g b).now
     looked_on y h clean P was = subst P (sym (before.same (omega (arith, h.survives.clean)) (h.was_open clean (h.opened clean)))) was

@@ -168,7 +168,7 @@ module _ {S : Type 0} (g : Ghosts S) where
       subst (λ (l : List (List Row)). HasTables (fold created schema (table ∷ tables)) l (state g new).now) (append_assoc all ([] ∷ []) (no_rows_of tables))
       (makes_more (created schema table) more tables (all ++ [] ∷ []) ran.0 new defined.1 (made_then schema table all _ _ was.filled made) ran.3)
 
-  -- where nothing is defined they make their tables, and nothing else
+  -- if nothing is defined, they make their tables, and nothing else
   pub makes_all : (texts : List (List ℕ)) (table : Table) (tables : List Table) (old new : Held S)
       → (state g old).now.schema ≡ no_schema → RanAll g texts old new → AreDefined no_schema texts (table ∷ tables)
       → HasTables (fold created no_schema (table ∷ tables)) (no_rows_of (table ∷ tables)) (state g new).now

@@ -1,4 +1,4 @@
--- Where one table of a schema changes, the others have the rows that they had.
+-- If one table of a schema changes, the others have the rows that they had.
 use Rattle.std.proofs.Common.{◌≡◌, ◌≢◌, ℕ, zero, suc, nat_eq, List, [], ◌∷◌, set, slice_get, not, ◌&&◌, Bool, true, Option, Some, None, sym, subst, arith}
 use Rattle.std.proofs.lemmas.Bool.Decides.{nat_tests}
 use Rattle.std.proofs.lemmas.List.Sorted.{IsPermutation-refl}

@@ -101,7 +101,7 @@ module _ {X : Type 0} (cmp : X → X → Ordering) (p : X → Bool) where
         go true e found more = here e (let same : z ≡ x = cc in same)
         go false e found more = later e (more found)
 
-  -- it alone is picked
+  -- it alone is selected
   pub picked : (xs : List X) (x : X) → Parts xs x → filter p xs ≡ x ∷ []
   picked xs x it =
       ap (filter p) it.whole

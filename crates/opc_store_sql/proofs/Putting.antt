@@ -1,4 +1,4 @@
--- Members that come in the order of their keys, put one after another.
+-- Members that come in the order of their keys, upserted one after another.
 use Rattle.std.proofs.Common.{
   ◌≡◌,
   ℕ,

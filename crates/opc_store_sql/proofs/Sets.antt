@@ -159,7 +159,7 @@ module _ {X : Type 0} (cmp : X → X → Ordering) (total : IsTotalOrder cmp) wh
   pub one_at : (new : X) (xs : List X) → Rises cmp xs → length (filter (λ x. is_eq (cmp x new)) xs) ≤ 1
   one_at new = comes_once cmp (λ x y. is_eq (cmp x y)) new (λ x h. equal_is _ h) total
 
--- where equal keys are equal members, it makes no difference which of the two stays
+-- if equal keys are equal members, it makes no difference which of the two stays
 pub inserted_same : {X : Type 0} (cmp : X → X → Ordering) → ((x y : X) → cmp x y ≡ Equal → x ≡ y)
     → (new : X) (xs : List X) → insert_key cmp xs new ≡ replace_key cmp xs new
 inserted_same cmp same new [] = refl
@@ -171,7 +171,7 @@ inserted_same cmp same new (x ∷ xs) = go (cmp new x) refl (inserted_same cmp s
     go Equal e more = ap (λ y. y ∷ xs) (sym (same new x e))
     go Greater e more = ap (λ l. x ∷ l) more
 
--- two orders in turn tie where both do
+-- two orders in turn tie if both do
 pub then_eq : (a b : Ordering) → is_eq (ordering_then a b) ≡ (is_eq a && is_eq b)
 then_eq Less b = refl
 then_eq Equal b = refl

@@ -154,7 +154,7 @@ module _ (schema : Schema) (text : List ℕ) (at : ℕ) (table : Table) (params 
     abbrev pub taking : List Row → Edit
     taking rows = edit_of old.now.trees table (ids_of rows) Given 0 []
 
-    -- where what the rows that go set off leaves all else as it is
+    -- if what the rows that go set off leaves everything else as it is
     pub takes_by : command_of (understood schema text) ≡ Delete at (alone (selecting table.tree tests (col 1 0 ∷ []) []))
         → ((r : Row) → passes table.tree tests (col 1 0 ∷ []) [] old.now.trees params r ≡ q (drop 1 r))
         → ((rows : List Row) → Lists table.tree tests (col 1 0 ∷ []) [] old.now.trees params rows

@@ -33,7 +33,7 @@ abbrev pub FilledBy : Option ℕ → List Row → List Row → Type 0
 FilledBy (Some place) values rows = rows ≡ values
 FilledBy None values rows = HasRows values rows
 
--- The table has these rows and no other: in this order, as they are, where its key is a number, and else one row for
+-- The table has these rows and no other: in this order, as they are, if its key is a number, and otherwise one row for
 -- each.
 abbrev pub IsFilled : Table → List Row → Trees → Type 0
 IsFilled table values trees = FilledBy table.key values (trees table.tree)

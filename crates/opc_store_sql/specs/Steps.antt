@@ -32,8 +32,8 @@ module _ {S : Type 0} (g : Ghosts S) where
   RanAll [] old new = new ≡ old
   RanAll (sql ∷ more) old new = (mid : Held S) × (count : ℕ) × Ran sql [] old mid count × RanAll more mid new
 
-  -- The first statement ran; where it found no row, the second ran after it, with the same parameters, and else nothing
-  -- did.
+  -- The first statement ran; if it found no row, the second ran after it, with the same parameters, and otherwise
+  -- nothing did.
   pub record Puts (update insert : List ℕ) (params : Row) (old new : Held S) : Type 0 where
     pub mid : Held S
     pub found : ℕ
@@ -41,7 +41,7 @@ module _ {S : Type 0} (g : Ghosts S) where
     pub ends : found ≢ 0 → new ≡ mid
     pub inserts : found ≡ 0 → (added : ℕ) × Ran insert params mid new added
 
-  -- What a query keeps: where the connection is still open the tables are as they were, and a crash leaves nothing new.
+  -- What a query keeps: if the connection is still open, the tables are as they were, and a crash leaves nothing new.
   pub record Looks {X E : Type 0} (old new : Held S) (result : Result X E) : Type 0 where
     pub survives : Survives (state g old) (state g new) (λ _. ⊥)
     pub opened : HasCleanDisk (state g new) → OnOk result (IsTrue (state g new).is_open)

@@ -47,7 +47,7 @@ connects_returned old new s was =
     (then_less (name_cmp x.user y.user) (name_cmp x.group y.group) h)) (λ _. refl)
     connects_asked old new was.rows.schema s.policy.connects was.ordered.connects was.rows.holds.connects
 
--- ---- those of a user, so many at most
+-- ---- those of a user, at most this many
 
 abbrev pub of_user : Asked
 of_user = record connects { text = codes "SELECT usr, grp FROM connects WHERE usr = ?1 ORDER BY usr, grp LIMIT ?2"; tests = same_columns 0 1 }

@@ -2,7 +2,7 @@ use Rattle.std.proofs.Common.{sym, ◌∙◌}
 use Rattle.opc_names.proofs.Prefixes.{padded}
 use Rattle.opc_names.proofs.bytes.BytesOrd.cmp.Goals as goal
 
--- what the rooms decide, their bytes do
+-- what the rooms decide, their bytes decide
 pub returns-in-Some : goal.returns-in-Some
 returns-in-Some g c =
     let reported = rw c.in-Some.is at c.order_of_words.ensures in

@@ -110,7 +110,7 @@ returns-in-Ok-eq1-clause-crash_at_fault g c =
     (older_between c.in-Ok-eq1.field-0 (search rules) (search rules)) c.in-Ok-eq1.ensures.names (search rules)
     c.copied.ensures.crash_at_fault c.copied.ensures.returned
 
--- ---- where it was only asked for its version, nothing is left that was not
+-- ---- if only its version was read, nothing is left that was not
 
 pub returns-in-Ok-eq3-clause-crash : goal.returns-in-Ok-eq3-clause-crash
 returns-in-Ok-eq3-clause-crash g c = survives_weaker (state g.S.Store c.args.conn)
@@ -126,7 +126,7 @@ returns-in-Err-version_on-clause-crash_at_fault g c =
     survives_weaker (state g.S.Store c.args.conn) (state g.S.Store c.version_on.new.conn) _ _ (λ _ db none. absurd none)
     c.version_on.ensures.looks.survives
 
--- ---- where a name is ours, no clause speaks of one without
+-- ---- if a name is ours, no clause speaks of one without
 
 pub returns-in-Ok-eq3-clause-unnamed : goal.returns-in-Ok-eq3-clause-unnamed
 returns-in-Ok-eq3-clause-unnamed g c clean none = absurd (both _ (let is : has_our_name c.args.conn.schema ≡ true = search rules in is) none)
@@ -140,7 +140,7 @@ returns-in-Ok-version_on-clause-unmade g c none = absurd (both _ (let is : has_o
 pub returns-in-Err-version_on-clause-unmade : goal.returns-in-Err-version_on-clause-unmade
 returns-in-Err-version_on-clause-unmade g c none = absurd (both _ (let is : has_our_name c.args.conn.schema ≡ true = search rules in is) none)
 
--- ---- where none is, none speaks of one with
+-- ---- if none is, none speaks of one with
 
 pub returns-in-Ok-clause-ours : goal.returns-in-Ok-clause-ours
 returns-in-Ok-clause-ours g c clean named = absurd (both _ named (let is_not : has_our_name c.args.conn.schema ≡ false = search rules in is_not))

@@ -7,10 +7,6 @@ from typing import NamedTuple
 COMMAND = re.compile(r"  (\S+) +(\S.*)")
 OPTION = re.compile(r"  (?:-\w, |    )--([\w-]+)(?: <(\S+)>)?(?: +(\S.*))?")
 MORE = re.compile(r" {10,}(\S.*)")
-POSSIBLE = re.compile(r"\[possible values: ([^]]*)\]")
-LISTED = re.compile(r": ((?:[A-Z\d]+, )*[A-Z\d]+ or [A-Z\d]+)")
-MODE = re.compile(r"\b[0-7]{3}\b")
-NEEDED = re.compile(r"--([\w-]+)")
 
 
 class Option(NamedTuple):
@@ -24,11 +20,12 @@ class Option(NamedTuple):
 
     def words(self) -> list[str]:
         """The values that it may have, if its help lists them."""
-        if found := POSSIBLE.search(self.text):
+        if found := re.search(r"\[possible values: ([^]]*)\]", self.text):
             return found[1].split(", ")
         if self.value == "MODE":
-            return list(dict.fromkeys(MODE.findall(self.text)))
-        return re.findall(r"[A-Z\d]+", found[1]) if (found := LISTED.search(self.text)) else []
+            return list(dict.fromkeys(re.findall(r"\b[0-7]{3}\b", self.text)))
+        found = re.search(r": ((?:[A-Z\d]+, )*[A-Z\d]+ or [A-Z\d]+)", self.text)
+        return re.findall(r"[A-Z\d]+", found[1]) if found else []
 
 
 class Command(NamedTuple):
@@ -54,7 +51,7 @@ def commands_in(text: str) -> dict[str, str]:
 def options_in(text: str) -> list[Option]:
     """The options that the help of a command names."""
     usage, options = re.search(r"(?m)^Usage: (.*)$", text), []
-    needed = NEEDED.findall(re.sub(r"\[[^]]*\]", "", usage[1])) if usage else []
+    needed = re.findall(r"--([\w-]+)", re.sub(r"\[[^]]*\]", "", usage[1])) if usage else []
     for line in part_of(text, "Options"):
         if found := OPTION.fullmatch(line):
             options.append(Option(f"--{found[1]}", found[2] or "", found[3] or "", found[1] in needed))

@@ -28,8 +28,9 @@ pub fn serve_on<H: AllocGlobal + Clock, L: OpenListener, T: Tables>(
 where
     L::Stream: Connection,
     ensures sure { T.meaning.is_sure gate.new → T.meaning.is_sure gate.old }
-    ensures served { IsService T.meaning gate.old gate.new routes.now (door_of (link_of L.Stream.limits ⟦<H as Timer>⟧.shows
-        L.Stream.reads L.Stream.remaining L.Stream.contents) (Comes ⟦<L as Listener>⟧.accepts L.Stream.clones)) count result }
+    ensures served { IsService T.meaning gate.old gate.new routes.now
+        (door_of (link_of L.Stream.limits ⟦<H as Timer>⟧.shows L.Stream.reads L.Stream.remaining L.Stream.contents)
+        (Comes ⟦<L as Listener>⟧.accepts L.Stream.clones)) count result }
 {
     number_of(serving::serve_on(rt, listener, count, None, routes, gate))
 }

@@ -55,7 +55,8 @@ module _ {T : Type 0} (m : Meaning T) where
   module _ {C D K : Type 0} (ports : Door C K) (sockets : Door D K) (old new : T) (serve : Serve)
       (end : Result Status Failure) where
     -- The service at an address, which it printed.
-    abbrev pub IsServiceAt : (of_port : (asked port : ℕ) → Type 0) → (of_socket : List ℕ → ℕ → Type 0) → Address → Type 0
+    abbrev pub IsServiceAt : (of_port : (asked port : ℕ) → Type 0) → (of_socket : List ℕ → ℕ → Type 0) → Address
+        → Type 0
     IsServiceAt of_port of_socket (Port asked) = IsPortService ports old new serve end (of_port asked)
     IsServiceAt of_port of_socket (Socket path mode) =
         IsSocketService sockets old new serve end (of_socket path.now mode)

@@ -104,9 +104,11 @@ where
     L: Drop,
     S: Drop,
     ensures sure { T.meaning.is_sure gate.new → T.meaning.is_sure gate.old }
-    ensures serves { IsServiceAt T.meaning (door_of (link_of L.Client.limits ⟦<H as Timer>⟧.shows L.Client.reads L.Client.remaining
-        L.Client.contents) (Comes L.accepts L.Client.clones)) (door_of (link_of S.Client.limits ⟦<H as Timer>⟧.shows S.Client.reads
-        S.Client.remaining S.Client.contents) (Comes S.accepts S.Client.clones)) gate.old gate.new serve.now result
+    ensures serves { IsServiceAt T.meaning
+        (door_of (link_of L.Client.limits ⟦<H as Timer>⟧.shows L.Client.reads L.Client.remaining L.Client.contents)
+        (Comes L.accepts L.Client.clones))
+        (door_of (link_of S.Client.limits ⟦<H as Timer>⟧.shows S.Client.reads S.Client.remaining S.Client.contents)
+        (Comes S.accepts S.Client.clones)) gate.old gate.new serve.now result
         (ListensAt P.binds P.is_at ports.now (W.contents output.old) (W.contents output.new))
         (ListensBy P.names P.permits P.listens ports.now (W.contents output.old) (W.contents output.new))
         serve.now.address }
@@ -147,8 +149,9 @@ fn serve_at_port<H: AllocGlobal + Clock, P: Ports<Listener = L>, L: Listener, T:
 where
     L: Drop,
     ensures sure { T.meaning.is_sure gate.new → T.meaning.is_sure gate.old }
-    ensures serves { IsPortService T.meaning (door_of (link_of L.Client.limits ⟦<H as Timer>⟧.shows L.Client.reads L.Client.remaining
-        L.Client.contents) (Comes L.accepts L.Client.clones)) gate.old gate.new serve.now result
+    ensures serves { IsPortService T.meaning
+        (door_of (link_of L.Client.limits ⟦<H as Timer>⟧.shows L.Client.reads L.Client.remaining L.Client.contents)
+        (Comes L.accepts L.Client.clones)) gate.old gate.new serve.now result
         (ListensAt P.binds P.is_at ports.now (W.contents output.old) (W.contents output.new) port) }
 {
     let (listener, given) = listen_at_port(ports, port)?;
@@ -170,9 +173,11 @@ fn serve_at_socket<H: AllocGlobal + Clock, P: Ports<Socket = S>, S: Listener, T:
 where
     S: Drop,
     ensures sure { T.meaning.is_sure gate.new → T.meaning.is_sure gate.old }
-    ensures serves { IsSocketService T.meaning (door_of (link_of S.Client.limits ⟦<H as Timer>⟧.shows S.Client.reads
-        S.Client.remaining S.Client.contents) (Comes S.accepts S.Client.clones)) gate.old gate.new serve.now result
-        (ListensBy P.names P.permits P.listens ports.now (W.contents output.old) (W.contents output.new) path.now mode) }
+    ensures serves { IsSocketService T.meaning
+        (door_of (link_of S.Client.limits ⟦<H as Timer>⟧.shows S.Client.reads S.Client.remaining S.Client.contents)
+        (Comes S.accepts S.Client.clones)) gate.old gate.new serve.now result
+        (ListensBy P.names P.permits P.listens ports.now (W.contents output.old) (W.contents output.new)
+        path.now mode) }
 {
     let socket = listen_at_socket(ports, path, mode)?;
     let end = serve_socket(rt, &socket, gate, path, serve, output);

@@ -64,7 +64,8 @@ pub fn read_words<'a, W: Write, E: Write>(
 
 /// What `clap` finds of the words.
 fn matches_of<'a>(alloc: Global, words: &'a [String]) -> Result<ArgMatches<'a>, Error>
-    ensures found { IfOk result (λ found. subcommand_rows_of found ≡ subcommand_of command_line (words_after words.entry.now)) }
+    ensures found { IfOk result
+        (λ found. subcommand_rows_of found ≡ subcommand_of command_line (words_after words.entry.now)) }
     ensures fails { FailsBy (fault_of command_line (words_after words.entry.now)) result }
 {
     command_line(alloc)?.try_get_matches_from(after_first(words))

@@ -42,11 +42,13 @@ kept_appends (Some xs) None after put k c = absurd k
 kept_appends (Some xs) (Some ys) None put k c = absurd c
 kept_appends (Some xs) (Some ys) (Some zs) put k c = c ∙ ap (λ l. l ++ put) k
 
-read_kept : (before mid after : Option (List ℕ)) (answer : Result ℕ Error) (buf : List ℕ) → Keeps before mid → ReadConsumes mid after answer buf → ReadConsumes before after answer buf
+read_kept : (before mid after : Option (List ℕ)) (answer : Result ℕ Error) (buf : List ℕ) → Keeps before mid
+    → ReadConsumes mid after answer buf → ReadConsumes before after answer buf
 read_kept before mid after (Ok n) buf k r = (kept_consumes before mid after (take n buf) k r.0, r.1)
 read_kept before mid after (Err e) buf k r = Keeps-trans before mid after k r
 
-written_kept : (before mid after : Option (List ℕ)) (answer : Result ℕ Error) (put : List ℕ) → Keeps before mid → WriteAppends mid after answer put → WriteAppends before after answer put
+written_kept : (before mid after : Option (List ℕ)) (answer : Result ℕ Error) (put : List ℕ) → Keeps before mid
+    → WriteAppends mid after answer put → WriteAppends before after answer put
 written_kept before mid after (Ok n) put k r = kept_appends before mid after (take n put) k r
 written_kept before mid after (Err e) put k r = Keeps-trans before mid after k r
 

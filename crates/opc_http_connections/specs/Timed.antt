@@ -114,9 +114,9 @@ module _ {K : Type 0} (shows : K → Result Duration Error → Type 0) where
       pub ended : is_interrupted answer ≡ true → interrupted ≡ 1_000_000_000
 
 -- One read of the handle, within the deadline, gave these bytes. The deadline stayed.
-pub record IsReadInTime {C K : Type 0} (limits : C → Duration → Bool → Type 0) (shows : K → Result Duration Error → Type 0)
-    (reads : C → Result ℕ Error → C → Type 0) (remaining : C → Option (List ℕ)) (before : Timed C K) (given : List ℕ)
-    (after : Timed C K) : Type 0 where
+pub record IsReadInTime {C K : Type 0} (limits : C → Duration → Bool → Type 0)
+    (shows : K → Result Duration Error → Type 0) (reads : C → Result ℕ Error → C → Type 0)
+    (remaining : C → Option (List ℕ)) (before : Timed C K) (given : List ℕ) (after : Timed C K) : Type 0 where
   pub answer : Result ℕ Error
   pub tried : IsTried shows limits reads before.timer.now before.deadline before.handle answer after.handle
   pub gave : Consumes (remaining before.handle) (remaining after.handle) given

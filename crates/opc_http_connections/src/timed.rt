@@ -123,8 +123,8 @@ impl<C: Connection, K: Timer> Timed<'_, C, K> {
 
     /// Writes, and again if a signal interrupts that.
     fn write_on(&mut self, bytes: &[u8]) -> io::Result<usize>
-        ensures tried { IsTried K.shows C.limits (λ old answer new. C.writes old bytes.now answer new) self.old.timer.now
-            self.old.deadline self.old.handle result self.new.handle }
+        ensures tried { IsTried K.shows C.limits (λ old answer new. C.writes old bytes.now answer new)
+            self.old.timer.now self.old.deadline self.old.handle result self.new.handle }
         ensures same { self.new ≡ record self.old { handle = self.new.handle } }
         ensures bound { WritesAtMost result bytes.now }
         ensures bytes { WriteAppends (C.contents self.old.handle) (C.contents self.new.handle) result bytes.now }
@@ -141,7 +141,8 @@ impl<C: Connection, K: Timer> Timed<'_, C, K> {
 
     /// Brings the deadline forward, so that it is at most this far away.
     pub(crate) fn hurry(&mut self, longest: Duration) -> io::Result<()>
-        ensures hurried { OnOk result (IsHurried K.shows longest self.old.timer.now self.old.deadline self.new.deadline) }
+        ensures hurried { OnOk result
+            (IsHurried K.shows longest self.old.timer.now self.old.deadline self.new.deadline) }
         ensures same { self.new ≡ record self.old { deadline = self.new.deadline } }
         ensures failed { OnErr result (self.new ≡ self.old) }
     {

@@ -48,7 +48,8 @@ pub fn deadline_after<K: Timer>(timer: &K, limit: Option<Duration>) -> io::Resul
 /// What is left until a deadline at a time before it, or that it is over.
 pub(crate) fn left_until(deadline: Duration, time: Duration) -> io::Result<Duration>
     ensures left { IfOk result (λ left. (as_nanos time + as_nanos left ≡ as_nanos deadline) × (0 < as_nanos left)) }
-    ensures over { IfErr result (λ error. (as_nanos deadline ≤ as_nanos time) × (error_kind error ≡ ErrorKind.TimedOut)) }
+    ensures over { IfErr result
+        (λ error. (as_nanos deadline ≤ as_nanos time) × (error_kind error ≡ ErrorKind.TimedOut)) }
 {
     match deadline.checked_sub(time) {
         Some(left) if !left.is_zero() => Ok(left),

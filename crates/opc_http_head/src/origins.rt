@@ -1,7 +1,8 @@
 //! From where requests are accepted: from anywhere, or from nothing that a web page can send.
 ghost use Rattle.std.specs.Prelude.{◌≡◌, ◌≤◌, All, length, map};
 ghost use Rattle.httparse.specs.Spans.{IsHeaderWithin, header_bytes};
-ghost use Rattle.opc_http_head.specs.Origins.{admitted, has_field, host_at, is_from_page, is_host, is_served, names_host};
+ghost use Rattle.opc_http_head.specs.Origins.{admitted, has_field, host_at, is_from_page};
+ghost use Rattle.opc_http_head.specs.Origins.{is_host, is_served, names_host};
 
 use crate::framing::{is_named, only_value};
 use crate::refusal::HttpRefusal;

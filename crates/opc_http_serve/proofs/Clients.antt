@@ -88,7 +88,8 @@ module _ {C K G D : Type 0} (link : Link C K) (origins : Origins)
       subst (λ m. AreServed link origins made accepts clock_says timer timeout first old m last new) (sym (next n)) (met, was, are, turn)
 
   -- wherever they came from
-  module _ (comes : Result (Option (C × C)) Error → Type 0) (seen : (a : D) (handles : Result (Option (C × C)) Error) (b : D) → accepts a handles b → comes handles) where
+  module _ (comes : Result (Option (C × C)) Error → Type 0)
+      (seen : (a : D) (handles : Result (Option (C × C)) Error) (b : D) → accepts a handles b → comes handles) where
     lost : (met last : D) → IsLost accepts met last → IsLost {D = ⊤} (λ _ handles _. comes handles) tt tt
     lost met last (inl none) = inl (seen met (Ok None) last none)
     lost met last (inr (error, failed, passes)) = inr (error, seen met (Err error) last failed, passes)
@@ -275,13 +276,15 @@ module _ (origins : Origins) {T : Type 0} (m : Meaning T) where
           → AreServed link origins (IsExchange origins m) accepts clock_says timer timeout first old n last new
           → (handled : Handled) × AreServed link origins (IsConversation origins) accepts clock_says timer timeout first none_handled n last handled
           × IsRunOf m old new handled × (m.is_sure new → m.is_sure old)
-      handled_for zero last new are = (none_handled, (are.0, refl), none_more m old old new none_handled are.1 (begins m old), λ sure. subst m.is_sure are.1 sure)
+      handled_for zero last new are =
+          (none_handled, (are.0, refl), none_more m old old new none_handled are.1 (begins m old), λ sure. subst m.is_sure are.1 sure)
       handled_for (suc n) last new (met, was, are, one) =
           let before = handled_for n met was are in
           let more = turn met last old was new before.0 one before.2 in
           (more.0, (met, before.0, before.1, more.1), more.2, λ sure. before.3 (more.3 sure))
 
-      module _ (comes : Result (Option (C × C)) Error → Type 0) (seen : (a : D) (handles : Result (Option (C × C)) Error) (b : D) → accepts a handles b → comes handles)
+      module _ (comes : Result (Option (C × C)) Error → Type 0)
+          (seen : (a : D) (handles : Result (Option (C × C)) Error) (b : D) → accepts a handles b → comes handles)
           {A : Type 0} (count : ℕ) (last : D) (new : T) where
         pub all_handled : (end : Result A ServeFault)
             → OnOk end (AreServed link origins (IsExchange origins m) accepts clock_says timer timeout first old count last new)
@@ -303,7 +306,9 @@ module _ (origins : Origins) {T : Type 0} (m : Meaning T) where
                 fewer = cut.fewer;
                 met = tt;
                 served = anyhow link origins (IsConversation origins) accepts clock_says timer timeout first none_handled comes seen cut.done cut.met h.0 h.1;
-                failed = none_came link origins (IsConversation origins) accepts clock_says timer timeout first none_handled comes seen f cut.met last cut.failed;
+                failed =
+                    none_came link origins (IsConversation origins) accepts clock_says timer timeout first none_handled comes seen f cut.met
+                    last cut.failed;
               };
               run = h.2;
             }

@@ -90,5 +90,6 @@ module _ (origins : Origins) {T : Type 0} (m : Meaning T) where
     pub record AreHandled {A : Type 0} (old new : T) (count : ℕ) (end : Result A ServeFault) : Type 0 where
       pub handled : Handled
       pub timer : K
-      pub served : ServesClients link origins (IsConversation origins) comes timer timeout none_handled count end handled
+      pub served : ServesClients link origins (IsConversation origins) comes timer timeout none_handled count end
+          handled
       pub run : IsRunOf m old new handled

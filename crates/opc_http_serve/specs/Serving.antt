@@ -76,7 +76,8 @@ module _ {C K G : Type 0} (link : Link C K) (origins : Origins)
     module _ (comes : Result (Option (C × C)) Error → Type 0) (timer : K) (timeout : Option Duration) where
       -- This many clients were served.
       abbrev pub ServesAll : G → ℕ → G → Type 0
-      ServesAll old count new = AreServed {D = ⊤} (λ _ handles _. comes handles) (λ _ _ _. ⊤) timer timeout tt old count tt new
+      ServesAll old count new =
+          AreServed {D = ⊤} (λ _ handles _. comes handles) (λ _ _ _. ⊤) timer timeout tt old count tt new
 
       -- Fewer were, and then none could be accepted.
       abbrev pub ServesFewer : G → ℕ → ServeFault → G → Type 0

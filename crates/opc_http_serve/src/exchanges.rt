@@ -33,8 +33,8 @@ pub trait Exchanges {
         sink: &mut K,
         moment: u64,
     ) -> Result<Served, LinkFault>
-        ensures exchanged { exchanged routes.now self.old (S.left source.old) moment (K.held sink.old) (K.held sink.new) result
-            self.new }
+        ensures exchanged { exchanged routes.now self.old (S.left source.old) moment (K.held sink.old)
+            (K.held sink.new) result self.new }
         ensures reads { ReadsOnly S.left S.gives (MayRead routes.now) source.old [] source.new };
 }
 

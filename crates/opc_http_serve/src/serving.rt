@@ -27,8 +27,8 @@ fn serve_client<C: Connection, K: Timer, X: Exchanges>(
     routes: &Routes,
     gate: &mut X,
 )
-    ensures { IsServed (link_of C.limits K.shows C.reads C.remaining C.contents) routes.now (X.exchanged routes.now) client.old client.new gate.old
-        gate.new }
+    ensures { IsServed (link_of C.limits K.shows C.reads C.remaining C.contents) routes.now (X.exchanged routes.now)
+        client.old client.new gate.old gate.new }
 {
     let moment = client.moment;
     let served = gate.serve_one(
@@ -53,8 +53,8 @@ fn serve_next<A: Arrivals, K: Timer, X: Exchanges>(
     gate: &mut X,
 ) -> Result<(), ServeFault>
     ensures turn { OnOk result (IsTurn (link_of A.Connection.limits K.shows A.Connection.reads A.Connection.remaining
-        A.Connection.contents) routes.now (X.exchanged routes.now) A.accepts A.clock_says timer.now timeout arrivals.old gate.old arrivals.new
-        gate.new) }
+        A.Connection.contents) routes.now (X.exchanged routes.now) A.accepts A.clock_says timer.now timeout
+        arrivals.old gate.old arrivals.new gate.new) }
     ensures none { IfErr result (λ fault. Arrives A.accepts A.clock_says K.shows timer.now timeout arrivals.old
         (Err fault) arrivals.new) }
     ensures idle { OnErr result (gate.new ≡ gate.old) }
@@ -77,11 +77,11 @@ pub fn serve<A: Arrivals, K: Timer, X: Exchanges>(
     gate: &mut X,
 ) -> Result<(), ServeFault>
     ensures done { OnOk result (AreServed (link_of A.Connection.limits K.shows A.Connection.reads A.Connection.remaining
-        A.Connection.contents) routes.now (X.exchanged routes.now) A.accepts A.clock_says timer.now timeout arrivals.old gate.old count
-        arrivals.new gate.new) }
+        A.Connection.contents) routes.now (X.exchanged routes.now) A.accepts A.clock_says timer.now timeout
+        arrivals.old gate.old count arrivals.new gate.new) }
     ensures ended { IfErr result (λ fault. IsCutShort (link_of A.Connection.limits K.shows A.Connection.reads
-        A.Connection.remaining A.Connection.contents) routes.now (X.exchanged routes.now) A.accepts A.clock_says timer.now timeout arrivals.old
-        gate.old count fault arrivals.new gate.new) }
+        A.Connection.remaining A.Connection.contents) routes.now (X.exchanged routes.now) A.accepts A.clock_says
+        timer.now timeout arrivals.old gate.old count fault arrivals.new gate.new) }
 {
     for _connection in 0..count {
         serve_next(alloc, timer, arrivals, timeout, routes, gate)?;
@@ -99,11 +99,14 @@ pub fn serve_on<H: AllocGlobal + Clock, L: Listener, T: Tables>(
     gate: &mut Gate<T>,
 ) -> Result<(), ServeFault>
     ensures sure { T.meaning.is_sure gate.new → T.meaning.is_sure gate.old }
-    ensures handled { AreHandled routes.now T.meaning (link_of L.Client.limits ⟦<H as Timer>⟧.shows L.Client.reads L.Client.remaining
-        L.Client.contents) (Comes L.accepts L.Client.clones) timeout gate.old gate.new count result }
-    ensures served { ServesClients (link_of L.Client.limits ⟦<H as Timer>⟧.shows L.Client.reads L.Client.remaining L.Client.contents)
-        routes.now (IsExchange routes.now T.meaning) (Comes L.accepts L.Client.clones) rt.now timeout gate.old count result gate.new }
+    ensures handled { AreHandled routes.now T.meaning
+        (link_of L.Client.limits ⟦<H as Timer>⟧.shows L.Client.reads L.Client.remaining L.Client.contents)
+        (Comes L.accepts L.Client.clones) timeout gate.old gate.new count result }
+    ensures served { ServesClients
+        (link_of L.Client.limits ⟦<H as Timer>⟧.shows L.Client.reads L.Client.remaining L.Client.contents)
+        routes.now (IsExchange routes.now T.meaning) (Comes L.accepts L.Client.clones) rt.now timeout gate.old count
+        result gate.new }
 {
-    let mut door = Acceptor::new(rt, listener);
-    serve(rt.alloc(), rt, &mut door, count, timeout, routes, gate)
+    let mut acceptor = Acceptor::new(rt, listener);
+    serve(rt.alloc(), rt, &mut acceptor, count, timeout, routes, gate)
 }

@@ -1,5 +1,6 @@
 -- A text that is cut at the eleventh field of its first record that has that many: its records.
-use Rattle.std.proofs.Common.{◌≡◌, ◌∙◌, ◌⊎◌, ◌+◌, ◌<◌, ◌≤◌, ℕ, Bool, true, false, cond, List, [], ◌∷◌, ◌++◌, length, get_or, take, drop, Option, Some, None, sym, refl, ap, inl, inr, arith}
+use Rattle.std.proofs.Common.{◌≡◌, ◌∙◌, ◌⊎◌, ◌+◌, ◌<◌, ◌≤◌, ℕ, Bool, true, false, cond, List, [], ◌∷◌, ◌++◌, length, get_or}
+use Rattle.std.proofs.Common.{take, drop, Option, Some, None, sym, refl, ap, inl, inr, arith}
 use Rattle.std.specs.Prelude.{◌==◌}
 use Rattle.std.proofs.lemmas.Bool.Decides.{nat_tests}
 use Rattle.std.proofs.lemmas.List.{append-nil, append_assoc, at_drop_all, at_drop_more, length-append, take_all, take_more}
@@ -148,12 +149,15 @@ fewer m n None h g = g
 fewer m n (Some q) h g = omega (arith, g)
 
 abbrev GivesRest : List ℕ → Type 0
-GivesRest rest = (s : State) (fields : List (List ℕ)) (field : List ℕ) → is_within s ≡ true → Gives (length fields) (next_record default_config s fields field rest)
+GivesRest rest = (s : State) (fields : List (List ℕ)) (field : List ℕ) → is_within s ≡ true
+    → Gives (length fields) (next_record default_config s fields field rest)
 
 gives_on : (c : ℕ) (rest : List ℕ) (fields : List (List ℕ)) (field : List ℕ) → GivesRest rest → (p : State × Action) → Stays p
-    → Gives (length fields) (cond (is_end p.1) (Some (fields_after p.1 fields field, p.0, rest)) (next_record default_config p.0 (fields_after p.1 fields field) (field_after p.1 c field) rest))
+    → Gives (length fields) (cond (is_end p.1) (Some (fields_after p.1 fields field, p.0, rest))
+    (next_record default_config p.0 (fields_after p.1 fields field) (field_after p.1 c field) rest))
 gives_on c rest fields field more (t, act.EndRecord) on = omega (arith, one_more fields field)
-gives_on c rest fields field more (t, act.EndField) on = fewer (length fields) (length (fields ++ (field ∷ []))) _ (omega (arith, one_more fields field)) (more t (fields ++ (field ∷ [])) [] (on refl))
+gives_on c rest fields field more (t, act.EndField) on =
+    fewer (length fields) (length (fields ++ (field ∷ []))) _ (omega (arith, one_more fields field)) (more t (fields ++ (field ∷ [])) [] (on refl))
 gives_on c rest fields field more (t, act.Skip) on = more t fields field (on refl)
 gives_on c rest fields field more (t, act.Copy) on = more t fields (field ++ (c ∷ [])) (on refl)
 

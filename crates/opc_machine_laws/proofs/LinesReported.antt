@@ -31,7 +31,8 @@ no_lines ((there, fault) ∷ faults) b = go there (no_lines faults b)
     go true later = refl
     go false later = later
 
-of_found : {A : Type 0} (fault : BoardFault) (o : Option A) (next : A → BoardOutcome) → ((x : A) → lines_in (next x) ≡ []) → lines_in (found fault o >>= next) ≡ []
+of_found : {A : Type 0} (fault : BoardFault) (o : Option A) (next : A → BoardOutcome) → ((x : A) → lines_in (next x) ≡ [])
+    → lines_in (found fault o >>= next) ≡ []
 of_found fault None next h = refl
 of_found fault (Some x) next h = h x
 

@@ -26,9 +26,9 @@ pub nobody_ok : (o : Option (List ℕ)) (u : Unit {0}) → nobody_on o ≡ Ok u 
 nobody_ok None u h = refl
 nobody_ok (Some user) u h = absurd (search (rules, h))
 
-let_on_ok : (r : Ruling) (rule : Rule) → admit r ≡ Ok rule → r ≡ Allowed rule
-let_on_ok (Allowed why) rule h = search (rules, h)
-let_on_ok (Denied why) rule h = absurd (search (rules, h))
+admit_ok : (r : Ruling) (rule : Rule) → admit r ≡ Ok rule → r ≡ Allowed rule
+admit_ok (Allowed why) rule h = search (rules, h)
+admit_ok (Denied why) rule h = absurd (search (rules, h))
 
 somebody : (o : Option (List ℕ)) → is_none o ≡ false → is_some o ≡ true
 somebody (Some user) h = refl
@@ -67,7 +67,7 @@ on_only_where s moment name text id password lines why new it_reads (inr (inr do
         heard = record { there = at.0; online = at.1; reads = it_reads };
         nobody = nobody_ok console.user n.0 n.1;
         known = known_is s id.value password.value u.0 (found_ok _ _ _ u.1);
-        allowed = let_on_ok _ _ r.1;
+        allowed = admit_ok _ _ r.1;
       },
       record {
         answered = done.answers ∙ ap answer_of comes;

@@ -1,5 +1,6 @@
 -- What the access machine means to those who administer, list and import.
-use Rattle.std.specs.Prelude.{◌≡◌, ◌⊎◌, ◌↔◌, ℕ, ◌+◌, ◌-◌, ◌<◌, ◌≤◌, true, List, [], ◌∷◌, Option, Some, None, Ok, Contains, codes, filter, map}
+use Rattle.std.specs.Prelude.{◌≡◌, ◌⊎◌, ◌↔◌, ℕ, ◌+◌, ◌-◌, ◌<◌, ◌≤◌, true, List, [], ◌∷◌, Option, Some, None, Ok}
+use Rattle.std.specs.Prelude.{Contains, codes, filter, map}
 use Rattle.std.specs.List.{slice_get}
 use Rattle.opc_names.specs.declared.class.Class.{Class}
 use Rattle.opc_policy_members.specs.declared.profile.Profile.{Profile}

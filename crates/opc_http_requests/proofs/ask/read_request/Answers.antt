@@ -24,7 +24,8 @@ returns-in_err-plan-clause-refused g c =
     let headers = c.read_head.new.headers in
     let spans = c.in-Some.spans in
     let head = some-found known c.in_ok-spans.field-0 spans NoHead (λ all. FoundHead all buf headers) c.in-Some.is c.in_ok-spans.ensures.head in
-    let plan = subst (λ (t : List ℕ). plan_in c.args.routes.now t headers spans ≡ Err c.in_err-plan.field-0.0) c.as_slice.ensures.value (sym c.in_err-plan.ensures.plan) in
+    let plan = subst (λ (t : List ℕ). plan_in c.args.routes.now t headers spans ≡ Err c.in_err-plan.field-0.0) c.as_slice.ensures.value
+    (sym c.in_err-plan.ensures.plan) in
     let err = err_from_is_err_and c.from_residual-in_err-plan.result c.from_residual-in_err-plan.ensures.1 in
     rw (err.1, err.2) (asks-refused c.args.routes.now known buf headers spans c.in_err-plan.field-0.0 head plan)
 
@@ -36,7 +37,8 @@ returns-clause-asked g c =
     let headers = c.read_head.new.headers in
     let spans = c.in-Some.spans in
     let head = some-found known c.in_ok-spans.field-0 spans NoHead (λ all. FoundHead all buf headers) c.in-Some.is c.in_ok-spans.ensures.head in
-    let plan = subst (λ (t : List ℕ). plan_in c.args.routes.now t headers spans ≡ Ok c.in_ok-plan.plan) c.as_slice.ensures.value (sym c.in_ok-plan.ensures.plan) in
+    let plan = subst (λ (t : List ℕ). plan_in c.args.routes.now t headers spans ≡ Ok c.in_ok-plan.plan) c.as_slice.ensures.value
+    (sym c.in_ok-plan.ensures.plan) in
     IfOk-weaker c.read_planned.result
     (λ request. IfSome mid (λ left. planned (span_bytes buf spans.path) (drop spans.len (buf ++ left)) c.in_ok-plan.plan ≡ Ok request))
     (λ request. IfSome known (λ all. AsksOnly c.args.routes.now all (Ok request)))
@@ -51,7 +53,8 @@ returns-clause-refused g c =
     let headers = c.read_head.new.headers in
     let spans = c.in-Some.spans in
     let head = some-found known c.in_ok-spans.field-0 spans NoHead (λ all. FoundHead all buf headers) c.in-Some.is c.in_ok-spans.ensures.head in
-    let plan = subst (λ (t : List ℕ). plan_in c.args.routes.now t headers spans ≡ Ok c.in_ok-plan.plan) c.as_slice.ensures.value (sym c.in_ok-plan.ensures.plan) in
+    let plan = subst (λ (t : List ℕ). plan_in c.args.routes.now t headers spans ≡ Ok c.in_ok-plan.plan) c.as_slice.ensures.value
+    (sym c.in_ok-plan.ensures.plan) in
     fault-weaker c.read_planned.result
     (λ why. IfSome mid (λ left. planned (span_bytes buf spans.path) (drop spans.len (buf ++ left)) c.in_ok-plan.plan ≡ Err why))
     (λ why. IfSome known (λ all. AsksOnly c.args.routes.now all (Err why)))
@@ -85,7 +88,8 @@ returns-clause-reads g c =
     let spans = c.in-Some.spans in
     let looked = c.in_ok-spans.ensures.reads in
     let found = rw c.in-Some.is at c.in_ok-spans.ensures.found in
-    let plan = subst (λ (t : List ℕ). plan_in c.args.routes.now t headers spans ≡ Ok c.in_ok-plan.plan) c.as_slice.ensures.value (sym c.in_ok-plan.ensures.plan) in
+    let plan = subst (λ (t : List ℕ). plan_in c.args.routes.now t headers spans ≡ Ok c.in_ok-plan.plan) c.as_slice.ensures.value
+    (sym c.in_ok-plan.ensures.plan) in
     body-only c.args.routes.now left gives c.args.source.now c.read_head.new.source c.read_planned.new.source buf looked.bytes headers
     spans c.in_ok-plan.plan looked.reads looked.buffer found plan c.read_planned.ensures.reads
 

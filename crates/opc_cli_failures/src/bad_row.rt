@@ -1,4 +1,6 @@
 //! What is wrong with a row of a policy file, in words.
+ghost use Rattle.std.specs.Prelude.{◌≡◌, IfSome};
+
 use arrayvec::ArrayString;
 use csv::{ReaderBuilder, StringRecord};
 use opc_import::column::{COLUMNS, Column};
@@ -98,8 +100,11 @@ impl Display for FieldStart {
 
 impl BadRow {
     /// The row of this number in the text of a policy file, which is refused for this reason, if it is after the header
-    /// and there is memory to read it again.
-    pub fn find(alloc: Global, text: &str, number: u32, why: Why) -> Option<Self> {
+    /// and there is memory to read it again. What is shown of the row is a note beside the fault, of which no clause
+    /// speaks; the tables of `tools/program` have the words for each column.
+    pub fn find(alloc: Global, text: &str, number: u32, why: Why) -> Option<Self>
+        ensures { IfSome result (λ row. row.number ≡ number) }
+    {
         let record = record_at(alloc, text, number)?;
         let problem = match column_of(why) {
             Some(column) => Problem::Field {

@@ -1,4 +1,5 @@
-//! The file of a Unix socket.
+//! The file of a Unix socket. The system's calls for files and sockets promise nothing of what they do, so no clause
+//! here does. `tools/serve sockets` tries what stands at a path, the permissions, and what is left.
 
 use crate::unix::UnixDoor;
 use std::fs::{Files, Permissions};

@@ -1,5 +1,5 @@
 //! The acceptor of the program: a listener and a clock.
-ghost use Rattle.std.specs.Prelude.{⊤};
+ghost use Rattle.std.specs.Prelude.{◌≡◌, ⊤};
 ghost use Rattle.opc_http_connections.specs.Links.{Comes};
 
 use crate::arrivals::Arrivals;
@@ -17,7 +17,9 @@ pub struct Acceptor<'a, H: Clock, L: Listener> {
 }
 
 impl<'a, H: Clock, L: Listener> Acceptor<'a, H, L> {
-    pub fn new(clock: &'a H, listener: &'a L) -> Self {
+    pub fn new(clock: &'a H, listener: &'a L) -> Self
+        ensures { result ≡ record { clock = clock; listener = listener } }
+    {
         Acceptor { clock, listener }
     }
 }

@@ -1,1 +1,2 @@
+pub mod Site
 pub mod Spare

@@ -1,4 +1,8 @@
 //! What is at the path of a database file before it is opened, and what a refused opening leaves there.
+ghost use Rattle.std.specs.Prelude.{◌≡◌, IfOk};
+ghost use Rattle.std.specs.Option.{is_none};
+ghost use Rattle.opc_store_file.specs.Site.{means_no_file};
+
 use crate::spare::{Found, is_spare_database, is_spare_log};
 use os::RangeLock;
 use std::fs::{File, Metadata, OpenOptions};
@@ -23,13 +27,18 @@ pub struct Site {
 }
 
 /// Whether SQLite gives this path a meaning of its own, so that it means no file.
-pub fn means_no_file(path: &str) -> bool {
-    path == ":memory:" || path.starts_with("file:")
+pub fn means_no_file(path: &str) -> bool
+    ensures { result ≡ means_no_file path.now }
+{
+    path == ":memory:" || path.as_bytes().starts_with(b"file:")
 }
 
 /// Looks at what is at a path, and makes the database file if nothing is. It is empty then, and its owner's alone; the
-/// log that SQLite makes beside it gets the same mode. None if the path means no file.
-pub fn prepare(rt: &HostRuntime, path: &str) -> io::Result<Option<Site>> {
+/// log that SQLite makes beside it gets the same mode. None if the path means no file. The system's calls promise
+/// nothing about files, so no further clause does: `tools/databases` tries the modes, and what stands there.
+pub fn prepare(rt: &HostRuntime, path: &str) -> io::Result<Option<Site>>
+    ensures { IfOk result (λ site. is_none site ≡ means_no_file path.now) }
+{
     if means_no_file(path) {
         return Ok(None);
     }
@@ -94,7 +103,8 @@ impl Site {
     }
 
     /// Removes what a refused opening left and nobody needs. The opening has closed the files by now; nothing is
-    /// removed if another program has them open.
+    /// removed if another program has them open. There is no clause: the system's calls promise nothing about
+    /// files. `is_spare_database` and `is_spare_log` decide what is removed, and `tools/databases` tries it.
     pub fn tidy(&self, rt: &HostRuntime) {
         let (database, log) = (self.database.as_str(), self.log.as_str());
         let Some((file, length)) = locked(rt, database) else {

@@ -8,7 +8,7 @@ use Rattle.opc_cli_script.specs.declared.script.ScriptFault.{ScriptFault}
 use Rattle.opc_cli_script.specs.declared.script.ScriptFault.TheVariants.{BadLine, NoMemory, Output}
 use Rattle.opc_cli_script.specs.Refusals.{is_cut_by_output}
 use Rattle.opc_cli_script.specs.Running.{IsAnswered}
-use Rattle.opc_http_connections.specs.Links.{Door}
+use Rattle.opc_http_connections.specs.Links.{ClientSource}
 use Rattle.opc_http_head.specs.declared.origins.Origins.{Origins}
 use Rattle.opc_http_serve.specs.declared.arrival.ServeFault.{ServeFault}
 use Rattle.opc_http_serve.specs.Handled.{AreHandled}
@@ -37,7 +37,7 @@ module _ {T : Type 0} (m : Meaning T) (old new : T) where
     pub ends : number ≡ number_of (status_of_script ran)
 
   -- This many clients were served, each waited for as long as it takes, or fewer; and this is the number of its status.
-  pub record IsService {C K : Type 0} (origins : Origins) (door : Door C K) (count number : ℕ) : Type 0 where
+  pub record IsService {C K : Type 0} (origins : Origins) (source : ClientSource C K) (count number : ℕ) : Type 0 where
     pub served : Result (Unit {0}) ServeFault
-    pub handled : AreHandled origins m door.link door.comes None old new count served
+    pub handled : AreHandled origins m source.link source.comes None old new count served
     pub ends : number ≡ number_of (status_of_service served)

@@ -1,7 +1,7 @@
 //! A service over a gate, with the number that a program ends with.
 ghost use Rattle.std.specs.Prelude.{◌≡◌};
 ghost use Rattle.opc_cli_failures.specs.Statuses.{number_of};
-ghost use Rattle.opc_http_connections.specs.Links.{Comes, door_of, link_of};
+ghost use Rattle.opc_http_connections.specs.Links.{Comes, source_of, link_of};
 ghost use Rattle.opc_cli.specs.Calls.{IsService, status_of_service};
 
 use opc_cli_failures::status::Status;
@@ -29,7 +29,7 @@ where
     L::Stream: Connection,
     ensures sure { T.meaning.is_sure gate.new → T.meaning.is_sure gate.old }
     ensures served { IsService T.meaning gate.old gate.new routes.now
-        (door_of (link_of L.Stream.limits ⟦<H as Timer>⟧.shows L.Stream.reads L.Stream.remaining L.Stream.contents)
+        (source_of (link_of L.Stream.limits ⟦<H as Timer>⟧.shows L.Stream.reads L.Stream.remaining L.Stream.contents)
         (Comes ⟦<L as Listener>⟧.accepts L.Stream.clones)) count result }
 {
     number_of(serving::serve_on(rt, listener, count, None, routes, gate))

@@ -7,7 +7,7 @@ use Rattle.opc_state.specs.State.{State}
 use Rattle.opc_state_cache.specs.Cache.{IsCached}
 use Rattle.opc_state_cache.specs.Meaning.{cached_meaning}
 use Rattle.opc_state_cache.specs.declared.cached.Cached.{Cached}
-use Rattle.opc_http_connections.specs.Links.{Door}
+use Rattle.opc_http_connections.specs.Links.{ClientSource}
 use Rattle.opc_http_head.specs.declared.origins.Origins.{Origins}
 use Rattle.opc_http_serve.specs.declared.arrival.ServeFault.{ServeFault}
 use Rattle.opc_http_serve.specs.Handled.{AreHandled, Handled, IsRunOf}
@@ -33,9 +33,9 @@ module _ {T : Type 0} (m : Meaning T) (old new : Cached T)
   not_begun : (end : Result Status Failure) → IsNotBegun (cached_meaning m) old new end → IsNotBegun m old.tables new.tables end
   not_begun end none = record { failed = none.failed; same = ap (λ (c : Cached T). c.tables) none.same }
 
-  module _ {C K : Type 0} (door : Door C K) (serve : Serve) (end : Result Status Failure) where
-    clients : (origins : Origins) → AreClients (cached_meaning m) door old new serve end origins
-        → AreClients m door old.tables new.tables serve end origins
+  module _ {C K : Type 0} (source : ClientSource C K) (serve : Serve) (end : Result Status Failure) where
+    clients : (origins : Origins) → AreClients (cached_meaning m) source old new serve end origins
+        → AreClients m source old.tables new.tables serve end origins
     clients origins are = record {
       served = are.served;
       handled = record {
@@ -48,17 +48,17 @@ module _ {T : Type 0} (m : Meaning T) (old new : Cached T)
     }
 
     at_port : (said wanted : ℕ → Type 0) → ((port : ℕ) → said port → wanted port)
-        → IsPortService (cached_meaning m) door old new serve end said
-        → IsPortService m door old.tables new.tables serve end wanted
+        → IsPortService (cached_meaning m) source old new serve end said
+        → IsPortService m source old.tables new.tables serve end wanted
     at_port said wanted says (inl none) = inl (not_begun end none)
     at_port said wanted says (inr (port, reported, are)) = inr (port, says port reported, clients _ are)
 
-    at_socket : (said wanted : Type 0) → (said → wanted) → IsSocketService (cached_meaning m) door old new serve end said
-        → IsSocketService m door old.tables new.tables serve end wanted
+    at_socket : (said wanted : Type 0) → (said → wanted) → IsSocketService (cached_meaning m) source old new serve end said
+        → IsSocketService m source old.tables new.tables serve end wanted
     at_socket said wanted says (inl none) = inl (not_begun end none)
     at_socket said wanted says (inr (reported, are)) = inr (says reported, clients _ are)
 
-  module _ {C D K : Type 0} (ports : Door C K) (sockets : Door D K) (serve : Serve) (end : Result Status Failure)
+  module _ {C D K : Type 0} (ports : ClientSource C K) (sockets : ClientSource D K) (serve : Serve) (end : Result Status Failure)
       (said_of_port of_port : (asked port : ℕ) → Type 0) (said_of_socket of_socket : List ℕ → ℕ → Type 0)
       (by_port : (asked port : ℕ) → said_of_port asked port → of_port asked port)
       (by_socket : (path : List ℕ) (mode : ℕ) → said_of_socket path mode → of_socket path mode) where
@@ -78,8 +78,8 @@ module _ {T : Type 0} (m : Meaning T) (old new : Cached T)
         (uncached address service))
 
 -- nothing was handled at any address
-pub not_served : {T C D K : Type 0} (m : Meaning T) (ports : Door C K) (sockets : Door D K) (old new : T) (serve : Serve) (end : Result Status Failure)
-    (of_port : (asked port : ℕ) → Type 0) (of_socket : List ℕ → ℕ → Type 0) (address : Address)
+pub not_served : {T C D K : Type 0} (m : Meaning T) (ports : ClientSource C K) (sockets : ClientSource D K) (old new : T) (serve : Serve)
+    (end : Result Status Failure) (of_port : (asked port : ℕ) → Type 0) (of_socket : List ℕ → ℕ → Type 0) (address : Address)
     → IsNotBegun m old new end → IsServiceAt m ports sockets old new serve end of_port of_socket address
 not_served m ports sockets old new serve end of_port of_socket (Port asked) none = inl none
 not_served m ports sockets old new serve end of_port of_socket (Socket path mode) none = inl none

@@ -2,7 +2,7 @@
 use Rattle.std.specs.Prelude.{◌≡◌, ◌⊎◌, ℕ, Bool, List, Option, Result, Ok, Err, IsErrAnd, if◌then◌else◌}
 use Rattle.std.specs.Io.KnownBytes.{Appends}
 use Rattle.opc_state.specs.Meaning.{Meaning}
-use Rattle.opc_http_connections.specs.Links.{Door}
+use Rattle.opc_http_connections.specs.Links.{ClientSource}
 use Rattle.opc_http_head.specs.declared.origins.Origins.{Origins}
 use Rattle.opc_http_head.specs.declared.origins.Origins.TheVariants.{Any, Only}
 use Rattle.opc_http_serve.specs.declared.arrival.ServeFault.{ServeFault}
@@ -34,12 +34,12 @@ module _ {T : Type 0} (m : Meaning T) where
     pub failed : status_of_end end ≡ Failed
     pub same : new ≡ old
 
-  module _ {C K : Type 0} (door : Door C K) (old new : T) (serve : Serve) (end : Result Status Failure) where
+  module _ {C K : Type 0} (source : ClientSource C K) (old new : T) (serve : Serve) (end : Result Status Failure) where
     -- As many connections as requested were served, with the requested timeout; or fewer were, and then none could be
     -- accepted. The program ended accordingly.
     pub record AreClients (origins : Origins) : Type 0 where
       pub served : Result (Unit {0}) ServeFault
-      pub handled : AreHandled origins m door.link door.comes serve.timeout old new serve.count served
+      pub handled : AreHandled origins m source.link source.comes serve.timeout old new serve.count served
       pub ends : IsEndOfService served end
 
     -- It failed before its first client; or it listened at a port, which it printed, and then clients were served,
@@ -52,7 +52,7 @@ module _ {T : Type 0} (m : Meaning T) where
     abbrev pub IsSocketService : (said : Type 0) → Type 0
     IsSocketService said = IsNotBegun old new end ⊎ (said × AreClients Any)
 
-  module _ {C D K : Type 0} (ports : Door C K) (sockets : Door D K) (old new : T) (serve : Serve)
+  module _ {C D K : Type 0} (ports : ClientSource C K) (sockets : ClientSource D K) (old new : T) (serve : Serve)
       (end : Result Status Failure) where
     -- The service at an address, which it printed.
     abbrev pub IsServiceAt : (of_port : (asked port : ℕ) → Type 0) → (of_socket : List ℕ → ℕ → Type 0) → Address

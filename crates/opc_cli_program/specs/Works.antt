@@ -6,7 +6,7 @@ use Rattle.opc_cli_failures.specs.declared.failure.Failure.{Failure}
 use Rattle.opc_cli_failures.specs.declared.status.Status.{Status}
 use Rattle.opc_cli_failures.specs.Statuses.{IsFailure}
 use Rattle.opc_io.specs.declared.watched.Watched.{Watched}
-use Rattle.opc_http_connections.specs.Links.{Door}
+use Rattle.opc_http_connections.specs.Links.{ClientSource}
 use Rattle.opc_http_serve.specs.declared.clock.TheConstants.{LAST_MOMENT}
 use Rattle.opc_cli_words.specs.declared.import.Import.{Import}
 use Rattle.opc_cli_program.specs.Imports.{IsExport, IsImport}
@@ -28,7 +28,7 @@ module _ {T : Type 0} (m : Meaning T) {W : Type 0}
 
   -- Each work does what its own definition states. `ports` and `sockets` state what is known of the connections of
   -- clients there, `holds` what the file at a path holds.
-  abbrev pub IsDone : {C D K : Type 0} → (ports : Door C K) → (sockets : Door D K)
+  abbrev pub IsDone : {C D K : Type 0} → (ports : ClientSource C K) → (sockets : ClientSource D K)
       → (holds : List ℕ → Option (List ℕ)) → Work → Type 0
   IsDone ports sockets holds (work.Run policy) =
       IsProgramRun m (λ (w : Watched W). contents w.inner) (λ (w : Watched W). w.failed)

@@ -4,7 +4,7 @@ ghost use Rattle.std.specs.Prelude.{IfOk, OnOk};
 use opc_http_connections::connection::Connection;
 use opc_http_connections::listener::Listener;
 use opc_http_connections::socket_file;
-use opc_http_connections::unix::UnixDoor;
+use opc_http_connections::unix::SocketListener;
 use std::fs::Files;
 use std::net::{Net, OpenListener, SocketAddr};
 use std::os::fd::OwnedFd;
@@ -79,7 +79,7 @@ where
 
     type Bound = OwnedFd;
 
-    type Socket = UnixDoor;
+    type Socket = SocketListener;
 
     ghost binds = { λ _ _ _. ⊤ };
 
@@ -107,7 +107,7 @@ where
         socket_file::permit(self.net, path, mode)
     }
 
-    fn listen(&self, bound: OwnedFd) -> io::Result<UnixDoor> {
+    fn listen(&self, bound: OwnedFd) -> io::Result<SocketListener> {
         socket_file::listen(bound)
     }
 

@@ -1,7 +1,7 @@
 //! `opcmds serve`: the gate over HTTP, at a port of 127.0.0.1 or at a Unix socket.
 ghost use Rattle.std.specs.Prelude.{◌≡◌, IfErr, IfOk};
 ghost use Rattle.std.specs.Io.KnownBytes.{Appends};
-ghost use Rattle.opc_http_connections.specs.Links.{Comes, door_of, link_of};
+ghost use Rattle.opc_http_connections.specs.Links.{Comes, source_of, link_of};
 ghost use Rattle.opc_cli_failures.specs.Statuses.{status_of};
 ghost use Rattle.opc_cli_program.specs.Listening.{ListensAt, ListensBy, socket_line};
 ghost use Rattle.opc_http_head.specs.declared.origins.Origins.{Origins};
@@ -72,8 +72,8 @@ where
     L: Drop,
     S: Drop,
     ensures sure { T.meaning.is_sure result.1 → T.meaning.is_sure tables }
-    ensures serves { IsService T.meaning (door_of (link_of L.Client.limits ⟦<H as Timer>⟧.shows L.Client.reads
-        L.Client.remaining L.Client.contents) (Comes L.accepts L.Client.clones)) (door_of (link_of S.Client.limits
+    ensures serves { IsService T.meaning (source_of (link_of L.Client.limits ⟦<H as Timer>⟧.shows L.Client.reads
+        L.Client.remaining L.Client.contents) (Comes L.accepts L.Client.clones)) (source_of (link_of S.Client.limits
         ⟦<H as Timer>⟧.shows S.Client.reads S.Client.remaining S.Client.contents) (Comes S.accepts S.Client.clones))
         tables result.1 serve.now result.0 (W.contents output.old) (W.contents output.new) }
 {
@@ -105,9 +105,9 @@ where
     S: Drop,
     ensures sure { T.meaning.is_sure gate.new → T.meaning.is_sure gate.old }
     ensures serves { IsServiceAt T.meaning
-        (door_of (link_of L.Client.limits ⟦<H as Timer>⟧.shows L.Client.reads L.Client.remaining L.Client.contents)
+        (source_of (link_of L.Client.limits ⟦<H as Timer>⟧.shows L.Client.reads L.Client.remaining L.Client.contents)
         (Comes L.accepts L.Client.clones))
-        (door_of (link_of S.Client.limits ⟦<H as Timer>⟧.shows S.Client.reads S.Client.remaining S.Client.contents)
+        (source_of (link_of S.Client.limits ⟦<H as Timer>⟧.shows S.Client.reads S.Client.remaining S.Client.contents)
         (Comes S.accepts S.Client.clones)) gate.old gate.new serve.now result
         (ListensAt P.binds P.is_at ports.now (W.contents output.old) (W.contents output.new))
         (ListensBy P.names P.permits P.listens ports.now (W.contents output.old) (W.contents output.new))
@@ -131,8 +131,9 @@ fn serve_by<H: AllocGlobal + Clock, L: Listener, T: Tables>(
 ) -> Result<Status, Failure>
     ensures sure { T.meaning.is_sure gate.new → T.meaning.is_sure gate.old }
     ensures serves { (origins : Origins) → routes.now ≡ origins
-        → AreClients T.meaning (door_of (link_of L.Client.limits ⟦<H as Timer>⟧.shows L.Client.reads L.Client.remaining
-        L.Client.contents) (Comes L.accepts L.Client.clones)) gate.old gate.new serve.now result origins }
+        → AreClients T.meaning
+        (source_of (link_of L.Client.limits ⟦<H as Timer>⟧.shows L.Client.reads L.Client.remaining L.Client.contents)
+        (Comes L.accepts L.Client.clones)) gate.old gate.new serve.now result origins }
 {
     ended(serve_on(rt, listener, serve.count, serve.timeout, routes, gate))
 }
@@ -150,7 +151,7 @@ where
     L: Drop,
     ensures sure { T.meaning.is_sure gate.new → T.meaning.is_sure gate.old }
     ensures serves { IsPortService T.meaning
-        (door_of (link_of L.Client.limits ⟦<H as Timer>⟧.shows L.Client.reads L.Client.remaining L.Client.contents)
+        (source_of (link_of L.Client.limits ⟦<H as Timer>⟧.shows L.Client.reads L.Client.remaining L.Client.contents)
         (Comes L.accepts L.Client.clones)) gate.old gate.new serve.now result
         (ListensAt P.binds P.is_at ports.now (W.contents output.old) (W.contents output.new) port) }
 {
@@ -174,7 +175,7 @@ where
     S: Drop,
     ensures sure { T.meaning.is_sure gate.new → T.meaning.is_sure gate.old }
     ensures serves { IsSocketService T.meaning
-        (door_of (link_of S.Client.limits ⟦<H as Timer>⟧.shows S.Client.reads S.Client.remaining S.Client.contents)
+        (source_of (link_of S.Client.limits ⟦<H as Timer>⟧.shows S.Client.reads S.Client.remaining S.Client.contents)
         (Comes S.accepts S.Client.clones)) gate.old gate.new serve.now result
         (ListensBy P.names P.permits P.listens ports.now (W.contents output.old) (W.contents output.new)
         path.now mode) }
@@ -195,7 +196,7 @@ fn serve_socket<H: AllocGlobal + Clock, S: Listener, T: Tables, W: Write>(
     output: &mut W,
 ) -> Result<Status, Failure>
     ensures sure { T.meaning.is_sure gate.new → T.meaning.is_sure gate.old }
-    ensures serves { IsSocketService T.meaning (door_of (link_of S.Client.limits ⟦<H as Timer>⟧.shows S.Client.reads
+    ensures serves { IsSocketService T.meaning (source_of (link_of S.Client.limits ⟦<H as Timer>⟧.shows S.Client.reads
         S.Client.remaining S.Client.contents) (Comes S.accepts S.Client.clones)) gate.old gate.new serve.now result
         (Appends (W.contents output.old) (W.contents output.new) (socket_line path.now)) }
 {

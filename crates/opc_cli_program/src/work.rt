@@ -1,5 +1,5 @@
 //! A work of the program, over tables that are open.
-ghost use Rattle.opc_http_connections.specs.Links.{Comes, door_of, link_of};
+ghost use Rattle.opc_http_connections.specs.Links.{Comes, source_of, link_of};
 ghost use Rattle.opc_cli_program.specs.Works.{IsDone, IsImportNow};
 
 use crate::import::{export_on, import_on};
@@ -54,8 +54,8 @@ where
     S: Drop,
     ensures sure { T.meaning.is_sure result.1 → T.meaning.is_sure tables }
     ensures done { IsDone T.meaning W.contents tables result.1 (R.remaining input.old) output.old output.new result.0
-        (door_of (link_of L.Client.limits ⟦<H as Timer>⟧.shows L.Client.reads L.Client.remaining L.Client.contents)
-        (Comes L.accepts L.Client.clones)) (door_of (link_of S.Client.limits ⟦<H as Timer>⟧.shows S.Client.reads
+        (source_of (link_of L.Client.limits ⟦<H as Timer>⟧.shows L.Client.reads L.Client.remaining L.Client.contents)
+        (Comes L.accepts L.Client.clones)) (source_of (link_of S.Client.limits ⟦<H as Timer>⟧.shows S.Client.reads
         S.Client.remaining S.Client.contents) (Comes S.accepts S.Client.clones)) (H.holds rt.now) work.now }
 {
     match work {

@@ -25,9 +25,9 @@ use Rattle.opc_store_old_tables.specs.Old.{AreOldTablesOf}
 use Rattle.opc_store_old_tables.specs.Tables.{Older}
 use Rattle.opc_store.specs.Opening.{IsAdopted, LeavesItself}
 use Rattle.opc_store.specs.StoreTables.{IsSure, store_meaning}
-use Rattle.opc_http_connections.specs.Links.{unknown_door}
+use Rattle.opc_http_connections.specs.Links.{unknown_source}
 use Rattle.opc_http_connections.specs.declared.unix.UnixClient.{UnixClient}
-use Rattle.opc_http_connections.specs.declared.unix.UnixDoor.{UnixDoor}
+use Rattle.opc_http_connections.specs.declared.unix.SocketListener.{SocketListener}
 use Rattle.opc_cli_failures.specs.declared.status.Status.{Status}
 use Rattle.opc_cli_failures.specs.declared.failure.Failure.{Failure}
 use Rattle.opc_cli_failures.specs.Statuses.{IsFailure}
@@ -64,7 +64,7 @@ module _ {D : Type 0} {g : disk.Ghosts D} where
     pub opening : IsOpening image are_made opened
     pub sure : IsSure over_files last → IsSure over_files opened
     pub done : IsDone (store_meaning over_files) contents opened last left before written end
-        (unknown_door TcpListener {C = TcpStream} {K = LibcRuntime}) (unknown_door UnixDoor {C = UnixClient})
+        (unknown_source TcpListener {C = TcpStream} {K = LibcRuntime}) (unknown_source SocketListener {C = UnixClient})
         (λ path. None) work
     pub ends : IsEnd last closed
 

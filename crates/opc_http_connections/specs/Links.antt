@@ -31,14 +31,14 @@ Comes {L = L} {C = C} accepts clones (Ok None) =
 Comes {L = L} {C = C} accepts clones (Err error) = (listener : L) × accepts listener (Err error)
 
 -- where clients connect: what is known of their connections, and the result of each
-pub record Door (C K : Type 0) : Type 1 where
+pub record ClientSource (C K : Type 0) : Type 1 where
   pub link : Link C K
   pub comes : Result (Option (C × C)) Error → Type 0
 
-abbrev pub door_of : {C K : Type 0} → Link C K → (comes : Result (Option (C × C)) Error → Type 0) → Door C K
-door_of link comes = record { link = link; comes = comes }
+abbrev pub source_of : {C K : Type 0} → Link C K → (comes : Result (Option (C × C)) Error → Type 0) → ClientSource C K
+source_of link comes = record { link = link; comes = comes }
 
 -- nothing is known of them
-abbrev pub unknown_door : (L : Type 0) → {C K : Type 0} → Door C K
-unknown_door L = door_of (link_of (λ _ _ _. ⊤) (λ _ _. ⊤) (λ _ _ _. ⊤) (λ _. None) (λ _. None))
+abbrev pub unknown_source : (L : Type 0) → {C K : Type 0} → ClientSource C K
+unknown_source L = source_of (link_of (λ _ _ _. ⊤) (λ _ _. ⊤) (λ _ _ _. ⊤) (λ _. None) (λ _. None))
     (Comes {L = L} (λ _ _. ⊤) (λ _ _. ⊤))

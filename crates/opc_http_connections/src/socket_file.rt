@@ -1,7 +1,7 @@
 //! The file of a Unix socket. The system's calls for files and sockets promise nothing of what they do, so no clause
 //! here does. `tools/serve sockets` tries what stands at a path, the permissions, and what is left.
 
-use crate::unix::UnixDoor;
+use crate::unix::SocketListener;
 use std::fs::{Files, Permissions};
 use std::io::ErrorKind;
 use std::net::Net;
@@ -28,12 +28,12 @@ pub fn permit<N: Files>(net: &N, path: &str, mode: u32) -> io::Result<()> {
 }
 
 /// Lets a socket that has its file listen.
-pub fn listen(socket: OwnedFd) -> io::Result<UnixDoor> {
+pub fn listen(socket: OwnedFd) -> io::Result<SocketListener> {
     if libc::net::listen(socket.as_raw_fd(), BACKLOG) < 0 {
         return Err(io::Error::from_raw_os_error(os::errno()));
     }
     let listener = UnixListener::from(socket);
-    Ok(UnixDoor { listener })
+    Ok(SocketListener { listener })
 }
 
 /// Whether the file of a socket is at this path, and nobody listens there. A service that was killed leaves one.

@@ -67,11 +67,11 @@ impl Connection for UnixClient {
 
 /// A listener at the path of a Unix socket.
 #[derive(Drop)]
-pub struct UnixDoor {
+pub struct SocketListener {
     pub listener: UnixListener,
 }
 
-impl Listener for UnixDoor {
+impl Listener for SocketListener {
     type Client = UnixClient;
 
     ghost accepts = { λ _ _. ⊤ };

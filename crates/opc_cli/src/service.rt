@@ -7,7 +7,7 @@ ghost use Rattle.opc_cli.specs.Calls.{IsService, status_of_service};
 use opc_cli_failures::status::Status;
 use opc_gate::gate::Gate;
 use opc_http_connections::connection::Connection;
-use opc_http_connections::listener::Listener;
+use opc_http_connections::listener::ClientListener;
 use opc_http_connections::timer::Timer;
 use opc_http_head::routes::Routes;
 use opc_http_serve::arrival::ServeFault;
@@ -30,7 +30,7 @@ where
     ensures sure { T.meaning.is_sure gate.new → T.meaning.is_sure gate.old }
     ensures served { IsService T.meaning gate.old gate.new routes.now
         (source_of (link_of L.Stream.limits ⟦<H as Timer>⟧.shows L.Stream.reads L.Stream.remaining L.Stream.contents)
-        (Comes ⟦<L as Listener>⟧.accepts L.Stream.clones)) count result }
+        (Comes ⟦<L as ClientListener>⟧.accepts L.Stream.clones)) count result }
 {
     number_of(serving::serve_on(rt, listener, count, None, routes, gate))
 }

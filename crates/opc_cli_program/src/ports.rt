@@ -2,7 +2,7 @@
 ghost use Rattle.std.specs.Prelude.{IfOk, OnOk};
 
 use opc_http_connections::connection::Connection;
-use opc_http_connections::listener::Listener;
+use opc_http_connections::listener::ClientListener;
 use opc_http_connections::socket_file;
 use opc_http_connections::unix::SocketListener;
 use std::fs::Files;
@@ -16,13 +16,13 @@ pub trait Ports {
     ghost use Rattle.std.specs.declared.net.socket_addr.SocketAddr.{SocketAddr};
 
     /// Listens at a port.
-    type Listener: Listener + Drop;
+    type Listener: ClientListener + Drop;
 
     /// A Unix socket that has its file, and does not listen yet.
     type Bound: Drop;
 
     /// Listens at the file of a Unix socket.
-    type Socket: Listener + Drop;
+    type Socket: ClientListener + Drop;
 
     /// That a listener was bound to an address. What a function over any ports promises by it can only be shown by a
     /// call.

@@ -21,7 +21,7 @@ use opc_cli_failures::failure::{Failure, Place};
 use opc_cli_failures::status::Status;
 use opc_cli_words::serve::{Address, Serve};
 use opc_gate::gate::Gate;
-use opc_http_connections::listener::Listener;
+use opc_http_connections::listener::ClientListener;
 use opc_http_connections::timer::Timer;
 use opc_http_head::routes::Routes;
 use opc_http_serve::arrival::ServeFault;
@@ -63,8 +63,8 @@ fn routes_at(alloc: Global, strict: bool, port: u16) -> Result<Routes, Failure>
 pub fn serve_tables<
     H: AllocGlobal + Clock,
     P: Ports<Listener = L, Socket = S>,
-    L: Listener,
-    S: Listener,
+    L: ClientListener,
+    S: ClientListener,
     T: Tables,
     W: Write,
 >(rt: &H, ports: &P, tables: T, serve: &Serve<'_>, output: &mut W) -> (Result<Status, Failure>, T)
@@ -89,8 +89,8 @@ where
 fn serve_gate<
     H: AllocGlobal + Clock,
     P: Ports<Listener = L, Socket = S>,
-    L: Listener,
-    S: Listener,
+    L: ClientListener,
+    S: ClientListener,
     T: Tables,
     W: Write,
 >(
@@ -122,7 +122,7 @@ where
 }
 
 /// Serves clients by these routes.
-fn serve_by<H: AllocGlobal + Clock, L: Listener, T: Tables>(
+fn serve_by<H: AllocGlobal + Clock, L: ClientListener, T: Tables>(
     rt: &H,
     listener: &L,
     gate: &mut Gate<T>,
@@ -139,7 +139,13 @@ fn serve_by<H: AllocGlobal + Clock, L: Listener, T: Tables>(
 }
 
 /// Serves clients at a port.
-fn serve_at_port<H: AllocGlobal + Clock, P: Ports<Listener = L>, L: Listener, T: Tables, W: Write>(
+fn serve_at_port<
+    H: AllocGlobal + Clock,
+    P: Ports<Listener = L>,
+    L: ClientListener,
+    T: Tables,
+    W: Write,
+>(
     rt: &H,
     ports: &P,
     gate: &mut Gate<T>,
@@ -162,7 +168,13 @@ where
 }
 
 /// Serves clients at a Unix socket, whose file is there as long as that takes.
-fn serve_at_socket<H: AllocGlobal + Clock, P: Ports<Socket = S>, S: Listener, T: Tables, W: Write>(
+fn serve_at_socket<
+    H: AllocGlobal + Clock,
+    P: Ports<Socket = S>,
+    S: ClientListener,
+    T: Tables,
+    W: Write,
+>(
     rt: &H,
     ports: &P,
     gate: &mut Gate<T>,
@@ -187,7 +199,7 @@ where
 }
 
 /// Serves clients of a socket at this path. No web page reaches it.
-fn serve_socket<H: AllocGlobal + Clock, S: Listener, T: Tables, W: Write>(
+fn serve_socket<H: AllocGlobal + Clock, S: ClientListener, T: Tables, W: Write>(
     rt: &H,
     socket: &S,
     gate: &mut Gate<T>,

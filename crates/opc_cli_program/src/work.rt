@@ -11,7 +11,7 @@ use opc_cli_failures::status::Status;
 use opc_cli_policy_files::openings::Openings;
 use opc_cli_words::import::Import;
 use opc_cli_words::serve::Serve;
-use opc_http_connections::listener::Listener;
+use opc_http_connections::listener::ClientListener;
 use opc_http_connections::timer::Timer;
 use opc_http_serve::clock::moment;
 use opc_io::watched::Watched;
@@ -36,8 +36,8 @@ pub enum Work<'a> {
 pub fn work_on<
     H: AllocGlobal + Clock + Openings,
     P: Ports<Listener = L, Socket = S>,
-    L: Listener,
-    S: Listener,
+    L: ClientListener,
+    S: ClientListener,
     T: Tables,
     R: Read,
     W: Write,

@@ -6,7 +6,7 @@ use std::io;
 use std::net::OpenListener;
 
 /// A listener, at a port or at the path of a Unix socket.
-pub trait Listener {
+pub trait ClientListener {
     ghost use Rattle.std.specs.Prelude.{Result};
     ghost use Rattle.std.specs.declared.io.Error.{Error};
 
@@ -21,7 +21,7 @@ pub trait Listener {
         ensures { accepts self.now result };
 }
 
-impl<L: OpenListener> Listener for L
+impl<L: OpenListener> ClientListener for L
 where
     L::Stream: Connection,
 {

@@ -2,7 +2,7 @@
 ghost use Rattle.std.specs.Prelude.{⊤};
 
 use crate::connection::Connection;
-use crate::listener::Listener;
+use crate::listener::ClientListener;
 use std::io;
 use std::io::{Read, Write};
 use std::net::{OpenStream, Shutdown};
@@ -71,7 +71,7 @@ pub struct SocketListener {
     pub listener: UnixListener,
 }
 
-impl Listener for SocketListener {
+impl ClientListener for SocketListener {
     type Client = UnixClient;
 
     ghost accepts = { λ _ _. ⊤ };

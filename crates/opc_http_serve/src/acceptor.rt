@@ -4,19 +4,19 @@ ghost use Rattle.opc_http_connections.specs.Links.{Comes};
 
 use crate::arrivals::Arrivals;
 use opc_http_connections::connection::Connection;
-use opc_http_connections::listener::Listener;
+use opc_http_connections::listener::ClientListener;
 use std::io;
 use std::rt::Clock;
 use std::time::Duration;
 
 /// Clients come to a listener.
 #[derive(Drop)]
-pub struct Acceptor<'a, H: Clock, L: Listener> {
+pub struct Acceptor<'a, H: Clock, L: ClientListener> {
     clock: &'a H,
     listener: &'a L,
 }
 
-impl<'a, H: Clock, L: Listener> Acceptor<'a, H, L> {
+impl<'a, H: Clock, L: ClientListener> Acceptor<'a, H, L> {
     pub fn new(clock: &'a H, listener: &'a L) -> Self
         ensures { result ≡ record { clock = clock; listener = listener } }
     {
@@ -24,7 +24,7 @@ impl<'a, H: Clock, L: Listener> Acceptor<'a, H, L> {
     }
 }
 
-impl<H: Clock, L: Listener> Arrivals for Acceptor<'_, H, L> {
+impl<H: Clock, L: ClientListener> Arrivals for Acceptor<'_, H, L> {
     type Connection = L::Client;
 
     ghost accepts = { λ _ handles _. Comes L.accepts L.Client.clones handles };

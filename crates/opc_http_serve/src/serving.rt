@@ -12,7 +12,7 @@ use crate::exchanges::Exchanges;
 use opc_gate::gate::Gate;
 use opc_http_connections::connection::Connection;
 use opc_http_connections::drain::drain;
-use opc_http_connections::listener::Listener;
+use opc_http_connections::listener::ClientListener;
 use opc_http_connections::timer::Timer;
 use opc_http_head::routes::Routes;
 use opc_state::tables::Tables;
@@ -90,7 +90,7 @@ pub fn serve<A: Arrivals, K: Timer, X: Exchanges>(
 }
 
 /// Serves this many clients that come to a listener.
-pub fn serve_on<H: AllocGlobal + Clock, L: Listener, T: Tables>(
+pub fn serve_on<H: AllocGlobal + Clock, L: ClientListener, T: Tables>(
     rt: &H,
     listener: &L,
     count: u32,

@@ -1,5 +1,5 @@
 //! Stores over disks that stop, and a store that is closed and opened again.
-use crate::files::{Stop, Work, crashed, made, stopping, worked};
+use crate::files::{Stop, StoreWork, crashed, made, stopping, worked};
 use crate::older_disks::older_tables;
 use anyhow::{Context, Result, bail};
 use opc_names::name::GroupName;
@@ -77,7 +77,7 @@ fn stopped<D: Disk + Drop>(alloc: Global, files: Files<D>) -> Result<(usize, Fil
 /// How many of two changes are acknowledged.
 struct Acknowledged;
 
-impl Work for Acknowledged {
+impl StoreWork for Acknowledged {
     type Out = Result<usize>;
 
     fn over<T: Tables>(&self, alloc: Global, tables: &mut T) -> Result<usize> {
@@ -95,7 +95,7 @@ impl Work for Acknowledged {
 /// The groups that tables hold, and the codes of their account.
 struct Held;
 
-impl Work for Held {
+impl StoreWork for Held {
     type Out = Result<String>;
 
     fn over<T: Tables>(&self, alloc: Global, tables: &mut T) -> Result<String> {
@@ -123,7 +123,7 @@ fn opened_again<D: Disk + Drop>(alloc: Global, files: Files<D>) -> Result<String
 /// One change, acknowledged.
 struct Changed;
 
-impl Work for Changed {
+impl StoreWork for Changed {
     type Out = Result<()>;
 
     fn over<T: Tables>(&self, alloc: Global, tables: &mut T) -> Result<()> {

@@ -94,7 +94,7 @@ pub fn opened<D: Disk + Drop>(
 }
 
 /// What is done with the tables of a store.
-pub trait Work {
+pub trait StoreWork {
     type Out: Drop;
 
     fn over<T: Tables>(&self, alloc: Global, tables: &mut T) -> Self::Out;
@@ -102,7 +102,7 @@ pub trait Work {
 
 /// What a work with a store over files comes to, if the store opens, and the files. The store is never dropped: the
 /// drop would be proved at each end of a function.
-pub fn worked<D: Disk + Drop, W: Work>(
+pub fn worked<D: Disk + Drop, W: StoreWork>(
     alloc: Global,
     files: Files<D>,
     work: &W,

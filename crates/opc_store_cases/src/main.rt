@@ -24,7 +24,7 @@ mod room;
 mod searches;
 
 use crate::memory::Fresh;
-use crate::room::Room;
+use crate::room::StoreRoom;
 use anyhow::Result;
 use opc_store::store::Store;
 use sqlite::MemStore;
@@ -35,7 +35,7 @@ fn main(rt: HostRuntime) -> Result<()> {
 
 /// Answers each line of the input, over tables in memory of this kind.
 fn answer_all<T: Fresh>(rt: &HostRuntime) -> Result<()> {
-    let mut room: Room<T> = Room::new(rt.alloc())?;
+    let mut room: StoreRoom<T> = StoreRoom::new(rt.alloc())?;
     for line in rt.lines(rt.alloc()) {
         let line = line?;
         let answer = room.answer(rt.alloc(), line.as_str())?;

@@ -13,7 +13,7 @@ use std::mem;
 
 /// Tables, the base policy, the edits of the next change, the statements of older tables, and exchanges with a gate.
 #[derive(Drop)]
-pub struct Room<T: Fresh> {
+pub struct StoreRoom<T: Fresh> {
     tables: Option<T>,
     base: String,
     edits: Vec<Edit>,
@@ -21,10 +21,10 @@ pub struct Room<T: Fresh> {
     exchanges: Exchanges<T>,
 }
 
-impl<T: Fresh> Room<T> {
+impl<T: Fresh> StoreRoom<T> {
     /// No tables yet, and the head of a policy file.
     pub fn new(alloc: Global) -> Result<Self> {
-        Ok(Room {
+        Ok(StoreRoom {
             tables: None,
             base: String::from_str(alloc, HEADER)?,
             edits: Vec::new(alloc),

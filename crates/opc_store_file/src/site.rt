@@ -3,7 +3,7 @@ ghost use Rattle.std.specs.Prelude.{◌≡◌, IfOk};
 ghost use Rattle.std.specs.Option.{is_none};
 ghost use Rattle.opc_store_file.specs.Site.{means_no_file};
 
-use crate::spare::{Found, is_spare_database, is_spare_log};
+use crate::spare::{Prior, is_spare_database, is_spare_log};
 use os::RangeLock;
 use std::fs::{File, Metadata, OpenOptions};
 use std::io::ErrorKind;
@@ -23,7 +23,7 @@ const LOCK_BYTES: (u64, u64) = (1 << 30, 512);
 pub struct Site {
     database: PathBuf,
     log: String,
-    found: Found,
+    prior: Prior,
 }
 
 /// Whether SQLite gives this path a meaning of its own, so that it means no file.
@@ -90,7 +90,7 @@ impl Site {
     fn at(rt: &HostRuntime, path: &str, is_made: bool) -> io::Result<Self> {
         let database = fs::canonicalize(rt, path)?;
         let log = format!(in rt.alloc(); "{}-wal", database.as_str())?;
-        let found = Found {
+        let prior = Prior {
             is_made,
             length: fs::metadata(rt, path)?.len(),
             has_log: is_there(rt, log.as_str()),
@@ -98,7 +98,7 @@ impl Site {
         Ok(Site {
             database,
             log,
-            found,
+            prior,
         })
     }
 
@@ -111,13 +111,13 @@ impl Site {
             return;
         };
         match fs::symlink_metadata(rt, log) {
-            Ok(found) if found.is_file() && is_spare_log(self.found, length, found.len()) => {
+            Ok(found) if found.is_file() && is_spare_log(self.prior, length, found.len()) => {
                 let _ = fs::remove_file(rt, log);
             }
             // The log is not there, or may hold something.
             _ => {}
         }
-        if is_spare_database(self.found, length) {
+        if is_spare_database(self.prior, length) {
             let _ = fs::remove_file(rt, database);
         }
         // The lock is held until here.

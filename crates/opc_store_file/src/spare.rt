@@ -7,7 +7,7 @@ pub const ONE_PAGE: u64 = 32 + 24 + 512;
 
 /// What was at a path before the opening.
 #[derive(Clone, Copy, PartialEq, Eq)]
-pub struct Found {
+pub struct Prior {
     /// Nothing was, and the opening made the database file.
     pub is_made: bool,
     /// How many bytes the database file had.
@@ -16,17 +16,17 @@ pub struct Found {
 }
 
 /// Whether the database file, which has this many bytes now, is one that the opening made and nothing is in it.
-pub fn is_spare_database(found: Found, length: u64) -> bool
-    ensures { result ≡ is_spare_database found length }
+pub fn is_spare_database(prior: Prior, length: u64) -> bool
+    ensures { result ≡ is_spare_database prior length }
 {
-    found.is_made && length == 0
+    prior.is_made && length == 0
 }
 
 /// Whether the log is one that the opening made and nothing that counts is in it: no page, nor the mark by which an
 /// opening distinguishes a file that is half made from one that is damaged.
-pub fn is_spare_log(found: Found, length: u64, log_length: u64) -> bool
-    ensures { result ≡ is_spare_log found length log_length }
+pub fn is_spare_log(prior: Prior, length: u64, log_length: u64) -> bool
+    ensures { result ≡ is_spare_log prior length log_length }
 {
-    let may_be_half_made = found.length <= 1 && length > 1;
-    !found.has_log && log_length < ONE_PAGE && !may_be_half_made
+    let may_be_half_made = prior.length <= 1 && length > 1;
+    !prior.has_log && log_length < ONE_PAGE && !may_be_half_made
 }

@@ -95,7 +95,8 @@ holds_rightly units online None = true
 abbrev pub held_rightly : List UnitRow → DeviceRow → Bool
 held_rightly units d = holds_rightly units d.online d.unit
 
--- The rows are in order, so that no name or number comes twice, and each device in use has its unit on the board.
+-- The rows are in order, so that no name or number comes twice, and each device in use is online, with its
+-- unit on the board.
 pub record AreInvariants (units : List UnitRow) (devices : List DeviceRow) (consoles : List ConsoleRow)
     (replies : List ReplyRow) : Type 0 where
   pub units_rise : Ascends unit_before units

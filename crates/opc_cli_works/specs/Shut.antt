@@ -53,7 +53,7 @@ module _ {D : Type 0} (g : disk.Ghosts D) where
         → IsOpening image are_made again → HasCleanDisk (file_state again)
         → ¬ ¬ (Represents (file_state again).now s ⊎ Represents (file_state again).now next)
 
-  -- If a crash leaves one state alone before a request, as after an opening or a change that is acknowledged, then
+  -- If a crash can leave only one state before a request, as after an opening or a change that is acknowledged, then
   -- whatever happens to the request, and to the tables, a crash leaves those of the state before it or of the state
   -- after it, as a whole.
   abbrev pub RequestsAreLeftWhole : Type 0

@@ -30,11 +30,11 @@ IsNothingWhereSame s change = changed_by change s ≡ s → is_nothing change �
 abbrev pub LeavesAsBefore : {T : Type 0} → Meaning T → T → T → Type 0
 LeavesAsBefore m old new = (left : State) → m.may_leave new left → m.may_leave old left
 
--- a crash leaves this state alone
+-- a crash can leave only this state
 abbrev pub LeavesAlone : {T : Type 0} → Meaning T → T → State → Type 0
 LeavesAlone m new s = (left : State) → m.may_leave new left → left ≡ s
 
--- A change is acknowledged: a crash leaves the new state alone, or nothing was changed.
+-- A change is acknowledged: a crash can leave only the new state, or nothing was changed.
 abbrev pub IsAcknowledged : {T : Type 0} → Meaning T → T → T → State → State → Type 0
 IsAcknowledged m old new s next =
     LeavesAlone m new next ⊎ ((next ≡ s) × LeavesAsBefore m old new)
@@ -53,7 +53,7 @@ pub record IsHandled {T : Type 0} (m : Meaning T) (old new : T) (s : State) (mom
   pub crash : (left : State) → m.may_leave new left → m.may_leave old left ⊎ (left ≡ after s moment r (outcome s r))
   -- if the request leaves the state as it is, nothing but what it might have left before
   pub idle : after s moment r (outcome s r) ≡ s → LeavesAsBefore m old new
-  -- and once it is answered, the state after the request alone, or nothing was changed
+  -- and once it is answered, only the state after the request, or nothing was changed
   pub acknowledged : IsAnswered answer → IsAcknowledged m old new s next
 
 -- The state is one that a request makes, as a whole, of the one that the requests before it led to.
@@ -74,5 +74,5 @@ pub record IsRun {T : Type 0} (m : Meaning T) (old new : T) (s : State)
   pub represented : m.represents new last
   -- what it might have left before, or a state that one of the requests makes, as a whole
   pub crash : (left : State) → m.may_leave new left → m.may_leave old left ⊎ IsMadeByOne s requests answers left
-  -- and once all are answered, the last state alone, or nothing was changed
+  -- and once all are answered, only the last state, or nothing was changed
   pub acknowledged : All IsAnswered answers → IsAcknowledged m old new s last

@@ -346,7 +346,7 @@ impl<T: Tables> Gate<T> {
     }
 
     /// Takes the rows of a first policy, all of them or none, if no user is stored. A crash leaves the state before or
-    /// after it, as a whole; once it is acknowledged, the state after it alone. Rows that bring nothing new write
+    /// after it, as a whole; once it is acknowledged, only the state after it. Rows that bring nothing new write
     /// nothing.
     pub fn bootstrap(&mut self, alloc: Global, rows: &[Row]) -> Result<(), Fault>
         ensures sure { T.meaning.is_sure self.new → T.meaning.is_sure self.old }
@@ -378,7 +378,7 @@ impl<T: Tables> Gate<T> {
 
     /// Answers a request. The answer and the state that the tables represent afterwards are a step of the access
     /// machine. A crash leaves the state before it or the state after it, as a whole; once a change is acknowledged,
-    /// the state after it alone.
+    /// only the state after it.
     pub fn handle(&mut self, alloc: Global, moment: u64, request: &Request) -> Answer
         ensures sure { T.meaning.is_sure self.new → T.meaning.is_sure self.old }
         ensures handled { T.meaning.is_sure self.new → (s : State) → T.meaning.represents self.old s

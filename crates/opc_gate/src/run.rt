@@ -14,7 +14,7 @@ impl<T: Tables> Gate<T> {
     /// Answers requests, with their moments, one after another. The answers, and the state that the tables represent
     /// afterwards, are those of the access machine. The room for all answers is taken first: if memory is refused for
     /// it, no request is handled. A crash leaves what it might have left before the requests or a state that one of
-    /// them makes, as a whole; once all are answered, the last state alone, if anything was changed.
+    /// them makes, as a whole; once all are answered, only the last state, if anything was changed.
     pub fn run(
         &mut self,
         alloc: Global,

@@ -72,7 +72,7 @@ IsRefusedFor m old new result made =
     m.is_sure new → (s : State) → m.represents old s → IfErr result (λ f. f ≢ why.NoMemory → f ≢ why.Store
     → made s ≡ Err f)
 
--- The bootstrap is done: its state is represented, and once a change is acknowledged a crash leaves it alone.
+-- The bootstrap is done: its state is represented, and once a change is acknowledged, a crash can leave no other.
 pub record IsBootstrap {T : Type 0} (m : Meaning T) (new : T) (s : State)
     (more : List Row) : Type 0 where
   pub next : State

@@ -211,8 +211,8 @@ pub trait Tables {
     fn written(&mut self, alloc: Global) -> Result<Vec<Row>, StoreFault>
         ensures { Loads meaning self.old self.new result (λ s rows. rows.items ≡ rows_of s.policy s.board.consoles) };
 
-    /// Writes all of a change, or nothing. A crash leaves the state before or after it; once it is acknowledged, the
-    /// state after it alone.
+    /// Writes all of a change, or nothing. A crash leaves the state before or after it; once it is acknowledged,
+    /// only the state after it.
     fn commit(&mut self, alloc: Global, change: &Change) -> Result<(), StoreFault>
         ensures sure { meaning.is_sure self.new → meaning.is_sure self.old }
         ensures done { meaning.is_sure self.new → (s : State) → meaning.represents self.old s

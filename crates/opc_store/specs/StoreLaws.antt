@@ -14,13 +14,13 @@ use Rattle.opc_store.specs.Opening.{LeavesItself}
 use Rattle.opc_store.specs.StoreTables.{IsShut, IsSure, store_meaning}
 
 module _ {S : Type 0} (g : Ghosts S) (m : Meaning (Held S)) where
-  -- If a crash leaves one state alone, whatever trees it may leave are tables of that state: none are of another state,
-  -- or of none.
+  -- If a crash can leave only one state, whatever trees it may leave are tables of that state: none are of another
+  -- state, or of none.
   abbrev pub LeavesTables : Type 0
   LeavesTables = (h : Held S) (s : State) → ((left : State) → m.may_leave h left → left ≡ s) → IsSure g h
       → (trees : Trees) → (state g h).may_leave trees → ¬ ¬ AreTablesOf trees s
 
-  -- If a crash leaves what is there, as after an opening, it leaves alone the state that is there.
+  -- If a crash leaves what is there, as after an opening, it can leave only the state that is there.
   abbrev pub LeavesWhatIsThere : Type 0
   LeavesWhatIsThere = (h : Held S) (s : State) → LeavesItself (state g h) → Represents (state g h).now s
       → (left : State) → m.may_leave h left → left ≡ s

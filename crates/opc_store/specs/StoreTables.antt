@@ -22,7 +22,7 @@ module _ {S : Type 0} (g : Ghosts S) where
   IsSure h = HasCleanDisk (state g h)
 
   -- A crash may leave tables of no other state, if the disk returns what was written: tables of this one, or of none.
-  -- So what is no state counts as each, and if a crash leaves one state alone, it leaves tables of that.
+  -- So what is no state counts as each, and if a crash can leave only one state, it leaves tables of that.
   abbrev pub MayLeave : Held S → State → Type 0
   MayLeave h s = IsSure h × (trees : Trees) × (state g h).may_leave trees × ((t : State) → AreTablesOf trees t → t ≡ s)
 

@@ -13,12 +13,12 @@ use opc_policy::source::ProfileSource;
 use opc_state::tables::Tables;
 use sqlite::Alter;
 
-/// If a crash leaves one state of a store alone, what it leaves are tables of that state.
+/// If a crash can leave only one state of a store, what it leaves are tables of that state.
 pub fn a_state_left_alone_is_left_as_tables<S: Alter>()
     ensures { LeavesTables S.Store ⟦<Store<S> as Tables>⟧.meaning }
 {}
 
-/// After an opening, a crash leaves the state that is there alone.
+/// After an opening, a crash leaves only the state that is there.
 pub fn what_is_there_is_left_alone<S: Alter>()
     ensures { LeavesWhatIsThere S.Store ⟦<Store<S> as Tables>⟧.meaning }
 {}

@@ -242,7 +242,8 @@ fn changed_on<T: Tables>(
 /// What an operation of administration comes to at a console, whose row is loaded: who may ask (E10 to E13), the right
 /// (E50, E51), and what the operation itself refuses. It loads, by key, what the operation names: no access list, no
 /// policy, no board. A profile's definition is looked up at most three times, in an RAlter by an owner: for the right,
-/// for the operation, and by the cache.
+/// for the operation, and by the cache. Each is one look-up by key; to pass the first on, an edit would have to state
+/// whether its profile is new, through the contracts of the tables, the store and the cache.
 pub fn admin_on<T: Tables>(
     tables: &mut T,
     alloc: Global,

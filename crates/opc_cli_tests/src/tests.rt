@@ -1,0 +1,14 @@
+//! Scripts to writers that fail, services over loopback, the words of a command line, and the faults of an opening.
+mod openings;
+mod pay_room;
+mod scripts;
+mod services;
+mod words;
+
+use std::alloc::AllocError;
+use std::test::Fail;
+
+/// How a test ends if memory was refused to the call that it tests, and with it what the test looks for.
+fn refused_memory() -> Fail {
+    Fail::from(AllocError)
+}

@@ -1,3 +1,4 @@
 pub mod Opening
 pub mod StoreTables
 pub mod StoreLaws
+pub mod Reopening

@@ -3,6 +3,7 @@
 
 pub mod laws;
 pub mod opening;
+pub mod reopening;
 mod source;
 pub mod store;
 mod tables;
@@ -11,3 +12,4 @@ mod whole;
 pub use crate::opening::OpenFault;
 pub use crate::store::Store;
 pub use opc_state::change::Change;
+pub use opc_state::tables::Tables;

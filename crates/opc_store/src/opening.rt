@@ -176,7 +176,11 @@ impl<S: Alter> Store<S> {
         ensures settled { IfOk result (λ store. LeavesItself (state S.Store store)) }
     {
         match migrate_on(&mut conn) {
-            Ok(()) => Ok(Store { conn, alloc }),
+            Ok(()) => Ok(Store {
+                conn,
+                alloc,
+                has_seen_profiles: false,
+            }),
             Err(fault) => Err((OpenFault::from(fault), conn)),
         }
     }
@@ -219,7 +223,11 @@ impl<S: Alter> Store<S> {
         let _settled = conn.is_autocommit();
         if !has_our_name(conn.schema()) {
             return match make_tables(&mut conn) {
-                Ok(()) => Ok(Store { conn, alloc }),
+                Ok(()) => Ok(Store {
+                    conn,
+                    alloc,
+                    has_seen_profiles: false,
+                }),
                 Err(error) => Err((open_fault(error), conn)),
             };
         }
@@ -227,7 +235,11 @@ impl<S: Alter> Store<S> {
             Ok(OURS) => {
                 // As above.
                 let _settled = conn.is_autocommit();
-                Ok(Store { conn, alloc })
+                Ok(Store {
+                    conn,
+                    alloc,
+                    has_seen_profiles: false,
+                })
             }
             Ok(1 | 2) => Store::copied(alloc, conn),
             Ok(version) => Err((OpenFault::NotOurs(version), conn)),

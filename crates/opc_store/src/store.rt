@@ -41,12 +41,18 @@ use std::marker::Model;
 pub struct Store<S: Alter> {
     pub(crate) conn: Connection<S>,
     pub(crate) alloc: Global,
+    // Whether each profile was read since the tables were opened.
+    pub(crate) has_seen_profiles: bool,
 }
 
 // In a function of its own, so that no caller drops the connection part by part: that keeps its proof short.
 impl<S: Alter + Drop> Drop for Store<S> {
     fn drop(self) {
-        let Store { conn: _, alloc: _ } = self;
+        let Store {
+            conn: _,
+            alloc: _,
+            has_seen_profiles: _,
+        } = self;
     }
 }
 
@@ -70,7 +76,11 @@ impl Store<MemStore> {
     {
         let mut conn = Connection::open_in_memory(alloc)?;
         match make_tables(&mut conn) {
-            Ok(()) => Ok(Store { conn, alloc }),
+            Ok(()) => Ok(Store {
+                conn,
+                alloc,
+                has_seen_profiles: false,
+            }),
             Err(error) => Err(fault(error)),
         }
     }
@@ -82,8 +92,12 @@ impl<S: Alter> Store<S> {
         ensures same { result ≡ self }
         ensures outside { result.in_transaction ≡ false }
     {
-        let Store { conn, alloc: _ } = self;
-        conn
+        let Store {
+            conn: tables,
+            alloc: _,
+            has_seen_profiles: _,
+        } = self;
+        tables
     }
 
     /// The console of this name.

@@ -1,9 +1,12 @@
 //! The store as the tables that the machine requires.
+ghost use Rattle.std.specs.Option.{option_map};
 ghost use Rattle.std.specs.Prelude.{◌≡◌, ◌⊎◌, IsTrue, OnErr, OnOk};
 ghost use Rattle.sqlite.specs.Held.{state};
 ghost use Rattle.opc_store_sql.specs.Steps.{Looks};
 ghost use Rattle.opc_state.specs.Changes.{changed_by};
-ghost use Rattle.opc_state.specs.State.{State, Fits};
+ghost use Rattle.opc_state.specs.Loads.{bare};
+ghost use Rattle.opc_state.specs.State.{State, Fits, deciding_in};
+ghost use Rattle.opc_store_schema.specs.Asked.{Finds};
 ghost use Rattle.opc_store.specs.StoreTables.{RepresentsIfOpen, IsSure, MayLeave};
 
 use crate::store::Store;
@@ -35,7 +38,7 @@ use opc_store_profiles::entries::{entries_on, level_for_on};
 use opc_store_profiles::profiles::{definition_on, definitions_on, profiles_of_on};
 use opc_store_schema::faults::fault;
 use opc_store_schema::version::version_on;
-use opc_store_search::search::deciding_on;
+use opc_store_search::search::{deciding_on, first_deciding_on};
 use opc_store_users::classes::active_on;
 use opc_store_users::connects::{is_connected_on, user_groups_on};
 use opc_store_users::groups::has_group_on;
@@ -57,6 +60,26 @@ impl<S: Alter> Store<S> {
             Ok(_) => Ok(()),
             Err(error) => Err(fault(error)),
         }
+    }
+
+    /// The profile of a class that decides a resource, but without its access list. Before the first search each profile is
+    /// read; after that no other program writes the tables, as long as they are open.
+    pub fn deciding(
+        &mut self,
+        alloc: Global,
+        class: Class,
+        resource: &Resource,
+    ) -> Result<Found, StoreFault>
+        ensures found { Finds S.Store self.old self.new result
+            (λ s found. found.profile ≡ option_map bare (deciding_in s.policy class resource.now)) }
+        ensures keeps { Looks S.Store self.old self.new result }
+    {
+        if self.has_seen_profiles {
+            return deciding_on(alloc, &mut self.conn, class, resource);
+        }
+        let found = first_deciding_on(alloc, &mut self.conn, class, resource)?;
+        self.has_seen_profiles = true;
+        Ok(found)
     }
 
     /// Writes all of a change, or nothing, as the gate requires it of tables. Tables that a fault of the disk has
@@ -167,7 +190,7 @@ impl<S: Alter> Tables for Store<S> {
         class: Class,
         resource: &Resource,
     ) -> Result<Found, StoreFault> {
-        deciding_on(alloc, &mut self.conn, class, resource)
+        Store::deciding(self, alloc, class, resource)
     }
 
     fn entries(

@@ -6,3 +6,4 @@ pub mod ListLoads
 pub mod ProfileLoads
 pub mod ProfileKeys
 pub mod ProfileRows
+pub mod SeenKeys

@@ -1,6 +1,6 @@
 //! The table of profiles.
-ghost use Rattle.std.specs.Prelude.{◌≡◌, ◌≢◌, ◌∷◌, ◌++◌, List, IfOk, OnOk, None, map, false, Some};
-ghost use Rattle.std.specs.List.{list_any};
+ghost use Rattle.std.specs.Prelude.{◌≡◌, ◌≢◌, ◌∷◌, ◌++◌, ℕ, List, IfOk, OnOk, None, map, false, true, Some};
+ghost use Rattle.std.specs.List.{AllByRecursion, list_any};
 ghost use Rattle.std.specs.Option.{option_map};
 ghost use Rattle.std.specs.Str.{bytes_eq};
 ghost use Rattle.sqlite.specs.Held.{state};
@@ -21,6 +21,7 @@ ghost use Rattle.sqlite.specs.declared.types.Value.TheVariants.{Text};
 ghost use Rattle.opc_names.specs.Spellings.{class_text};
 ghost use Rattle.opc_names.specs.declared.class.Class.{Class as TheClass};
 ghost use Rattle.opc_policy_members.specs.declared.profile.Profile.{Profile as TheProfile};
+ghost use Rattle.opc_store_profiles.specs.Keys.{AreKeyed, AreKeyedIn, HasOwnKeys, has_keys_of, is_blob, is_text};
 
 use crate::entries::{access_list_on, entry_rows_on, insert_entries};
 use crate::levels::{level_in, rank_of};
@@ -36,6 +37,7 @@ use opc_store_schema::queries::read;
 use opc_store_schema::there::is_there_on;
 use opc_store_sql::run;
 use opc_terms::store_fault::StoreFault;
+use sqlite::types::ValueRef;
 use sqlite::{Alter, Connection, Error, Row, Transaction, params};
 use std::alloc::Global;
 
@@ -149,8 +151,9 @@ fn class_in(row: &Row) -> Result<Class, StoreFault>
 
 /// A profile, but without its access list, from the first columns of a row.
 pub fn definition_in(alloc: Global, row: &Row) -> Result<Profile, StoreFault>
-    ensures { (p : TheProfile) (rest : List TheValue) → row.now ≡ definition_row p ++ rest
+    ensures read { (p : TheProfile) (rest : List TheValue) → row.now ≡ definition_row p ++ rest
         → IfOk result (λ v. v ≡ bare p) }
+    ensures pattern { (pattern : List ℕ) → column row.now 1 ≡ Text pattern → IfOk result (λ v. v.pattern ≡ pattern) }
 {
     Ok(Profile {
         class: class_in(row)?,
@@ -162,11 +165,42 @@ pub fn definition_in(alloc: Global, row: &Row) -> Result<Profile, StoreFault>
     })
 }
 
-/// A profile, but without its access list.
-pub fn profile_in(alloc: Global, row: &Row) -> Result<Profile, StoreFault>
-    ensures { (p : TheProfile) → row.now ≡ profile_row p → IfOk result (λ v. v ≡ bare p) }
+fn has_key(row: &Row, key: &[u8]) -> bool
+    ensures { result ≡ is_blob key.now (column row.now 5) }
 {
-    definition_in(alloc, row)
+    match row.get_ref(5) {
+        Ok(ValueRef::Blob(bytes)) => bytes == key,
+        _ => false,
+    }
+}
+
+fn has_head(row: &Row, head: &str) -> bool
+    ensures { result ≡ is_text head.now (column row.now 6) }
+{
+    match row.get_ref(6) {
+        Ok(ValueRef::Text(text)) => text == head.as_bytes(),
+        _ => false,
+    }
+}
+
+// Whether a row has the key and the head of a pattern.
+fn has_keys_of(row: &Row, pattern: &Pattern) -> bool
+    ensures { result ≡ has_keys_of pattern.now row.now }
+{
+    has_key(row, pattern.sort_key().as_slice()) && has_head(row, pattern.head())
+}
+
+/// A profile, but without its access list. A search asks for the row by its key and its head: a row with others than
+/// those of its pattern cannot be read.
+pub fn profile_in(alloc: Global, row: &Row) -> Result<Profile, StoreFault>
+    ensures read { (p : TheProfile) → row.now ≡ profile_row p → IfOk result (λ v. v ≡ bare p) }
+    ensures keys { OnOk result (HasOwnKeys row.now) }
+{
+    let profile = definition_in(alloc, row)?;
+    if !has_keys_of(row, &profile.pattern) {
+        return Err(unreadable());
+    }
+    Ok(profile)
 }
 
 fn definitions_in(alloc: Global, rows: &[Row]) -> Result<Vec<Profile>, StoreFault>
@@ -222,6 +256,41 @@ pub fn definitions_on<S: Alter>(
 {
     let rows = read(conn, BY_CLASS, params![class.text()])?;
     definitions_in(alloc, rows.as_slice())
+}
+
+fn see_each(alloc: Global, rows: &[Row]) -> Result<(), StoreFault>
+    ensures { OnOk result (AllByRecursion HasOwnKeys rows.now) }
+{
+    for row in rows {
+        let _profile = profile_in(alloc, row)?;
+    }
+    Ok(())
+}
+
+fn see_class_on<S: Alter>(
+    alloc: Global,
+    conn: &mut Connection<S>,
+    class: Class,
+) -> Result<(), StoreFault>
+    requires { conn.old.in_transaction ≡ false }
+    ensures mode { conn.new.in_transaction ≡ false }
+    ensures looks { Looks S.Store conn.old conn.new result }
+    ensures seen { HasCleanDisk (state S.Store conn.new)
+        → OnOk result (AreKeyedIn class (state S.Store conn.old).now) }
+{
+    let rows = read(conn, BY_CLASS, params![class.text()])?;
+    see_each(alloc, rows.as_slice())
+}
+
+/// Reads each profile: a search by heads might pass over one that has another head than its pattern.
+pub fn see_profiles_on<S: Alter>(alloc: Global, conn: &mut Connection<S>) -> Result<(), StoreFault>
+    requires { conn.old.in_transaction ≡ false }
+    ensures mode { conn.new.in_transaction ≡ false }
+    ensures looks { Looks S.Store conn.old conn.new result }
+    ensures seen { HasCleanDisk (state S.Store conn.new) → OnOk result (AreKeyed (state S.Store conn.old).now) }
+{
+    see_class_on(alloc, conn, Class::Console)?;
+    see_class_on(alloc, conn, Class::Opercmds)
 }
 
 /// Whether a profile has a user as its owner.

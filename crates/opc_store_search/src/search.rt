@@ -1,5 +1,5 @@
 //! The search for the profile that decides, over the tables.
-ghost use Rattle.std.specs.Prelude.{◌≡◌, ◌+◌, false, find, length, List, IfOk};
+ghost use Rattle.std.specs.Prelude.{◌≡◌, ◌+◌, false, find, length, List, IfOk, OnOk};
 ghost use Rattle.std.specs.Option.{option_map};
 ghost use Rattle.sqlite.specs.Held.{state};
 ghost use Rattle.sqlite.specs.State.{HasCleanDisk};
@@ -14,6 +14,7 @@ ghost use Rattle.opc_state.specs.Loads.{bare};
 ghost use Rattle.opc_state.specs.State.{State, deciding_in};
 ghost use Rattle.opc_store_schema.specs.Asked.{Finds};
 ghost use Rattle.opc_store_schema.specs.Represented.{Represents};
+ghost use Rattle.opc_store_profiles.specs.Keys.{AreKeyed};
 ghost use Rattle.opc_store_search.specs.Search.{Selects, covers};
 
 use crate::source::TableProfiles;
@@ -23,7 +24,7 @@ use opc_policy::source::Taken;
 use opc_policy::{Found, search};
 use opc_policy_members::profile::Profile;
 use opc_store_profiles::entries::access_list_on;
-use opc_store_profiles::profiles::{BY_CLASS, profile_in};
+use opc_store_profiles::profiles::{BY_CLASS, profile_in, see_profiles_on};
 use opc_store_schema::faults::fault;
 use opc_terms::store_fault::StoreFault;
 use sqlite::types::ValueRef;
@@ -184,4 +185,23 @@ pub fn deciding_on<S: Alter>(
         found.rows ≡ length (examined found.profile resource.now (of_class class s.policy.profiles))) }
 {
     search(&mut TableProfiles { alloc, conn }, class, resource)
+}
+
+/// The same where no profile was read since the tables were opened. A search by heads passes over a profile whose head
+/// is not its pattern's, so each profile is read once before the first one.
+pub fn first_deciding_on<S: Alter>(
+    alloc: Global,
+    conn: &mut Connection<S>,
+    class: Class,
+    resource: &Resource,
+) -> Result<Found, StoreFault>
+    requires { conn.old.in_transaction ≡ false }
+    ensures mode { conn.new.in_transaction ≡ false }
+    ensures looks { Looks S.Store conn.old conn.new result }
+    ensures seen { HasCleanDisk (state S.Store conn.new) → OnOk result (AreKeyed (state S.Store conn.old).now) }
+    ensures found { Finds S.Store conn.old conn.new result (λ s found.
+        found.profile ≡ option_map bare (deciding_in s.policy class resource.now)) }
+{
+    see_profiles_on(alloc, conn)?;
+    deciding_on(alloc, conn, class, resource)
 }

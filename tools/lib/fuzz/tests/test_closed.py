@@ -3,6 +3,7 @@ import unittest
 
 from lib.fuzz import closed
 from lib.fuzz.runs import Wrong
+from lib.model import names
 
 SCRIPT = b"1 C1 D U\n2 C1 LOGOFF\n3 C1 D U\n4 C2 LOGON ANNA,ABC\n5 C2 D U\n6 * JOBIN A JOB\n"
 BY_AUTHORITY = b"DONE GROUP INFO AUTH SYS"
@@ -16,9 +17,10 @@ def printed(*given_up: int) -> bytes:
     )
 
 
-def rows(user: str | None) -> dict[str, list[tuple]]:
+def rows(user: str | None, head: str = "MVS.", active: int = 1) -> dict[str, list[tuple]]:
+    profile = ("OPERCMDS", "MVS.%", "ANNA", 0, 0, names.sort_key("MVS.%"), head)
     return {
-        "usr": [("ANNA", 0, 0, 0, None, 0)],
+        "usr": [("ANNA", 0, 0, 0, None, 0)], "classes": [("CONSOLE", 0), ("OPERCMDS", active)], "profiles": [profile],
         "consoles": [("C1", 8, "O", 1, user, 0), ("C2", 2, "O", 1, None, 0)],
     }
 
@@ -36,3 +38,15 @@ class Closed(unittest.TestCase):
         self.wants(printed(1), rows("GHOST"), True)
         self.wants(printed(), rows("ANNA"), True)
         self.wants(printed(), rows(None), True)
+
+    def test_profile_passed_over(self) -> None:
+        self.wants(printed(), rows(None, "MVS.V"), False)
+        self.wants(printed(5), rows(None, "MVS.V"), True)
+        self.wants(printed(5), rows("ANNA", "MVS.V"), False)
+        self.wants(printed(1, 5), rows("ANNA", "MVS.V"), True)
+        self.wants(printed(), rows("ANNA", "MVS.V", 0), True)
+
+    def test_pattern_that_is_none(self) -> None:
+        held = rows(None)
+        held["profiles"].append(("OPERCMDS", "A..B", "ANNA", 0, 0, b"", ""))
+        self.wants(printed(), held, False)

@@ -8,7 +8,7 @@ use Rattle.opc_store_old_tables.proofs.profiles.profile_on.Goals as goal
 pub returns-clause-found : goal.returns-clause-found
 returns-clause-found g c clean version s was p is here =
     let read = c.in_ok-profile.profile in
-    let definition : read ≡ bare p = c.in_ok-profile.ensures p [] is in
+    let definition : read ≡ bare p = c.in_ok-profile.ensures.read p [] is in
     let list = c.in_ok-entries.ensures.found clean version s was in
     let own = ap (λ (q : Profile). access_list s.policy q.class q.pattern) definition
     ∙ ap (λ (o : Option Profile). option_map_or (λ (q : Profile). q.entries) o []) here in

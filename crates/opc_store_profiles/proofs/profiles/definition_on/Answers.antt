@@ -20,7 +20,7 @@ returns-in-Some-clause-found g c clean s was =
     let h = c.in-Some.ensures.lookup in
     first_returned profile_row (is_of class pattern) bare s.policy.profiles c.as_slice.result.now c.in-Some.row.now
     c.in_ok-profile_in-in-Some.field-0 (c.as_slice.ensures.value ∙ are)
-    (slice_get_read c.as_slice.result.now _ 0 c.in-Some.row.now refl h.3.0 h.1) c.in_ok-profile_in-in-Some.ensures
+    (slice_get_read c.as_slice.result.now _ 0 c.in-Some.row.now refl h.3.0 h.1) c.in_ok-profile_in-in-Some.ensures.read
 
 pub returns-clause-found : goal.returns-clause-found
 returns-clause-found g c clean s was =

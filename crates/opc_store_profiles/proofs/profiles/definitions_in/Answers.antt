@@ -8,5 +8,5 @@ pub loop-row-preserved : goal.loop-row-preserved
 loop-row-preserved c profiles are =
     c.in_ok-push.ensures.items
     ∙ more_returned profile_row bare profiles c.args.rows.now c.loop-row.definitions.items c.loop-row.row-index
-    c.row-item.result c.in_ok-profile_in.field-0 are c.loop-row-test.true c.row-item.is c.in_ok-profile_in.ensures
+    c.row-item.result c.in_ok-profile_in.field-0 are c.loop-row-test.true c.row-item.is c.in_ok-profile_in.ensures.read
     (c.loop-row.invariant profiles are)

@@ -71,7 +71,7 @@ returns-then-covers-clause-found g c clean select selects s sees =
     let on = next_profile g.S.Store c.args.sql.now (bound c.args.params.now) select selects (covers resource)
     c.args.conn.now now s sees unchanged was.1 c.rows.at (was.3 select selects s sees) y
     (given_begin g.S.Store c.args.sql.now (bound c.args.params.now) now (was.1 ++ y ∷ []) given) in
-    let is : c.in_ok-profile.profile ≡ bare on.x = IfOk-at_ok (λ (v : Profile). v ≡ bare on.x) c.in_ok-profile.was (c.profile_in.ensures on.x on.is) in
+    let is : c.in_ok-profile.profile ≡ bare on.x = IfOk-at_ok (λ (v : Profile). v ≡ bare on.x) c.in_ok-profile.was (c.profile_in.ensures.read on.x on.is) in
     let yes : covers resource on.x ≡ true = ap (covers resource) (sym is) ∙ covered_text c.in_ok-profile.profile resource (c.if-covers.ensures.0 refl) in
     let both = on.passes yes in
     (ap (λ (p : Profile). Some p) is ∙ ap (option_map bare) both.0, both.1)
@@ -99,7 +99,7 @@ rows-preserved g c =
                 (covers resource) c.args.conn.now now s sees unchanged was.1 c.rows.at (was.3 select selects s sees)
                 y (given_begin g.S.Store c.args.sql.now (bound c.args.params.now) now (was.1 ++ y ∷ []) given) in
                 let is : c.in_ok-profile.profile ≡ bare on.x =
-                IfOk-at_ok (λ (v : Profile). v ≡ bare on.x) c.in_ok-profile.was (c.profile_in.ensures on.x on.is) in
+                IfOk-at_ok (λ (v : Profile). v ≡ bare on.x) c.in_ok-profile.was (c.profile_in.ensures.read on.x on.is) in
                 on.fails (ap (covers resource) (sym is) ∙ uncovered_text c.in_ok-profile.profile resource (λ k. false≢true (c.if-covers.ensures.1 k))),
           ),
     )

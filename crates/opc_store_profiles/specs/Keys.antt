@@ -1,0 +1,42 @@
+-- By what a search asks for the row of a profile.
+use Rattle.std.specs.Prelude.{◌≡◌, Bool, true, false, ◌&&◌, ℕ, List}
+use Rattle.std.specs.List.{AllByRecursion}
+use Rattle.std.specs.Str.{bytes_eq}
+use Rattle.sqlite.specs.Effect.{Database}
+use Rattle.sqlite.specs.Order.{Row, column}
+use Rattle.sqlite.specs.declared.types.Value.{Value}
+use Rattle.sqlite.specs.declared.types.Value.TheVariants.{Blob, Text}
+use Rattle.opc_names.specs.Order.{sort_key, head}
+use Rattle.opc_names.specs.Patterns.{tokens}
+use Rattle.opc_names.specs.Spellings.{class_text}
+use Rattle.opc_names.specs.declared.class.Class.{Class}
+use Rattle.opc_store_schema.specs.Contents.{Contents}
+use Rattle.opc_store_schema.specs.Made.{IsMade}
+
+abbrev pub is_blob : List ℕ → Value → Bool
+is_blob bytes (Blob b) = bytes_eq b bytes
+is_blob bytes other = false
+
+abbrev pub is_text : List ℕ → Value → Bool
+is_text text (Text t) = bytes_eq t text
+is_text text other = false
+
+-- the row has the key and the head of a pattern
+abbrev pub has_keys_of : List ℕ → Row → Bool
+has_keys_of pattern row = is_blob (sort_key pattern) (column row 5) && is_text (head (tokens pattern)) (column row 6)
+
+-- and of the pattern that it has
+abbrev pub HasOwnKeys : Row → Type 0
+HasOwnKeys row = (pattern : List ℕ) → column row 1 ≡ Text pattern → has_keys_of pattern row ≡ true
+
+-- if the row is of this class
+abbrev pub IsKeyedIn : Class → Row → Type 0
+IsKeyedIn class row = column row 0 ≡ Text (class_text class) → HasOwnKeys row
+
+-- In our tables, whatever their rows are, the profiles of a class have the keys and heads of their patterns.
+abbrev pub AreKeyedIn : Class → Database → Type 0
+AreKeyedIn class db = (c : Contents) → IsMade c db → AllByRecursion (IsKeyedIn class) c.profiles
+
+-- those of both classes
+abbrev pub AreKeyed : Database → Type 0
+AreKeyed db = (class : Class) → AreKeyedIn class db

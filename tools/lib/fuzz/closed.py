@@ -16,6 +16,8 @@ def wants_closed(script: bytes, printed: bytes, rows: Rows) -> None:
     answers = {match[1]: match for match in ANSWER.finditer(printed.decode(errors="replace"))}
     for line in script.decode().splitlines():
         moment, console, text = line.split(" ", 2)
+        if console == "*":
+            continue  # an event of the room, even where a row gives a console this name
         is_done = moment in answers and answers[moment][2] == "DONE"
         verb = text.partition(" ")[0]
         if verb == "LOGOFF" and is_done:

@@ -50,3 +50,8 @@ class Closed(unittest.TestCase):
         held = rows(None)
         held["profiles"].append(("OPERCMDS", "A..B", "ANNA", 0, 0, b"", ""))
         self.wants(printed(), held, False)
+
+    def test_console_with_the_name_of_events(self) -> None:
+        held = rows(None)
+        held["consoles"].append(("*", 8, "O", 1, "GHOST", 0))
+        self.wants(printed(), held, True)

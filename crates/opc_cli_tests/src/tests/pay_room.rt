@@ -1,4 +1,4 @@
-//! Tables of one console, where ANNA is on, and of the job PAYROLL, which she may not cancel.
+//! Tables of one console, where ANNA is logged on, and of the job PAYROLL, which she may not cancel.
 ghost use Rattle.opc_state.specs.State.{State};
 
 use opc_board::rows::{ConsoleRow, DeviceRow, ReplyRow, UnitKind, UnitRow};

@@ -43,7 +43,7 @@ fn a_script_ends_with_its_number(rt: HostRuntime) -> Result<(), Fail> {
     Ok(())
 }
 
-/// An output that fails after so many writes of one byte: what was handled before stays done.
+/// An output that fails after this many writes of one byte: what was handled before stays done.
 fn fails_after(
     rt: &(impl AllocGlobal + Abort),
     writes: usize,

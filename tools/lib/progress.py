@@ -6,6 +6,8 @@ import threading
 import time
 from typing import TextIO
 
+from lib.watcher import Watcher
+
 CHECKED = re.compile(r"checked .*, (\d+) of (\d+)$")
 # what a check says if nothing is wrong
 USUAL = re.compile(
@@ -39,27 +41,22 @@ class Said:
         return [line[:300] for line in lines if not USUAL.match(line)][-number:] or lines[-number:]
 
 
-class Clock:
+class Clock(Watcher):
     """A line on standard error that says what goes on, and since when."""
 
     def __init__(self, what: str, out: TextIO = sys.stderr) -> None:
+        super().__init__()
         self.what, self.now, self.out = what, "", out
         self.started, self.shown = time.monotonic(), 0
-        self.turn, self.ended = threading.Lock(), threading.Event()
+        self.turn = threading.Lock()
         self.is_terminal = out.isatty()
 
     def goes_on(self, what: str) -> None:
         self.now = what
         self.show()
 
-    def __enter__(self) -> "Clock":
-        self.thread = threading.Thread(target=self.watch, daemon=True)
-        self.thread.start()
-        return self
-
     def __exit__(self, *_: object) -> None:
-        self.ended.set()
-        self.thread.join()
+        super().__exit__(*_)
         if self.is_terminal:
             self.write("\r" + " " * self.shown + "\r")
 

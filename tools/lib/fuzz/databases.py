@@ -69,14 +69,19 @@ class Database(Input):
 
     def tried(self, room: str) -> None:
         file = f"{room}/db"
-        bases.copy(self.base.file(self.name), file)
         try:
-            for edit in self.pieces:
-                with contextlib.suppress(FileNotFoundError, sqlite3.Error):
-                    apply(file, edit)
+            self.put_at(file)
             self.judged(file, room)
         finally:
             bases.remove(file)
+
+    def put_at(self, file: str) -> None:
+        """Makes the file, with those of its edits that can still be made after the ones before them."""
+        bases.copy(self.base.file(self.name), file)
+        for edit in self.pieces:
+            # a message of SQLite's about a damaged schema quotes its bytes, which need not be UTF-8
+            with contextlib.suppress(FileNotFoundError, sqlite3.Error, UnicodeDecodeError):
+                apply(file, edit)
 
     def judged(self, file: str, room: str) -> None:
         before, held = bytes_of(file), bases.looked(file, room)
@@ -149,10 +154,7 @@ class Database(Input):
     def made(self) -> dict[str, bytes]:
         """The file with its edits, and what is beside it."""
         file = self.base.file("kept")
-        bases.copy(self.base.file(self.name), file)
-        for edit in self.pieces:
-            with contextlib.suppress(FileNotFoundError, sqlite3.Error):
-                apply(file, edit)
+        self.put_at(file)
         found = {f"db{path.removeprefix(file)}": data for path, data in bytes_of(file).items()}
         bases.remove(file)
         return found

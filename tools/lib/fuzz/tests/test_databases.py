@@ -1,5 +1,7 @@
 """How files are turned, how rows are read back into a state, and what a refused file may not have lost."""
+import contextlib
 import os
+import sqlite3
 import tempfile
 import unittest
 from random import Random
@@ -32,6 +34,17 @@ class Edits(unittest.TestCase):
             self.assertEqual(edit, databases.any_edit(Random(number), number % 2 == 0))
             if edit.way not in ("statement", "beside"):
                 databases.changed(b"x" * 10_000, edit)
+
+
+class Damaged(unittest.TestCase):
+    def test_statement_over_a_schema_that_is_not_utf_8(self) -> None:
+        with tempfile.TemporaryDirectory() as folder:
+            base, file = bases.Base(folder, bases.base_state(), []), f"{folder}/db"
+            with contextlib.closing(sqlite3.connect(base.file("sound"))) as writer:
+                writer.execute("CREATE TABLE note (text TEXT)")
+            edits = [Edit("all", 0, (b"note (", b"`\xd2\xd1no(")), Edit("statement", None, "DELETE FROM note")]
+            Database(edits, base, "sound", "run").put_at(file)
+            self.assertIn(b"`\xd2\xd1no(", databases.bytes_of(file)[file])
 
 
 class Refused(unittest.TestCase):
@@ -94,7 +107,7 @@ class States(unittest.TestCase):
     def test_statements(self) -> None:
         for number in range(300):
             self.assertEqual(broken.statement(Random(number)), broken.statement(Random(number)))
-        made = Database([Edit("statement", None, "VACUUM")], None, "plain", "run")
+        made = Database([Edit("statement", None, "DELETE FROM note")], None, "plain", "run")
         self.assertEqual(made.with_pieces([]).pieces, [])
 
 

@@ -1,7 +1,4 @@
 //! Why a database file is not opened, as the system reports it if it is asked for the file again.
-ghost use Rattle.std.specs.Prelude.{◌≡◌, true};
-ghost use Rattle.opc_store_file.specs.Site.{means_no_file};
-
 use opc_cli_failures::reason::Reason;
 use opc_store_file::site::prepare;
 use sqlite::Wary;
@@ -23,10 +20,8 @@ const GREATEST_ROOT: usize = 52;
 const ENCODING: usize = 59;
 
 /// Why the database at this path was not opened. As after the opening itself, nothing is left behind. The words are a
-/// note beside the fault. Those that depend on the file and the system have no clause; `tools/program` tries them.
-pub fn reason_at(rt: &HostRuntime, path: &str) -> Reason
-    ensures { means_no_file path.now ≡ true → result ≡ Reason.NoPath }
-{
+/// note beside the fault. They depend on the file and the system, so they have no clause; `tools/program` tries them.
+pub fn reason_at(rt: &HostRuntime, path: &str) -> Reason {
     match prepare(rt, path) {
         Ok(Some(site)) => {
             let reason = reason_again(rt, path);

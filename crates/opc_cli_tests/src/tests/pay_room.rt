@@ -45,14 +45,6 @@ fn stored<T, E: Drop>(read: Result<T, E>) -> Result<T, StoreFault> {
     read.map_err(|_| StoreFault::Store)
 }
 
-fn entry(id: &str, level: Level) -> Result<Entry, StoreFault> {
-    Ok(Entry {
-        id: stored(EntryId::read(id))?,
-        when: None,
-        level,
-    })
-}
-
 fn line_of(alloc: Global, row: &AccountRow) -> Result<String, StoreFault> {
     let (console, user) = (row.console.as_str(), row.user.as_str());
     let (code, rule) = (row.code.as_str(), row.rule.as_str());
@@ -190,9 +182,21 @@ impl Tables for PayRoom {
         _pattern: &Pattern,
         _most: u32,
     ) -> Result<Entries, StoreFault> {
+        let (user, group) = (
+            stored(EntryId::read("BERT"))?,
+            stored(EntryId::read("NIGHT"))?,
+        );
         let mut entries = Entries::new(alloc);
-        entries.set(entry("BERT", Level::Read)?)?;
-        entries.set(entry("NIGHT", Level::Update)?)?;
+        entries.set(Entry {
+            id: user,
+            when: None,
+            level: Level::Read,
+        })?;
+        entries.set(Entry {
+            id: group,
+            when: None,
+            level: Level::Update,
+        })?;
         Ok(entries)
     }
 

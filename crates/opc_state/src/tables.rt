@@ -2,7 +2,8 @@
 ghost use Rattle.std.specs.Prelude.{◌≡◌, ◌⊎◌, map, take, OnOk, OnErr};
 ghost use Rattle.std.specs.Option.{option_copied, option_map};
 ghost use Rattle.opc_board.specs.Invariants.{console_at, device_at, reply_at, unit_at};
-ghost use Rattle.opc_policy_members.specs.Profiles.{of_class, profile_of};
+ghost use Rattle.opc_policy_members.specs.Profiles.{AreProfiles, of_class, profile_of};
+ghost use Rattle.opc_policy_shared.specs.Shared.{with_heads_between};
 ghost use Rattle.opc_policy_members.specs.Members.{user_of, groups_of};
 ghost use Rattle.opc_policy_members.specs.Taken.{has_group, has_user, is_active};
 ghost use Rattle.opc_state.specs.Asked.{Answers, Loads};
@@ -180,6 +181,22 @@ pub trait Tables {
     fn definitions(&mut self, alloc: Global, class: Class) -> Result<Vec<Profile>, StoreFault>
         ensures { Loads meaning self.old self.new result
             (λ s profiles. profiles.items ≡ map bare (of_class class s.policy.profiles)) };
+
+    /// The profiles of a class whose heads lie between two texts, both among them, in the order of their patterns, but
+    /// for their access lists.
+    fn definitions_between(
+        &mut self,
+        alloc: Global,
+        class: Class,
+        first: &str,
+        last: &str,
+    ) -> Result<Vec<Profile>, StoreFault>
+        ensures found { Loads meaning self.old self.new result
+            (λ s profiles. profiles.items
+            ≡ with_heads_between first.now last.now (map bare (of_class class s.policy.profiles))) }
+        ensures keyed { Answers meaning self.old self.new result (λ s _. IsKeyed s) }
+        ensures valid { Answers meaning self.old self.new result
+            (λ s _. AreProfiles (map bare (of_class class s.policy.profiles))) };
 
     /// The profiles of a class, in the order of their patterns.
     fn profiles(&mut self, alloc: Global, class: Class) -> Result<Vec<Profile>, StoreFault>

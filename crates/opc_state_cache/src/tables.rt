@@ -159,6 +159,16 @@ impl<T: Tables> Tables for Cached<T> {
         self.tables.definitions(alloc, class)
     }
 
+    fn definitions_between(
+        &mut self,
+        alloc: Global,
+        class: Class,
+        first: &str,
+        last: &str,
+    ) -> Result<Vec<Profile>, StoreFault> {
+        self.tables.definitions_between(alloc, class, first, last)
+    }
+
     fn profiles(&mut self, alloc: Global, class: Class) -> Result<Vec<Profile>, StoreFault> {
         self.tables.profiles(alloc, class)
     }

@@ -1,5 +1,5 @@
 -- What loads and a commit are to the machine that keeps its state by them.
-use Rattle.std.proofs.Common.{◌≡◌, ◌⊎◌, inl, inr, Ok, Err, Result, IfOk, OnOk, OnErr, IsTrue, sym, subst, arith}
+use Rattle.std.proofs.Common.{◌≡◌, ◌⊎◌, inl, inr, Ok, Err, Result, IfOk, OnOk, OnErr, IsTrue, map, sym, subst, arith}
 use Rattle.std.proofs.lemmas.Result.{on_ok_weaker}
 use Rattle.sqlite_trees.specs.declared.store.Store.{Ghosts}
 use Rattle.sqlite_trees.specs.Tree.{Trees}
@@ -14,6 +14,10 @@ use Rattle.opc_state.specs.State.{State, Fits}
 use Rattle.opc_store_schema.specs.Changes.{Becomes}
 use Rattle.opc_store_schema.specs.Represented.{Represents, AreTablesOf}
 use Rattle.opc_store.specs.StoreTables.{RepresentsIfOpen, IsSure, MayLeave, store_meaning}
+use Rattle.opc_names.specs.declared.class.Class.{Class}
+use Rattle.opc_policy_members.specs.Profiles.{AreProfiles, of_class}
+use Rattle.opc_state.specs.Loads.{bare}
+use Rattle.opc_store_search.proofs.BetweenLoads.{class_bare_are_profiles}
 use Rattle.opc_store_schema.proofs.KeyOrder.{is_keyed}
 
 -- no number of what tables represent passes what they can hold
@@ -57,6 +61,14 @@ module _ {S : Type 0} (g : Ghosts S) where
   pub keyed : {X E : Type 0} (a b : Held S) (r : Result X E) → Looks g a b r → IsSure g b → (s : State) → RepresentsIfOpen g a s → IfOk r (λ _. IsKeyed s)
   keyed a b (Err e) h clean s was = tt
   keyed a b (Ok x) h clean s was = let tables = was (h.was_open clean (h.opened clean)) in is_keyed s tables.ordered
+
+  -- and those of a class are profiles
+  pub valid : {X E : Type 0} (class : Class) (a b : Held S) (r : Result X E) → Looks g a b r → IsSure g b → (s : State)
+      → RepresentsIfOpen g a s → IfOk r (λ _. AreProfiles (map bare (of_class class s.policy.profiles)))
+  valid class a b (Err e) h clean s was = tt
+  valid class a b (Ok x) h clean s was =
+      let tables = was (h.was_open clean (h.opened clean)) in
+      class_bare_are_profiles class s.policy.profiles tables.ordered.patterns tables.ordered.profiles
 
   -- a load that gave a value leaves tables that are open, and represent the state
   pub stands : {X E : Type 0} (x : X) (a b : Held S) → (let q : Result X E = Ok x in Looks g a b q) → IsSure g b

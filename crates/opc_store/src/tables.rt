@@ -1,8 +1,10 @@
 //! The store as the tables that the machine requires.
 ghost use Rattle.std.specs.Option.{option_map};
-ghost use Rattle.std.specs.Prelude.{◌≡◌, ◌⊎◌, IsTrue, OnErr, OnOk};
+ghost use Rattle.std.specs.Prelude.{◌≡◌, ◌⊎◌, map, IsTrue, OnErr, OnOk};
 ghost use Rattle.sqlite.specs.Held.{state};
 ghost use Rattle.opc_store_sql.specs.Steps.{Looks};
+ghost use Rattle.opc_policy_members.specs.Profiles.{of_class};
+ghost use Rattle.opc_policy_shared.specs.Shared.{with_heads_between};
 ghost use Rattle.opc_state.specs.Changes.{changed_by};
 ghost use Rattle.opc_state.specs.Loads.{bare};
 ghost use Rattle.opc_state.specs.State.{State, Fits, deciding_in};
@@ -38,6 +40,7 @@ use opc_store_profiles::entries::{entries_on, level_for_on};
 use opc_store_profiles::profiles::{definition_on, definitions_on, profiles_of_on};
 use opc_store_schema::faults::fault;
 use opc_store_schema::version::version_on;
+use opc_store_search::between::{definitions_between_on, first_definitions_between_on};
 use opc_store_search::search::{deciding_on, first_deciding_on};
 use opc_store_users::classes::active_on;
 use opc_store_users::connects::{is_connected_on, user_groups_on};
@@ -80,6 +83,27 @@ impl<S: Alter> Store<S> {
         let found = first_deciding_on(alloc, &mut self.conn, class, resource)?;
         self.has_seen_profiles = true;
         Ok(found)
+    }
+
+    /// The profiles of a class whose heads lie between two texts, both among them, in the order of their patterns, but
+    /// for their access lists. Before the first search each profile is read, as for one resource.
+    pub fn definitions_between(
+        &mut self,
+        alloc: Global,
+        class: Class,
+        first: &str,
+        last: &str,
+    ) -> Result<Vec<Profile>, StoreFault>
+        ensures found { Finds S.Store self.old self.new result
+            (λ s v. v.items ≡ with_heads_between first.now last.now (map bare (of_class class s.policy.profiles))) }
+        ensures keeps { Looks S.Store self.old self.new result }
+    {
+        if self.has_seen_profiles {
+            return definitions_between_on(alloc, &mut self.conn, class, first, last);
+        }
+        let definitions = first_definitions_between_on(alloc, &mut self.conn, class, first, last)?;
+        self.has_seen_profiles = true;
+        Ok(definitions)
     }
 
     /// Writes all of a change, or nothing, as the gate requires it of tables. Tables that a fault of the disk has
@@ -240,6 +264,17 @@ impl<S: Alter> Tables for Store<S> {
 
     fn definitions(&mut self, alloc: Global, class: Class) -> Result<Vec<Profile>, StoreFault> {
         definitions_on(alloc, &mut self.conn, class)
+    }
+
+    #[tactic(auto, using(crate::proofs::StoreTablesLemmas::keyed, crate::proofs::StoreTablesLemmas::valid))]
+    fn definitions_between(
+        &mut self,
+        alloc: Global,
+        class: Class,
+        first: &str,
+        last: &str,
+    ) -> Result<Vec<Profile>, StoreFault> {
+        Store::definitions_between(self, alloc, class, first, last)
     }
 
     fn profiles(&mut self, alloc: Global, class: Class) -> Result<Vec<Profile>, StoreFault> {

@@ -203,7 +203,8 @@ pub fn profile_in(alloc: Global, row: &Row) -> Result<Profile, StoreFault>
     Ok(profile)
 }
 
-fn definitions_in(alloc: Global, rows: &[Row]) -> Result<Vec<Profile>, StoreFault>
+/// Profiles, but for their access lists, from their rows.
+pub fn definitions_in(alloc: Global, rows: &[Row]) -> Result<Vec<Profile>, StoreFault>
     ensures { (profiles : List TheProfile) → rows.now ≡ map profile_row profiles
         → IfOk result (λ v. v.items ≡ map bare profiles) }
 {

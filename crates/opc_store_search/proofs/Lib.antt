@@ -1,4 +1,5 @@
 pub mod Bare
+pub mod BetweenLoads
 pub mod FirstDeciding
 pub mod SearchFound
 pub mod SearchLoads

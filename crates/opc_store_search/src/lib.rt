@@ -1,5 +1,6 @@
 //! The search over the tables.
 #![tactic(auto)]
 
+pub mod between;
 pub mod search;
 mod source;

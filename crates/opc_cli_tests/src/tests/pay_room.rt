@@ -239,6 +239,16 @@ impl Tables for PayRoom {
         Err(StoreFault::Store)
     }
 
+    fn definitions_between(
+        &mut self,
+        _alloc: Global,
+        _class: Class,
+        _first: &str,
+        _last: &str,
+    ) -> Result<Vec<Profile>, StoreFault> {
+        Err(StoreFault::Store)
+    }
+
     fn profiles(&mut self, _alloc: Global, _class: Class) -> Result<Vec<Profile>, StoreFault> {
         Err(StoreFault::Store)
     }

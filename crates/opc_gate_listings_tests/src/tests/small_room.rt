@@ -211,6 +211,16 @@ impl Tables for SmallRoom {
         profiles(alloc)
     }
 
+    fn definitions_between(
+        &mut self,
+        _alloc: Global,
+        _class: Class,
+        _first: &str,
+        _last: &str,
+    ) -> Result<Vec<Profile>, StoreFault> {
+        Err(StoreFault::Store)
+    }
+
     fn profiles(&mut self, alloc: Global, _class: Class) -> Result<Vec<Profile>, StoreFault> {
         profiles(alloc)
     }

@@ -3,3 +3,4 @@ pub mod Found
 pub mod HeldIn
 pub mod Named
 pub mod Ruled
+pub mod Together

@@ -4,3 +4,5 @@
 mod held;
 pub mod requester;
 pub mod ruling;
+mod shared;
+mod shown;

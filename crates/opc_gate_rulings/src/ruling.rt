@@ -25,6 +25,8 @@ ghost use Rattle.opc_machine.specs.Rulings.{
 };
 
 use crate::held::level_on;
+use crate::shared::beginning_of;
+use crate::shown::shown_together;
 use opc_board::line::{Item, Line};
 use opc_board::rows::ConsoleRow;
 use opc_names::class::Class;
@@ -82,7 +84,7 @@ fn profile_ruling_on<T: Tables>(
 }
 
 // By the profile that decides for a user if the class is active, or else by the authority of the console.
-fn by_profile<T: Tables>(
+pub(crate) fn by_profile<T: Tables>(
     tables: &mut T,
     alloc: Global,
     user: &User,
@@ -258,7 +260,7 @@ pub fn logon_ruling_on<T: Tables>(
     Ok(ruling.unwrap_or(Ruling::Allowed(Rule::NoProfile)))
 }
 
-fn is_allowed(ruling: Ruling) -> bool
+pub(crate) fn is_allowed(ruling: Ruling) -> bool
     ensures { result ≡ is_allowed ruling }
 {
     match ruling {
@@ -280,7 +282,7 @@ fn to_show<K: NameKind<8>>(words: &str, name: &Name<K, 8>) -> Option<Need>
     })
 }
 
-fn need_to_show(item: Item) -> Option<Need>
+pub(crate) fn need_to_show(item: Item) -> Option<Need>
     ensures { result ≡ need_to_show item }
 {
     match item {
@@ -310,8 +312,8 @@ fn is_shown<T: Tables>(
     }
 }
 
-/// The lines that may be shown at a console, by how needs are ruled on there.
-pub fn shown_lines<T: Tables>(
+// The lines that may be shown at a console, each of which is ruled on alone.
+fn shown_one_by_one<T: Tables>(
     tables: &mut T,
     alloc: Global,
     basis: &RulingBasis,
@@ -328,4 +330,24 @@ pub fn shown_lines<T: Tables>(
         }
     }
     Ok(kept)
+}
+
+/// The lines that may be shown at a console, by how needs are ruled on there. If profiles decide and there are many
+/// lines, the profiles that may decide one of them are loaded together.
+pub fn shown_lines<T: Tables>(
+    tables: &mut T,
+    alloc: Global,
+    basis: &RulingBasis,
+    console: &ConsoleRow,
+    lines: Vec<Line>,
+) -> Result<Rows<Line>, StoreFault>
+    ensures { Loads T.meaning tables.old tables.new result
+        (λ s kept. IsRulingBasis s console.now basis.now → kept ≡ filter (shown s console.now) lines.items) }
+{
+    match (basis, beginning_of(lines.as_slice())) {
+        (RulingBasis::User(user), Some(beginning)) => {
+            shown_together(tables, alloc, &beginning, user, console, lines)
+        }
+        _ => shown_one_by_one(tables, alloc, basis, console, lines),
+    }
 }

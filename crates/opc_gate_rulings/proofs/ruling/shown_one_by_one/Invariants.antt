@@ -3,7 +3,7 @@ use Rattle.opc_state.specs.State.{State}
 use Rattle.opc_state.specs.Changes.{IsKept}
 use Rattle.opc_machine.specs.Rulings.{shown}
 use Rattle.opc_gate_rulings.specs.RulingBasis.{IsRulingBasis}
-use Rattle.opc_gate_rulings.proofs.ruling.shown_lines.Given as goal
+use Rattle.opc_gate_rulings.proofs.ruling.shown_one_by_one.Given as goal
 
 abbrev pub invariant-loop-line : goal.invariant-loop-line
 invariant-loop-line g l =

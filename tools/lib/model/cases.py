@@ -160,6 +160,38 @@ def scripts_of(chance: Random) -> list[Step]:
     return found
 
 
+def displays(chance: Random) -> list[Step]:
+    """Displays of many units and consoles, for users on whom overlapping profiles decide."""
+    def some_names(most: int, least: int) -> list[str]:
+        return sorted({"".join(chance.choices("AB1", k=chance.randint(least, 3))) for _ in range(most)})
+
+    consoles = ["C1", "C2", *(name for name in some_names(14, 2) if names.is_console(name))]
+    rows = [random_policies.row("class", of="OPERCMDS", value="ACTIVE")]
+    rows += [random_policies.row("group", name=name) for name in world.GROUPS]
+    rows += [random_policies.user_row(chance, name) for name in world.USERS]
+    rows += [
+        random_policies.row("connect", name=user, id=group)
+        for user in world.USERS
+        for group in world.GROUPS if one_in(chance, 2)
+    ]
+    rows += [random_policies.row("console", name=name, value="MASTER", flags="OPTIONAL") for name in consoles]
+    patterns = ["MVS.DISPLAY.**", *(world.display_pattern(chance) for _ in range(chance.choice((0, 2, 8, 30))))]
+    profiles = [
+        random_policies.row(
+            "profile", of="OPERCMDS", name=pattern, value=chance.choice(("NONE", "READ")), owner="SECADM",
+            flags="W" * one_in(chance, 6),
+        )
+        for pattern in patterns
+    ]
+    rows += profiles
+    rows += [random_policies.permit_row(chance, profiles, world.USERS + world.GROUPS) for _ in range(12)]
+    first = random_policies.joined(chance, random_policies.written(chance, rows), plain=True)
+    lines = [f"* JOBIN {name} JOB" for name in some_names(chance.choice((6, 12, 24)), 1)]
+    for user in chance.sample(world.USERS, 4):
+        lines += [f"C1 LOGON {user},{world.PASSWORD}", "C1 D A,L", "C1 D C", "C1 LOGOFF"]
+    return [Run(first, [f"{at} {line}\n" for at, line in enumerate(lines)])]
+
+
 def requests(chance: Random) -> list[Step]:
     """A policy, a board, and requests of all kinds to one service."""
     first = first_file(chance, random_policies.first_policy(chance))
@@ -221,4 +253,7 @@ def first_lines(chance: Random) -> list[str]:
     return random_policies.spoiled(chance, lines) if way in (5, 6) else lines
 
 
-PARTS = {"explain": explain, "lines": lines, "scripts": scripts_of, "requests": requests, "imports": imports}
+PARTS = {
+    "explain": explain, "lines": lines, "scripts": scripts_of, "displays": displays, "requests": requests,
+    "imports": imports,
+}

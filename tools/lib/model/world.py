@@ -67,6 +67,16 @@ def short_pattern(chance: Random) -> str:
             return ".".join(qualifiers)
 
 
+def display_pattern(chance: Random) -> str:
+    """A pattern that may cover what a line of a display needs."""
+    same = ("MVS.DISPLAY.JOB.", "MVS.DISPLAY.CN.") * 4
+    others = ("MVS.DISPLAY.", "MVS.DISPLAY.*.", "MVS.DISPLAY.%%.", "MVS.**.", "**.")
+    while True:
+        pattern = chance.choice(same + others) + short_pattern(chance)
+        if names.is_pattern(pattern):
+            return pattern
+
+
 def short_resource(chance: Random) -> str:
     return ".".join(
         "".join(chance.choice("AB") for _ in range(chance.randint(1, 3))) for _ in range(chance.randint(1, 4))

@@ -1,9 +1,11 @@
 -- Users, levels and definitions that are the same by their fields are the same.
-use Rattle.std.proofs.Common.{◌≡◌, true, Some, refl, sym, ap, ◌∙◌}
+use Rattle.std.proofs.Common.{◌≡◌, true, Some, refl, sym, ap, ◌∙◌, rules}
+use Rattle.std.specs.Cmp.Derive.{one_truth}
 use Rattle.std.specs.Str.{bytes_eq}
 use Rattle.opc_names.specs.Spellings.{level_text, levels, lookup}
 use Rattle.opc_names.specs.declared.level.Level.{Level}
 use Rattle.opc_names.specs.declared.level.Level.TheVariants as level
+use Rattle.opc_names.specs.contracts.level.LevelPartialEq.TheImpl as of_level
 use Rattle.opc_policy_members.specs.declared.profile.Profile.{Profile}
 use Rattle.opc_policy_members.specs.declared.user.User.{User}
 use Rattle.opc_state.specs.Difference.{same_flag, same_text}
@@ -20,6 +22,15 @@ level_back level.Alter = refl
 
 pub level_is : (a b : Level) → bytes_eq (level_text a) (level_text b) ≡ true → a ≡ b
 level_is a b h = let s : Some a ≡ Some b = sym (level_back a) ∙ ap (lookup levels) (names (level_text a) (level_text b) h) ∙ level_back b in cc
+
+-- the equality that levels derive is that of their texts
+derived_level : (a : Level) → of_level.eq-value.it a a ≡ true
+derived_level a = search rules
+
+pub same_levels : (a b : Level) → of_level.eq-value.it a b ≡ bytes_eq (level_text a) (level_text b)
+same_levels a b = one_truth (of_level.eq-value.it a b) (bytes_eq (level_text a) (level_text b))
+    (λ h. let same : a ≡ b = search (rules, h) in ap (λ x. bytes_eq (level_text a) (level_text x)) (sym same) ∙ name_itself (level_text a))
+    (λ h. ap (of_level.eq-value.it a) (sym (level_is a b h)) ∙ derived_level a)
 
 pub user_is : (u v : User) → same_user u v ≡ true → u ≡ v
 user_is u v h =

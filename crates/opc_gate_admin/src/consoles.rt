@@ -35,10 +35,11 @@ fn new_console(name: ConsoleName, auth: Auth, mode: Mode) -> ConsoleRow
     }
 }
 
+#[tactic(auto, using(opc_state::proofs::SameRows::same_auths, opc_state::proofs::SameRows::same_modes))]
 fn same_setting(console: &ConsoleRow, other: &ConsoleRow) -> bool
     ensures { result ≡ same_setting console.now other.now }
 {
-    console.auth.text() == other.auth.text() && console.mode.text() == other.mode.text()
+    console.auth == other.auth && console.mode == other.mode
 }
 
 fn any_other(consoles: &[ConsoleRow], name: &ConsoleName) -> bool

@@ -72,20 +72,22 @@ fn level_in<T: Tables>(
     }
 }
 
+#[tactic(auto, using(crate::proofs::Same::same_levels))]
 fn has_level(held: Option<Level>, level: Level) -> bool
     ensures { result ≡ has_level held level }
 {
     match held {
-        Some(held) => held.text() == level.text(),
+        Some(held) => held == level,
         None => false,
     }
 }
 
+#[tactic(auto, using(crate::proofs::Same::same_levels))]
 fn same_definition(profile: &Profile, other: &Profile) -> bool
     ensures { result ≡ same_definition profile.now other.now }
 {
-    profile.owner.text() == other.owner.text()
-        && profile.uacc.text() == other.uacc.text()
+    profile.owner == other.owner
+        && profile.uacc == other.uacc
         && same_flag(profile.warning, other.warning)
 }
 

@@ -1,15 +1,18 @@
 -- Rows that are the same by their fields are the same, and keys that tie are one key.
-use Rattle.std.proofs.Common.{◌≡◌, ◌&&◌, ℕ, Bool, true, false, List, Option, Some, None, refl, sym, ap, ◌∙◌, eqb-true, eq-eqb, is_eq}
+use Rattle.std.proofs.Common.{◌≡◌, ◌&&◌, ℕ, Bool, true, false, List, Option, Some, None, refl, sym, ap, ◌∙◌, eqb-true, eq-eqb, is_eq, rules}
 use Rattle.std.specs.Cmp.{IsTotalOrder, unsigned_ties}
+use Rattle.std.specs.Cmp.Derive.{one_truth}
 use Rattle.std.specs.Cmp.Lexicographic.{texts_ties}
 use Rattle.std.specs.Str.{bytes_eq}
 use Rattle.std.proofs.lemmas.Cmp.{on_total, nat_cmp_total, nat_list_cmp_total}
 use Rattle.std.proofs.lemmas.Slice.Eq.{bytes_eq-Decides}
 use Rattle.opc_names.specs.declared.auth.Auth.{Auth}
 use Rattle.opc_names.specs.declared.auth.Auth.TheVariants.{Master, All, Info, Sys, Io, Cons, SysIo, SysCons, IoCons, SysIoCons}
+use Rattle.opc_names.specs.contracts.auth.AuthPartialEq.TheImpl as of_auth
 use Rattle.opc_names.specs.Spellings.{auths, auth_text, lookup}
 use Rattle.opc_terms.specs.declared.mode.Mode.{Mode}
 use Rattle.opc_terms.specs.declared.mode.Mode.TheVariants.{Optional, Required, Auto}
+use Rattle.opc_terms.specs.contracts.mode.ModePartialEq.TheImpl as of_mode
 use Rattle.opc_terms.specs.Modes.{mode_text, modes}
 use Rattle.opc_board.specs.declared.rows.ConsoleRow.{ConsoleRow}
 use Rattle.opc_board.specs.declared.rows.DeviceRow.{DeviceRow}
@@ -193,3 +196,21 @@ console_itself c = both _ _ (name_itself c.name)
 
 pub reply_itself : (r : ReplyRow) → same_reply r r ≡ true
 reply_itself r = both _ _ (eq-eqb r.id r.id refl) (name_itself r.text)
+
+-- The equality that a type derives is that of its texts.
+
+derived_auth : (a : Auth) → of_auth.eq-value.it a a ≡ true
+derived_auth a = search rules
+
+pub same_auths : (a b : Auth) → of_auth.eq-value.it a b ≡ bytes_eq (auth_text a) (auth_text b)
+same_auths a b = one_truth (of_auth.eq-value.it a b) (bytes_eq (auth_text a) (auth_text b))
+    (λ h. let same : a ≡ b = search (rules, h) in ap (λ x. bytes_eq (auth_text a) (auth_text x)) (sym same) ∙ name_itself (auth_text a))
+    (λ h. ap (of_auth.eq-value.it a) (sym (auth_of a b h)) ∙ derived_auth a)
+
+derived_mode : (m : Mode) → of_mode.eq-value.it m m ≡ true
+derived_mode m = search rules
+
+pub same_modes : (m k : Mode) → of_mode.eq-value.it m k ≡ bytes_eq (mode_text m) (mode_text k)
+same_modes m k = one_truth (of_mode.eq-value.it m k) (bytes_eq (mode_text m) (mode_text k))
+    (λ h. let same : m ≡ k = search (rules, h) in ap (λ x. bytes_eq (mode_text m) (mode_text x)) (sym same) ∙ name_itself (mode_text m))
+    (λ h. ap (of_mode.eq-value.it m) (sym (mode_of m k h)) ∙ derived_mode m)

@@ -63,7 +63,7 @@ pub(crate) trait Past: Drop {
 fn same_flag(flag: bool, other: bool) -> bool
     ensures { result ≡ same_flag flag other }
 {
-    if flag { other } else { !other }
+    flag == other
 }
 
 fn same_name<K: NameKind<N>, const N: usize>(
@@ -74,7 +74,7 @@ fn same_name<K: NameKind<N>, const N: usize>(
 {
     match (name, other) {
         (None, None) => true,
-        (Some(name), Some(other)) => name.text() == other.text(),
+        (Some(name), Some(other)) => name == other,
         // One of them is missing.
         _ => false,
     }
@@ -97,9 +97,7 @@ fn same_kind(kind: &UnitKind, other: &UnitKind) -> bool
     match (kind, other) {
         (UnitKind::Job, UnitKind::Job) => true,
         (UnitKind::Tsu, UnitKind::Tsu) => true,
-        (UnitKind::Stc { member }, UnitKind::Stc { member: other }) => {
-            member.text() == other.text()
-        }
+        (UnitKind::Stc { member }, UnitKind::Stc { member: other }) => member == other,
         // The kinds differ.
         _ => false,
     }
@@ -188,10 +186,11 @@ impl Member for ConsoleRow {
 
     ghost removal = { console_removal };
 
+    #[tactic(auto, using(crate::proofs::SameRows::same_auths, crate::proofs::SameRows::same_modes))]
     fn is_same(&self, other: &Self) -> bool {
         self.name == other.name
-            && self.auth.text() == other.auth.text()
-            && self.mode.text() == other.mode.text()
+            && self.auth == other.auth
+            && self.mode == other.mode
             && same_flag(self.online, other.online)
             && same_name(&self.user, &other.user)
             && same_flag(self.monitor, other.monitor)

@@ -1,5 +1,5 @@
 //! Listings of profiles.
-ghost use Rattle.std.specs.Prelude.{◌≡◌, ◌∷◌, ◌||◌, [], IfOk, Some, codes, filter, map, string_bytes};
+ghost use Rattle.std.specs.Prelude.{◌≡◌, ◌∷◌, ◌||◌, [], IfOk, codes, filter, map, string_bytes};
 ghost use Rattle.opc_board.specs.Invariants.{Name, console_at};
 ghost use Rattle.opc_board.specs.Texts.{columns};
 ghost use Rattle.opc_policy_members.specs.Profiles.{of_class};
@@ -7,7 +7,7 @@ ghost use Rattle.opc_policy_members.specs.Members.{groups_of};
 ghost use Rattle.opc_state.specs.Asked.{Loads};
 ghost use Rattle.opc_machine.specs.Effects.{IsOutcome};
 ghost use Rattle.opc_machine.specs.Listings.{profile_line, profiles_outcome};
-ghost use Rattle.opc_machine.specs.Rights.{is_owner, profile_shown};
+ghost use Rattle.opc_machine.specs.Rights.{profile_shown};
 ghost use Rattle.opc_machine.specs.Rulings.{acting};
 ghost use Rattle.opc_gate_listings.specs.Seen.{holds_read, is_seen};
 
@@ -15,7 +15,7 @@ use crate::listing::listing;
 use opc_board::line::{Item, Line};
 use opc_board::rows::ConsoleRow;
 use opc_board::text::KeptText;
-use opc_gate_rulings::requester::{Asking, Requester, requester_on, sees_all};
+use opc_gate_rulings::requester::{Asking, Requester, owns, requester_on, sees_all};
 use opc_machine::outcome::Outcome;
 use opc_names::class::Class;
 use opc_names::level::Level;
@@ -65,13 +65,6 @@ fn profile_lines(alloc: Global, profiles: &[Profile]) -> Result<Rows<Line>, Stor
         lines.push(line)?;
     }
     Ok(lines)
-}
-
-// Whether a user owns a profile.
-fn owns(user: &User, profile: &Profile) -> bool
-    ensures { result ≡ is_owner (Some user.now) (Some profile.now) }
-{
-    profile.owner.text() == user.id.text()
 }
 
 // Whether a user of these groups holds READ in a profile at a console. A warning gives nothing.

@@ -125,12 +125,19 @@ pub fn sees_all(user: &Option<User>) -> bool
     }
 }
 
+/// Whether a user owns a profile.
+pub fn owns(user: &User, profile: &Profile) -> bool
+    ensures { result ≡ is_owner (Some user.now) (Some profile.now) }
+{
+    profile.owner == user.id
+}
+
 /// Whether whoever acts owns a profile.
 pub fn is_owner(user: &Option<User>, profile: &Profile) -> bool
     ensures { result ≡ is_owner user.now (Some profile.now) }
 {
     match user {
-        Some(user) => profile.owner.text() == user.id.text(),
+        Some(user) => owns(user, profile),
         None => false,
     }
 }

@@ -62,7 +62,7 @@ use Rattle.opc_names.specs.declared.class.Class.{Class}
 use Rattle.opc_names.specs.declared.class.Class.TheVariants.{Console, Opercmds}
 use Rattle.opc_names.specs.Authority.{same_class}
 use Rattle.opc_names.specs.Order.{sort_key}
-use Rattle.opc_names.specs.Spellings.{class_text}
+use Rattle.opc_names.specs.Spellings.{class_text, classes, lookup}
 use Rattle.opc_policy_members.specs.declared.profile.Profile.{Profile}
 use Rattle.opc_policy_members.specs.Profiles.{of_class, class_cmp, pattern_cmp, profile_cmp, profile_of, is_of}
 use Rattle.opc_state.specs.State.{State}
@@ -90,6 +90,11 @@ by_class = record {
 pub by_class_asked : IsAsked by_class
 unfolding understood everything
 by_class_asked = record { selects = refl; unlisted = refl; plain = (refl, refl); shows = λ schema base. refl }
+
+-- a class is read from its own text
+pub classes_back : (c : Class) → lookup classes (class_text c) ≡ Some c
+classes_back Console = refl
+classes_back Opercmds = refl
 
 class_texts : (a b : Class) → text_cmp (class_text a) (class_text b) ≡ class_cmp a b
 class_texts Console Console = refl

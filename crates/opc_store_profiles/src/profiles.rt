@@ -138,14 +138,14 @@ pub fn remove_profile<S: Alter>(
     Ok(())
 }
 
+#[tactic(auto, using(crate::proofs::ProfileLoads::classes_back))]
 fn class_in(row: &Row) -> Result<Class, StoreFault>
     ensures { (class : TheClass) → column row.now 0 ≡ Text (class_text class) → IfOk result (λ v. v ≡ class) }
 {
-    match text_at(row, 0)? {
-        "CONSOLE" => Ok(Class::Console),
-        "OPERCMDS" => Ok(Class::Opercmds),
+    match Class::read(text_at(row, 0)?) {
+        Some(class) => Ok(class),
         // Only damaged tables have another text.
-        _ => Err(unreadable()),
+        None => Err(unreadable()),
     }
 }
 

@@ -4,13 +4,13 @@ ghost use Rattle.opc_board.specs.declared.fault.BoardFault.TheVariants.{NoMemory
 ghost use Rattle.opc_board.specs.Consoles.{logged_on};
 ghost use Rattle.opc_board.specs.Effect.{is_session_command};
 ghost use Rattle.opc_board.specs.Invariants.{Name, console_at, unit_kind};
-ghost use Rattle.opc_reader.specs.Reading.{reading};
 ghost use Rattle.opc_state.specs.Asked.{Loads};
 ghost use Rattle.opc_gate_commands.specs.Acted.{allowed_command};
 ghost use Rattle.opc_gate_commands.specs.Named.{unit_named};
 ghost use Rattle.opc_gate_footprints.specs.Loading.{IsUnitOf};
 ghost use Rattle.opc_machine.specs.Commands.{
   board_command as board_outcome,
+  command_in,
   command_outcome,
   denial_fault,
   event_outcome,
@@ -40,11 +40,11 @@ use opc_gate_rulings::ruling::{
     RulingBasis, logon_ruling_on, ruling_basis_at, ruling_on, shown_lines,
 };
 use opc_machine::fault;
-use opc_machine::outcome::{Effect, Outcome, done, refused};
+use opc_machine::outcome::{Effect, Outcome, Refusal, done, refused};
 use opc_names::name::UserId;
 use opc_policy::ruling::Ruling;
 use opc_policy_members::user::User;
-use opc_reader::line::{ReadFault, read_command};
+use opc_reader::line::read_command;
 use opc_reader_commands::command::{Command, Password};
 use opc_state::tables::Tables;
 use opc_table::need;
@@ -56,10 +56,17 @@ use opc_terms::unit_kind::UnitKindAt;
 use sha2::{Digest, Sha256};
 use std::alloc::Global;
 
-fn read(text: &str) -> Result<Command<'_>, ReadFault>
-    ensures { result ≡ reading text.now }
+// The command that a text is, or the refusal of one that is none.
+fn command_in(text: &str) -> Result<Command<'_>, Refusal>
+    ensures { result ≡ command_in text.now }
 {
-    read_command(text)
+    match read_command(text) {
+        Ok(command) => Ok(command),
+        Err(fault) => Err(Refusal {
+            fault: fault::of_line(fault),
+            rule: None,
+        }),
+    }
 }
 
 fn denial_fault(rule: &Rule) -> Fault
@@ -311,9 +318,9 @@ pub fn command_on<T: Tables>(
         Ok(console) => console,
         Err(refusal) => return Ok(Outcome::Refused(refusal)),
     };
-    match read(text) {
+    match command_in(text) {
         Ok(command) => typed(tables, alloc, &console, &command),
-        Err(fault) => refused(fault::of_line(fault), None),
+        Err(refusal) => Ok(Outcome::Refused(refusal)),
     }
 }
 

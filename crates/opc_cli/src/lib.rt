@@ -33,7 +33,7 @@ use opc_cli_policy_files::explain::answer_question;
 use opc_cli_program::work::Work;
 use opc_cli_words::serve::Address;
 use opc_cli_words::words::{Task, read_words};
-use opc_cli_works::file::{Closed, work_at};
+use opc_cli_works::file::{Closed, EndedWork, work_at};
 use opc_cli_works::memory::run_in_memory;
 use opc_io::watched::Watched;
 use opc_store::opening::{NotOpened, OpenFault};
@@ -188,7 +188,12 @@ fn work_in_file<S: Start, R: Read, W: Write, E: Write>(
         (R.remaining input.old) output.old output.new errors.old errors.new result path.now work.now }
 {
     match work_at(rt, path, start, work, input, output) {
-        Ok((end, closed, are_made)) => {
+        Ok(done) => {
+            let EndedWork {
+                end,
+                closed,
+                are_made,
+            } = done;
             note_made(path, work, are_made, errors);
             ended(end, closed, &paths_of(path, work), errors)
         }

@@ -5,9 +5,9 @@ use Rattle.opc_cli.proofs.work_in_file.Goals as goal
 
 pub returns-in-Ok : goal.returns-in-Ok
 returns-in-Ok g c = inl (record {
-  end = c.in-Ok.end;
-  closed = c.in-Ok.closed;
-  are_made = c.in-Ok.are_made;
+  end = c.in-Ok.done.end;
+  closed = c.in-Ok.done.closed;
+  are_made = c.in-Ok.done.are_made;
   done = c.in-Ok.ensures.worked;
   status_is = c.ended.ensures.status;
   noted = c.note_made.new.errors;

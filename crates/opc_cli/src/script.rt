@@ -13,7 +13,8 @@ use std::alloc::Global;
 
 /// Runs a script over a gate, and writes the transcript of its answers. The number is 0 if all is done, 1 if anything
 /// was refused, 2 if a line is bad, which is reported, and nothing is run; and 3 if there was no memory, or the tables
-/// or the output failed.
+/// or the output failed. This is for those who have a gate of their own: the program makes one over the tables that its
+/// words name.
 pub fn run_script<T: Tables, K: Sink>(
     alloc: Global,
     gate: &mut Gate<T>,

@@ -86,6 +86,7 @@ impl Store<MemStore> {
     }
 }
 
+// Calls for those who use the store as a library. The gate loads through `Tables`.
 impl<S: Alter> Store<S> {
     /// The connection to the tables, outside any transaction. `open_files` adopts it again.
     pub fn into_connection(self) -> Connection<S>
@@ -116,7 +117,8 @@ impl<S: Alter> Store<S> {
         active_on(&mut self.conn, class)
     }
 
-    /// The policy and the consoles, as the rows of a policy file.
+    /// The policy and the consoles, as the rows of a policy file. This is what `Gate::export` gives, for those who have
+    /// no gate.
     pub fn policy_rows(&mut self, alloc: Global) -> Result<Vec<Row>, StoreFault>
         ensures found { Finds S.Store self.old self.new result (λ s v. v.items ≡ rows_of s.policy s.board.consoles) }
         ensures keeps { Looks S.Store self.old self.new result }
@@ -138,7 +140,7 @@ impl<S: Alter> Store<S> {
         profile_at(alloc, &mut self.conn, class, pattern)
     }
 
-    /// All rows of the board, with the histories.
+    /// All rows of the board, with the histories. No request needs them all, so the gate has no such load.
     pub fn board_rows(&mut self, alloc: Global) -> Result<BoardRows, StoreFault>
         ensures found { Finds S.Store self.old self.new result (λ s v. v ≡ s.board) }
         ensures keeps { Looks S.Store self.old self.new result }

@@ -33,11 +33,12 @@ def allowed_in(unit: str) -> set[str]:
 
 
 def made_by_service(room: str) -> set[str]:
-    """The calls of a service at a socket over a database, from its start, while it answers requests."""
+    """The calls of what is installed in this folder, as a service at a socket over a database, from its start, while it
+    answers requests."""
     file, path = f"{room}/gate.db", f"{room}/http.sock"
     words = [built(), "run", "--db", file, "--policy", POLICY]
     subprocess.run(words, input=b"", stdout=subprocess.DEVNULL, check=True)
-    traced = ["strace", "-f", "-qq", "-o", f"{room}/calls", built(), "serve", "--db", file, "--socket", path]
+    traced = ["strace", "-f", "-qq", "-o", f"{room}/calls", f"{room}/bin/opcmds", "serve", "--db", file, "--socket", path]
     traced += ["--socket-mode", "660", "--count", str(len(REQUESTS))]
     # (a group of its own, so that both end with it)
     how = {"stdin": subprocess.DEVNULL, "stdout": subprocess.DEVNULL, "start_new_session": True}

@@ -2,7 +2,7 @@
 from lib import files
 from lib.places import POLICY
 from . import faults
-from .faults import Kind
+from .faults import REFUSALS, Kind
 from .held import OPENED, Held
 from .single import Single
 from .work import ANSWERED
@@ -23,6 +23,7 @@ NONE = Held({}, OPENED, {})
 class Explained(Single):
     """It prints the answer, or reports what failed; then nothing is printed, or the start if that failed."""
 
+    kinds = REFUSALS
     counted_from = None
 
     def __init__(self, title: str, resource: str, wanted: files.Ran) -> None:

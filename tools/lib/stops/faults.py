@@ -5,22 +5,42 @@ from lib.answers import refused
 
 
 class Kind(NamedTuple):
-    """Calls of one kind, each of which is refused in turn, or before each of which the process is stopped."""
+    """Calls of one kind, each of which is refused in turn, or before each of which the process is stopped. With a part
+    of the database only calls on that file count, and all of them from there on are refused. What was not synced may
+    be lost at the end: all of it, or at random some."""
+    word: str
     call: str
-    does: str
+    does: str = "fail"
+    part: str | None = None
+    loses: str = ""
 
     def is_stop(self) -> bool:
         return self.does == "stop"
 
-    def word(self) -> str:
-        return "stop" if self.is_stop() else self.call
+    def environment(self, at: int, file: str, seed: int) -> dict[str, str]:
+        """What lib/inject/faults.c is told of the call with this number, for the database in this file."""
+        found = {"FAULT_CALL": self.call, "FAULT_KIND": self.does, "FAULT_AT": str(at)}
+        if self.part is not None:
+            found.update(FAULT_FILE=f"{file}{self.part}", FAULT_TIMES="0")
+        if self.loses:
+            found["FAULT_LOSES"] = "0" if self.loses == ALL else str(seed * MANY + at)
+        return found
 
     def code(self) -> str:
         """The code with which it is reported that memory ran out or a device failed."""
         return "E90" if self.call == "alloc" else "E91"
 
 
-KINDS = [*(Kind(call, "fail") for call in ("alloc", "read", "write", "sync")), Kind("any-write", "stop")]
+ALL, SOME = "all", "some"
+MANY = 1_000_000  # more than any run makes calls
+REFUSALS = [*(Kind(call, call) for call in ("alloc", "read", "write", "sync")), Kind("stop", "any-write", "stop")]
+# the power fails, and files lose all that was not synced, or some of it; the disk under the log or the database file
+# fails for good, and then all that was not synced is lost
+LOSSES = [
+    Kind("power", "any-write", "stop", loses=ALL), Kind("torn", "any-write", "stop", loses=SOME),
+    Kind("log", "any-write", part="-wal", loses=ALL), Kind("database", "any-write", part="", loses=ALL),
+]
+KINDS = [*REFUSALS, *LOSSES]
 STOPPED = 77  # the status of a process that is stopped
 TEXTS = {"E90": "NoMemory", "E91": "Store"}
 

@@ -51,6 +51,7 @@ class Import(Aborting):
 class FirstPolicy(Aborting):
     """The first policy of `opcmds run`, with a script in which nothing stands."""
 
+    loses_most = True
     counted_from = None
     skips_opening = True
 

@@ -3,13 +3,13 @@ import tempfile
 
 from lib.answers import done, refused, unread
 from lib.requests import (
-    MOMENT, Step, account, add_user, alt_user, class_active, command, define, define_console, delete, imported,
+    MOMENT, Step, account, add_user, alt_user, class_active, command, define, define_console, delete, imported, logon,
     operation, permit, permit_delete, profiles,
 )
 from . import faults
 from .faults import Kind
 from .held import OPENED, Held, Tables, held_in, timeless
-from .prepared import LISTED, LOGONS, SEEN, Prepared
+from .prepared import EVENTS, LISTED, LOGONS, SEEN, Prepared
 from .serving import Ran, asked
 from .work import ANSWERED, Work
 
@@ -17,6 +17,7 @@ NEW = "MVS.START.**"
 DENIED = refused("E51", "NotOwner")
 HELD = "PROFILE OPERCMDS {} HELD {} NEEDED {}".format
 DAY = ["group,,DAY,,,,,"]
+PAY = "MVS.CANCEL.JOB.PAY*"
 # By title, with SECADM on at C2, ANNA at C1, a job and a device: each operation done, and in each list some refused;
 # both listings; commands, batches, and what is no request.
 LISTS = {
@@ -50,7 +51,7 @@ LISTS = {
         account("C2", 1, 10, done(f"1 {MOMENT} C2 SECADM E41 -", f"2 {MOMENT} C1 ANNA E50 -")),
     ],
     "commands": [
-        command("C1", "C PAYROLL", refused("E20", "DeniedProfile", HELD("MVS.CANCEL.JOB.PAY*", "NONE", "UPDATE"))),
+        command("C1", "C PAYROLL", refused("E20", "DeniedProfile", HELD(PAY, "NONE", "UPDATE"))),
         command("C3", "D U", refused("E12", "LogonRequired", "LOGONREQUIRED")),
         command("C3", "LOGON CARL,ABC", done(rule="NOPROFILE")),
         command("C3", "V 0A80,OFFLINE", done(rule=HELD("MVS.VARY.DEV", "NONE", "UPDATE") + " WARNED")),
@@ -78,6 +79,16 @@ LISTS = {
         operation("C2", done(), "AddGroup", name="DAY"),
     ],
 }
+
+# A list with nobody on, over the events of the base state, each of whose requests is a commit.
+DAY_STEPS = [
+    logon("C1", "SECADM"),
+    permit("C1", PAY, "ANNA", "UPDATE", done()),
+    imported("C1", 7, DAY, done("BATCH 7 KEPT")),
+    logon("C2", "CARL"),
+    command("C2", "V 0A80,OFFLINE", done(rule=HELD("MVS.VARY.DEV", "NONE", "UPDATE") + " WARNED")),
+    command("C2", "C PAYROLL", refused("E20", "DeniedProfile", HELD(PAY, "NONE", "UPDATE"))),
+]
 
 
 class Requests(Work[Ran]):
@@ -153,4 +164,6 @@ class Requests(Work[Ran]):
 
 def works(room: str) -> list[Requests]:
     state = Prepared(room, "administered", ["1 * JOBIN BACKUP JOB", "1 * ATTACH 0A80", *LOGONS])
-    return [Requests(title, state, steps) for title, steps in LISTS.items()]
+    day = Requests("a policy changed, and commands by it", Prepared(room, "events", EVENTS), DAY_STEPS)
+    day.loses_most = True
+    return [*(Requests(title, state, steps) for title, steps in LISTS.items()), day]

@@ -33,6 +33,7 @@ class Opening(Single):
     as the opening leaves it if anything was printed; and then the same export is good, and leaves it so. Of a new
     file a page may be there in which nothing stands yet, which is no database to other programs."""
 
+    loses_most = True
     counted_from = None
 
     def __init__(self, name: str, version: int | None, state: Prepared) -> None:

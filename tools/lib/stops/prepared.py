@@ -8,6 +8,9 @@ JOBS = [
     "1 * JOBIN BACKUP JOB", "1 * JOBIN PAYROLL JOB", "1 * JOBIN SECRET JOB", "1 * JOBIN FIXED JOB NONCANCEL",
     "1 * JOBIN BERT TSU", "1 * JOBIN P1 STC PAY", "1 * ATTACH 0A80", "1 * ATTACH 0A81", "1 * ASK 07 mount it",
 ]
+# those of the base state
+EVENTS = ["1 * JOBIN BACKUP JOB", "1 * JOBIN PAYROLL JOB", "1 * JOBIN SECRET JOB", "1 * ATTACH 0A80"]
+EVENTS += ["1 * ASK 07 MOUNT PAY01"]
 LOGONS = ["1 C2 LOGON SECADM,ABC", "1 C1 LOGON ANNA,ABC"]
 # the lines of the base policy's profiles of OPERCMDS, and what ANNA sees once she has one of her own
 LISTED = [

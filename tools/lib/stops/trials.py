@@ -9,19 +9,31 @@ import time
 from typing import NamedTuple
 
 from lib import files
-from .faults import KINDS, Kind
+from .faults import SOME, Kind
 from .work import ABORTED, ANSWERED, UNREAD, UNWRITTEN, Work
 
 STAGES = [UNREAD, ABORTED, UNWRITTEN]
 MARGIN = 64  # requests for memory by which the openings of two commands may differ
+TIMES = 10  # by which samples of losses are larger or smaller than others
 SHOWN = 5  # bad calls of each kind that are shown
 
 
 class Chosen(NamedTuple):
-    """Which calls are tried: all, or at most this many of each kind, by a seed; or this one alone."""
+    """Which calls are tried: all, or at most this many of each kind, by a seed; or this one alone, or these kinds."""
     most: int | None = None
     seed: int = 0
     only: tuple[str, int] | None = None  # the kind's word, and the number of the call
+    words: list[str] | None = None  # of kinds
+
+    def most_of(self, kind: Kind, work: Work) -> int | None:
+        """Calls of this kind that are tried in this work, at most."""
+        if self.most is None or not kind.loses:
+            return self.most
+        return self.most * TIMES if work.loses_most else self.most // TIMES
+
+    def kinds(self, known: list[Kind]) -> list[Kind]:
+        words = [self.only[0]] if self.only else self.words
+        return [kind for kind in known if words is None or kind.word in words]
 
 
 class Point(NamedTuple):
@@ -44,7 +56,7 @@ def places(first: int, calls: int, most: int | None, dice: random.Random) -> lis
     count = max(0, calls - first + 1)
     if most is None or count <= most:
         return list(range(first, calls + 1))
-    ends = [first + count * at // most for at in range(most + 1)]
+    ends = [first + count * at // most for at in range(most + 1)] if most else []
     return [dice.randrange(start, end) for start, end in zip(ends, ends[1:])]
 
 
@@ -74,17 +86,17 @@ class Trial:
     def __init__(self, room: str, shim: str, work: Work, chosen: Chosen, pool: concurrent.futures.Executor) -> None:
         self.room, self.shim, self.work, self.chosen, self.pool = tempfile.mkdtemp(dir=room), shim, work, chosen, pool
 
-    def environment(self, kind: Kind, at: int, count: str, begins: str | None) -> dict[str, str]:
+    def environment(self, kind: Kind, at: int, room: str, begins: str | None) -> dict[str, str]:
         return {
-            "LD_PRELOAD": self.shim, "FAULT_CALL": kind.call, "FAULT_KIND": kind.does, "FAULT_AT": str(at),
-            "FAULT_COUNT": count, **({"FAULT_FROM": begins} if begins else {}),
+            "LD_PRELOAD": self.shim, "FAULT_COUNT": f"{room}/count", **kind.environment(at, f"{room}/db", self.chosen.seed),
+            **({"FAULT_FROM": begins} if begins else {}),
         }
 
     def calls(self, kind: Kind) -> int:
         """How many such calls a run makes without a fault."""
         with tempfile.TemporaryDirectory(dir=self.room) as room:
             self.work.begin(f"{room}/db")
-            self.work.run(f"{room}/db", self.environment(kind, 0, f"{room}/count", self.work.counted_from))
+            self.work.run(f"{room}/db", self.environment(kind, 0, room, self.work.counted_from))
             return counted(f"{room}/count")
 
     def opening(self, kind: Kind) -> int:
@@ -93,7 +105,7 @@ class Trial:
             found = []
             for begins in (None, "stdin"):
                 self.work.begin(f"{room}/db")
-                files.script([], f"{room}/db", self.environment(kind, 0, f"{room}/count", begins), policy=False)
+                files.script([], f"{room}/db", self.environment(kind, 0, room, begins), policy=False)
                 found.append(counted(f"{room}/count"))
             return found[0] - found[1]
 
@@ -105,16 +117,15 @@ class Trial:
     def count(self, kind: Kind) -> Count:
         calls, first = self.calls(kind), self.first(kind)
         if self.chosen.only:
-            word, at = self.chosen.only
-            return Count(kind, calls, [at], calls) if word == kind.word() else Count(kind, calls, [], 0)
-        dice = random.Random(f"{self.chosen.seed} {self.work.title} {kind.word()}")
-        return Count(kind, calls, places(first, calls, self.chosen.most, dice), calls - first + 1)
+            return Count(kind, calls, [self.chosen.only[1]], calls)
+        dice = random.Random(f"{self.chosen.seed} {self.work.title} {kind.word}")
+        return Count(kind, calls, places(first, calls, self.chosen.most_of(kind, self.work), dice), calls - first + 1)
 
     def once(self, kind: Kind, at: int) -> Point:
         room = tempfile.mkdtemp(dir=self.room)
         file = f"{room}/db"
         self.work.begin(file)
-        ran = self.work.run(file, self.environment(kind, at, f"{room}/count", self.work.counted_from))
+        ran = self.work.run(file, self.environment(kind, at, room, self.work.counted_from))
         held = self.work.held(file)
         shutil.rmtree(room)
         stage = self.work.stage(kind, ran, held)
@@ -128,10 +139,10 @@ class Trial:
         """Prints what came of it."""
         began = time.monotonic()
         self.work.learn(self.room)
-        counts = [count for count in self.pool.map(self.count, KINDS)]
+        counts = list(self.pool.map(self.count, self.chosen.kinds(self.work.kinds)))
         found = self.points(counts)
         bad = [self.bad(count.kind, points) for count, points in zip(counts, found)]
-        tried = ", ".join(f"{count.kind.word()} {len(count.places)} of {count.of}" for count in counts if count.of)
+        tried = ", ".join(f"{count.kind.word} {len(count.places)} of {count.of}" for count in counts if count.of)
         seconds = f"{time.monotonic() - began:.1f} seconds"
         print(f"{self.work.title}: {tried}; {sum(map(len, bad))} bad, {seconds}", flush=True)
         for count, points in zip(counts, bad):
@@ -151,8 +162,9 @@ class Trial:
 
     def report(self, kind: Kind, point: Point) -> None:
         late = f"{point.stage} after a later stage, " if point.stage else ""
-        print(f"  {kind.word()} {point.at}: {late}{point.text}")
-        print(f"    again: tools/stops --at {kind.word()}:{point.at} {shlex.quote(self.work.title)}")
+        print(f"  {kind.word} {point.at}: {late}{point.text}")
+        seed = f"--seed {self.chosen.seed} " if kind.loses == SOME else ""
+        print(f"    again: tools/stops {seed}--at {kind.word}:{point.at} {shlex.quote(self.work.title)}")
 
 
 def counted(path: str) -> int:

@@ -2,7 +2,7 @@
 import shutil
 from typing import Generic, TypeVar
 
-from .faults import Kind
+from .faults import KINDS, Kind
 from .held import Held, Known
 from .prepared import Prepared
 
@@ -15,6 +15,8 @@ UNREAD, ABORTED, UNWRITTEN, ANSWERED = "unread", "aborted", "unwritten", "answer
 class Work(Generic[Ran]):
     """A run over a copy of a file in which all before it is done."""
 
+    kinds = KINDS
+    loses_most = False  # whether more stops at which something is lost are tried of this work than of others
     counted_from: str | None = None  # FAULT_FROM of lib/inject/faults.c; none: the start of the process
     skips_opening = False  # whether the calls of the opening are left out, if the count cannot begin after them
 

@@ -4,16 +4,18 @@ import unittest
 from lib import files
 from lib.answers import done, refused
 from lib.requests import Step
-from lib.stops.faults import Kind, answer, response
+from lib.stops.faults import LOSSES, REFUSALS, Kind, answer, response
 from lib.stops.held import OPENED, Held, Tables
 from lib.stops.lists import Requests
 from lib.stops.prepared import Prepared
-from lib.stops.script import MOMENTS, Script, answers
+from lib.stops.script import LINES, FirstDay, Script, answers
 from lib.stops.serving import Ran
 
-ALLOC, READ, WRITE, SYNC = (Kind(call, "fail") for call in ("alloc", "read", "write", "sync"))
-STOP = Kind("any-write", "stop")
+ALLOC, READ, WRITE, SYNC, STOP = REFUSALS
+POWER, _, LOG, _ = LOSSES
+ALL = range(1, len(LINES) + 1)
 MEMORY = "E90 NoMemory\n"
+STATE = Prepared("", "none", [])
 DATABASE = "E91 Store\nopcmds: database db: damaged, or its disk is full or fails\n"
 
 
@@ -43,10 +45,11 @@ class Known(dict):
 
 class Scripts(unittest.TestCase):
     def setUp(self) -> None:
-        self.script = Script("")
-        self.script.found = Known(lambda moment: (moment, f"{moment} DONE -\n"))
+        self.script = Script("lines", STATE, LINES)
+        self.script.found = Known(lambda at: (at + 1, f"{at + 1} DONE -\n"))
 
-    def is_right(self, kind: Kind, status: int, printed: str, errors: str, *in_file: int) -> bool:
+    def is_right(self, kind: Kind, status: int, printed: str, errors: str, *moments: int) -> bool:
+        in_file = (moment - 1 for moment in moments)
         return self.script.stage(kind, (status, printed, errors), held(*in_file)) is not None
 
     def printed(self, *moments: int) -> str:
@@ -57,10 +60,10 @@ class Scripts(unittest.TestCase):
         self.assertEqual(found, [(1, "1 DONE -\n  a line\n"), (2, "2 DONE -\n")])
 
     def test_goes_on_after_one_that_was_aborted(self) -> None:
-        aborted, others = answer("3", "E90"), MOMENTS[:2] + MOMENTS[3:]
-        printed = self.printed(1, 2) + aborted + self.printed(*MOMENTS[3:])
+        aborted, others = answer("3", "E90"), [1, 2, *ALL[3:]]
+        printed = self.printed(1, 2) + aborted + self.printed(*ALL[3:])
         self.assertTrue(self.is_right(ALLOC, 3, printed, "", *others))
-        self.assertFalse(self.is_right(ALLOC, 3, printed, "", *MOMENTS))
+        self.assertFalse(self.is_right(ALLOC, 3, printed, "", *ALL))
         self.assertFalse(self.is_right(ALLOC, 1, printed.replace(aborted, ""), "", *others[:-1]))
         self.assertFalse(self.is_right(SYNC, 3, printed, DATABASE, *others))
 
@@ -71,16 +74,45 @@ class Scripts(unittest.TestCase):
         self.assertFalse(self.is_right(SYNC, 3, printed, DATABASE, 1))
         self.assertFalse(self.is_right(SYNC, 3, printed, MEMORY, 1, 2))
 
+    def test_a_disk_that_fails_for_good_may_have_kept_one(self) -> None:
+        printed = self.printed(1, 2) + "".join(answer(str(moment), "E91") for moment in ALL[2:])
+        for in_file, is_right in (((1, 2), True), ((1, 2, 3), True), ((1,), False), ((1, 2, 4), False)):
+            self.assertEqual(self.is_right(LOG, 3, printed, DATABASE, *in_file), is_right)
+
     def test_what_was_answered_is_there(self) -> None:
         for in_file, is_right in (((1, 2), True), ((1, 2, 3), True), ((1,), False), ((1, 2, 4), False)):
-            self.assertEqual(self.is_right(STOP, 77, self.printed(1, 2), "", *in_file), is_right)
+            for kind in (STOP, POWER):
+                self.assertEqual(self.is_right(kind, 77, self.printed(1, 2), "", *in_file), is_right)
         self.assertFalse(self.is_right(STOP, 77, self.printed(1, 2), MEMORY, 1, 2))
+
+
+class FirstDays(unittest.TestCase):
+    def setUp(self) -> None:
+        self.day = FirstDay("a day", STATE, LINES)
+        self.day.found = Known(lambda at: (at + 1, f"{at + 1} DONE -\n"))
+        self.day.empty = {"log": ["no policy"]}
+
+    def is_right(self, kind: Kind, status: int, printed: str, errors: str, tables: Tables) -> bool:
+        return self.day.stage(kind, (status, printed, errors), Held(tables, OPENED, tables)) is not None
+
+    def test_the_policy_may_not_be_there(self) -> None:
+        for tables in (self.day.empty, tables_after(()), tables_after((0,))):
+            self.assertTrue(self.is_right(POWER, 77, "", "", tables))
+        for errors in (DATABASE, 2 * DATABASE):
+            self.assertTrue(self.is_right(LOG, 3, "", errors, self.day.empty))
+        self.assertFalse(self.is_right(LOG, 3, "", 3 * DATABASE, self.day.empty))
+        self.assertFalse(self.is_right(POWER, 77, "", "", tables_after((1,))))
+
+    def test_it_is_there_once_a_line_is_answered(self) -> None:
+        self.assertTrue(self.is_right(POWER, 77, "1 DONE -\n", "", tables_after((0,))))
+        self.assertFalse(self.is_right(POWER, 77, "1 DONE -\n", "", self.day.empty))
+        self.assertFalse(self.is_right(LOG, 3, answer("1", "E91"), 2 * DATABASE, tables_after(())))
 
 
 class Exchanges(unittest.TestCase):
     def setUp(self) -> None:
         steps = [Step("POST", f"/{at}", b"", done(str(at))) for at in range(3)]
-        self.work = Requests("three", Prepared("", "none", []), steps)
+        self.work = Requests("three", STATE, steps)
         self.work.found = Known(lambda at: steps[at].wanted)
 
     def is_right(

@@ -4,7 +4,7 @@ import unittest
 from lib import files
 from lib.answers import done, refused
 from lib.requests import Step
-from lib.stops.faults import Kind, is_reported, response
+from lib.stops.faults import LOSSES, REFUSALS, Kind, is_reported, response
 from lib.stops.held import OPENED, Held, Tables
 from lib.stops.imports import KEPT, MISSING, TAKEN, FirstPolicy, Import
 from lib.stops.openings import Opening
@@ -13,8 +13,8 @@ from lib.stops.serving import Exchange, Ran
 from lib.stops.single import AFTER, BEFORE, EITHER, Allowed, Line, Outcome
 from lib.stops.work import ABORTED, ANSWERED, UNREAD, UNWRITTEN
 
-ALLOC, READ, WRITE, SYNC = (Kind(call, "fail") for call in ("alloc", "read", "write", "sync"))
-STOP = Kind("any-write", "stop")
+ALLOC, READ, WRITE, SYNC, STOP = REFUSALS
+POWER, TORN, LOG, DISK = LOSSES
 DONE, NO_MEMORY, FAILED = "7 DONE -\n", "7 REFUSED E90 NoMemory -\n", "7 REFUSED E91 Store -\n"
 MEMORY = "E90 NoMemory\n"
 INPUT, OUTPUT = (f"E91 Store\nopcmds: standard {way}: Input/output error\n" for way in ("input", "output"))
@@ -104,6 +104,28 @@ class Lines(unittest.TestCase):
         self.assertEqual(self.line.stage(ALLOC, (3, "", MEMORY), held(OLD)), ANSWERED)
         self.assertEqual(self.line.stage(ALLOC, (3, NO_MEMORY, ""), held(OLD)), ABORTED)
         self.assertIsNone(self.line.stage(ALLOC, (3, "", MEMORY), held(NEW)))
+
+
+class Losses(unittest.TestCase):
+    def test_what_is_told_of_each(self) -> None:
+        stop = {"FAULT_CALL": "any-write", "FAULT_KIND": "stop", "FAULT_AT": "7"}
+        self.assertEqual(STOP.environment(7, "db", 3), stop)
+        self.assertEqual(POWER.environment(7, "db", 3), {**stop, "FAULT_LOSES": "0"})
+        self.assertEqual(TORN.environment(7, "db", 3), {**stop, "FAULT_LOSES": "3000007"})
+        fails = {**stop, "FAULT_KIND": "fail", "FAULT_LOSES": "0", "FAULT_TIMES": "0"}
+        self.assertEqual(LOG.environment(7, "db", 3), {**fails, "FAULT_FILE": "db-wal"})
+        self.assertEqual(DISK.environment(7, "db", 3), {**fails, "FAULT_FILE": "db"})
+
+    def test_what_was_answered_is_not_lost(self) -> None:
+        line = Line(STATE, "7 C1 LOGOFF", "DONE -")
+        line.wanted, line.outcome = (0, DONE, ""), Outcome(OLD, NEW)
+        for kind in (POWER, TORN):
+            self.assertEqual(line.stage(kind, (77, DONE, ""), held(NEW)), ANSWERED)
+            self.assertIsNone(line.stage(kind, (77, DONE, ""), held(OLD)))
+        for kind in (LOG, DISK):
+            self.assertEqual(line.stage(kind, (3, DONE, DATABASE), held(NEW)), ANSWERED)
+            self.assertIsNone(line.stage(kind, (3, DONE, DATABASE), held(OLD)))
+            self.assertIsNotNone(line.stage(kind, (3, FAILED, DATABASE), held(OLD)))
 
 
 class Imports(unittest.TestCase):

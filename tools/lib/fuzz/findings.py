@@ -62,8 +62,9 @@ def fault_of(made: Input, room: str) -> Wrong | None:
 class Fuzz:
     """A run of the tool: its seed, where inputs are tried, and where those that fail are kept."""
 
-    def __init__(self, seed: int, room: str, keep: str, base: Base) -> None:
+    def __init__(self, seed: int, room: str, keep: str, base: Base, under: str | None = None) -> None:
         self.seed, self.room, self.keep, self.base, self.passed, self.failed = seed, room, keep, base, 0, 0
+        self.words = f"--under {under} --seed {seed}" if under else f"--seed {seed}"
 
     def made(self, kind: str, start: int, size: int) -> Input:
         """A group of inputs, which begins with this number; it depends on seed, kind and numbers alone."""
@@ -116,7 +117,7 @@ class Fuzz:
         print(
             f"{kind}:{number} of seed {self.seed}: {again.report()}\n"
             f"  cut to {len(short.pieces)} of {len(made.pieces)} pieces, kept in {folder}\n"
-            f"  again: tools/fuzz --seed {self.seed} --only {kind}:{number}", flush=True
+            f"  again: tools/fuzz {self.words} --only {kind}:{number}", flush=True
         )
 
     def cut(self, made: Input, wrong: Wrong) -> Input:

@@ -13,6 +13,7 @@ FIRST = re.compile(r"LISTENING 127\.0\.0\.1:([1-9]\d{0,4})\n")
 
 class Service:
     """`opcmds serve` from its start to its end; within a `with` it is killed if it does not end by itself."""
+    patience = 20  # seconds until it listens
 
     def __init__(
         self, file: str, *words: str, port: int = 0, socket: str | None = None, **environment: str
@@ -31,7 +32,7 @@ class Service:
 
     def listening(self) -> int | str:
         """The port that it prints, or the path of its socket."""
-        ready, _, _ = select.select([self.process.stdout], [], [], 20)
+        ready, _, _ = select.select([self.process.stdout], [], [], self.patience)
         line = self.process.stdout.readline().decode() if ready else ""
         if self.socket is not None and line == f"LISTENING unix:{self.socket}\n":
             return self.socket

@@ -1,0 +1,1 @@
+"""Tests of what the benches share: tools/selftest runs them."""

@@ -69,13 +69,15 @@ def median(times: Iterable[Took]) -> Took:
 
 
 def timed(
-    words: list[str], data: bytes | None = None, path: str = os.devnull, **environment: str
+    words: list[str], data: bytes | None = None, path: str = os.devnull, is_silent: bool = False, **environment: str
 ) -> tuple[Took, int, bytes]:
-    """What a finished process took, with its status and output; its input is these bytes, or a file."""
+    """What a finished process took, with its status and output; its input is these bytes, or a file. What it says on
+    standard error is shown, unless it is to be silent."""
     with tempfile.TemporaryDirectory() as room, open(path, "rb") as file:
         log = f"{room}/log"
         words = [*(valgrind(log) if counting else []), *words]
         given = {"stdin": file} if data is None else {"input": data}
+        given["stderr"] = subprocess.DEVNULL if is_silent else None
         before, started = resource.getrusage(resource.RUSAGE_CHILDREN), time.perf_counter()
         ran = subprocess.run(words, stdout=subprocess.PIPE, env={**os.environ, **environment}, **given)
         clock, after = time.perf_counter() - started, resource.getrusage(resource.RUSAGE_CHILDREN)

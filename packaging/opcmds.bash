@@ -2,6 +2,10 @@
 _opcmds() {
     local word=$2 before=$3 options given
     COMPREPLY=()
+    if ((COMP_CWORD == 1)) && [[ $word == -* ]]; then
+        mapfile -t COMPREPLY < <(compgen -W '--help --version' -- "$word")
+        return
+    fi
     if ((COMP_CWORD == 1)) || [[ ${COMP_WORDS[1]} == help && $COMP_CWORD == 2 ]]; then
         mapfile -t COMPREPLY < <(compgen -W 'explain run import export serve help' -- "$word")
         return

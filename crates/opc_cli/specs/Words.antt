@@ -111,4 +111,4 @@ module _ {D : Type 0} (g : disk.Ghosts D) (is_fresh : Bool → D → Type 0) (im
   -- What the words ask for was done; or they ask for nothing that is done, and that was reported.
   abbrev pub AreDone : (words : List (List ℕ)) → Type 0
   AreDone words = ((task : Task) × Ask words task × IsTaskDone task)
-      ⊎ AskForNone words shown before written quiet reported status
+      ⊎ AskForNone words (λ (w : Watched W). contents w.inner) shown before written quiet reported status

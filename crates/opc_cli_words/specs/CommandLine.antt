@@ -58,10 +58,15 @@ commands =
     ∷ command (codes "serve") serve_options
     ∷ []
 
--- the program before its commands: one of them is required, and the program's own name is none of the words
+-- the program before its commands: it has a version, a command is required, and the program's own name is none of the
+-- words
 abbrev pub program : App
 program = record {
-  top = record (new_shape (codes "opcmds")) { subcommand_required = true; no_binary_name = true };
+  top = record (new_shape (codes "opcmds")) {
+    has_version = true;
+    subcommand_required = true;
+    no_binary_name = true;
+  };
   subs = [];
 }
 

@@ -5,3 +5,4 @@ pub mod Numbers
 pub mod Reading
 pub mod Services
 pub mod Tasks
+pub mod Version

@@ -35,6 +35,7 @@ use Rattle.opc_cli_words.specs.declared.words.Task.{Task}
 use Rattle.opc_cli_words.specs.CommandLine.{command_line}
 use Rattle.opc_cli_words.specs.Mistakes.{mistake_line}
 use Rattle.opc_cli_words.specs.Tasks.{AsksFor, FailsAt}
+use Rattle.opc_cli_words.specs.Version.{version_line}
 
 -- the words after the first, which is the program's own name
 abbrev pub words_after : List (String Global) → List (List ℕ)
@@ -49,12 +50,6 @@ module _ (words : List (List ℕ)) where
   pub record Ask (task : Task) : Type 0 where
     pub taken : fault_of command_line words ≡ []
     pub asks : AsksFor (subcommand_of command_line words) task
-
-  -- They ask for help.
-  pub record AskForHelp : Type 0 where
-    pub kind : ErrorKind
-    pub among : IsAmong kind (fault_of command_line words)
-    pub help : IsHelp kind
 
   -- The command line does not take them.
   pub record AreNotTaken : Type 0 where
@@ -89,10 +84,22 @@ module _ {E : Type 0} (shown : E → Option (List ℕ)) (quiet reported : Watche
   IsHelpReported BadInput = ⊥
   IsHelpReported Failed = IsReportedFailure
 
-module _ {W E : Type 0} (shown : E → Option (List ℕ)) (before written : W) (quiet reported : Watched E) where
+-- What is printed if the words ask for this: the version, whole. Of help nothing is stated.
+abbrev pub IsPrinted : {W : Type 0} → (told : W → Option (List ℕ)) → (before written : W) → ErrorKind → Type 0
+IsPrinted told before written kind = kind ≡ DisplayVersion → Appends (told before) (told written) version_line
+
+module _ {W E : Type 0} (told : W → Option (List ℕ)) (shown : E → Option (List ℕ)) (before written : W)
+    (quiet reported : Watched E) where
+  -- The version was printed, whole, or the output failed.
+  abbrev pub IsVersionReported : Status → Type 0
+  IsVersionReported Done = Appends (told before) (told written) version_line × (reported ≡ quiet)
+  IsVersionReported Refused = ⊥
+  IsVersionReported BadInput = ⊥
+  IsVersionReported Failed = IsReportedFailure shown quiet reported
+
   -- What is reported about an error of this kind, by the status.
   abbrev pub IsKindReported : ErrorKind → Status → Type 0
-  IsKindReported kind Done = IsHelp kind × (reported ≡ quiet)
+  IsKindReported kind Done = IsHelp kind × IsPrinted told before written kind × (reported ≡ quiet)
   IsKindReported kind Refused = ⊥
   IsKindReported kind BadInput = (IsHelp kind → ⊥) × (kind ≢ OutOfMemory) × (written ≡ before)
   IsKindReported kind Failed = IsReportedFailure shown quiet reported
@@ -103,11 +110,19 @@ pub record AreMistaken {E : Type 0} (shown : E → Option (List ℕ)) (quiet rep
   pub taken : fault_of command_line words ≡ []
   pub mistaken : IsReportedMistake shown quiet reported (subcommand_of command_line words)
 
-module _ (words : List (List ℕ)) {W E : Type 0} (shown : E → Option (List ℕ)) (before written : W)
-    (quiet reported : Watched E) where
+module _ (words : List (List ℕ)) {W : Type 0} (told : W → Option (List ℕ)) (before written : W) where
+  -- They ask for help or for the version, and the version was printed.
+  pub record AskForHelp : Type 0 where
+    pub kind : ErrorKind
+    pub among : IsAmong kind (fault_of command_line words)
+    pub help : IsHelp kind
+    pub printed : IsPrinted told before written kind
+
+module _ (words : List (List ℕ)) {W E : Type 0} (told : W → Option (List ℕ)) (shown : E → Option (List ℕ))
+    (before written : W) (quiet reported : Watched E) where
   -- Why there is no task, by the status.
   abbrev pub AskForNone : Status → Type 0
-  AskForNone Done = AskForHelp words × (reported ≡ quiet)
+  AskForNone Done = AskForHelp words told before written × (reported ≡ quiet)
   AskForNone Refused = ⊥
   AskForNone BadInput = (AreNotTaken words ⊎ AreMistaken shown quiet reported words) × (written ≡ before)
   AskForNone Failed = IsReportedFailure shown quiet reported

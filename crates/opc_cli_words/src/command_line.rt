@@ -18,6 +18,7 @@ ghost use Rattle.opc_cli_words.specs.CommandLine.{
   valued,
 };
 
+use crate::version::VERSION;
 use clap::{Arg, ArgAction, Command};
 use std::alloc::{AllocError, Global};
 
@@ -251,13 +252,15 @@ fn serve_command<'a>(alloc: Global) -> Result<Command<'a>, AllocError>
         ))
 }
 
-/// The program before its commands. The help names it as the documents do, whatever its file is called.
+/// The program before its commands. The help names it as the documents do, whatever its file is called. With a version
+/// `clap` takes `--version`; what is printed then is our own line.
 fn program<'a>(alloc: Global) -> Command<'a>
     ensures { app_of result ≡ program }
 {
     Command::new(alloc, "opcmds")
         .about("The authority gate for operator commands, by RACF-like profiles")
         .after_help("Example: opcmds explain --help")
+        .version(VERSION)
         .subcommand_required(true)
         .no_binary_name(true)
 }

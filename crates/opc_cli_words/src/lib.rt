@@ -7,4 +7,5 @@ pub mod mistake;
 mod number;
 pub mod question;
 pub mod serve;
+mod version;
 pub mod words;

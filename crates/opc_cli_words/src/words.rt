@@ -14,6 +14,7 @@ ghost use Rattle.opc_cli_words.specs.Reading.{
   IsKindReported,
   IsTaskRead,
   IsReportedFailure,
+  IsVersionReported,
   words_after,
 };
 ghost use Rattle.opc_cli_words.specs.Checks.{AreReadAs};
@@ -25,6 +26,7 @@ use crate::import::Import;
 use crate::mistake::{print_mistake, unread};
 use crate::question::Question;
 use crate::serve::Serve;
+use crate::version::write_version;
 use clap::error::ErrorKind;
 use clap::{ArgMatches, Error};
 use opc_cli_failures::failure::{Failure, NO_PATHS, Paths, Place};
@@ -46,15 +48,15 @@ pub enum Task<'a> {
     Serve(Serve<'a>),
 }
 
-/// What the words ask for; the first is the program's own name. If they ask for help or are not valid, that is
-/// reported, and the status is returned.
+/// What the words ask for; the first is the program's own name. If they ask for help or the version, or are not valid,
+/// that is reported, and the status is returned.
 pub fn read_words<'a, W: Write, E: Write>(
     alloc: Global,
     words: &'a [String],
     output: &mut Watched<W>,
     errors: &mut Watched<E>,
 ) -> Result<Task<'a>, Status>
-    ensures { AreRead (words_after words.entry.now) E.contents output.old output.new errors.old errors.new result }
+    ensures { AreRead (words_after words.entry.now) (λ w. W.contents w.inner) E.contents output.old output.new errors.old errors.new result }
 {
     match matches_of(alloc, words) {
         Ok(matches) => task_of(&matches, errors),
@@ -138,17 +140,18 @@ fn report_mistake<K: Sink>(command: &str, mistake: &str, errors: &mut K)
     let _ = print_mistake(command, mistake, errors);
 }
 
-/// Prints what `clap` reports: help to the output, a mistake to the errors.
+/// Prints what `clap` reports: help or the version to the output, a mistake to the errors.
 fn report_words<W: Write, E: Write>(
     error: &Error,
     output: &mut Watched<W>,
     errors: &mut Watched<E>,
 ) -> Status
-    ensures { IsKindReported E.contents output.old output.new errors.old errors.new (kind_of error.now) result }
+    ensures { IsKindReported (λ w. W.contents w.inner) E.contents output.old output.new errors.old errors.new (kind_of error.now) result }
 {
     match error.kind() {
         ErrorKind::OutOfMemory => report_failure(&Failure::from(Fault::NoMemory), errors),
-        ErrorKind::DisplayHelp | ErrorKind::DisplayVersion => report_help(error, output, errors),
+        ErrorKind::DisplayHelp => report_help(error, output, errors),
+        ErrorKind::DisplayVersion => report_version(output, errors),
         // Every other kind is a mistake in the words.
         _ => {
             let _ = write!(errors.inner, "{error}");
@@ -165,6 +168,16 @@ fn report_help<W: Write, E: Write>(
     ensures { IsHelpReported E.contents errors.old errors.new result }
 {
     match write!(output.inner, "{help}") {
+        Ok(()) => Status::Done,
+        Err(error) => report_failure(&Failure::at(Place::Output, error), errors),
+    }
+}
+
+fn report_version<W: Write, E: Write>(output: &mut Watched<W>, errors: &mut Watched<E>) -> Status
+    ensures { IsVersionReported (λ w. W.contents w.inner) E.contents output.old output.new errors.old errors.new
+        result }
+{
+    match write_version(&mut output.inner) {
         Ok(()) => Status::Done,
         Err(error) => report_failure(&Failure::at(Place::Output, error), errors),
     }

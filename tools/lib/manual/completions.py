@@ -8,6 +8,10 @@ BASH = """\
 _opcmds() {{
     local word=$2 before=$3 options given
     COMPREPLY=()
+    if ((COMP_CWORD == 1)) && [[ $word == -* ]]; then
+        mapfile -t COMPREPLY < <(compgen -W {own} -- "$word")
+        return
+    fi
     if ((COMP_CWORD == 1)) || [[ ${{COMP_WORDS[1]}} == help && $COMP_CWORD == 2 ]]; then
         mapfile -t COMPREPLY < <(compgen -W {names} -- "$word")
         return
@@ -43,7 +47,7 @@ local -A opt_args
 local -a commands=(
 {commands}
 )
-_arguments -C '(- *)--help[Print help]' '1: :->command' '*:: :->options' && return
+_arguments -C {own} '1: :->command' '*:: :->options' && return
 case $state in
 command) _describe command commands ;;
 options)
@@ -53,6 +57,10 @@ options)
     ;;
 esac
 """
+
+
+# the options of the program before its commands
+OWN = {"--help": "Print help", "--version": "Print version"}
 
 
 def named(words: list[str]) -> str:
@@ -80,7 +88,7 @@ def bash(table: list[Command]) -> str:
     ]
     values = [line for command in table for line in bash_values(command)]
     names = named([command.name for command in table])
-    return BASH.format(names=names, options="\n".join(options), values="\n".join(values))
+    return BASH.format(own=named(list(OWN)), names=names, options="\n".join(options), values="\n".join(values))
 
 
 def escaped(text: str, marks: str = "[]:\\") -> str:
@@ -93,7 +101,7 @@ def quoted(text: str) -> str:
 
 def zsh_option(option: Option) -> str:
     """An option as `_arguments` takes it, with what may stand after it."""
-    if option.name == "--help":
+    if option.name in OWN:
         return quoted(f"(- *){option.name}[{escaped(option.text)}]")
     value = ""
     if option.is_path():
@@ -112,4 +120,5 @@ def zsh(table: list[Command]) -> str:
         if command.options:
             lines = " \\\n".join(f"        {zsh_option(option)}" for option in command.options)
             options.append(f"    {command.name}) _arguments \\\n{lines} ;;")
-    return ZSH.format(commands="\n".join(commands), options="\n".join(options))
+    own = " ".join(zsh_option(Option(name, "", text)) for name, text in OWN.items())
+    return ZSH.format(own=own, commands="\n".join(commands), options="\n".join(options))

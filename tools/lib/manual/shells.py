@@ -6,6 +6,7 @@ import subprocess
 import tempfile
 from typing import Iterator
 
+from .completions import OWN
 from .help import Command
 
 HERE = os.path.dirname(os.path.abspath(__file__))
@@ -19,6 +20,7 @@ def cases_of(table: list[Command]) -> Iterator[tuple[list[str], list[str]]]:
     yield ["opcmds", ""], names
     yield ["opcmds", names[0][:3]], [name for name in names if name.startswith(names[0][:3])]
     yield ["opcmds", "help", ""], names
+    yield ["opcmds", "--"], list(OWN)
     for command in table:
         options = [option.name for option in command.options]
         if options:

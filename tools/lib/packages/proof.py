@@ -4,17 +4,13 @@ import subprocess
 
 from lib import record
 from lib.places import TOP
+from lib.version import version
 
 PROVED = f"{TOP}/crates/opcmds/out/opcmds"
 
 
 class NoProgram(Exception):
     """Why a program cannot be installed, and what to do."""
-
-
-def version() -> str:
-    with open(f"{TOP}/VERSION", encoding="utf-8") as file:
-        return file.read().strip()
 
 
 def proof_of(program: str) -> str | None:

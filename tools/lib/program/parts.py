@@ -10,7 +10,7 @@ import subprocess
 import tty
 from typing import Callable
 
-from lib import files, older
+from lib import files, older, version
 from lib.files import bytes_of
 from lib.places import HEADER, POLICY, TOP, built, preload, wide_policy
 from .room import Ran, Room, asked
@@ -59,6 +59,19 @@ def another_name(room: Room) -> None:
         ran = subprocess.run(["./called-otherwise", *words.split()], cwd=room.folder, capture_output=True)
         names = b"opcmds" in ran.stdout and b"called-otherwise" not in ran.stdout
         room.tally.wants(f"help by {words}", (ran.returncode, ran.stderr, names) == (0, b"", True), ran)
+
+
+def says_version(room: Room) -> None:
+    """The version of the file VERSION; and a program that tools/unproved compiled says that it is not proved."""
+    is_proved = f"{os.sep}unproved{os.sep}" not in os.path.realpath(built())
+    for words in (["--version"], ["-V"], ["--version", "explain"]):
+        ran = room.run(words)
+        wanted = (0, f"{version.line(is_proved)}\n".encode(), b"")
+        room.tally.equal(f"the version by {' '.join(words)}", tuple(ran), wanted)
+    with open("/dev/full", "wb") as output:
+        ran = subprocess.run([built(), "--version"], stdout=output, stderr=subprocess.PIPE)
+    said = b"E91 Store\nopcmds: standard output: No space left on device\n"
+    room.tally.equal("the version, and no room for it", (ran.returncode, ran.stderr), (3, said))
 
 
 def after_batches(line: str) -> list[str]:
@@ -233,6 +246,7 @@ def table(name: str) -> Callable[[Room], None]:
 PARTS: dict[str, Callable[[Room], None]] = {
     "explain": table("explain"),
     "name": another_name,
+    "version": says_version,
     "words": table("words"),
     "scripts": table("scripts"),
     "files": table("files"),

@@ -75,8 +75,7 @@ fn profile_ruling_on<T: Tables>(
         class_ruling true (deciding_in s.policy class resource.now) user.now (Some console.now)
         (groups_of s.policy.connects user.now.id) needed) }
 {
-    let found = tables.deciding(alloc, class, resource)?;
-    let Some(profile) = found.profile else {
+    let Some(profile) = tables.deciding(alloc, class, resource)? else {
         return Ok(None);
     };
     let held = level_on(tables, alloc, &profile, user, console)?;

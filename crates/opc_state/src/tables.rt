@@ -32,7 +32,6 @@ use opc_names::class::Class;
 use opc_names::level::Level;
 use opc_names::name::{ConsoleName, Device, GroupName, Pattern, Resource, UnitName, UserId};
 use opc_names::reply_id::ReplyId;
-use opc_policy::Found;
 use opc_policy_members::entries::Entries;
 use opc_policy_members::policy::Policy;
 use opc_policy_members::profile::Profile;
@@ -117,15 +116,15 @@ pub trait Tables {
     fn is_active(&mut self, class: Class) -> Result<bool, StoreFault>
         ensures { Loads meaning self.old self.new result (λ s active. active ≡ is_active s.policy.active class) };
 
-    /// The profile of a class that decides a resource, as a search finds it, but without its access list.
+    /// The profile of a class that decides a resource, but without its access list.
     fn deciding(
         &mut self,
         alloc: Global,
         class: Class,
         resource: &Resource,
-    ) -> Result<Found, StoreFault>
+    ) -> Result<Option<Profile>, StoreFault>
         ensures found { Loads meaning self.old self.new result
-            (λ s found. found.profile ≡ option_map bare (deciding_in s.policy class resource.now)) }
+            (λ s profile. profile ≡ option_map bare (deciding_in s.policy class resource.now)) }
         ensures keyed { Answers meaning self.old self.new result (λ s _. IsKeyed s) };
 
     /// The access list of a profile, at most as many entries as requested.

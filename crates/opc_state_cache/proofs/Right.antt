@@ -48,7 +48,6 @@ use Rattle.opc_policy_members.specs.declared.profile.Profile.{Profile}
 use Rattle.opc_policy_members.specs.Profiles.{profile_of}
 use Rattle.opc_policy_members.proofs.Classes.{same_class_is}
 use Rattle.opc_policy_members.specs.declared.policy.Policy.{Policy}
-use Rattle.opc_policy.specs.declared.searching.Found.{Found}
 use Rattle.opc_terms.specs.declared.store_fault.StoreFault.{StoreFault}
 use Rattle.opc_state.specs.declared.change.Change.{Change}
 use Rattle.opc_state.specs.declared.change.Edit.{Edit}
@@ -146,10 +145,10 @@ kept_with_holds old new s name profile h ordered is (inr put) =
     subst (λ entries. Holds entries s) (sym put)
     (put_holds old s name (option_map pattern_of profile) h ordered (ap (option_map pattern_of) is ∙ bare_pattern (deciding_in s.policy name.0 name.1)))
 
-pub searched_holds : (r : Result Found StoreFault) (old new : Entries) (s : State) (name : Name) → Holds old s
-    → IfOk r (λ found. found.profile ≡ option_map bare (deciding_in s.policy name.0 name.1)) → IfOk r (λ _. IsKeyed s)
-    → IfOk r (λ found. IsKeptWith old new name (option_map pattern_of found.profile)) → OnErr r (new ≡ old) → Holds new s
-searched_holds (Ok found) old new s name h is ordered keeps failed = kept_with_holds old new s name found.profile h ordered is keeps
+pub searched_holds : (r : Result (Option Profile) StoreFault) (old new : Entries) (s : State) (name : Name) → Holds old s
+    → IfOk r (λ profile. profile ≡ option_map bare (deciding_in s.policy name.0 name.1)) → IfOk r (λ _. IsKeyed s)
+    → IfOk r (λ profile. IsKeptWith old new name (option_map pattern_of profile)) → OnErr r (new ≡ old) → Holds new s
+searched_holds (Ok profile) old new s name h is ordered keeps failed = kept_with_holds old new s name profile h ordered is keeps
 searched_holds (Err fault) old new s name h is ordered keeps failed = subst (λ entries. Holds entries s) (sym failed) h
 
 -- ---- a change

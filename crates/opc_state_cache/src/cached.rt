@@ -20,7 +20,6 @@ ghost use Rattle.opc_state_cache.specs.Cache.{
 use crate::deciding_cache::DecidingCache;
 use opc_names::class::Class;
 use opc_names::name::{Pattern, Resource};
-use opc_policy::Found;
 use opc_policy_members::profile::Profile;
 use opc_state::change::{Change, Edit};
 use opc_state::tables::Tables;
@@ -69,17 +68,17 @@ impl<T: Tables> Cached<T> {
         alloc: Global,
         class: Class,
         resource: &Resource,
-    ) -> Result<Found, StoreFault>
+    ) -> Result<Option<Profile>, StoreFault>
         ensures found { Loads T.meaning self.old.tables self.new.tables result
-            (λ s found. found.profile ≡ option_map bare (deciding_in s.policy class resource.now)) }
+            (λ s profile. profile ≡ option_map bare (deciding_in s.policy class resource.now)) }
         ensures keyed { Answers T.meaning self.old.tables self.new.tables result (λ s _. IsKeyed s) }
-        ensures keeps { IfOk result (λ found. IsKeptWith self.old.recent self.new.recent (class, resource.now)
-            (option_map pattern_of found.profile)) }
+        ensures keeps { IfOk result (λ profile. IsKeptWith self.old.recent self.new.recent (class, resource.now)
+            (option_map pattern_of profile)) }
         ensures failed { OnErr result (self.new.recent ≡ self.old.recent) }
     {
-        let found = self.tables.deciding(alloc, class, resource)?;
-        self.recent.put(class, resource, pattern_of(&found.profile));
-        Ok(found)
+        let profile = self.tables.deciding(alloc, class, resource)?;
+        self.recent.put(class, resource, pattern_of(&profile));
+        Ok(profile)
     }
 
     /// Forgets all names before a change that may change which profile decides. Before the commit, since afterwards the
@@ -116,19 +115,14 @@ pub(crate) fn cached_pattern<T: Tables>(
     alloc: Global,
     class: Class,
     pattern: Option<Pattern>,
-) -> Result<Found, StoreFault>
+) -> Result<Option<Profile>, StoreFault>
     ensures { Loads T.meaning tables.old tables.new result
-        (λ s found. found.profile ≡ option_map bare (option_and_then (profile_of s.policy.profiles class) pattern)) }
+        (λ s profile. profile ≡ option_map bare (option_and_then (profile_of s.policy.profiles class) pattern)) }
 {
-    let profile = match pattern {
-        Some(pattern) => tables.definition(alloc, class, &pattern)?,
-        None => None,
-    };
-    Ok(Found {
-        profile,
-        ranges: 0,
-        rows: 0,
-    })
+    match pattern {
+        Some(pattern) => tables.definition(alloc, class, &pattern),
+        None => Ok(None),
+    }
 }
 
 fn redefines(edit: &Edit) -> bool

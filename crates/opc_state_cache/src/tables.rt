@@ -6,7 +6,6 @@ use opc_names::class::Class;
 use opc_names::level::Level;
 use opc_names::name::{ConsoleName, Device, GroupName, Pattern, Resource, UnitName, UserId};
 use opc_names::reply_id::ReplyId;
-use opc_policy::Found;
 use opc_policy_members::entries::Entries;
 use opc_policy_members::policy::Policy;
 use opc_policy_members::profile::Profile;
@@ -103,7 +102,7 @@ impl<T: Tables> Tables for Cached<T> {
         alloc: Global,
         class: Class,
         resource: &Resource,
-    ) -> Result<Found, StoreFault> {
+    ) -> Result<Option<Profile>, StoreFault> {
         match self.recent.get(class, resource) {
             Some(pattern) => cached_pattern(&mut self.tables, alloc, class, pattern),
             None => self.search(alloc, class, resource),

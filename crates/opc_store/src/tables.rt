@@ -65,9 +65,9 @@ impl<S: Alter> Store<S> {
         }
     }
 
-    /// The profile of a class that decides a resource, but without its access list. Before the first search each profile is
+    /// What a search finds of a resource in a class: the profile that decides, but without its access list. Before the first search each profile is
     /// read; after that no other program writes the tables, as long as they are open.
-    pub fn deciding(
+    pub fn find_deciding(
         &mut self,
         alloc: Global,
         class: Class,
@@ -207,14 +207,13 @@ impl<S: Alter> Tables for Store<S> {
         active_on(&mut self.conn, class)
     }
 
-    #[tactic(auto, using(crate::proofs::StoreTablesLemmas::keyed))]
     fn deciding(
         &mut self,
         alloc: Global,
         class: Class,
         resource: &Resource,
-    ) -> Result<Found, StoreFault> {
-        Store::deciding(self, alloc, class, resource)
+    ) -> Result<Option<Profile>, StoreFault> {
+        Ok(self.find_deciding(alloc, class, resource)?.profile)
     }
 
     fn entries(
@@ -266,7 +265,7 @@ impl<S: Alter> Tables for Store<S> {
         definitions_on(alloc, &mut self.conn, class)
     }
 
-    #[tactic(auto, using(crate::proofs::StoreTablesLemmas::keyed, crate::proofs::StoreTablesLemmas::valid))]
+    #[tactic(auto, using(crate::proofs::StoreTablesLemmas::keyed))]
     fn definitions_between(
         &mut self,
         alloc: Global,

@@ -19,7 +19,15 @@ pub trait Fresh: Tables + Drop + Sized {
     /// The tables, under a limit on the steps of each query.
     fn limited(self, alloc: Global, steps: u64) -> Result<Self>;
 
-    /// What a search finds of a name in a class.
+    /// What the gate's own search finds of a name in a class: the profile without its access list.
+    fn find_deciding(
+        &mut self,
+        alloc: Global,
+        class: Class,
+        name: &Resource,
+    ) -> Result<Found, StoreFault>;
+
+    /// What a search of policies finds of a name in a class.
     fn search_for(&mut self, class: Class, name: &Resource) -> Result<Found, StoreFault>;
 
     /// The first profile that covers a name, of those of a class with this very head, and how many were read.
@@ -54,6 +62,15 @@ impl Fresh for Store<MemStore> {
             Ok(store) => Ok(store),
             Err((fault, _)) => Err(fault)?,
         }
+    }
+
+    fn find_deciding(
+        &mut self,
+        alloc: Global,
+        class: Class,
+        name: &Resource,
+    ) -> Result<Found, StoreFault> {
+        Store::find_deciding(self, alloc, class, name)
     }
 
     fn search_for(&mut self, class: Class, name: &Resource) -> Result<Found, StoreFault> {

@@ -5,7 +5,7 @@ use opc_names::class::Class;
 use opc_names::name::Resource;
 use opc_store_trials::records::profiles_records;
 use opc_store_trials::searches::{
-    CLASSES, NAME, found_in_tables, head_of, in_memory, listed_lines, taken_lines,
+    CLASSES, NAME, found_lines, head_of, in_memory, listed_lines, taken_lines,
 };
 use std::alloc::Global;
 
@@ -17,6 +17,9 @@ pub fn searched<T: Fresh>(
     words: &str,
 ) -> Result<String> {
     let (kind, key) = words.split_once(' ').context("no search")?;
+    if kind == "read" {
+        return profiles_read(alloc, tables, &Resource::read(key)?);
+    }
     let found = in_tables(alloc, tables, kind, key)?;
     let wanted = in_memory(alloc, base, kind, key)?;
     if found.as_str() == wanted.as_str() {
@@ -27,7 +30,7 @@ pub fn searched<T: Fresh>(
 
 fn in_tables<T: Fresh>(alloc: Global, tables: &mut T, kind: &str, key: &str) -> Result<String> {
     match kind {
-        "deciding" => found_in_tables(alloc, tables, key),
+        "deciding" => found_without_list(alloc, tables, &Resource::read(key)?),
         "listed" => found_with_list(alloc, tables, &Resource::read(key)?),
         "head" => {
             let name = Resource::read(NAME)?;
@@ -49,6 +52,22 @@ fn in_tables<T: Fresh>(alloc: Global, tables: &mut T, kind: &str, key: &str) -> 
         }
         _ => bail!("no search: {kind}"),
     }
+}
+
+/// How many profiles are read to find the one that decides a name.
+fn profiles_read<T: Fresh>(alloc: Global, tables: &mut T, name: &Resource) -> Result<String> {
+    let found = tables.find_deciding(alloc, Class::Opercmds, name)?;
+    Ok(format!(in alloc; "{}\n", found.rows)?)
+}
+
+/// What a search over the tables finds in both classes, without its access list.
+fn found_without_list<T: Fresh>(alloc: Global, tables: &mut T, name: &Resource) -> Result<String> {
+    let mut lines = String::new(alloc);
+    for class in CLASSES {
+        let found = tables.find_deciding(alloc, class, name)?;
+        lines.push_str(found_lines(alloc, &found)?.as_str())?;
+    }
+    Ok(lines)
 }
 
 /// What a search over the tables finds in both classes, with its access list.

@@ -2,7 +2,7 @@
 use crate::board_loads::{all_consoles, consoles_of, devices, masters, one_row, replies, units};
 use crate::policy_loads::{
     account, active, batch, definitions, entries, explained, file, groups, level, names, policy,
-    profile, profiles, read, records, user,
+    profile, profiles, records, user,
 };
 use crate::words::answer_line;
 use anyhow::{Result, bail};
@@ -41,7 +41,6 @@ fn of_policy<T: Tables>(alloc: Global, tables: &mut T, subject: &str, key: &str)
         "profiles" => profiles(alloc, tables, key),
         "definitions" => definitions(alloc, tables, key),
         "entries" => entries(alloc, tables, key),
-        "read" => read(alloc, tables, key),
         "account" => account(alloc, tables, key),
         "batch" => batch(alloc, tables, key),
         "explained" => explained(alloc, tables, key),

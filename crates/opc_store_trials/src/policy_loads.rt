@@ -157,12 +157,6 @@ pub fn entries<T: Tables>(alloc: Global, tables: &mut T, key: &str) -> Result<St
     ended(alloc, records_of(alloc, rows.as_slice())?)
 }
 
-/// How many profiles are read to find the one that decides a name.
-pub fn read<T: Tables>(alloc: Global, tables: &mut T, name: &str) -> Result<String> {
-    let found = tables.deciding(alloc, CLASS, &Resource::read(name)?)?;
-    Ok(format!(in alloc; "{}\n", found.rows)?)
-}
-
 /// Rows of the account: the first number, and how many at most. Each with its number and its code.
 pub fn account<T: Tables>(alloc: Global, tables: &mut T, key: &str) -> Result<String> {
     let (from, count) = key.split_once(' ').context("no count")?;

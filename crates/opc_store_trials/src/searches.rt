@@ -7,7 +7,6 @@ use opc_names::name::Resource;
 use opc_policy::source::{ProfileSource, Taken};
 use opc_policy::{ClassProfiles, Found, search};
 use opc_policy_members::policy::Policy;
-use opc_state::tables::Tables;
 use std::alloc::Global;
 
 /// Both classes.
@@ -76,20 +75,9 @@ fn found_in_memory(
     Ok(lines)
 }
 
-/// What tables find in both classes.
-pub fn found_in_tables<T: Tables>(alloc: Global, tables: &mut T, key: &str) -> Result<String> {
-    let name = Resource::read(key)?;
-    let mut lines = String::new(alloc);
-    for class in CLASSES {
-        let found = tables.deciding(alloc, class, &name)?;
-        lines.push_str(found_lines(alloc, &found)?.as_str())?;
-    }
-    Ok(lines)
-}
-
 /// What a search found: the profile but without its access list, how many heads were searched, and how many profiles
 /// read.
-fn found_lines(alloc: Global, found: &Found) -> Result<String> {
+pub fn found_lines(alloc: Global, found: &Found) -> Result<String> {
     let mut rows = Vec::new(alloc);
     if let Some(profile) = &found.profile {
         rows.push(profile_row(profile))?;

@@ -6,7 +6,6 @@ use opc_names::class::Class;
 use opc_names::level::Level;
 use opc_names::name::{ConsoleName, Device, GroupName, Pattern, Resource, UnitName, UserId};
 use opc_names::reply_id::ReplyId;
-use opc_policy::Found;
 use opc_policy_members::entries::Entries;
 use opc_policy_members::policy::Policy;
 use opc_policy_members::profile::Profile;
@@ -105,7 +104,7 @@ impl Tables for FailingTables {
         _alloc: Global,
         _class: Class,
         _resource: &Resource,
-    ) -> Result<Found, StoreFault> {
+    ) -> Result<Option<Profile>, StoreFault> {
         Err(StoreFault::Store)
     }
 

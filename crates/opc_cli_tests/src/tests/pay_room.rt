@@ -7,7 +7,6 @@ use opc_names::class::Class;
 use opc_names::level::Level;
 use opc_names::name::{ConsoleName, Device, GroupName, Pattern, Resource, UnitName, UserId};
 use opc_names::reply_id::ReplyId;
-use opc_policy::Found;
 use opc_policy_members::entries::Entries;
 use opc_policy_members::entry::Entry;
 use opc_policy_members::policy::Policy;
@@ -160,19 +159,15 @@ impl Tables for PayRoom {
         alloc: Global,
         class: Class,
         _resource: &Resource,
-    ) -> Result<Found, StoreFault> {
-        Ok(Found {
-            profile: Some(Profile {
-                class,
-                pattern: stored(Pattern::read("MVS.CANCEL.JOB.PAY*"))?,
-                owner: stored(UserId::read("SECADM"))?,
-                uacc: Level::None,
-                warning: false,
-                entries: Entries::new(alloc),
-            }),
-            ranges: 5,
-            rows: 1,
-        })
+    ) -> Result<Option<Profile>, StoreFault> {
+        Ok(Some(Profile {
+            class,
+            pattern: stored(Pattern::read("MVS.CANCEL.JOB.PAY*"))?,
+            owner: stored(UserId::read("SECADM"))?,
+            uacc: Level::None,
+            warning: false,
+            entries: Entries::new(alloc),
+        }))
     }
 
     fn entries(

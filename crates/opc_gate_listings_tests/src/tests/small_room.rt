@@ -8,7 +8,6 @@ use opc_names::class::Class;
 use opc_names::level::Level;
 use opc_names::name::{ConsoleName, Device, GroupName, Pattern, Resource, UnitName, UserId};
 use opc_names::reply_id::ReplyId;
-use opc_policy::Found;
 use opc_policy_members::entries::Entries;
 use opc_policy_members::entry::Entry;
 use opc_policy_members::policy::Policy;
@@ -158,7 +157,7 @@ impl Tables for SmallRoom {
         _alloc: Global,
         _class: Class,
         _resource: &Resource,
-    ) -> Result<Found, StoreFault> {
+    ) -> Result<Option<Profile>, StoreFault> {
         Err(StoreFault::Store)
     }
 

@@ -6,12 +6,12 @@ pub returns : goal.returns
 returns g c = record {
   kept = search rules;
   answers = λ sure s represents.
-      let first = c.in_ok-found.ensures in
+      let first = c.in_ok-profile.ensures in
       let second = c.in_ok-held.ensures in
       let before = second.kept.sure sure in
       let found = sym c.in-Some.is ∙ first.found.answers before s represents in
-      let level = rw c.in-Some.profile-is at (second.answers sure s (first.found.kept.same before s represents)) in
-      let ruling = rw c.in-Some.profile-is at c.ruling_at.ensures.ruling in
+      let level = (second.answers sure s (first.found.kept.same before s represents)) in
+      let ruling = c.ruling_at.ensures.ruling in
       rw (ruling, level)
       (one_rules s c.args.class c.args.resource.now c.args.user.now c.args.console.now c.args.needed (first.keyed before s represents) c.in-Some.profile found);
 }

@@ -16,7 +16,7 @@ returns-in-Some-clause-found g c = record {
       let decides = hit_decides (c.args.class, c.args.resource.now) c.args.self.now.recent s c.in-Some.pattern
       (held t.meaning c.args.self.now.tables c.args.self.now.recent s h)
       (sym c.get.ensures.found ∙ c.in-Some.is) in
-      subst (λ o. IfOk c.cached_pattern.result (λ found. found.profile ≡ option_map bare o)) decides (c.cached_pattern.ensures.answers sure s h.represented);
+      subst (λ o. IfOk c.cached_pattern.result (λ profile. profile ≡ option_map bare o)) decides (c.cached_pattern.ensures.answers sure s h.represented);
 }
 
 pub returns-in-Some-clause-keyed : goal.returns-in-Some-clause-keyed

@@ -21,7 +21,7 @@ use Rattle.opc_cli_program.proofs.Uncached.{run}
 
 -- What the tables represent at first, they represent with their cache.
 module _ {T : Type 0} (m : Meaning T) (old new : Cached T)
-    (above : (s : State) → m.represents old.tables s → IsCached m old.tables old.recent s) where
+    (above : (s : State) → m.represents old.tables s → IsCached m old.tables old.recent old.flags s) where
   requests : (handled : Handled) → IsRunOf (cached_meaning m) old new
       handled → IsRunOf m old.tables new.tables handled
   requests handled were = record {

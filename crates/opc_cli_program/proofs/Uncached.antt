@@ -17,7 +17,7 @@ use Rattle.opc_cli_program.specs.Runs.{IsAnsweredInput, IsInputRun, IsNothingRun
 
 -- What the tables represent at first, they represent with their cache.
 module _ {T : Type 0} (m : Meaning T) (old new : Cached T)
-    (above : (s : State) → m.represents old.tables s → IsCached m old.tables old.recent s) where
+    (above : (s : State) → m.represents old.tables s → IsCached m old.tables old.recent old.flags s) where
   pub run : (s : State) (rs : List (ℕ × Request)) (answers : List Answer) → IsRun (cached_meaning m) old new s rs answers
       → IsRun m old.tables new.tables s rs answers
   run s rs answers r = record { last = r.last; runs = r.runs; represented = r.represented.represented; crash = r.crash; acknowledged = r.acknowledged }

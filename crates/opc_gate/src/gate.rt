@@ -11,6 +11,7 @@ ghost use Rattle.opc_state.specs.Invariants.{IsKeyed};
 ghost use Rattle.opc_state.specs.PolicyFile.{rows_of};
 ghost use Rattle.opc_state.specs.State.{State};
 ghost use Rattle.opc_state_cache.specs.Cache.{IsRight};
+ghost use Rattle.opc_state_cache.specs.Flags.{unknown};
 ghost use Rattle.opc_gate_imports.specs.RowEdits.{HaveNothingNew, IsBootstrap};
 ghost use Rattle.opc_machine.specs.Bootstrap.{bootstrapped};
 ghost use Rattle.opc_machine.specs.Inputs.{Input, console_of, input_of};
@@ -297,10 +298,12 @@ impl<T: Tables> Model for Gate<T> {
 }
 
 impl<T: Tables> Gate<Cached<T>> {
-    /// A gate over these tables, with a cache of which profile decides. If memory is refused for it (E90), the tables
-    /// are returned. With its cache, which is empty, the gate represents each state that the tables represent.
+    /// A gate over these tables, with a cache of which profile decides, and of the flags of the state. If memory is
+    /// refused for it (E90), the tables are returned. With its cache, which is empty, the gate represents each state that
+    /// the tables represent.
     pub fn new(alloc: Global, store: T) -> Result<Self, (Fault, T)>
-        ensures made { IfOk result (λ gate. (gate.tables ≡ store) × (gate.recent ≡ [])) }
+        ensures made { IfOk result (λ gate.
+            (gate.tables ≡ store) × (gate.recent ≡ []) × (gate.flags ≡ unknown)) }
         ensures represents { IfOk result
             (λ gate. (s : State) → T.meaning.represents store s → ⟦<Cached<T> as Tables>⟧.meaning.represents gate s) }
         ensures refused { IfErr result (λ back. (back.0 ≡ why.NoMemory) × (back.1 ≡ store)) }

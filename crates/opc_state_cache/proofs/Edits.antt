@@ -31,7 +31,8 @@ use Rattle.opc_board.specs.declared.rows.DeviceRow.{DeviceRow}
 use Rattle.opc_board.specs.declared.rows.ReplyRow.{ReplyRow}
 use Rattle.opc_board.specs.declared.rows.UnitRow.{UnitRow}
 use Rattle.opc_board.specs.Invariants.{console_before, device_before, reply_before, unit_before}
-use Rattle.opc_state_cache.specs.Cache.{invalidates, redefines, adds_or_removes_profile}
+use Rattle.opc_state_cache.specs.Cache.{invalidates, adds_or_removes_profile}
+use Rattle.opc_state_cache.specs.Redefining.{redefines}
 use Rattle.opc_state_cache.proofs.Keyed.{profile_total, put_all, put_ascends, user_total}
 use Rattle.opc_state_cache.proofs.Named.{name_of, put_named}
 
@@ -184,15 +185,15 @@ alone_too : (p : Policy) (e : Edit) → redefines e ≡ false → adds_or_remove
 alone_too p (edit.PutProfile d) h = absurd (search (rules, h))
 alone_too p other h = h
 
-left_false : (a b : Bool) → (a || b) ≡ false → a ≡ false
+pub left_false : (a b : Bool) → (a || b) ≡ false → a ≡ false
 left_false true b h = h
 left_false false b h = refl
 
-right_false : (a b : Bool) → (a || b) ≡ false → b ≡ false
+pub right_false : (a b : Bool) → (a || b) ≡ false → b ≡ false
 right_false true b h = absurd (search (rules, h))
 right_false false b h = h
 
-none_stay : (edits : List Edit) (s : State) → IsKeyed s → list_any redefines edits ≡ false → Stays s (all_edited edits s)
+pub none_stay : (edits : List Edit) (s : State) → IsKeyed s → list_any redefines edits ≡ false → Stays s (all_edited edits s)
 none_stay [] s k h = record { keyed = k; named = refl }
 none_stay (e ∷ edits) s k h =
     let one : Stays s (edited e s) = edit_stays e s k (alone_too s.policy e (left_false (redefines e) (list_any redefines edits) h)) in

@@ -66,12 +66,14 @@ use Rattle.opc_state_cache.specs.Cache.{
   deciding_pattern,
   invalidates,
   pattern_of,
-  redefines,
   remembered,
   same_name,
 }
+use Rattle.opc_state_cache.specs.Redefining.{redefines}
+use Rattle.opc_state_cache.specs.Flags.{AreFlagsOf}
 use Rattle.opc_state_cache.specs.Meaning.{cached_meaning}
 use Rattle.opc_state_cache.specs.declared.cached.Cached.{Cached}
+use Rattle.opc_state_cache.specs.declared.flags.Flags.{Flags}
 use Rattle.opc_state_cache.proofs.Keyed.{IsFoundIn, deciding_found}
 use Rattle.opc_state_cache.proofs.Named.{same_pattern}
 use Rattle.opc_state_cache.proofs.Edits.{Stays, account_stays, edits_stay}
@@ -176,18 +178,21 @@ fewer_hold c s entries h = go (invalidates s.policy c.edits.items)
 -- ---- the tables with the cache
 
 module _ {T : Type 0} (m : Meaning T) where
-  pub held : (tables : T) (entries : Entries) (s : State) → IsCached m tables entries s → Holds entries s
-  held tables entries s h = record { right = h.right; keyed = h.keyed }
+  pub held : (tables : T) (entries : Entries) (flags : Flags) (s : State) → IsCached m tables entries flags s → Holds entries s
+  held tables entries flags s h = record { right = h.right; keyed = h.keyed }
 
-  pub with_cache : (tables : T) (entries : Entries) (s : State) → m.represents tables s → Holds entries s → IsCached m tables entries s
-  with_cache tables entries s represented h = record { represented = represented; right = h.right; keyed = h.keyed }
+  pub with_cache : (tables : T) (entries : Entries) (flags : Flags) (s : State) → m.represents tables s → Holds entries s
+      → AreFlagsOf s flags → IsCached m tables entries flags s
+  with_cache tables entries flags s represented h are = record { represented = represented; known = are; right = h.right; keyed = h.keyed }
 
   pub cached_kept : (old new : Cached T) → IsKept m old.tables new.tables
       → (m.is_sure new.tables → (s : State) → m.represents old.tables s → Holds old.recent s → Holds new.recent s)
+      → (m.is_sure new.tables → (s : State) → m.represents old.tables s → AreFlagsOf s old.flags → AreFlagsOf s new.flags)
       → IsKept (cached_meaning m) old new
-  cached_kept old new kept holds = record {
+  cached_kept old new kept holds flags = record {
     sure = kept.sure;
-    same = λ sure s h. with_cache new.tables new.recent s (kept.same sure s h.represented) (holds sure s h.represented (held old.tables old.recent s h));
+    same = λ sure s h. with_cache new.tables new.recent new.flags s (kept.same sure s h.represented)
+        (holds sure s h.represented (held old.tables old.recent old.flags s h)) (flags sure s h.represented h.known);
     crash = kept.crash;
   }
 

@@ -14,6 +14,9 @@ use Rattle.opc_state.specs.declared.change.Edit.TheVariants as edit
 use Rattle.opc_state.specs.Invariants.{IsKeyed}
 use Rattle.opc_state.specs.Meaning.{Meaning}
 use Rattle.opc_state.specs.State.{State, deciding_in}
+use Rattle.opc_state_cache.specs.Flags.{AreFlagsOf}
+use Rattle.opc_state_cache.specs.Redefining.{redefines}
+use Rattle.opc_state_cache.specs.declared.flags.Flags.{Flags}
 
 -- a class and a resource
 abbrev pub Name : Type 0
@@ -37,23 +40,17 @@ deciding_pattern p name = option_map pattern_of (deciding_in p name.0 name.1)
 abbrev pub IsRight : Policy → Entries → Type 0
 IsRight p entries = (e : Name × Option (List ℕ)) → Contains entries e → e.1 ≡ deciding_pattern p e.0
 
--- Tables represent a state, and what is cached of it is right. If anything is cached, the state is in the order of its
+-- Tables represent a state, and what is cached of it is right. If a name is cached, the state is in the order of its
 -- keys, so that its profiles are found by their patterns.
-pub record IsCached {T : Type 0} (m : Meaning T) (tables : T) (entries : Entries) (s : State) : Type 0 where
+pub record IsCached {T : Type 0} (m : Meaning T) (tables : T) (entries : Entries) (flags : Flags) (s : State) : Type 0 where
   pub represented : m.represents tables s
+  pub known : AreFlagsOf s flags
   pub right : IsRight s.policy entries
   pub keyed : (e : Name × Option (List ℕ)) → Contains entries e → IsKeyed s
 
 -- One more name is cached, or memory was refused for it.
 abbrev pub IsKeptWith : Entries → Entries → Name → Option (List ℕ) → Type 0
 IsKeptWith old new name pattern = (new ≡ old) ⊎ (new ≡ put_entries same_name (lru_cache old 256) name pattern)
-
--- the edits of profiles, and an import
-abbrev pub redefines : Edit → Bool
-redefines (edit.PutProfile profile) = true
-redefines (edit.RemoveProfile class pattern) = true
-redefines (edit.PutBatch batch) = true
-redefines other = false
 
 -- one edit alone: a profile that is there may be put again
 abbrev pub adds_or_removes_profile : Policy → Edit → Bool

@@ -1,4 +1,4 @@
-//! Tables with a cache of which profile decides.
+//! Tables with a cache of which profile decides, and of the flags of the state.
 ghost use Rattle.std.specs.Prelude.{◌≡◌, ◌≤◌, [], IfErr, IfOk, OnErr, None, length};
 ghost use Rattle.std.specs.List.{list_any};
 ghost use Rattle.std.specs.Option.{option_and_then, option_map};
@@ -12,12 +12,14 @@ ghost use Rattle.opc_state_cache.specs.Cache.{
   IsKeptWith,
   invalidates,
   pattern_of,
-  redefines,
   adds_or_removes_profile,
   remembered,
 };
+ghost use Rattle.opc_state_cache.specs.Flags.{known_after, outdates, unknown};
+ghost use Rattle.opc_state_cache.specs.Redefining.{redefines};
 
 use crate::deciding_cache::DecidingCache;
+use crate::flags::Flags;
 use opc_names::class::Class;
 use opc_names::name::{Pattern, Resource};
 use opc_policy_members::profile::Profile;
@@ -27,22 +29,28 @@ use opc_terms::fault::Fault;
 use opc_terms::store_fault::StoreFault;
 use std::alloc::Global;
 
-/// Tables that know which profile decides the names that were asked most recently. What they answer is what the tables
-/// answer.
+/// Tables that know which profile decides the names that were asked most recently, whether the day is halted, and which
+/// classes are active. What they answer is what the tables answer.
 #[derive(Drop)]
 pub struct Cached<T: Tables> {
     pub(crate) tables: T,
     pub(crate) recent: DecidingCache,
+    pub(crate) flags: Flags,
 }
 
 impl<T: Tables> Cached<T> {
     /// These tables, with nothing cached yet. If memory is refused (E90), they are returned.
     pub fn new(alloc: Global, tables: T) -> Result<Self, (Fault, T)>
-        ensures made { IfOk result (λ cached. (cached.tables ≡ tables) × (cached.recent ≡ [])) }
+        ensures made { IfOk result (λ cached.
+            (cached.tables ≡ tables) × (cached.recent ≡ []) × (cached.flags ≡ unknown)) }
         ensures refused { IfErr result (λ back. (back.0 ≡ why.NoMemory) × (back.1 ≡ tables)) }
     {
         match DecidingCache::new(alloc) {
-            Ok(recent) => Ok(Cached { tables, recent }),
+            Ok(recent) => Ok(Cached {
+                tables,
+                recent,
+                flags: Flags::unknown(),
+            }),
             Err(_) => Err((Fault::NoMemory, tables)),
         }
     }
@@ -75,13 +83,15 @@ impl<T: Tables> Cached<T> {
         ensures keeps { IfOk result (λ profile. IsKeptWith self.old.recent self.new.recent (class, resource.now)
             (option_map pattern_of profile)) }
         ensures failed { OnErr result (self.new.recent ≡ self.old.recent) }
+        ensures flags { self.new.flags ≡ self.old.flags }
     {
         let profile = self.tables.deciding(alloc, class, resource)?;
         self.recent.put(class, resource, pattern_of(&profile));
         Ok(profile)
     }
 
-    /// Forgets all names before a change that may change which profile decides. Before the commit, since afterwards the
+    /// Forgets the flags before a change that sets one, and all names before one that may change which profile decides.
+    /// Before the commit, since afterwards the
     /// cache would be stale when a commit succeeded but could not report success.
     pub(crate) fn invalidate_for(
         &mut self,
@@ -91,7 +101,11 @@ impl<T: Tables> Cached<T> {
         ensures forgets { Loads T.meaning self.old.tables self.new.tables result
             (λ s _. self.new.recent ≡ remembered s.policy change.now.edits.items self.old.recent) }
         ensures failed { OnErr result (self.new.recent ≡ self.old.recent) }
+        ensures flags { self.new.flags ≡ known_after change.now.edits.items self.old.flags }
     {
+        if any_outdates(change.edits.as_slice()) {
+            self.flags = Flags::unknown();
+        }
         if invalidates(&mut self.tables, alloc, change.edits.as_slice())? {
             self.recent.clear();
         }
@@ -132,6 +146,21 @@ fn redefines(edit: &Edit) -> bool
         edit,
         Edit::PutProfile(_) | Edit::RemoveProfile(..) | Edit::PutBatch(_)
     )
+}
+
+fn outdates(edit: &Edit) -> bool
+    ensures { result ≡ outdates edit.now }
+{
+    match edit {
+        Edit::SetActive(..) | Edit::SetHalted(_) => true,
+        other => redefines(other),
+    }
+}
+
+fn any_outdates(edits: &[Edit]) -> bool
+    ensures { result ≡ list_any outdates edits.now }
+{
+    edits.iter().any(outdates)
 }
 
 fn any_redefines(edits: &[Edit]) -> bool

@@ -41,7 +41,12 @@ impl<T: Tables> Tables for Cached<T> {
     }
 
     fn is_halted(&mut self) -> Result<bool, StoreFault> {
-        self.tables.is_halted()
+        if let Some(halted) = self.flags.halted {
+            return Ok(halted);
+        }
+        let halted = self.tables.is_halted()?;
+        self.flags.set_halted(halted);
+        Ok(halted)
     }
 
     fn devices_of(
@@ -94,7 +99,12 @@ impl<T: Tables> Tables for Cached<T> {
     }
 
     fn is_active(&mut self, class: Class) -> Result<bool, StoreFault> {
-        self.tables.is_active(class)
+        if let Some(active) = self.flags.active(class) {
+            return Ok(active);
+        }
+        let active = self.tables.is_active(class)?;
+        self.flags.set_active(class, active);
+        Ok(active)
     }
 
     fn deciding(

@@ -39,9 +39,9 @@ use opc_store_history::batches::batch_rows_on;
 use opc_store_profiles::entries::{entries_on, level_for_on};
 use opc_store_profiles::profiles::{definition_on, definitions_on, profiles_of_on};
 use opc_store_schema::faults::fault;
-use opc_store_schema::version::version_on;
 use opc_store_search::between::{definitions_between_on, first_definitions_between_on};
 use opc_store_search::search::{deciding_on, first_deciding_on};
+use opc_store_sql::read;
 use opc_store_users::classes::active_on;
 use opc_store_users::connects::{is_connected_on, user_groups_on};
 use opc_store_users::groups::has_group_on;
@@ -54,19 +54,19 @@ use sqlite::Alter;
 use std::alloc::Global;
 
 impl<S: Alter> Store<S> {
-    /// Reads the version. A store that a fault closed fails here, before anything is begun, so that a crash after it
-    /// leaves nothing new.
+    /// Asks the cheapest question. A store that a fault closed fails here, before anything is begun, so that a crash
+    /// after it leaves nothing new.
     fn see_open(&mut self) -> Result<(), StoreFault>
         ensures keeps { Looks S.Store self.old self.new result }
     {
-        match version_on(&mut self.conn) {
+        match read(&mut self.conn, "SELECT 1", &[]) {
             Ok(_) => Ok(()),
             Err(error) => Err(fault(error)),
         }
     }
 
-    /// What a search finds of a resource in a class: the profile that decides, but without its access list. Before the first search each profile is
-    /// read; after that no other program writes the tables, as long as they are open.
+    /// What a search finds of a resource in a class: the profile that decides, but without its access list. Before the
+    /// first search each profile is read; after that no other program writes the tables, as long as they are open.
     pub fn find_deciding(
         &mut self,
         alloc: Global,

@@ -1,9 +1,8 @@
-//! Scripts to writers that fail, services over loopback, the words of a command line, and the faults of an opening.
+//! Scripts to writers that fail, services over loopback, and the faults of an opening.
 mod openings;
 mod pay_room;
 mod scripts;
 mod services;
-mod words;
 
 use std::alloc::AllocError;
 use std::test::Fail;

@@ -72,7 +72,7 @@ use Rattle.opc_store_schema.specs.Tables.{the_schema}
 use Rattle.opc_store_schema.specs.Represented.{Represents, profile_row}
 use Rattle.opc_store_schema.proofs.AccessLists.{split, is_of_means}
 use Rattle.opc_store_schema.proofs.ProfileTexts.{profile_key, picks_profile}
-use Rattle.opc_store_profiles.specs.declared.profiles.TheConstants.{BY_CLASS}
+use Rattle.opc_store_profiles.specs.declared.profiles.TheConstants.{BY_CLASS, EVERY}
 
 -- ---- those of a class
 
@@ -132,6 +132,19 @@ pub class_returned : (class : Class) (old new : SqlState) (s : State) → Repres
 class_returned class old new s was = returned by_class (class_params class) refl profile_row profile_cmp (λ _. refl)
     profiles_rise (λ p. same_class p.class class) (in_class class) by_class_asked old new was.rows.schema
     s.policy.profiles was.ordered.profiles was.rows.holds.profiles
+
+-- ---- every one
+
+abbrev pub every : Asked
+every = record by_class {
+  text = EVERY.now;
+  tests = [];
+  order = [];
+}
+
+pub every_asked : IsAsked every
+unfolding understood everything
+every_asked = record { selects = refl; unlisted = refl; plain = (refl, refl); shows = λ schema base. refl }
 
 -- ---- that of a class and a pattern
 

@@ -29,14 +29,14 @@ has_keys_of pattern row = is_blob (sort_key pattern) (column row 5) && is_text (
 abbrev pub HasOwnKeys : Row → Type 0
 HasOwnKeys row = (pattern : List ℕ) → column row 1 ≡ Text pattern → has_keys_of pattern row ≡ true
 
--- if the row is of this class
-abbrev pub IsKeyedIn : Class → Row → Type 0
-IsKeyedIn class row = column row 0 ≡ Text (class_text class) → HasOwnKeys row
+-- the row's class is one of the two
+abbrev pub IsOfAClass : Row → Type 0
+IsOfAClass row = (text : List ℕ) → column row 0 ≡ Text text → (class : Class) × (text ≡ class_text class)
 
--- In our tables, whatever their rows are, the profiles of a class have the keys and heads of their patterns.
-abbrev pub AreKeyedIn : Class → Database → Type 0
-AreKeyedIn class db = (c : Contents) → IsMade c db → AllByRecursion (IsKeyedIn class) c.profiles
+-- it is of a class, with the key and the head of its pattern
+abbrev pub IsKeyed : Row → Type 0
+IsKeyed row = IsOfAClass row × HasOwnKeys row
 
--- those of both classes
+-- In our tables, whatever their rows are, each profile is of a class, with the key and the head of its pattern.
 abbrev pub AreKeyed : Database → Type 0
-AreKeyed db = (class : Class) → AreKeyedIn class db
+AreKeyed db = (c : Contents) → IsMade c db → AllByRecursion IsKeyed c.profiles

@@ -21,7 +21,7 @@ ghost use Rattle.sqlite.specs.declared.types.Value.TheVariants.{Text};
 ghost use Rattle.opc_names.specs.Spellings.{class_text};
 ghost use Rattle.opc_names.specs.declared.class.Class.{Class as TheClass};
 ghost use Rattle.opc_policy_members.specs.declared.profile.Profile.{Profile as TheProfile};
-ghost use Rattle.opc_store_profiles.specs.Keys.{AreKeyed, AreKeyedIn, HasOwnKeys, has_keys_of, is_blob, is_text};
+ghost use Rattle.opc_store_profiles.specs.Keys.{AreKeyed, IsKeyed, has_keys_of, is_blob, is_text};
 
 use crate::entries::{access_list_on, entry_rows_on, insert_entries};
 use crate::levels::{level_in, rank_of};
@@ -140,7 +140,8 @@ pub fn remove_profile<S: Alter>(
 
 #[tactic(auto, using(crate::proofs::ProfileLoads::classes_back))]
 fn class_in(row: &Row) -> Result<Class, StoreFault>
-    ensures { (class : TheClass) → column row.now 0 ≡ Text (class_text class) → IfOk result (λ v. v ≡ class) }
+    ensures read { (class : TheClass) → column row.now 0 ≡ Text (class_text class) → IfOk result (λ v. v ≡ class) }
+    ensures text { (text : List ℕ) → column row.now 0 ≡ Text text → IfOk result (λ v. text ≡ class_text v) }
 {
     match Class::read(text_at(row, 0)?) {
         Some(class) => Ok(class),
@@ -153,6 +154,7 @@ fn class_in(row: &Row) -> Result<Class, StoreFault>
 pub fn definition_in(alloc: Global, row: &Row) -> Result<Profile, StoreFault>
     ensures read { (p : TheProfile) (rest : List TheValue) → row.now ≡ definition_row p ++ rest
         → IfOk result (λ v. v ≡ bare p) }
+    ensures class { (text : List ℕ) → column row.now 0 ≡ Text text → IfOk result (λ v. text ≡ class_text v.class) }
     ensures pattern { (pattern : List ℕ) → column row.now 1 ≡ Text pattern → IfOk result (λ v. v.pattern ≡ pattern) }
 {
     Ok(Profile {
@@ -194,7 +196,7 @@ fn has_keys_of(row: &Row, pattern: &Pattern) -> bool
 /// those of its pattern cannot be read.
 pub fn profile_in(alloc: Global, row: &Row) -> Result<Profile, StoreFault>
     ensures read { (p : TheProfile) → row.now ≡ profile_row p → IfOk result (λ v. v ≡ bare p) }
-    ensures keys { OnOk result (HasOwnKeys row.now) }
+    ensures keys { OnOk result (IsKeyed row.now) }
 {
     let profile = definition_in(alloc, row)?;
     if !has_keys_of(row, &profile.pattern) {
@@ -260,7 +262,7 @@ pub fn definitions_on<S: Alter>(
 }
 
 fn see_each(alloc: Global, rows: &[Row]) -> Result<(), StoreFault>
-    ensures { OnOk result (AllByRecursion HasOwnKeys rows.now) }
+    ensures { OnOk result (AllByRecursion IsKeyed rows.now) }
 {
     for row in rows {
         let _profile = profile_in(alloc, row)?;
@@ -268,30 +270,19 @@ fn see_each(alloc: Global, rows: &[Row]) -> Result<(), StoreFault>
     Ok(())
 }
 
-fn see_class_on<S: Alter>(
-    alloc: Global,
-    conn: &mut Connection<S>,
-    class: Class,
-) -> Result<(), StoreFault>
-    requires { conn.old.in_transaction ≡ false }
-    ensures mode { conn.new.in_transaction ≡ false }
-    ensures looks { Looks S.Store conn.old conn.new result }
-    ensures seen { HasCleanDisk (state S.Store conn.new)
-        → OnOk result (AreKeyedIn class (state S.Store conn.old).now) }
-{
-    let rows = read(conn, BY_CLASS, params![class.text()])?;
-    see_each(alloc, rows.as_slice())
-}
+/// Every profile. A constant that its lemmas read, so that a text which leaves one out is refused by what it means.
+const EVERY: &str = "SELECT class, pattern, owner, uacc, warning, skey, head FROM profiles";
 
-/// Reads each profile: a search by heads might pass over one that has another head than its pattern.
+/// Reads each profile: a search by heads might pass over one that has another head than its pattern, and any search
+/// would pass over one of another class.
 pub fn see_profiles_on<S: Alter>(alloc: Global, conn: &mut Connection<S>) -> Result<(), StoreFault>
     requires { conn.old.in_transaction ≡ false }
     ensures mode { conn.new.in_transaction ≡ false }
     ensures looks { Looks S.Store conn.old conn.new result }
     ensures seen { HasCleanDisk (state S.Store conn.new) → OnOk result (AreKeyed (state S.Store conn.old).now) }
 {
-    see_class_on(alloc, conn, Class::Console)?;
-    see_class_on(alloc, conn, Class::Opercmds)
+    let rows = read(conn, EVERY, &[])?;
+    see_each(alloc, rows.as_slice())
 }
 
 /// Whether a profile has a user as its owner.

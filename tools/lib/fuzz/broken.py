@@ -54,6 +54,7 @@ WHOLE = (
     "INSERT INTO board VALUES (1)", "DELETE FROM board", "DELETE FROM meta", "INSERT INTO meta VALUES (3)",
     "UPDATE profiles SET head = 'NOWHERE' WHERE pattern = 'MVS.CANCEL.JOB.PAY*'",
     "UPDATE profiles SET skey = x'ffff' WHERE pattern = 'MVS.CANCEL.JOB.PAY*'",
+    "INSERT INTO profiles SELECT 'opercmds', pattern, owner, uacc, warning, skey, head FROM profiles",
     "UPDATE profiles SET skey = skey || x'00'", "UPDATE profiles SET head = pattern",
     "UPDATE entries SET console = 'C1'", "INSERT INTO batches VALUES (5, 'garbage')",
     "INSERT INTO batches VALUES (5, '')", "CREATE TABLE other (x)", "CREATE VIEW v AS SELECT * FROM usr",

@@ -1,5 +1,6 @@
 """What rows that break a fact may not let pass. Where a user is on who is not stored, the console's authority allows
-nothing; and no search passes over a profile whose key or head is not its pattern's."""
+nothing; and no search passes over a profile whose class is neither of the two, or whose key or head is not its
+pattern's."""
 import re
 
 from lib.model import names
@@ -43,9 +44,10 @@ def with_users(rows: Rows) -> set[str]:
 
 
 def passes_over(rows: Rows) -> bool:
-    """Whether profiles decide, and a row of a profile has not the key and the head of its pattern."""
+    """Whether profiles decide, and a profile's row is of no class, or has not the key and the head of its pattern."""
     return ("OPERCMDS", 1) in rows["classes"] and any(
-        of in names.CLASSES and (key, head) != keys_of(pattern) for of, pattern, _, _, _, key, head in rows["profiles"]
+        of not in names.CLASSES or (key, head) != keys_of(pattern)
+        for of, pattern, _, _, _, key, head in rows["profiles"]
     )
 
 

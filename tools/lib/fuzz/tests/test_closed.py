@@ -51,6 +51,12 @@ class Closed(unittest.TestCase):
         held["profiles"].append(("OPERCMDS", "A..B", "ANNA", 0, 0, b"", ""))
         self.wants(printed(), held, False)
 
+    def test_profile_of_no_class(self) -> None:
+        held = rows(None)
+        held["profiles"].append(("opercmds", "MVS.%", "ANNA", 0, 0, names.sort_key("MVS.%"), "MVS."))
+        self.wants(printed(), held, False)
+        self.wants(printed(5), held, True)
+
     def test_console_with_the_name_of_events(self) -> None:
         held = rows(None)
         held["consoles"].append(("*", 8, "O", 1, "GHOST", 0))

@@ -40,8 +40,8 @@ pub fn definitions_between_on<S: Alter>(
     definitions_in(alloc, rows.as_slice())
 }
 
-/// The same where no profile was read since the tables were opened. A profile whose head is not its pattern's may lie
-/// elsewhere, so each profile is read once before the first search.
+/// The same where no profile was read since the tables were opened. A profile whose class is neither of the two, or
+/// whose head is not its pattern's, may lie elsewhere, so each profile is read once before the first search.
 pub fn first_definitions_between_on<S: Alter>(
     alloc: Global,
     conn: &mut Connection<S>,

@@ -187,8 +187,8 @@ pub fn deciding_on<S: Alter>(
     search(&mut TableProfiles { alloc, conn }, class, resource)
 }
 
-/// The same where no profile was read since the tables were opened. A search by heads passes over a profile whose head
-/// is not its pattern's, so each profile is read once before the first one.
+/// The same where no profile was read since the tables were opened. A search by heads passes over a profile whose class
+/// is neither of the two, or whose head is not its pattern's, so each profile is read once before the first one.
 pub fn first_deciding_on<S: Alter>(
     alloc: Global,
     conn: &mut Connection<S>,

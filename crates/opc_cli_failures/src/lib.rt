@@ -3,6 +3,7 @@
 
 pub mod bad_row;
 pub mod failure;
+mod fault_line;
 mod printing;
 pub mod reason;
 pub mod status;

@@ -1,16 +1,15 @@
 //! How a failure is printed, even if there is no memory.
 ghost use Rattle.std.specs.Prelude.{◌≡◌, OnOk, if◌then◌else◌, is_err, true};
-ghost use Rattle.opc_cli_failures.specs.Printing.{Grows, IsLineOf, IsReported};
+ghost use Rattle.std.specs.Io.KnownBytes.{Appends};
+ghost use Rattle.opc_cli_failures.specs.Printing.{Grows, IsReported, fault_line};
 
 use crate::failure::{Failure, Paths, Place};
+use crate::fault_line::fault_line;
 use crate::reason::Reason;
 use arrayvec::ArrayString;
 use opc_io::sink::{Sink, WriteFault, write_whole};
 use opc_terms::fault::Fault;
 use std::fmt::Write as _;
-
-/// More bytes than the line of any fault has: the longest name in one is a pattern of 39 characters.
-const FAULT_LINE: usize = 160;
 
 /// More bytes than the words of any reason have: the longest show 39 characters of a field, each as at most ten bytes.
 const REASON_WORDS: usize = 640;
@@ -31,25 +30,12 @@ pub(crate) fn print_failure<K: Sink>(
     print_cause(failure, paths, errors)
 }
 
-/// Prints a fault as its code and its text, or as its code alone if there is no room for that line.
+/// Prints a fault as its code, a space and its text.
 fn print_fault<K: Sink>(fault: &Fault, errors: &mut K) -> Result<(), WriteFault>
-    ensures text { OnOk result (IsLineOf fault.now (K.held errors.old) (K.held errors.new)) }
+    ensures text { OnOk result (Appends (K.held errors.old) (K.held errors.new) (fault_line fault.now)) }
     ensures failed { K.has_failed errors.new ≡ (if is_err result then true else K.has_failed errors.old) }
 {
-    // Put together in place, without taking memory, so that a program that has none left can still report it.
-    let mut line = ArrayString::<FAULT_LINE>::new();
-    match writeln!(line, "{} {fault}", fault.code()) {
-        Ok(()) => write_whole(errors, line.as_str().as_bytes()),
-        Err(_) => print_code(fault, errors),
-    }
-}
-
-fn print_code<K: Sink>(fault: &Fault, errors: &mut K) -> Result<(), WriteFault>
-    ensures text { OnOk result (IsLineOf fault.now (K.held errors.old) (K.held errors.new)) }
-    ensures failed { K.has_failed errors.new ≡ (if is_err result then true else K.has_failed errors.old) }
-{
-    write_whole(errors, fault.code().as_bytes())?;
-    write_whole(errors, b"\n")
+    write_whole(errors, fault_line(fault).as_str().as_bytes())
 }
 
 /// Prints, in a line of its own, what failed and why, if that is known and there is memory.

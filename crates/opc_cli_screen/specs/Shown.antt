@@ -19,6 +19,7 @@ use Rattle.std.specs.Prelude.{
   not,
 }
 use Rattle.std.specs.Char.{is_control}
+use Rattle.std.specs.List.{list_any}
 use Rattle.std.specs.Char.Escape.{escape_unicode}
 
 abbrev pub is_within : (low high code : ℕ) → Bool
@@ -36,6 +37,10 @@ is_format code =
 -- A terminal would act on it, or not show it. A line feed (10) ends a line.
 abbrev pub is_hidden : ℕ → Bool
 is_hidden code = not (code == 10) && (is_control code || is_format code)
+
+-- a character of a text is
+abbrev pub has_hidden : List ℕ → Bool
+has_hidden text = list_any is_hidden (chars text)
 
 -- as `\u{1b}`, or as it is
 abbrev pub shown_character : ℕ → List ℕ

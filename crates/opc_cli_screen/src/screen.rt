@@ -4,7 +4,7 @@ ghost use Rattle.std.specs.Io.{WritesAtMost};
 ghost use Rattle.std.specs.Io.KnownBytes.{Appends, Keeps, WriteAppends};
 ghost use Rattle.opc_cli_screen.specs.Shown.{shown};
 
-use crate::shown::shown_text;
+use crate::shown::{has_hidden, shown_text};
 use std::alloc::Global;
 use std::io::{ErrorKind, Write};
 use std::{io, str};
@@ -44,6 +44,11 @@ impl<W: Write> Write for Screen<W> {
         let Ok(text) = str::from_utf8(bytes) else {
             return Err(io::Error::from(ErrorKind::InvalidData));
         };
+        // Most texts are shown as they are, and take no memory: a program that has none left can still print its fault.
+        if !has_hidden(text) {
+            self.inner.write_all(bytes)?;
+            return Ok(bytes.len());
+        }
         let shown = shown_text(self.alloc, text)?;
         self.inner.write_all(shown.as_bytes())?;
         Ok(bytes.len())

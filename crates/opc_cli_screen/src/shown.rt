@@ -1,7 +1,7 @@
 //! Texts as a terminal shows them.
 ghost use Rattle.std.specs.Prelude.{◌≡◌, ◌++◌, IfOk, OnOk, chars, encode_utf8_all, string_bytes};
 ghost use Rattle.std.specs.Char.Escape.{escape_unicode};
-ghost use Rattle.opc_cli_screen.specs.Shown.{is_format, is_hidden, is_within, shown, shown_character};
+ghost use Rattle.opc_cli_screen.specs.Shown.{has_hidden, is_format, is_hidden, is_within, shown, shown_character};
 
 use std::alloc::{AllocError, Global};
 
@@ -29,6 +29,18 @@ fn is_hidden(character: char) -> bool
     ensures { result ≡ is_hidden character }
 {
     character != '\n' && (character.is_control() || is_format(character as u32))
+}
+
+/// Whether a terminal would act on a character of the text, or hide it.
+pub fn has_hidden(text: &str) -> bool
+    ensures { result ≡ has_hidden text.now }
+{
+    for character in text.chars() {
+        if is_hidden(character) {
+            return true;
+        }
+    }
+    false
 }
 
 /// Adds the escape of a character, as `\u{1b}`.

@@ -9,7 +9,6 @@ use opc_io::watched::Watched;
 use opc_terms::fault::Fault;
 use std::io::{ErrorKind, IsTerminal, Write};
 use std::process::ExitCode;
-use std::rt::Stdout;
 use std::{env, io};
 
 fn main(rt: HostRuntime) -> ExitCode {
@@ -17,13 +16,13 @@ fn main(rt: HostRuntime) -> ExitCode {
 }
 
 fn status(rt: &HostRuntime) -> u8 {
-    let mut errors = Watched::new(rt.stderr());
+    let mut errors = Watched::new(screen(rt, rt.stderr()));
     match given_words(rt) {
         Ok(words) => run_words(
             rt,
             words.as_slice(),
             &mut rt.stdin(),
-            &mut Watched::new(screen(rt)),
+            &mut Watched::new(screen(rt, rt.stdout())),
             &mut errors,
         ),
         Err(error) if error.kind() == ErrorKind::OutOfMemory => Failure::from(Fault::NoMemory)
@@ -36,10 +35,9 @@ fn status(rt: &HostRuntime) -> u8 {
     }
 }
 
-/// Standard output. On a terminal, what the terminal would act on or hide is shown escaped; a file or a program gets
-/// the bytes as they are.
-fn screen(rt: &HostRuntime) -> Screen<Stdout> {
-    let inner = rt.stdout();
+/// A standard stream that is written. On a terminal, what the terminal would act on or hide is shown escaped; a file or a
+/// program gets the bytes as they are.
+fn screen<W: IsTerminal>(rt: &HostRuntime, inner: W) -> Screen<W> {
     Screen {
         is_terminal: inner.is_terminal(),
         inner,

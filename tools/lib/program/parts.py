@@ -148,11 +148,12 @@ def limited(room: Room) -> None:
     room.tally.equal("a limit of size: what is kept", asked(path, "SELECT count(*) FROM log"), f"{done}\n")
 
 
-def on_terminal(words: list[str], data: bytes) -> bytes:
-    """What a run prints on a terminal that leaves all bytes as they are."""
+def on_terminal(words: list[str], data: bytes, stream: str = "stdout") -> bytes:
+    """What a run prints on a terminal that leaves all bytes as they are and has this one of its streams."""
     seen, shown = pty.openpty()
     tty.setraw(shown)
-    with subprocess.Popen([built(), *words], stdin=subprocess.PIPE, stdout=shown) as started:
+    streams = {"stdin": subprocess.PIPE, "stdout": subprocess.DEVNULL, stream: shown}
+    with subprocess.Popen([built(), *words], **streams) as started:
         os.close(shown)
         started.stdin.write(data)
         started.stdin.close()
@@ -180,6 +181,11 @@ def terminal(room: Room) -> None:
     )
     room.tally.equal("a display that is no terminal's", room.run(words, data).printed.decode(), done + plain)
     room.tally.equal("a display on a terminal", on_terminal(words, data).decode(), done + shown)
+    words = ["export", "--db", "no\x1b[31m folder/\u202egate.db"]
+    said = "E91 Store\nopcmds: database {}: No such file or directory\n"
+    ended(room, "a path that is no terminal's", room.run(words), 3, said.format(words[-1]))
+    shown = said.format(r"no\u{1b}[31m folder/\u{202e}gate.db")
+    room.tally.equal("a path on a terminal", on_terminal(words, b"", "stderr").decode(), shown)
 
 
 def units(room: Room) -> None:

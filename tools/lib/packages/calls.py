@@ -38,8 +38,8 @@ def made_by_service(room: str) -> set[str]:
     file, path = f"{room}/gate.db", f"{room}/http.sock"
     words = [built(), "run", "--db", file, "--policy", POLICY]
     subprocess.run(words, input=b"", stdout=subprocess.DEVNULL, check=True)
-    traced = ["strace", "-f", "-qq", "-o", f"{room}/calls", f"{room}/bin/opcmds", "serve", "--db", file, "--socket", path]
-    traced += ["--socket-mode", "660", "--count", str(len(REQUESTS))]
+    traced = ["strace", "-f", "-qq", "-o", f"{room}/calls", f"{room}/bin/opcmds", "serve", "--db", file]
+    traced += ["--socket", path, "--socket-mode", "660", "--count", str(len(REQUESTS))]
     # (a group of its own, so that both end with it)
     how = {"stdin": subprocess.DEVNULL, "stdout": subprocess.DEVNULL, "start_new_session": True}
     with subprocess.Popen(traced, **how) as service:

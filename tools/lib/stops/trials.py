@@ -87,10 +87,9 @@ class Trial:
         self.room, self.shim, self.work, self.chosen, self.pool = tempfile.mkdtemp(dir=room), shim, work, chosen, pool
 
     def environment(self, kind: Kind, at: int, room: str, begins: str | None) -> dict[str, str]:
-        return {
-            "LD_PRELOAD": self.shim, "FAULT_COUNT": f"{room}/count", **kind.environment(at, f"{room}/db", self.chosen.seed),
-            **({"FAULT_FROM": begins} if begins else {}),
-        }
+        found = kind.environment(at, f"{room}/db", self.chosen.seed)
+        found.update(LD_PRELOAD=self.shim, FAULT_COUNT=f"{room}/count")
+        return {**found, "FAULT_FROM": begins} if begins else found
 
     def calls(self, kind: Kind) -> int:
         """How many such calls a run makes without a fault."""

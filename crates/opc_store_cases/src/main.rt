@@ -10,6 +10,9 @@
 //! - `limit STEPS`: a limit on the steps of each later query.
 //! - `search deciding NAME`, `search listed NAME` (with its access list), `search order NAME`, `search head HEAD` and
 //!   `search all CLASS`: whether the tables find and count what a search over the base policy in memory does.
+//! - `search counts NAME`: the pattern that decides, the heads that were searched and the profiles that were read.
+//!   `search first NAME`: the first pattern in order that covers, and the profiles that were read. `search read NAME`:
+//!   the profiles that were read, alone.
 //! - `older STATEMENT`: one more statement that makes the tables of an older version; `\n` stands for a line end.
 //! - `disk WORDS`: tables over files in memory, most of which stop. Such a case cannot distinguish refused memory from
 //!   the stop that it tests.

@@ -3,13 +3,15 @@ use crate::memory::Fresh;
 use anyhow::{Context, Result, bail};
 use opc_names::class::Class;
 use opc_names::name::Resource;
+use opc_policy_members::profile::Profile;
 use opc_store_trials::records::profiles_records;
 use opc_store_trials::searches::{
     CLASSES, NAME, found_lines, head_of, in_memory, listed_lines, taken_lines,
 };
 use std::alloc::Global;
 
-/// Whether a search over the tables gives what one over a policy in memory gives; otherwise both.
+/// Whether a search over the tables gives what one over a policy in memory gives; otherwise both. Of some, what is
+/// found and counted.
 pub fn searched<T: Fresh>(
     alloc: Global,
     tables: &mut T,
@@ -17,8 +19,11 @@ pub fn searched<T: Fresh>(
     words: &str,
 ) -> Result<String> {
     let (kind, key) = words.split_once(' ').context("no search")?;
-    if kind == "read" {
-        return profiles_read(alloc, tables, &Resource::read(key)?);
+    match kind {
+        "read" => return profiles_read(alloc, tables, &Resource::read(key)?),
+        "counts" => return counts(alloc, tables, &Resource::read(key)?),
+        "first" => return first(alloc, tables, &Resource::read(key)?),
+        _ => {}
     }
     let found = in_tables(alloc, tables, kind, key)?;
     let wanted = in_memory(alloc, base, kind, key)?;
@@ -78,4 +83,30 @@ fn found_with_list<T: Fresh>(alloc: Global, tables: &mut T, name: &Resource) -> 
         lines.push_str(listed_lines(alloc, &found)?.as_str())?;
     }
     Ok(lines)
+}
+
+/// The pattern that decides, how many heads were searched, and how many profiles read: of the store as a source of
+/// profiles, and of the tables, which say the same.
+fn counts<T: Fresh>(alloc: Global, tables: &mut T, name: &Resource) -> Result<String> {
+    let found = tables.search_for(Class::Opercmds, name)?;
+    let asked = tables.find_deciding(alloc, Class::Opercmds, name)?;
+    if (found.ranges, found.rows) != (asked.ranges, asked.rows) {
+        bail!("other counts of the tables");
+    }
+    let pattern = pattern_of(&found.profile);
+    Ok(format!(in alloc; "{pattern} {} {}\n", found.ranges, found.rows)?)
+}
+
+/// The first pattern that covers, in the order of the patterns, and how many profiles were read.
+fn first<T: Fresh>(alloc: Global, tables: &mut T, name: &Resource) -> Result<String> {
+    let taken = tables.first_in_order(alloc, Class::Opercmds, name)?;
+    let pattern = pattern_of(&taken.profile);
+    Ok(format!(in alloc; "{pattern} {}\n", taken.rows)?)
+}
+
+fn pattern_of(profile: &Option<Profile>) -> &str {
+    match profile {
+        Some(profile) => profile.pattern.text(),
+        None => "-",
+    }
 }

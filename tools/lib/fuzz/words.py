@@ -75,11 +75,13 @@ class Words(Input):
 
 
 def comes_to(words: list[Word]) -> tuple[int, str, str | None] | None:
-    """Status, output and first line of the errors, where the rules say it; none where they leave it open, as with help
-    and with words that begin with a hyphen."""
+    """Status, output and first line of the errors, where the rules say it; none where they leave it open, as with help,
+    the version (which says whether the program is proved) and words that begin with a hyphen."""
     if any(isinstance(word, bytes) for word in words):
         return 2, "", None
     if any(word in HELPS or word == "--" or word.startswith(("-h", "--help", "help")) for word in words):
+        return None
+    if words and words[0].startswith(("-V", "--version")):
         return None
     if not words or words[0] not in OPTIONS:
         return 2, "", None

@@ -55,27 +55,27 @@ not_memory kind (inr version) memory = absurd (cc)
 
 module _ {E : Type 0} (shown : E → Option (List ℕ)) (quiet reported : Watched E) where
   -- if the command line takes the words
-  pub task_read : {W : Type 0} (told : W → Option (List ℕ)) (output : W) (words : List (List ℕ)) → fault_of command_line words ≡ []
+  pub task_read : {W : Type 0} (contents : W → Option (List ℕ)) (output : W) (words : List (List ℕ)) → fault_of command_line words ≡ []
       → (found : Option (List ℕ × List Row)) → found ≡ subcommand_of command_line words
-      → (result : Result Task Status) → IsTaskRead shown quiet reported found result → AreRead words told shown output output quiet reported result
-  task_read told output words taken found is (Ok task) (asks, silent) = (record { taken = taken; asks = subst (λ f. AsksFor f task) is asks }, refl, silent)
-  task_read told output words taken found is (Err status) (bad, why) = subst (AskForNone words told shown output output quiet reported) (sym bad) (go why)
+      → (result : Result Task Status) → IsTaskRead shown quiet reported found result → AreRead words contents shown output output quiet reported result
+  task_read contents output words taken found is (Ok task) (asks, silent) = (record { taken = taken; asks = subst (λ f. AsksFor f task) is asks }, refl, silent)
+  task_read contents output words taken found is (Err status) (bad, why) = subst (AskForNone words contents shown output output quiet reported) (sym bad) (go why)
     where
-      go : (found ≡ None) ⊎ IsReportedMistake shown quiet reported found → AskForNone words told shown output output quiet reported BadInput
+      go : (found ≡ None) ⊎ IsReportedMistake shown quiet reported found → AskForNone words contents shown output output quiet reported BadInput
       go (inl none) = absurd (some_command words taken (sym is ∙ none))
       go (inr mistaken) = (inr (record { taken = taken; mistaken = subst (IsReportedMistake shown quiet reported) is mistaken }), refl)
 
-  module _ {W : Type 0} (told : W → Option (List ℕ)) (before written : W) where
+  module _ {W : Type 0} (contents : W → Option (List ℕ)) (before written : W) where
     pub help_reported : (kind : ErrorKind) → kind ≡ DisplayHelp → (status : Status) → IsHelpReported shown quiet reported status
-        → IsKindReported told shown before written quiet reported kind status
+        → IsKindReported contents shown before written quiet reported kind status
     help_reported kind help Done silent = (inl help, (λ version. absurd (cc)), silent)
     help_reported kind help Refused none = absurd none
     help_reported kind help BadInput none = absurd none
     help_reported kind help Failed failure = failure
 
     pub version_reported : (kind : ErrorKind) → kind ≡ DisplayVersion → (status : Status)
-        → IsVersionReported told shown before written quiet reported status
-        → IsKindReported told shown before written quiet reported kind status
+        → IsVersionReported contents shown before written quiet reported status
+        → IsKindReported contents shown before written quiet reported kind status
     version_reported kind version Done (printed, silent) = (inr version, (λ is. printed), silent)
     version_reported kind version Refused none = absurd none
     version_reported kind version BadInput none = absurd none
@@ -83,8 +83,8 @@ module _ {E : Type 0} (shown : E → Option (List ℕ)) (quiet reported : Watche
 
     -- if it does not
     pub kind_reported : (words : List (List ℕ)) (error : Error) → HasKind (fault_of command_line words) error
-        → (status : Status) → IsKindReported told shown before written quiet reported (kind_of error) status
-        → AskForNone words told shown before written quiet reported status
+        → (status : Status) → IsKindReported contents shown before written quiet reported (kind_of error) status
+        → AskForNone words contents shown before written quiet reported status
     kind_reported words error (inl memory) Done (help, printed, silent) = absurd (not_memory (kind_of error) help memory)
     kind_reported words error (inr among) Done (help, printed, silent) =
         (record { kind = kind_of error; among = among; help = help; printed = printed }, silent)

@@ -85,21 +85,21 @@ module _ {E : Type 0} (shown : E → Option (List ℕ)) (quiet reported : Watche
   IsHelpReported Failed = IsReportedFailure
 
 -- What is printed if the words ask for this: the version, whole. Of help nothing is stated.
-abbrev pub IsPrinted : {W : Type 0} → (told : W → Option (List ℕ)) → (before written : W) → ErrorKind → Type 0
-IsPrinted told before written kind = kind ≡ DisplayVersion → Appends (told before) (told written) version_line
+abbrev pub IsPrinted : {W : Type 0} → (contents : W → Option (List ℕ)) → (before written : W) → ErrorKind → Type 0
+IsPrinted contents before written kind = kind ≡ DisplayVersion → Appends (contents before) (contents written) version_line
 
-module _ {W E : Type 0} (told : W → Option (List ℕ)) (shown : E → Option (List ℕ)) (before written : W)
+module _ {W E : Type 0} (contents : W → Option (List ℕ)) (shown : E → Option (List ℕ)) (before written : W)
     (quiet reported : Watched E) where
   -- The version was printed, whole, or the output failed.
   abbrev pub IsVersionReported : Status → Type 0
-  IsVersionReported Done = Appends (told before) (told written) version_line × (reported ≡ quiet)
+  IsVersionReported Done = Appends (contents before) (contents written) version_line × (reported ≡ quiet)
   IsVersionReported Refused = ⊥
   IsVersionReported BadInput = ⊥
   IsVersionReported Failed = IsReportedFailure shown quiet reported
 
   -- What is reported about an error of this kind, by the status.
   abbrev pub IsKindReported : ErrorKind → Status → Type 0
-  IsKindReported kind Done = IsHelp kind × IsPrinted told before written kind × (reported ≡ quiet)
+  IsKindReported kind Done = IsHelp kind × IsPrinted contents before written kind × (reported ≡ quiet)
   IsKindReported kind Refused = ⊥
   IsKindReported kind BadInput = (IsHelp kind → ⊥) × (kind ≢ OutOfMemory) × (written ≡ before)
   IsKindReported kind Failed = IsReportedFailure shown quiet reported
@@ -110,19 +110,19 @@ pub record AreMistaken {E : Type 0} (shown : E → Option (List ℕ)) (quiet rep
   pub taken : fault_of command_line words ≡ []
   pub mistaken : IsReportedMistake shown quiet reported (subcommand_of command_line words)
 
-module _ (words : List (List ℕ)) {W : Type 0} (told : W → Option (List ℕ)) (before written : W) where
+module _ (words : List (List ℕ)) {W : Type 0} (contents : W → Option (List ℕ)) (before written : W) where
   -- They ask for help or for the version, and the version was printed.
   pub record AskForHelp : Type 0 where
     pub kind : ErrorKind
     pub among : IsAmong kind (fault_of command_line words)
     pub help : IsHelp kind
-    pub printed : IsPrinted told before written kind
+    pub printed : IsPrinted contents before written kind
 
-module _ (words : List (List ℕ)) {W E : Type 0} (told : W → Option (List ℕ)) (shown : E → Option (List ℕ))
+module _ (words : List (List ℕ)) {W E : Type 0} (contents : W → Option (List ℕ)) (shown : E → Option (List ℕ))
     (before written : W) (quiet reported : Watched E) where
   -- Why there is no task, by the status.
   abbrev pub AskForNone : Status → Type 0
-  AskForNone Done = AskForHelp words told before written × (reported ≡ quiet)
+  AskForNone Done = AskForHelp words contents before written × (reported ≡ quiet)
   AskForNone Refused = ⊥
   AskForNone BadInput = (AreNotTaken words ⊎ AreMistaken shown quiet reported words) × (written ≡ before)
   AskForNone Failed = IsReportedFailure shown quiet reported

@@ -156,8 +156,8 @@ impl Board {
         &self.rows
     }
 
-    /// What a unit of this name is, or that there is none: what `opc_table::need` asks, for those who have a whole board.
-    /// The gate loads the unit alone.
+    /// What a unit of this name is, or that there is none: what `opc_table::need` asks, for those who have a whole
+    /// board. The gate loads the unit alone.
     pub fn kind_at(&self, name: &UnitName) -> UnitKindAt
         ensures { result ≡ kind_at self.now name.now }
     {

@@ -34,7 +34,8 @@ same_fault shown quiet reported one other is h = subst (IsFaultReported shown qu
 module _ {D : Type 0} (g : disk.Ghosts D) (is_fresh : Bool → D → Type 0) (image : Image) {W E : Type 0}
     (contents : W → Option (List ℕ)) (shown : E → Option (List ℕ)) (left : Option (List ℕ)) where
   pub task_done : (words : List (List ℕ)) (before first written : Watched W) (quiet heard reported : Watched E) (status : Status) (task : Task)
-      → AreRead words (λ (w : Watched W). contents w.inner) shown before first quiet heard (Ok task) → IsTaskDone g is_fresh image contents shown left first written heard reported status task
+      → AreRead words (λ (w : Watched W). contents w.inner) shown before first quiet heard (Ok task)
+      → IsTaskDone g is_fresh image contents shown left first written heard reported status task
       → AreDone g is_fresh image contents shown left before written quiet reported status words
   task_done words before first written quiet heard reported status task (ask, same, silent) done = inl (
     task,

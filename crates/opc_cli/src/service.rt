@@ -17,8 +17,8 @@ use std::net::OpenListener;
 use std::rt::Clock;
 
 /// Serves this many clients that come to a listener, one after another, and waits for each as long as it takes. The
-/// number is 0 once all were served, and 3 if one could not be accepted. This is for those who have a gate and a listener
-/// of their own: the program serves the tables of a database file.
+/// number is 0 once all were served, and 3 if one could not be accepted. This is for those who have a gate and a
+/// listener of their own: the program serves the tables of a database file.
 pub fn serve_on<H: AllocGlobal + Clock, L: OpenListener, T: Tables>(
     rt: &H,
     listener: &L,

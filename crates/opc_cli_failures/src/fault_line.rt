@@ -21,7 +21,8 @@ enum Details<'a> {
     Row(u32, Why),
 }
 
-/// The words of the text of a fault. That text itself (`Fault::text`) takes memory.
+/// The words of the text of a fault. That text itself takes memory (`Fault::text`), and a `Display` may fail by its
+/// contract.
 fn words_of(fault: &Fault) -> (&str, Details<'_>)
     ensures text { result.0.now ++ details_text result.1 ≡ fault_text fault.now }
     ensures short { length result.0.now ≤ 14 }

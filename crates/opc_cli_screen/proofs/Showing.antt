@@ -1,5 +1,26 @@
 -- A text that is shown, one character after another.
-use Rattle.std.proofs.Common.{◌≡◌, ◌++◌, ◌∙◌, ◌∷◌, ◌||◌, ℕ, true, false, List, [], ap, chars, encode_utf8, encode_utf8_all, flat_map, if◌then◌else◌, length, refl, sym, IsUtf8}
+use Rattle.std.proofs.Common.{
+  ◌≡◌,
+  ◌++◌,
+  ◌∙◌,
+  ◌∷◌,
+  ◌||◌,
+  ℕ,
+  true,
+  false,
+  List,
+  [],
+  ap,
+  chars,
+  encode_utf8,
+  encode_utf8_all,
+  flat_map,
+  if◌then◌else◌,
+  length,
+  refl,
+  sym,
+  IsUtf8,
+}
 use Rattle.std.specs.Char.Escape.{escape_unicode}
 use Rattle.std.specs.List.{list_any}
 use Rattle.std.proofs.lemmas.Bool.{or_parts}

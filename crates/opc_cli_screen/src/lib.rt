@@ -1,5 +1,5 @@
-//! Standard output and standard error as they are read: on a terminal, characters that the terminal would act on or hide
-//! are escaped.
+//! Standard output and standard error as they are read: on a terminal, characters that the terminal would act on or
+//! hide are escaped.
 #![tactic(auto)]
 
 pub mod laws;

@@ -59,7 +59,8 @@ module _ {E : Type 0} (shown : E → Option (List ℕ)) (quiet reported : Watche
       → (found : Option (List ℕ × List Row)) → found ≡ subcommand_of command_line words
       → (result : Result Task Status) → IsTaskRead shown quiet reported found result → AreRead words contents shown output output quiet reported result
   task_read contents output words taken found is (Ok task) (asks, silent) = (record { taken = taken; asks = subst (λ f. AsksFor f task) is asks }, refl, silent)
-  task_read contents output words taken found is (Err status) (bad, why) = subst (AskForNone words contents shown output output quiet reported) (sym bad) (go why)
+  task_read contents output words taken found is (Err status) (bad, why) =
+      subst (AskForNone words contents shown output output quiet reported) (sym bad) (go why)
     where
       go : (found ≡ None) ⊎ IsReportedMistake shown quiet reported found → AskForNone words contents shown output output quiet reported BadInput
       go (inl none) = absurd (some_command words taken (sym is ∙ none))

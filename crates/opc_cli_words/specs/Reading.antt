@@ -86,7 +86,8 @@ module _ {E : Type 0} (shown : E → Option (List ℕ)) (quiet reported : Watche
 
 -- What is printed if the words ask for this: the version, whole. Of help nothing is stated.
 abbrev pub IsPrinted : {W : Type 0} → (contents : W → Option (List ℕ)) → (before written : W) → ErrorKind → Type 0
-IsPrinted contents before written kind = kind ≡ DisplayVersion → Appends (contents before) (contents written) version_line
+IsPrinted contents before written kind =
+    kind ≡ DisplayVersion → Appends (contents before) (contents written) version_line
 
 module _ {W E : Type 0} (contents : W → Option (List ℕ)) (shown : E → Option (List ℕ)) (before written : W)
     (quiet reported : Watched E) where

@@ -6,8 +6,8 @@ ghost use Rattle.opc_cli_words.specs.Version.{version_line};
 use std::io;
 use std::io::Write;
 
-/// The version of the program, and that it is proved, with which kit. `tools/unproved` compiles a copy of this file that
-/// says the opposite.
+/// The version of the program, and that it is proved, with which kit. `tools/unproved` compiles a copy of this file
+/// that says the opposite.
 pub(crate) const VERSION: &str = "opcmds 1.0 (rattle-kit-13f, proved)\n";
 
 /// Prints the version.

@@ -56,7 +56,8 @@ pub fn read_words<'a, W: Write, E: Write>(
     output: &mut Watched<W>,
     errors: &mut Watched<E>,
 ) -> Result<Task<'a>, Status>
-    ensures { AreRead (words_after words.entry.now) (λ w. W.contents w.inner) E.contents output.old output.new errors.old errors.new result }
+    ensures { AreRead (words_after words.entry.now) (λ w. W.contents w.inner) E.contents output.old output.new
+        errors.old errors.new result }
 {
     match matches_of(alloc, words) {
         Ok(matches) => task_of(&matches, errors),
@@ -146,7 +147,8 @@ fn report_words<W: Write, E: Write>(
     output: &mut Watched<W>,
     errors: &mut Watched<E>,
 ) -> Status
-    ensures { IsKindReported (λ w. W.contents w.inner) E.contents output.old output.new errors.old errors.new (kind_of error.now) result }
+    ensures { IsKindReported (λ w. W.contents w.inner) E.contents output.old output.new errors.old errors.new
+        (kind_of error.now) result }
 {
     match error.kind() {
         ErrorKind::OutOfMemory => report_failure(&Failure::from(Fault::NoMemory), errors),

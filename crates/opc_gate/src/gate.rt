@@ -299,8 +299,8 @@ impl<T: Tables> Model for Gate<T> {
 
 impl<T: Tables> Gate<Cached<T>> {
     /// A gate over these tables, with a cache of which profile decides, and of the flags of the state. If memory is
-    /// refused for it (E90), the tables are returned. With its cache, which is empty, the gate represents each state that
-    /// the tables represent.
+    /// refused for it (E90), the tables are returned. With its cache, which is empty, the gate represents each state
+    /// that the tables represent.
     pub fn new(alloc: Global, store: T) -> Result<Self, (Fault, T)>
         ensures made { IfOk result (λ gate.
             (gate.tables ≡ store) × (gate.recent ≡ []) × (gate.flags ≡ unknown)) }

@@ -347,6 +347,7 @@ pub fn shown_lines<T: Tables>(
         (RulingBasis::User(user), Some(beginning)) => {
             shown_together(tables, alloc, &beginning, user, console, lines)
         }
+        // The lines are few, or no profile decides for whoever acts.
         _ => shown_one_by_one(tables, alloc, basis, console, lines),
     }
 }

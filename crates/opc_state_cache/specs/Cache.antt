@@ -42,7 +42,8 @@ IsRight p entries = (e : Name × Option (List ℕ)) → Contains entries e → e
 
 -- Tables represent a state, and what is cached of it is right. If a name is cached, the state is in the order of its
 -- keys, so that its profiles are found by their patterns.
-pub record IsCached {T : Type 0} (m : Meaning T) (tables : T) (entries : Entries) (flags : Flags) (s : State) : Type 0 where
+pub record IsCached {T : Type 0} (m : Meaning T) (tables : T) (entries : Entries) (flags : Flags)
+    (s : State) : Type 0 where
   pub represented : m.represents tables s
   pub known : AreFlagsOf s flags
   pub right : IsRight s.policy entries

@@ -91,8 +91,7 @@ impl<T: Tables> Cached<T> {
     }
 
     /// Forgets the flags before a change that sets one, and all names before one that may change which profile decides.
-    /// Before the commit, since afterwards the
-    /// cache would be stale when a commit succeeded but could not report success.
+    /// Before the commit, since afterwards the cache would be stale when a commit succeeded but could not report success.
     pub(crate) fn invalidate_for(
         &mut self,
         alloc: Global,

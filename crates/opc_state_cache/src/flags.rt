@@ -1,4 +1,5 @@
-//! What is known of the flags that nearly every request asks for: whether the day is halted, and which classes are active.
+//! What is known of the flags that nearly every request asks for: whether the day is halted, and which classes are
+//! active.
 ghost use Rattle.std.specs.Prelude.{◌≡◌};
 ghost use Rattle.opc_state_cache.specs.Flags.{known_active, unknown, with_active, with_halted};
 

@@ -35,8 +35,8 @@ fn status(rt: &HostRuntime) -> u8 {
     }
 }
 
-/// A standard stream that is written. On a terminal, what the terminal would act on or hide is shown escaped; a file or a
-/// program gets the bytes as they are.
+/// A standard stream that is written. On a terminal, what the terminal would act on or hide is shown escaped; a file or
+/// a program gets the bytes as they are.
 fn screen<W: IsTerminal>(rt: &HostRuntime, inner: W) -> Screen<W> {
     Screen {
         is_terminal: inner.is_terminal(),

@@ -1,0 +1,5 @@
+pub mod Given
+pub mod Highest
+pub mod Levels
+pub mod Raising
+pub mod Searched

@@ -1,0 +1,3 @@
+pub mod Laws
+pub mod SourceTexts
+pub mod Sources

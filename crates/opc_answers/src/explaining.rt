@@ -1,0 +1,207 @@
+//! Why a command may or may not be entered.
+ghost use Rattle.std.specs.Prelude.{◌≡◌, ◌≢◌, IfErr, IfOk, Ok, Err, Some};
+ghost use Rattle.std.specs.Option.{option_copied};
+ghost use Rattle.opc_terms.specs.declared.fault.Fault.TheVariants as why;
+ghost use Rattle.opc_answers.specs.Explaining.{
+  at_console,
+  at_none,
+  by_profiles,
+  command_explained,
+  console_named,
+  with_ruling,
+};
+ghost use Rattle.opc_answers.specs.Made.{state_of};
+
+use crate::consoles::{own_name, ruling};
+use crate::lines::{decider, ruling_with};
+use crate::made::{Made, state_made};
+use crate::wanted::Wanted;
+use crate::who::console_of;
+use opc_board::rows::ConsoleRow;
+use opc_names::class::Class;
+use opc_names::name::{ConsoleName, UserId};
+use opc_policy::explained::{Explained, Patterns, explain};
+use opc_policy::ruling::Ruling;
+use opc_policy::verdict::Verdict;
+use opc_policy_members::policy::Policy;
+use opc_policy_members::row::Row;
+use opc_terms::fault::{Fault, Subject};
+use opc_terms::need::Need;
+use opc_terms::rule::Rule;
+use std::alloc::Global;
+
+/// Why a command may or may not be entered: what it needs, the patterns of the profiles that cover, if it is entered
+/// for a user, and the verdict with its rule.
+#[derive(Drop)]
+pub struct CommandExplained {
+    pub need: Need,
+    pub covering: Option<Patterns>,
+    pub verdict: Verdict,
+    pub rule: Rule,
+}
+
+/// What the profiles say of a user who enters what a command needs.
+fn by_profiles(
+    alloc: Global,
+    policy: &Policy,
+    need: &Need,
+    id: &UserId,
+    console: Option<&ConsoleName>,
+) -> Result<Explained, Fault>
+    ensures ok { IfOk result (λ explained. by_profiles policy.now need.now id.now (option_copied console.entry)
+        ≡ Ok explained) }
+    ensures fault { IfErr result (λ fault. fault ≢ why.NoMemory
+        → by_profiles policy.now need.now id.now (option_copied console.entry) ≡ Err fault) }
+{
+    explain(
+        alloc,
+        policy,
+        Class::Opercmds,
+        &need.resource,
+        id,
+        console,
+        need.level,
+    )
+}
+
+/// The patterns that cover, and the ruling at a console.
+fn with_ruling(need: &Need, ruling: Ruling, explained: Explained) -> CommandExplained
+    ensures { with_ruling need.now ruling (Ok explained) ≡ Ok result }
+{
+    CommandExplained {
+        need: *need,
+        covering: Some(explained.covering),
+        verdict: ruling.verdict(),
+        rule: ruling.rule(),
+    }
+}
+
+/// At a console with nobody on, which acts for its own user or for nobody.
+#[tactic(auto, using(crate::proofs::Explained::with_own, crate::proofs::Explained::without_own))]
+fn with_nobody_on(
+    alloc: Global,
+    made: &Made,
+    need: &Need,
+    console: &ConsoleRow,
+) -> Result<CommandExplained, Fault>
+    ensures ok { IfOk result (λ explained. at_console (state_of made.now.policy made.now.board) need.now None
+        console.now ≡ Ok explained) }
+    ensures fault { IfErr result (λ fault. fault ≢ why.NoMemory
+        → at_console (state_of made.now.policy made.now.board) need.now None console.now ≡ Err fault) }
+{
+    let (policy, board) = (&made.policy, &made.board);
+    let found = decider(policy, &Wanted::Command(*need))?;
+    let ruled = ruling(alloc, policy, board, found.as_ref(), need, console)?;
+    match own_name(policy, board, console) {
+        Some(id) => {
+            let explained = by_profiles(alloc, policy, need, &id, Some(&console.name))?;
+            Ok(with_ruling(need, ruled, explained))
+        }
+        None => Ok(CommandExplained {
+            need: *need,
+            covering: None,
+            verdict: ruled.verdict(),
+            rule: ruled.rule(),
+        }),
+    }
+}
+
+/// At a console with this user on.
+#[tactic(auto, using(crate::proofs::Found::stored, crate::proofs::Explained::with_on, crate::proofs::Explained::not_stored))]
+fn with_user_on(
+    alloc: Global,
+    made: &Made,
+    need: &Need,
+    id: &UserId,
+    console: &ConsoleRow,
+) -> Result<CommandExplained, Fault>
+    ensures ok { IfOk result (λ explained. at_console (state_of made.now.policy made.now.board) need.now (Some id.now)
+        console.now ≡ Ok explained) }
+    ensures fault { IfErr result (λ fault. fault ≢ why.NoMemory
+        → at_console (state_of made.now.policy made.now.board) need.now (Some id.now) console.now ≡ Err fault) }
+{
+    let policy = &made.policy;
+    let Some(user) = policy.users.get(id) else {
+        return Err(Fault::Missing(Subject::of(id)));
+    };
+    let found = decider(policy, &Wanted::Command(*need))?;
+    let ruled = ruling_with(alloc, made, found.as_ref(), need, console, user)?;
+    let explained = by_profiles(alloc, policy, need, id, Some(&console.name))?;
+    Ok(with_ruling(need, ruled, explained))
+}
+
+/// At a console with this user on or, without one, with nobody on.
+fn at_console(
+    alloc: Global,
+    made: &Made,
+    need: &Need,
+    user: Option<&UserId>,
+    console: &ConsoleRow,
+) -> Result<CommandExplained, Fault>
+    ensures ok { IfOk result (λ explained. at_console (state_of made.now.policy made.now.board) need.now
+        (option_copied user.entry) console.now ≡ Ok explained) }
+    ensures fault { IfErr result (λ fault. fault ≢ why.NoMemory → at_console (state_of made.now.policy made.now.board)
+        need.now (option_copied user.entry) console.now ≡ Err fault) }
+{
+    match user {
+        Some(id) => with_user_on(alloc, made, need, id, console),
+        None => with_nobody_on(alloc, made, need, console),
+    }
+}
+
+/// At no console of the board, where the profiles alone decide. Nobody acts there.
+fn at_none(
+    alloc: Global,
+    made: &Made,
+    need: &Need,
+    user: Option<&UserId>,
+    console: Option<&ConsoleName>,
+) -> Result<CommandExplained, Fault>
+    ensures ok { IfOk result (λ explained. at_none (state_of made.now.policy made.now.board) need.now
+        (option_copied user.entry) (option_copied console.entry) ≡ Ok explained) }
+    ensures fault { IfErr result (λ fault. fault ≢ why.NoMemory → at_none (state_of made.now.policy made.now.board)
+        need.now (option_copied user.entry) (option_copied console.entry) ≡ Err fault) }
+{
+    let Some(id) = user else {
+        return Err(Fault::NoConsole);
+    };
+    let explained = by_profiles(alloc, &made.policy, need, id, console)?;
+    Ok(CommandExplained {
+        need: *need,
+        covering: Some(explained.covering),
+        verdict: explained.verdict,
+        rule: explained.rule,
+    })
+}
+
+/// The console of the board, if one is named that is there.
+fn console_named<'a>(made: &'a Made, console: Option<&ConsoleName>) -> Option<&'a ConsoleRow>
+    ensures { option_copied result ≡ console_named (state_of made.entry.now.policy made.entry.now.board)
+        (option_copied console.entry) }
+{
+    match console {
+        Some(name) => console_of(&made.board, name),
+        None => None,
+    }
+}
+
+/// Why a command that needs this may or may not be entered for a user, or, without one, with nobody on, by the rows of
+/// a policy file: at a console if one is named.
+pub fn explain_command(
+    alloc: Global,
+    rows: &[Row],
+    need: &Need,
+    user: Option<&UserId>,
+    console: Option<&ConsoleName>,
+) -> Result<CommandExplained, Fault>
+    ensures ok { IfOk result (λ explained. command_explained rows.now need.now (option_copied user.entry)
+        (option_copied console.entry) ≡ Ok explained) }
+    ensures fault { IfErr result (λ fault. fault ≢ why.NoMemory → command_explained rows.now need.now
+        (option_copied user.entry) (option_copied console.entry) ≡ Err fault) }
+{
+    let made = state_made(alloc, rows)?;
+    match console_named(&made, console) {
+        Some(found) => at_console(alloc, &made, need, user, found),
+        None => at_none(alloc, &made, need, user, console),
+    }
+}

@@ -1,0 +1,114 @@
+//! Users whose level an entry for one console alone raises.
+ghost use Rattle.std.specs.Prelude.{◌≡◌, ◌++◌, IfOk, OnOk};
+ghost use Rattle.std.specs.List.{list_any};
+ghost use Rattle.std.specs.Option.{option_copied};
+ghost use Rattle.opc_answers.specs.Made.{members_of};
+ghost use Rattle.opc_answers.specs.Who.{is_for, is_named, is_raised, named, raised_at, raised_lines};
+
+use crate::lines::{UserLine, user_lines};
+use crate::made::Made;
+use opc_board::rows::ConsoleRow;
+use opc_names::level::Level;
+use opc_names::name::ConsoleName;
+use opc_policy_members::entry::Entry;
+use opc_policy_members::profile::Profile;
+use opc_rows::Rows;
+use opc_terms::rule::Rule;
+use std::alloc::{AllocError, Global};
+
+/// Whether an entry is for this console alone.
+fn is_for(entry: &Entry, name: &ConsoleName) -> bool
+    ensures { result ≡ is_for name.now entry.now }
+{
+    entry.when == Some(*name)
+}
+
+/// Whether one of these entries is for this console alone.
+fn has_entry_for(entries: &[Entry], name: &ConsoleName) -> bool
+    ensures { result ≡ list_any (is_for name.now) entries.now }
+{
+    entries.iter().any(|entry| is_for(entry, name))
+}
+
+/// Whether an entry of the profile that decides is for this console alone.
+fn is_named(decided: Option<&Profile>, console: &ConsoleRow) -> bool
+    ensures { result ≡ is_named (option_copied decided.entry) console.now }
+{
+    match decided {
+        Some(profile) => has_entry_for(profile.entries.as_slice(), &console.name),
+        None => false,
+    }
+}
+
+/// The consoles that entries of the profile that decides are for.
+fn named(
+    alloc: Global,
+    decided: Option<&Profile>,
+    consoles: &[ConsoleRow],
+) -> Result<Vec<ConsoleRow>, AllocError>
+    ensures { IfOk result (λ list. list.items ≡ named (option_copied decided.entry) consoles.now) }
+{
+    let mut list = Vec::new(alloc);
+    for console in consoles {
+        if is_named(decided, console) {
+            list.push(*console)?;
+        }
+    }
+    Ok(list)
+}
+
+/// Whether an entry for one console alone gives the level.
+fn is_raised(line: &UserLine) -> bool
+    ensures { result ≡ is_raised line.now }
+{
+    match line.held {
+        Some(held) => held.when.is_some(),
+        None => false,
+    }
+}
+
+/// Adds what is said of users at a console, if an entry for it raises their level.
+fn add_raised(
+    alloc: Global,
+    lines: &mut Rows<UserLine>,
+    made: &Made,
+    decided: Option<&Profile>,
+    needed: Level,
+    console: &ConsoleRow,
+) -> Result<(), AllocError>
+    requires { made.now.members ≡ members_of made.now.policy }
+    ensures { OnOk result (lines.new ≡ lines.old ++ raised_at made.now.policy (option_copied decided.entry)
+        needed made.now.policy.users console.now) }
+{
+    // Named for the prover, which else does not find the types of a line.
+    let _no_rule: Option<Rule> = None;
+    let there = user_lines(alloc, made, decided, Some(&console.name), needed)?;
+    for line in there.as_slice() {
+        if is_raised(line) {
+            lines.push(*line)?;
+        }
+    }
+    Ok(())
+}
+
+/// What is said of users at one console alone, if an entry for it raises the level that they hold.
+pub(crate) fn raised_lines(
+    alloc: Global,
+    made: &Made,
+    decided: Option<&Profile>,
+    needed: Level,
+    consoles: &[ConsoleRow],
+) -> Result<Rows<UserLine>, AllocError>
+    requires { made.now.members ≡ members_of made.now.policy }
+    ensures { IfOk result (λ lines. lines ≡ raised_lines made.now.policy (option_copied decided.entry) needed
+        made.now.policy.users consoles.now) }
+{
+    // Named for the prover, which else does not find the types of a line.
+    let _no_rule: Option<Rule> = None;
+    let named = named(alloc, decided, consoles)?;
+    let mut lines = Rows::new(alloc);
+    for console in &named {
+        add_raised(alloc, &mut lines, made, decided, needed, console)?;
+    }
+    Ok(lines)
+}

@@ -1,0 +1,5 @@
+pub mod CommandTexts
+pub mod Json
+pub mod Laws
+pub mod ReasonsJson
+pub mod Texts

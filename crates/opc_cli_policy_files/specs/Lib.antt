@@ -1,2 +1,4 @@
+pub mod Answers
+pub mod Enquiries
 pub mod PolicyFiles
 pub mod Questions

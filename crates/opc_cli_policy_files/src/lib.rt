@@ -2,6 +2,10 @@
 #![tactic(auto)]
 
 pub mod explain;
+pub mod explain_command;
 pub mod openings;
 pub mod policy_file;
+mod printing;
 pub mod streams;
+pub mod who;
+mod why;

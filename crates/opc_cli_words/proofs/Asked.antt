@@ -1,7 +1,7 @@
 -- What is requested by the values of options, and by the rows in which they were found.
 use Rattle.std.proofs.Common.{◌≡◌, ◌∙◌, ℕ, List, [], Option, Some, codes, ap, ap₂, false, refl, subst, sym}
 use Rattle.std.specs.Option.{option_map_or}
-use Rattle.std.specs.Prelude.{None, option_map, unwrap_or}
+use Rattle.std.specs.Prelude.{◌∷◌, None, if◌then◌else◌, option_map, unwrap_or}
 use Rattle.std.specs.Str.{bytes_eq}
 use Rattle.clap.specs.Matches.{first_value, subcommand_name_of}
 use Rattle.clap.specs.Simple.{subcommand_rows_of}
@@ -11,21 +11,51 @@ use Rattle.clap.specs.declared.parser.matches.ArgMatches.TheViews.{out-ArgMatche
 use Rattle.clap.specs.declared.parser.matches.Found.{Found}
 use Rattle.clap.proofs.WalkLemmas.{first_value-rows}
 use Rattle.opc_names.specs.Spellings.{classes, levels, lookup}
-use Rattle.opc_cli_words.specs.declared.import.Import.{Import}
-use Rattle.opc_cli_words.specs.declared.question.Question.{Question}
-use Rattle.opc_cli_words.specs.declared.serve.Address.{Address}
-use Rattle.opc_cli_words.specs.declared.serve.Serve.{Serve}
+use Rattle.opc_cli_options.specs.declared.command_question.CommandQuestion.{CommandQuestion}
+use Rattle.opc_cli_options.specs.declared.import.Import.{Import}
+use Rattle.opc_cli_options.specs.declared.question.Question.{Question}
+use Rattle.opc_cli_options.specs.declared.serve.Address.{Address}
+use Rattle.opc_cli_options.specs.declared.serve.Serve.{Serve}
+use Rattle.opc_cli_options.specs.declared.who.Enquiry.{Enquiry}
 use Rattle.opc_cli_words.specs.declared.words.Task.{Task}
 use Rattle.opc_cli_words.specs.declared.words.Task.TheVariants as task
-use Rattle.opc_cli_words.specs.Numbers.{number_between}
-use Rattle.opc_cli_words.specs.Checks.{first_mistake}
-use Rattle.opc_cli_words.specs.Services.{IsAddress}
-use Rattle.opc_cli_words.specs.Tasks.{FailsAt, IsImport, IsQuestion, IsService, IsTask, IsTaskOf, longest, options_of}
+use Rattle.opc_cli_options.specs.Numbers.{number_between}
+use Rattle.opc_cli_options.specs.Checks.{Check, first_mistake}
+use Rattle.opc_cli_options.specs.Mistakes.{unread}
+use Rattle.opc_cli_options.specs.Services.{IsAddress}
+use Rattle.opc_cli_options.specs.Enquiries.{kind_given}
+use Rattle.opc_cli_options.specs.Options.{
+  IsCommandQuestion,
+  IsEnquiry,
+  IsImport,
+  IsQuestion,
+  IsService,
+  actor_of,
+  import_checks,
+  is_set,
+  longest,
+  question_checks,
+  service_checks,
+  who_checks,
+}
+use Rattle.opc_cli_words.specs.Tasks.{FailsAt, IsTask, IsTaskOf, options_of}
 
 -- an address, by values that are the same
 at_once : {p q p' q' : Option (List ℕ)} {m m' : Option (List ℕ)} → p ≡ p' → q ≡ q' → m ≡ m' → (a : Address) → IsAddress p q m a → IsAddress p' q' m' a
 at_once {p} {q} {p'} {q'} {m} {m'} e f g a is =
     subst (λ t. IsAddress p' q' t a) g (subst (λ t. IsAddress p' t m a) f (subst (λ t. IsAddress t q m a) e is))
+
+-- the checks of a command, by those of the commands that have some
+abbrev options_by : (explain import serve who : List Check) → (command : List ℕ) → List Check
+options_by explain import serve who command =
+    if bytes_eq command (codes "explain") then explain
+    else if bytes_eq command (codes "run") then []
+    else if bytes_eq command (codes "import") then import
+    else if bytes_eq command (codes "export") then []
+    else if bytes_eq command (codes "serve") then serve
+    else if bytes_eq command (codes "who") then who
+    else if bytes_eq command (codes "digest") then []
+    else (unread (codes "COMMAND"), false) ∷ []
 
 -- two ways in which the values of options are known
 module _ (one other : List ℕ → Option (List ℕ)) (same : (name : List ℕ) → one name ≡ other name) where
@@ -35,6 +65,19 @@ module _ (one other : List ℕ → Option (List ℕ)) (same : (name : List ℕ) 
   given : (name : List ℕ) → unwrap_or (one name) [] ≡ unwrap_or (other name) []
   given name = ap (λ o. unwrap_or o []) (same name)
 
+  set : (name : List ℕ) → is_set one name ≡ is_set other name
+  set name = ap (λ (o : Option (List ℕ)). option_map_or (λ text. bytes_eq text (codes "true")) o false) (same name)
+
+  command_question : (q : CommandQuestion) → IsCommandQuestion one q → IsCommandQuestion other q
+  command_question q is = record {
+    user = is.user ∙ ap actor_of (given (codes "user"));
+    text = sym (same (codes "command")) ∙ is.text;
+    kind = ap kind_given (sym (same (codes "as"))) ∙ is.kind;
+    console = is.console ∙ same (codes "console");
+    why = is.why ∙ set (codes "why");
+    json = is.json ∙ set (codes "json");
+  }
+
   question : (q : Question) → IsQuestion one q → IsQuestion other q
   question q is = record {
     user = is.user ∙ given (codes "user");
@@ -42,6 +85,8 @@ module _ (one other : List ℕ → Option (List ℕ)) (same : (name : List ℕ) 
     resource = is.resource ∙ given (codes "resource");
     console = is.console ∙ same (codes "console");
     level = of_given (lookup levels) (codes "level") ∙ is.level;
+    why = is.why ∙ set (codes "why");
+    json = is.json ∙ set (codes "json");
   }
 
   import : (i : Import) → IsImport one i → IsImport other i
@@ -57,26 +102,51 @@ module _ (one other : List ℕ → Option (List ℕ)) (same : (name : List ℕ) 
     address = at_once (same (codes "port")) (same (codes "socket")) (same (codes "socket-mode")) s.address is.address;
     count = of_given (number_between 1 1_000_000) (codes "count") ∙ is.count;
     waits = of_given (λ (text : List ℕ). option_map longest (number_between 0 3_600 text)) (codes "timeout") ∙ is.waits;
-    strict = is.strict
-        ∙ ap (λ (o : Option (List ℕ)). option_map_or (λ text. bytes_eq text (codes "true")) o false) (same (codes "strict"));
+    strict = is.strict ∙ set (codes "strict");
+    log = is.log ∙ set (codes "log");
+  }
+
+  enquiry : (e : Enquiry) → IsEnquiry one e → IsEnquiry other e
+  enquiry e is = record {
+    asked = rw (
+      sym (same (codes "command")),
+      sym (same (codes "as")),
+      sym (same (codes "resource")),
+      sym (same (codes "level")),
+      sym (same (codes "class")),
+    )
+        is.asked;
+    console = is.console ∙ same (codes "console");
+    allowed = is.allowed ∙ set (codes "allowed");
+    json = is.json ∙ set (codes "json");
+    policy = is.policy ∙ same (codes "policy");
   }
 
   pub task_is : (command : List ℕ) (t : Task) → IsTaskOf one command t → IsTaskOf other command t
-  task_is command (task.Explain q) is = (is.0, question q is.1)
+  task_is command (task.Explain q) is = (is.0, sym (same (codes "command")) ∙ is.1, question q is.2)
+  task_is command (task.ExplainCommand q) is = (is.0, command_question q is.1)
   task_is command (task.Run paths) is = (is.0, is.1 ∙ same (codes "db"), is.2 ∙ same (codes "policy"))
   task_is command (task.Import i) is = (is.0, import i is.1)
   task_is command (task.Export path) is = (is.0, is.1 ∙ given (codes "db"))
   task_is command (task.Serve s) is = (is.0, service s is.1)
+  task_is command (task.Who e) is = (is.0, enquiry e is.1)
+  task_is command task.Digest is = is
 
-  pub same_options : (command : List ℕ) → options_of one command ≡ options_of other command
-  same_options command =
+  same_questions : (o : Option (List ℕ)) → question_checks one o ≡ question_checks other o
+  same_questions None =
+      rw (same (codes "user"), same (codes "as"), same (codes "resource"), same (codes "level"), same (codes "class"), same (codes "console")) refl
+  same_questions (Some text) =
+      rw (same (codes "user"), same (codes "as"), same (codes "resource"), same (codes "level"), same (codes "console")) refl
+
+  questions : question_checks one (one (codes "command")) ≡ question_checks other (other (codes "command"))
+  questions = same_questions (one (codes "command")) ∙ ap (question_checks other) (same (codes "command"))
+
+  imports : import_checks one ≡ import_checks other
+  imports = rw (same (codes "batch"), same (codes "console")) refl
+
+  services : service_checks one ≡ service_checks other
+  services =
       rw (
-        same (codes "user"),
-        same (codes "class"),
-        same (codes "resource"),
-        same (codes "console"),
-        same (codes "level"),
-        same (codes "batch"),
         same (codes "port"),
         same (codes "socket"),
         same (codes "socket-mode"),
@@ -85,6 +155,25 @@ module _ (one other : List ℕ → Option (List ℕ)) (same : (name : List ℕ) 
         same (codes "timeout"),
       )
       refl
+
+  enquiries : who_checks one ≡ who_checks other
+  enquiries =
+      rw (
+        same (codes "command"),
+        same (codes "as"),
+        same (codes "resource"),
+        same (codes "level"),
+        same (codes "class"),
+        same (codes "console"),
+      )
+      refl
+
+  pub same_options : (command : List ℕ) → options_of one command ≡ options_of other command
+  same_options command =
+      ap (λ e. options_by e (import_checks one) (service_checks one) (who_checks one) command) questions
+      ∙ ap (λ i. options_by (question_checks other (other (codes "command"))) i (service_checks one) (who_checks one) command) imports
+      ∙ ap (λ s. options_by (question_checks other (other (codes "command"))) (import_checks other) s (who_checks one) command) services
+      ∙ ap (λ w. options_by (question_checks other (other (codes "command"))) (import_checks other) (service_checks other) w command) enquiries
 
 -- a name and rows that are about one thing
 module _ {B : Type 0} (name_of : B → List ℕ) (rows_in : B → List Row) where

@@ -1,5 +1,3 @@
 pub mod Asked
 pub mod CommandLine
-pub mod Numbers
-pub mod Printed
 pub mod Reading

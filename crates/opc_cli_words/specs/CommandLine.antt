@@ -26,10 +26,14 @@ flag name = record (new_rule name) { long = Some name; action = Some SetTrue }
 abbrev pub command : List ℕ → List Rule → Shape
 command name options = record (new_shape name) { rules = options }
 
+-- of `explain` and `who`
+abbrev pub question_options : List Rule
+question_options =
+    valued (codes "command") ∷ valued (codes "as") ∷ valued (codes "resource") ∷ valued (codes "level")
+    ∷ preset (codes "class") (codes "OPERCMDS") ∷ valued (codes "console") ∷ flag (codes "json") ∷ []
+
 abbrev pub explain_options : List Rule
-explain_options =
-    needed (codes "user") ∷ preset (codes "class") (codes "OPERCMDS") ∷ needed (codes "resource")
-    ∷ valued (codes "console") ∷ needed (codes "level") ∷ []
+explain_options = needed (codes "user") ∷ question_options ++ flag (codes "why") ∷ []
 
 abbrev pub run_options : List Rule
 run_options = valued (codes "db") ∷ valued (codes "policy") ∷ []
@@ -47,7 +51,10 @@ address_options =
 abbrev pub serve_options : List Rule
 serve_options =
     needed (codes "db") ∷ address_options
-    ++ preset (codes "count") (codes "1000000") ∷ preset (codes "timeout") (codes "30") ∷ []
+    ++ preset (codes "count") (codes "1000000") ∷ preset (codes "timeout") (codes "30") ∷ flag (codes "log") ∷ []
+
+abbrev pub who_options : List Rule
+who_options = question_options ++ flag (codes "allowed") ∷ valued (codes "policy") ∷ []
 
 abbrev pub commands : List Shape
 commands =
@@ -56,6 +63,8 @@ commands =
     ∷ command (codes "import") import_options
     ∷ command (codes "export") export_options
     ∷ command (codes "serve") serve_options
+    ∷ command (codes "who") who_options
+    ∷ command (codes "digest") []
     ∷ []
 
 -- the program before its commands: it has a version, a command is required, and the program's own name is none of the

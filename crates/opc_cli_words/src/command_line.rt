@@ -6,7 +6,6 @@ ghost use Rattle.opc_cli_words.specs.CommandLine.{
   IsCommand,
   address_options,
   command_line,
-  explain_options,
   export_options,
   flag,
   import_options,
@@ -18,12 +17,13 @@ ghost use Rattle.opc_cli_words.specs.CommandLine.{
   valued,
 };
 
+use crate::question_commands::{explain_command, who_command};
 use crate::version::VERSION;
 use clap::{Arg, ArgAction, Command};
 use std::alloc::{AllocError, Global};
 
 /// An option that takes a value.
-fn value<'a>(alloc: Global, name: &'a str, shown: &'a str, help: &'a str) -> Arg<'a>
+pub(crate) fn value<'a>(alloc: Global, name: &'a str, shown: &'a str, help: &'a str) -> Arg<'a>
     ensures rule { rule_of result ≡ valued name.entry.now }
     ensures alone { result.global ≡ false }
 {
@@ -35,7 +35,7 @@ fn value<'a>(alloc: Global, name: &'a str, shown: &'a str, help: &'a str) -> Arg
 }
 
 /// An option that is required.
-fn needed<'a>(alloc: Global, name: &'a str, shown: &'a str, help: &'a str) -> Arg<'a>
+pub(crate) fn needed<'a>(alloc: Global, name: &'a str, shown: &'a str, help: &'a str) -> Arg<'a>
     ensures rule { rule_of result ≡ needed name.entry.now }
     ensures alone { result.global ≡ false }
 {
@@ -43,7 +43,7 @@ fn needed<'a>(alloc: Global, name: &'a str, shown: &'a str, help: &'a str) -> Ar
 }
 
 /// An option that has a default value.
-fn preset<'a>(
+pub(crate) fn preset<'a>(
     alloc: Global,
     name: &'a str,
     shown: &'a str,
@@ -57,7 +57,7 @@ fn preset<'a>(
 }
 
 /// An option without a value.
-fn flag<'a>(alloc: Global, name: &'a str, help: &'a str) -> Arg<'a>
+pub(crate) fn flag<'a>(alloc: Global, name: &'a str, help: &'a str) -> Arg<'a>
     ensures rule { rule_of result ≡ flag name.entry.now }
     ensures alone { result.global ≡ false }
 {
@@ -68,48 +68,15 @@ fn flag<'a>(alloc: Global, name: &'a str, help: &'a str) -> Arg<'a>
 }
 
 /// A command with its help, and without an option.
-fn command<'a>(alloc: Global, name: &'a str, about: &'a str, after: &'a str) -> Command<'a>
+pub(crate) fn command<'a>(
+    alloc: Global,
+    name: &'a str,
+    about: &'a str,
+    after: &'a str,
+) -> Command<'a>
     ensures { IsCommand result name.entry.now [] }
 {
     Command::new(alloc, name).about(about).after_help(after)
-}
-
-fn explain_command<'a>(alloc: Global) -> Result<Command<'a>, AllocError>
-    ensures { IfOk result (λ built. IsCommand built (codes "explain") explain_options) }
-{
-    command(
-        alloc,
-        "explain",
-        "Says which profile decides for a user, by the policy file on standard input (16,777,216 bytes at most)",
-        "Example: opcmds explain --user ANNA --resource MVS.CANCEL.JOB.PAYROLL --level UPDATE < policy.csv\n\
-         Status: 0 allowed or undecided, 1 refused, 2 bad words or policy file, 3 out of memory or a failed device",
-    )
-    .arg(needed(alloc, "user", "USER", "The user: 1 to 8 name characters"))?
-    .arg(preset(
-        alloc,
-        "class",
-        "CLASS",
-        "The class: OPERCMDS or CONSOLE",
-        "OPERCMDS",
-    ))?
-    .arg(needed(
-        alloc,
-        "resource",
-        "RESOURCE",
-        "The resource: 1 to 39 characters",
-    ))?
-    .arg(value(
-        alloc,
-        "console",
-        "CONSOLE",
-        "The console at which the user acts; entries for one console alone count there",
-    ))?
-    .arg(needed(
-        alloc,
-        "level",
-        "LEVEL",
-        "The level that is needed: NONE, READ, UPDATE, CONTROL or ALTER",
-    ))
 }
 
 fn run_command<'a>(alloc: Global) -> Result<Command<'a>, AllocError>
@@ -249,7 +216,25 @@ fn serve_command<'a>(alloc: Global) -> Result<Command<'a>, AllocError>
             "SECONDS",
             "How long an exchange may take, 0 to 3,600; with 0 as long as it takes",
             "30",
+        ))?
+        .arg(flag(
+            alloc,
+            "log",
+            "Writes a line for each exchange to standard error: when, where, who, what, and what came of it",
         ))
+}
+
+fn digest_command<'a>(alloc: Global) -> Command<'a>
+    ensures { IsCommand result (codes "digest") [] }
+{
+    command(
+        alloc,
+        "digest",
+        "Prints the digest of the password on standard input, as the row of a user in a policy file has it",
+        "The password is one line: 1 to 8 of A to Z, 0 to 9, #, $ and @. It is read in capitals, as at LOGON.\n\
+         Example: printf ABC | opcmds digest\n\
+         Status: 0 done, 2 bad words or no password, 3 out of memory or a failed device",
+    )
 }
 
 /// The program before its commands. The help names it as the documents do, whatever its file is called. With a version
@@ -274,5 +259,7 @@ pub(crate) fn command_line<'a>(alloc: Global) -> Result<Command<'a>, AllocError>
         .subcommand(run_command(alloc)?)?
         .subcommand(import_command(alloc)?)?
         .subcommand(export_command(alloc)?)?
-        .subcommand(serve_command(alloc)?)
+        .subcommand(serve_command(alloc)?)?
+        .subcommand(who_command(alloc)?)?
+        .subcommand(digest_command(alloc))
 }

@@ -2,10 +2,6 @@
 #![tactic(auto)]
 
 mod command_line;
-pub mod import;
-pub mod mistake;
-mod number;
-pub mod question;
-pub mod serve;
+mod question_commands;
 mod version;
 pub mod words;

@@ -1,5 +1,5 @@
 //! The words of the command line.
-ghost use Rattle.std.specs.Prelude.{◌≡◌, IfOk, drop, false};
+ghost use Rattle.std.specs.Prelude.{◌≡◌, IfOk, codes, drop, false};
 ghost use Rattle.std.specs.Io.KnownBytes.{Appends};
 ghost use Rattle.clap.specs.Faults.{fault_of};
 ghost use Rattle.clap.specs.Kinds.{FailsBy};
@@ -17,20 +17,22 @@ ghost use Rattle.opc_cli_words.specs.Reading.{
   IsVersionReported,
   words_after,
 };
-ghost use Rattle.opc_cli_words.specs.Checks.{AreReadAs};
-ghost use Rattle.opc_cli_words.specs.Mistakes.{mistake_line};
+ghost use Rattle.opc_cli_options.specs.Checks.{AreReadAs};
+ghost use Rattle.opc_cli_options.specs.Mistakes.{mistake_line};
 ghost use Rattle.opc_cli_words.specs.Tasks.{IsTaskOf, options_of};
 
 use crate::command_line::command_line;
-use crate::import::Import;
-use crate::mistake::{print_mistake, unread};
-use crate::question::Question;
-use crate::serve::Serve;
 use crate::version::write_version;
 use clap::error::ErrorKind;
 use clap::{ArgMatches, Error};
 use opc_cli_failures::failure::{Failure, NO_PATHS, Paths, Place};
 use opc_cli_failures::status::Status;
+use opc_cli_options::command_question::CommandQuestion;
+use opc_cli_options::import::Import;
+use opc_cli_options::mistake::print_mistake;
+use opc_cli_options::question::Question;
+use opc_cli_options::serve::Serve;
+use opc_cli_options::who::Enquiry;
 use opc_io::sink::Sink;
 use opc_io::watched::Watched;
 use opc_terms::fault::Fault;
@@ -41,11 +43,15 @@ use std::io::Write;
 #[derive(Clone, Copy)]
 pub enum Task<'a> {
     Explain(Question),
+    ExplainCommand(CommandQuestion<'a>),
     Run(Paths<'a>),
     Import(Import<'a>),
     /// The policy in the tables of the file at this path is written.
     Export(&'a str),
     Serve(Serve<'a>),
+    Who(Enquiry<'a>),
+    /// The digest of the password on the input is printed.
+    Digest,
 }
 
 /// What the words ask for; the first is the program's own name. If they ask for help or the version, or are not valid,
@@ -109,10 +115,7 @@ fn asked<'a>(command: &str, chosen: &ArgMatches<'a>) -> Result<Task<'a>, &'stati
         (options_of (first_value (found_of chosen.now)) command.now) result }
 {
     match command {
-        "explain" => match Question::read(chosen) {
-            Ok(question) => Ok(Task::Explain(question)),
-            Err(mistake) => Err(mistake),
-        },
+        "explain" => question(chosen),
         "run" => Ok(Task::Run(Paths {
             database: chosen.get_str("db"),
             policy: chosen.get_str("policy"),
@@ -127,8 +130,30 @@ fn asked<'a>(command: &str, chosen: &ArgMatches<'a>) -> Result<Task<'a>, &'stati
             Ok(serve) => Ok(Task::Serve(serve)),
             Err(mistake) => Err(mistake),
         },
+        "who" => match Enquiry::read(chosen) {
+            Ok(enquiry) => Ok(Task::Who(enquiry)),
+            Err(mistake) => Err(mistake),
+        },
+        "digest" => Ok(Task::Digest),
         // The command line has no other command.
-        _ => Err(unread!("COMMAND")),
+        _ => Err("the value of COMMAND does not read"),
+    }
+}
+
+/// What `explain` is asked: about a command or about a level of access.
+fn question<'a>(chosen: &ArgMatches<'a>) -> Result<Task<'a>, &'static str>
+    ensures { AreReadAs (IsTaskOf (first_value (found_of chosen.now)) (codes "explain"))
+        (options_of (first_value (found_of chosen.now)) (codes "explain")) result }
+{
+    match chosen.get_str("command") {
+        Some(text) => match CommandQuestion::read(chosen, text) {
+            Ok(question) => Ok(Task::ExplainCommand(question)),
+            Err(mistake) => Err(mistake),
+        },
+        None => match Question::read(chosen) {
+            Ok(question) => Ok(Task::Explain(question)),
+            Err(mistake) => Err(mistake),
+        },
     }
 }
 

@@ -8,4 +8,6 @@ returns c =
     let command_2 = one_command_more _ _ _ _ _ _ command_1 c.in_ok-run_command.ensures c.in_ok-subcommand-2.ensures in
     let command_3 = one_command_more _ _ _ _ _ _ command_2 c.in_ok-import_command.ensures c.in_ok-subcommand-3.ensures in
     let command_4 = one_command_more _ _ _ _ _ _ command_3 c.in_ok-export_command.ensures c.in_ok-subcommand-4.ensures in
-    IfOk-weaker c.subcommand-5.result _ _ (λ built. one_command_more _ built _ _ _ _ command_4 c.in_ok-serve_command.ensures) c.subcommand-5.ensures
+    let command_5 = one_command_more _ _ _ _ _ _ command_4 c.in_ok-serve_command.ensures c.in_ok-subcommand-5.ensures in
+    let command_6 = one_command_more _ _ _ _ _ _ command_5 c.in_ok-who_command.ensures c.in_ok-subcommand-6.ensures in
+    IfOk-weaker c.subcommand-7.result _ _ (λ built. one_command_more _ built _ _ _ _ command_6 c.digest_command.ensures) c.subcommand-7.ensures

@@ -7,4 +7,5 @@ returns c =
     let database = one_option_more _ _ _ _ _ _ c.command.ensures c.needed.ensures.rule c.needed.ensures.alone c.in_ok-serve.ensures in
     let address = c.in_ok-with_address.ensures database in
     let count = one_option_more _ _ _ _ _ _ address c.preset.ensures.rule c.preset.ensures.alone c.in_ok-arg.ensures in
-    IfOk-weaker c.arg-3.result _ _ (λ built. one_option_more _ built _ _ _ _ count c.preset-2.ensures.rule c.preset-2.ensures.alone) c.arg-3.ensures
+    let timeout = one_option_more _ _ _ _ _ _ count c.preset-2.ensures.rule c.preset-2.ensures.alone c.in_ok-arg-2.ensures in
+    IfOk-weaker c.arg-4.result _ _ (λ built. one_option_more _ built _ _ _ _ timeout c.flag.ensures.rule c.flag.ensures.alone) c.arg-4.ensures

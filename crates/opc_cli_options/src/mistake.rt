@@ -1,7 +1,7 @@
 //! What is wrong with the options of a command.
 ghost use Rattle.std.specs.Prelude.{◌≡◌, OnOk, if◌then◌else◌, is_err, true};
 ghost use Rattle.std.specs.Io.KnownBytes.{Appends};
-ghost use Rattle.opc_cli_words.specs.Mistakes.{mistake_line};
+ghost use Rattle.opc_cli_options.specs.Mistakes.{mistake_line};
 
 use opc_io::sink::{Sink, WriteFault, write_whole};
 
@@ -23,8 +23,23 @@ pub(crate) const MODE_WITHOUT_SOCKET: &str = "--socket-mode needs --socket";
 /// No web page reaches a Unix socket.
 pub(crate) const STRICT_WITHOUT_PORT: &str = "--strict needs --port";
 
+/// Neither or both say what is asked about.
+pub(crate) const ONE_QUESTION: &str = "a question needs exactly one of --command and --resource";
+
+/// A command says itself which level it needs.
+pub(crate) const LEVEL_WITHOUT_RESOURCE: &str = "--level needs --resource";
+
+/// A resource is asked about with a level.
+pub(crate) const RESOURCE_WITHOUT_LEVEL: &str = "--resource needs --level";
+
+/// Only a command names a unit.
+pub(crate) const UNIT_WITHOUT_COMMAND: &str = "--as needs --command";
+
+/// Nobody acts at a console.
+pub(crate) const NOBODY_WITHOUT_CONSOLE: &str = "--user - needs --console";
+
 /// Prints a mistake, and which help to ask for.
-pub(crate) fn print_mistake<K: Sink>(
+pub fn print_mistake<K: Sink>(
     command: &str,
     mistake: &str,
     errors: &mut K,

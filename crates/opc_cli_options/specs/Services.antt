@@ -24,11 +24,11 @@ use Rattle.std.specs.Prelude.{
 }
 use Rattle.std.specs.Option.{option_map_or}
 use Rattle.opc_names.specs.Spellings.{lookup}
-use Rattle.opc_cli_words.specs.Checks.{Check}
-use Rattle.opc_cli_words.specs.Mistakes.{lacking, unread}
-use Rattle.opc_cli_words.specs.Numbers.{number_between}
-use Rattle.opc_cli_words.specs.declared.serve.Address.{Address}
-use Rattle.opc_cli_words.specs.declared.serve.Address.TheVariants.{Port, Socket}
+use Rattle.opc_cli_options.specs.Checks.{Check}
+use Rattle.opc_cli_options.specs.Mistakes.{lacking, unread}
+use Rattle.opc_cli_options.specs.Numbers.{number_between}
+use Rattle.opc_cli_options.specs.declared.serve.Address.{Address}
+use Rattle.opc_cli_options.specs.declared.serve.Address.TheVariants.{Port, Socket}
 
 -- whether the value of an option is right, if it has one
 abbrev pub is_right : (List ℕ → Bool) → Option (List ℕ) → Bool

@@ -1,7 +1,7 @@
 use Rattle.std.proofs.Common.{ap₂, sym}
-use Rattle.opc_cli_words.specs.Mistakes.{mistake_line}
-use Rattle.opc_cli_words.proofs.Printed.{five_pieces}
-use Rattle.opc_cli_words.proofs.mistake.print_mistake.Goals as goal
+use Rattle.opc_cli_options.specs.Mistakes.{mistake_line}
+use Rattle.opc_cli_options.proofs.Printed.{five_pieces}
+use Rattle.opc_cli_options.proofs.mistake.print_mistake.Goals as goal
 
 pub returns-clause-text : goal.returns-clause-text
 returns-clause-text g c =

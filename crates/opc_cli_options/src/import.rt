@@ -1,8 +1,8 @@
 //! The words of `opcmds import`.
 ghost use Rattle.std.specs.Prelude.{◌≡◌, Some, codes};
 ghost use Rattle.clap.specs.Matches.{first_value, found_of};
-ghost use Rattle.opc_cli_words.specs.Checks.{AreReadAs, IsReadAs};
-ghost use Rattle.opc_cli_words.specs.Tasks.{IsImport, batch_of, batch_option, options_of};
+ghost use Rattle.opc_cli_options.specs.Checks.{AreReadAs, IsReadAs};
+ghost use Rattle.opc_cli_options.specs.Options.{IsImport, batch_of, batch_option, import_checks};
 
 use crate::mistake::unread;
 use crate::number::number_between;
@@ -33,7 +33,7 @@ impl<'a> Import<'a> {
     /// What these words ask for, or the first mistake in their options.
     pub fn read(chosen: &ArgMatches<'a>) -> Result<Self, &'static str>
         ensures { AreReadAs (IsImport (first_value (found_of chosen.now)))
-            (options_of (first_value (found_of chosen.now)) (codes "import")) result }
+            (import_checks (first_value (found_of chosen.now))) result }
     {
         let batch = batch_in(chosen)?;
         let console = console_in(chosen)?;

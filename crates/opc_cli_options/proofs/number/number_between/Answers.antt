@@ -2,8 +2,8 @@ use Rattle.std.proofs.Common.{◌≡◌, ◌<◌, ◌∙◌, true, length, arith
 use Rattle.std.proofs.lemmas.Bool.Decides.{nat_tests}
 use Rattle.std.specs.Char.{is_ascii_digit}
 use Rattle.std.specs.List.{list_all}
-use Rattle.opc_cli_words.proofs.Numbers.{refused_is_past}
-use Rattle.opc_cli_words.proofs.number.number_between.Goals as goal
+use Rattle.opc_cli_options.proofs.Numbers.{refused_is_past}
+use Rattle.opc_cli_options.proofs.number.number_between.Goals as goal
 
 pub returns-in_default-3 : goal.returns-in_default-3
 returns-in_default-3 c =

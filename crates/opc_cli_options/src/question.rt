@@ -1,26 +1,29 @@
-//! The words of `opcmds explain`.
-ghost use Rattle.std.specs.Prelude.{◌≡◌, Some, codes};
+//! The words of `opcmds explain` about a level of access.
+ghost use Rattle.std.specs.Prelude.{◌≡◌, None, Some, codes};
 ghost use Rattle.clap.specs.Matches.{first_value, found_of};
 ghost use Rattle.opc_names.specs.Spellings.{classes, levels, lookup};
-ghost use Rattle.opc_cli_words.specs.Checks.{AreReadAs, IsReadAs};
-ghost use Rattle.opc_cli_words.specs.Tasks.{
+ghost use Rattle.opc_cli_options.specs.Checks.{AreReadAs, IsReadAs};
+ghost use Rattle.opc_cli_options.specs.Options.{
   IsQuestion,
   class_option,
   console_option,
   given,
   level_option,
-  options_of,
+  question_checks,
   resource_option,
   user_option,
 };
 
+use crate::asking::need_access;
+use crate::flag::is_set;
 use crate::mistake::unread;
 use clap::ArgMatches;
 use opc_names::class::Class;
 use opc_names::level::Level;
 use opc_names::name::{ConsoleName, Resource, UserId};
 
-/// What is asked: whether a user holds a level on a resource.
+/// What is asked: whether a user holds a level on a resource, whether with the level held behind each pattern, and
+/// whether the answer is JSON.
 #[derive(Clone, Copy)]
 pub struct Question {
     pub user: UserId,
@@ -28,6 +31,8 @@ pub struct Question {
     pub resource: Resource,
     pub console: Option<ConsoleName>,
     pub level: Level,
+    pub why: bool,
+    pub json: bool,
 }
 
 fn user_in(chosen: &ArgMatches<'_>) -> Result<UserId, &'static str>
@@ -40,7 +45,8 @@ fn user_in(chosen: &ArgMatches<'_>) -> Result<UserId, &'static str>
     }
 }
 
-fn class_in(chosen: &ArgMatches<'_>) -> Result<Class, &'static str>
+/// The class that is given.
+pub(crate) fn class_in(chosen: &ArgMatches<'_>) -> Result<Class, &'static str>
     ensures { IsReadAs (λ class. lookup classes (given (first_value (found_of chosen.now)) (codes "class")) ≡ Some
         class) (class_option (first_value (found_of chosen.now))) result }
 {
@@ -50,7 +56,8 @@ fn class_in(chosen: &ArgMatches<'_>) -> Result<Class, &'static str>
     }
 }
 
-fn resource_in(chosen: &ArgMatches<'_>) -> Result<Resource, &'static str>
+/// The resource that is given.
+pub(crate) fn resource_in(chosen: &ArgMatches<'_>) -> Result<Resource, &'static str>
     ensures { IsReadAs (λ resource. resource ≡ given (first_value (found_of chosen.now)) (codes "resource"))
         (resource_option (first_value (found_of chosen.now))) result }
 {
@@ -74,7 +81,8 @@ pub(crate) fn console_in(chosen: &ArgMatches<'_>) -> Result<Option<ConsoleName>,
     }
 }
 
-fn level_in(chosen: &ArgMatches<'_>) -> Result<Level, &'static str>
+/// The level that is given.
+pub(crate) fn level_in(chosen: &ArgMatches<'_>) -> Result<Level, &'static str>
     ensures { IsReadAs (λ level. lookup levels (given (first_value (found_of chosen.now)) (codes "level")) ≡ Some level)
         (level_option (first_value (found_of chosen.now))) result }
 {
@@ -88,9 +96,11 @@ impl Question {
     /// The question of these words, or the first mistake in their options.
     pub fn read(chosen: &ArgMatches<'_>) -> Result<Self, &'static str>
         ensures { AreReadAs (IsQuestion (first_value (found_of chosen.now)))
-            (options_of (first_value (found_of chosen.now)) (codes "explain")) result }
+            (question_checks (first_value (found_of chosen.now)) None) result }
     {
         let user = user_in(chosen)?;
+        let kind = chosen.get_str("as");
+        need_access(kind, chosen.get_str("resource"), chosen.get_str("level"))?;
         let class = class_in(chosen)?;
         let resource = resource_in(chosen)?;
         let console = console_in(chosen)?;
@@ -101,6 +111,8 @@ impl Question {
             resource,
             console,
             level,
+            why: is_set(chosen, "why"),
+            json: is_set(chosen, "json"),
         })
     }
 }

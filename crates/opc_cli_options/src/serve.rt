@@ -3,8 +3,8 @@ ghost use Rattle.std.specs.Prelude.{◌≡◌, Some, codes};
 ghost use Rattle.std.specs.Option.{option_copied};
 ghost use Rattle.clap.specs.Matches.{first_value, found_of};
 ghost use Rattle.opc_names.specs.Spellings.{lookup};
-ghost use Rattle.opc_cli_words.specs.Checks.{AreReadAs, IsReadAs};
-ghost use Rattle.opc_cli_words.specs.Services.{
+ghost use Rattle.opc_cli_options.specs.Checks.{AreReadAs, IsReadAs};
+ghost use Rattle.opc_cli_options.specs.Services.{
   IsAddress,
   address_checks,
   mode_check,
@@ -14,17 +14,18 @@ ghost use Rattle.opc_cli_words.specs.Services.{
   port_of,
   socket_modes,
 };
-ghost use Rattle.opc_cli_words.specs.Tasks.{
+ghost use Rattle.opc_cli_options.specs.Options.{
   IsService,
   IsWait,
   count_of,
   count_option,
   is_set,
-  options_of,
+  service_checks,
   strict_option,
   timeout_option,
 };
 
+use crate::flag::is_set;
 use crate::mistake::{MODE_WITHOUT_SOCKET, ONE_ADDRESS, STRICT_WITHOUT_PORT, unread};
 use crate::number::number_between;
 use clap::ArgMatches;
@@ -49,6 +50,8 @@ pub struct Serve<'a> {
     pub timeout: Option<Duration>,
     /// What a web page can send is refused.
     pub strict: bool,
+    /// Each exchange is logged.
+    pub log: bool,
 }
 
 /// A port, 0 to 65,535.
@@ -118,17 +121,6 @@ fn address_of<'a>(
     }
 }
 
-/// Whether a flag is given.
-fn is_set(chosen: &ArgMatches<'_>, name: &str) -> bool
-    ensures { result ≡ is_set (first_value (found_of chosen.now)) name.now }
-{
-    match chosen.get_str(name) {
-        Some("true") => true,
-        // `clap` gives a flag no other value.
-        _ => false,
-    }
-}
-
 /// Whether what a web page can send is refused.
 fn strict_in(chosen: &ArgMatches<'_>) -> Result<bool, &'static str>
     ensures { IsReadAs (λ strict. strict ≡ is_set (first_value (found_of chosen.now)) (codes "strict"))
@@ -170,7 +162,7 @@ impl<'a> Serve<'a> {
     /// What these words ask for, or the first mistake in their options.
     pub fn read(chosen: &ArgMatches<'a>) -> Result<Self, &'static str>
         ensures { AreReadAs (IsService (first_value (found_of chosen.now)))
-            (options_of (first_value (found_of chosen.now)) (codes "serve")) result }
+            (service_checks (first_value (found_of chosen.now))) result }
     {
         let address = address_of(
             chosen.get_str("port"),
@@ -186,6 +178,7 @@ impl<'a> Serve<'a> {
             count,
             timeout,
             strict,
+            log: is_set(chosen, "log"),
         })
     }
 }

@@ -1,0 +1,3 @@
+pub mod Mistakes
+pub mod Numbers
+pub mod Printed

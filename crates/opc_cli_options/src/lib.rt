@@ -1,0 +1,12 @@
+//! The options of each command of the command line: what their values say, or what is wrong with them.
+#![tactic(auto)]
+
+mod asking;
+pub mod command_question;
+mod flag;
+pub mod import;
+pub mod mistake;
+mod number;
+pub mod question;
+pub mod serve;
+pub mod who;

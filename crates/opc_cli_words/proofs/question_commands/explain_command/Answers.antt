@@ -1,0 +1,9 @@
+use Rattle.std.proofs.lemmas.Result.{IfOk-weaker}
+use Rattle.opc_cli_words.proofs.CommandLine.{one_option_more}
+use Rattle.opc_cli_words.proofs.question_commands.explain_command.Goals as goal
+
+pub returns : goal.returns
+returns c =
+    let user = one_option_more _ _ _ _ _ _ c.command.ensures c.needed.ensures.rule c.needed.ensures.alone c.in_ok-explain.ensures in
+    let question = c.in_ok-with_question.ensures.explain user in
+    IfOk-weaker c.arg-2.result _ _ (λ built. one_option_more _ built _ _ _ _ question c.flag.ensures.rule c.flag.ensures.alone) c.arg-2.ensures

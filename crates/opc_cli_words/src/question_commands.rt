@@ -1,0 +1,102 @@
+//! The commands `opcmds explain` and `opcmds who`, as `clap` reads them.
+ghost use Rattle.std.specs.Prelude.{IfOk, [], ◌∷◌, codes};
+ghost use Rattle.opc_cli_words.specs.CommandLine.{IsCommand, explain_options, needed, question_options, who_options};
+
+use crate::command_line::{command, flag, needed, preset, value};
+use clap::Command;
+use std::alloc::{AllocError, Global};
+
+/// The command with what may be asked about, and at which console.
+fn with_question<'a>(alloc: Global, asking: Command<'a>) -> Result<Command<'a>, AllocError>
+    ensures explain { IfOk result (λ built. IsCommand asking.entry (codes "explain") (needed (codes "user") ∷ [])
+        → IsCommand built (codes "explain") (needed (codes "user") ∷ question_options)) }
+    ensures who { IfOk result (λ built. IsCommand asking.entry (codes "who") []
+        → IsCommand built (codes "who") question_options) }
+{
+    asking
+        .arg(value(alloc, "command", "TEXT", "The command, as it is typed"))?
+        .arg(value(
+            alloc,
+            "as",
+            "UNIT",
+            "What the unit is that the command names: TSU, or STC:MEMBER; a job without this",
+        ))?
+        .arg(value(
+            alloc,
+            "resource",
+            "RESOURCE",
+            "The resource, in place of a command: 1 to 39 characters",
+        ))?
+        .arg(value(
+            alloc,
+            "level",
+            "LEVEL",
+            "The level that is needed on it: NONE, READ, UPDATE, CONTROL or ALTER",
+        ))?
+        .arg(preset(
+            alloc,
+            "class",
+            "CLASS",
+            "The class of the resource: OPERCMDS or CONSOLE",
+            "OPERCMDS",
+        ))?
+        .arg(value(
+            alloc,
+            "console",
+            "CONSOLE",
+            "The console at which the users act; entries for one console alone count there",
+        ))?
+        .arg(flag(alloc, "json", "Answers in JSON, an object a line"))
+}
+
+pub(crate) fn explain_command<'a>(alloc: Global) -> Result<Command<'a>, AllocError>
+    ensures { IfOk result (λ built. IsCommand built (codes "explain") explain_options) }
+{
+    let explain = command(
+        alloc,
+        "explain",
+        "Says which profile decides for a user, by the policy file on standard input (16,777,216 bytes at most)",
+        "Asks about a command, or about a resource and a level.\n\
+         Examples: opcmds explain --user ANNA --command 'C PAYROLL' --console C1 --why < policy.csv\n\
+         \x20         opcmds explain --user ANNA --resource MVS.CANCEL.JOB.PAYROLL --level UPDATE < policy.csv\n\
+         Status: 0 allowed or undecided, 1 refused, 2 bad words or policy file, 3 out of memory or a failed device",
+    )
+    .arg(needed(
+        alloc,
+        "user",
+        "USER",
+        "The user: 1 to 8 name characters; - is nobody, with --command and --console",
+    ))?;
+    with_question(alloc, explain)?.arg(flag(
+        alloc,
+        "why",
+        "Shows behind each pattern which level the user holds in its profile, and from where",
+    ))
+}
+
+/// The command `who` before its options.
+fn who_alone<'a>(alloc: Global) -> Command<'a>
+    ensures { IsCommand result (codes "who") [] }
+{
+    command(
+        alloc,
+        "who",
+        "Says who may enter a command, or holds a level, by a policy file: each user, and each console with nobody on",
+        "Asks about a command, or about a resource and a level.\n\
+         Example: opcmds who --command 'C PAYROLL' < policy.csv\n\
+         Status: 0 answered, 1 refused, 2 bad words or policy file, 3 out of memory or a failed device",
+    )
+}
+
+pub(crate) fn who_command<'a>(alloc: Global) -> Result<Command<'a>, AllocError>
+    ensures { IfOk result (λ built. IsCommand built (codes "who") who_options) }
+{
+    with_question(alloc, who_alone(alloc))?
+        .arg(flag(alloc, "allowed", "Shows those alone who may"))?
+        .arg(value(
+            alloc,
+            "policy",
+            "FILE",
+            "The policy file (16,777,216 bytes at most), in place of standard input",
+        ))
+}

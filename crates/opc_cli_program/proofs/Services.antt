@@ -13,9 +13,9 @@ use Rattle.opc_http_serve.specs.declared.arrival.ServeFault.{ServeFault}
 use Rattle.opc_http_serve.specs.Handled.{AreHandled, Handled, IsRunOf}
 use Rattle.opc_cli_failures.specs.declared.failure.Failure.{Failure}
 use Rattle.opc_cli_failures.specs.declared.status.Status.{Status}
-use Rattle.opc_cli_words.specs.declared.serve.Address.{Address}
-use Rattle.opc_cli_words.specs.declared.serve.Address.TheVariants.{Port, Socket}
-use Rattle.opc_cli_words.specs.declared.serve.Serve.{Serve}
+use Rattle.opc_cli_options.specs.declared.serve.Address.{Address}
+use Rattle.opc_cli_options.specs.declared.serve.Address.TheVariants.{Port, Socket}
+use Rattle.opc_cli_options.specs.declared.serve.Serve.{Serve}
 use Rattle.opc_cli_program.specs.Services.{AreClients, IsNotBegun, IsPortService, IsServiceAt, IsSocketService}
 use Rattle.opc_cli_program.proofs.Uncached.{run}
 

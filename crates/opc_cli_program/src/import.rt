@@ -7,8 +7,8 @@ ghost use Rattle.opc_cli_program.specs.Imports.{IsExport, IsFirstPolicy, IsImpor
 use crate::printing::{print_answer, print_text};
 use opc_cli_failures::failure::{Failure, Place};
 use opc_cli_failures::status::Status;
+use opc_cli_options::import::Import;
 use opc_cli_policy_files::policy_file::read_rows;
-use opc_cli_words::import::Import;
 use opc_gate::gate::Gate;
 use opc_gate::request::Request;
 use opc_import::write::write_policy;

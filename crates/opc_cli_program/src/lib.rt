@@ -3,6 +3,7 @@
 
 pub mod import;
 mod listening;
+pub mod log_stream;
 pub mod ports;
 mod printing;
 pub mod run;

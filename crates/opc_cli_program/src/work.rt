@@ -3,14 +3,15 @@ ghost use Rattle.opc_http_connections.specs.Links.{Comes, source_of, link_of};
 ghost use Rattle.opc_cli_program.specs.Works.{IsDone, IsImportNow};
 
 use crate::import::{export_on, import_on};
+use crate::log_stream::LogStream;
 use crate::ports::Ports;
 use crate::run::run_on;
 use crate::serve::serve_tables;
 use opc_cli_failures::failure::{Failure, Place};
 use opc_cli_failures::status::Status;
+use opc_cli_options::import::Import;
+use opc_cli_options::serve::Serve;
 use opc_cli_policy_files::openings::Openings;
-use opc_cli_words::import::Import;
-use opc_cli_words::serve::Serve;
 use opc_http_connections::listener::ClientListener;
 use opc_http_connections::timer::Timer;
 use opc_http_serve::clock::moment;
@@ -34,7 +35,7 @@ pub enum Work<'a> {
 
 /// Does a work over these tables, and returns them.
 pub fn work_on<
-    H: AllocGlobal + Clock + Openings,
+    H: AllocGlobal + Clock + LogStream + Openings,
     P: Ports<Listener = L, Socket = S>,
     L: ClientListener,
     S: ClientListener,

@@ -41,7 +41,7 @@ use Rattle.opc_cli_program.specs.Imports.{AreTaken, IsOneStep, IsPolicyTaken, Is
 use Rattle.opc_cli_program.specs.Runs.{IsAnsweredInput, IsEndOf, IsInputRun, IsRunOfBytes}
 use Rattle.opc_cli_program.specs.Works.{IsImportNow}
 use Rattle.opc_cli_program.specs.declared.work.Work.{Work}
-use Rattle.opc_cli_words.specs.declared.import.Import.{Import as Asked}
+use Rattle.opc_cli_options.specs.declared.import.Import.{Import as Asked}
 use Rattle.opc_io.specs.declared.watched.Watched.{Watched}
 use Rattle.opc_cli_works.specs.Works.{IsEnd}
 use Rattle.opc_cli_works.specs.Kept.{

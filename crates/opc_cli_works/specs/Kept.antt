@@ -32,7 +32,7 @@ use Rattle.opc_cli_script.specs.Transcripts.{transcript}
 use Rattle.opc_cli_program.specs.Imports.{IsWritten, exported, lines_text}
 use Rattle.opc_cli_program.specs.Runs.{AreScriptBytes}
 use Rattle.opc_io.specs.declared.watched.Watched.{Watched}
-use Rattle.opc_cli_words.specs.declared.import.Import.{Import as Asked}
+use Rattle.opc_cli_options.specs.declared.import.Import.{Import as Asked}
 use Rattle.opc_cli_program.specs.declared.work.Work.{Work}
 use Rattle.opc_cli_program.specs.declared.work.Work.TheVariants.{Run, Import, Export}
 use Rattle.opc_cli_works.specs.Works.{IsWorkAt}

@@ -20,6 +20,7 @@ ghost use Rattle.opc_machine.specs.Machine.{IsAborted, account_row, is_warned, o
 ghost use Rattle.opc_gate.specs.Handling.{IsDecision, IsHandled, IsNothingWhereSame, is_accounted};
 ghost use Rattle.opc_machine.specs.Effects.{IsOutcome};
 
+use crate::console::{acting_user_at, console_of, console_on};
 use opc_board::rows::ConsoleRow;
 use opc_board::text::KeptText;
 use opc_gate_admin::administration::admin_on;
@@ -31,7 +32,7 @@ use opc_gate_listings::profiles::profiles_on;
 use opc_gate_rulings::ruling::acting_user_on;
 use opc_machine::outcome::Outcome;
 use opc_machine::request::{Answer, Request};
-use opc_names::name::{ConsoleName, Name, NameKind, UserId};
+use opc_names::name::{Name, NameKind, UserId};
 use opc_policy_members::row::Row;
 use opc_state::account::AccountRow;
 use opc_state::change::Change;
@@ -57,35 +58,6 @@ fn is_warned(rule: &Option<Rule>) -> bool
         Some(Rule::Profile { warned, .. }) => *warned,
         // Only a profile can warn.
         _ => false,
-    }
-}
-
-fn console_of(request: &Request) -> Option<ConsoleName>
-    ensures { result ≡ console_of (input_of request.now) }
-{
-    match request {
-        Request::Command { console, .. }
-        | Request::Admin { console, .. }
-        | Request::ListProfiles { console, .. }
-        | Request::ListAccount { console, .. }
-        | Request::Import { console, .. } => Some(*console),
-        Request::Event(_) => None,
-    }
-}
-
-// The row of the console that a request names. If it names one, the state is in the order of its keys.
-fn console_on<T: Tables>(
-    tables: &mut T,
-    request: &Request,
-) -> Result<Option<ConsoleRow>, StoreFault>
-    ensures console { Loads T.meaning tables.old tables.new result
-        (λ s console. console ≡ option_and_then (console_at s.board) (console_of (input_of request.now))) }
-    ensures keyed { Answers T.meaning tables.old tables.new result
-        (λ s _. IfSome (console_of (input_of request.now)) (λ _. IsKeyed s)) }
-{
-    match console_of(request) {
-        Some(name) => tables.console(&name),
-        None => Ok(None),
     }
 }
 
@@ -377,6 +349,17 @@ impl<T: Tables> Gate<T> {
         ensures fault { IfErr result (λ f. (f ≡ why.NoMemory) ⊎ (f ≡ why.Store)) }
     {
         Ok(self.tables.written(alloc)?)
+    }
+
+    /// For whom the console of a request acts, as the account would have it.
+    pub fn acting_user(
+        &mut self,
+        alloc: Global,
+        request: &Request,
+    ) -> Result<Option<UserId>, StoreFault>
+        ensures { Loads T.meaning self.old self.new result (λ s user. user ≡ user_acting s (input_of request.now)) }
+    {
+        acting_user_at(&mut self.tables, alloc, request)
     }
 
     /// Answers a request. The answer and the state that the tables represent afterwards are a step of the access

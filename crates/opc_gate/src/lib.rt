@@ -1,6 +1,7 @@
 //! The gate: requests of all six kinds, each answered and accounted for by the written policy of its moment.
 #![tactic(auto)]
 
+mod console;
 pub mod gate;
 pub mod listener;
 pub mod run;

@@ -1,2 +1,3 @@
+mod Loaded
 pub mod Replies
 pub mod Strictness

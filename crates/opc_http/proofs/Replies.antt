@@ -1,5 +1,5 @@
 -- What is reported of the reply to a request.
-use Rattle.std.proofs.Common.{◌≡◌, ℕ, true, false, List, Option, Result, Ok, Err, IfErr, IfOk, refl, rules}
+use Rattle.std.proofs.Common.{◌≡◌, ℕ, true, false, List, Option, Result, Ok, Err, IfErr, IfOk, ap, refl, rules}
 use Rattle.std.specs.Prelude.{Bool, if◌then◌else◌}
 use Rattle.opc_machine.specs.declared.request.Request.{Request}
 use Rattle.opc_http_head.specs.declared.origins.Origins.{Origins}
@@ -9,6 +9,7 @@ use Rattle.opc_http_requests.specs.declared.fault.ReadingFault.{ReadingFault}
 use Rattle.opc_http_requests.specs.declared.fault.ReadingFault.TheVariants as reading
 use Rattle.opc_state.specs.Meaning.{Meaning}
 use Rattle.opc_http.specs.Exchange.{IsCutOff, IsFaulty, IsServed, IsReported, Replies, Reply, is_read}
+use Rattle.opc_http.specs.Told.{IsWritten}
 use Rattle.opc_http.specs.declared.exchanging.LinkFault.{LinkFault}
 use Rattle.opc_http.specs.declared.exchanging.LinkFault.TheVariants as fault
 use Rattle.opc_http.specs.declared.exchanging.Served.{Served}
@@ -50,3 +51,13 @@ not_read held reply before after (Err (fault.NoMemory handled)) cut = refl
 pub refused_read : (fault : ReadingFault) (why : HttpRefusal) → fault ≡ reading.Refused why → (old new : Bool)
     → new ≡ (if faults.is_read {A = Request} (Err fault) then true else old) → new ≡ old
 refused_read fault why is old new h = rw is at h
+
+-- A reply that is reported or cut off was written, by what its writer holds.
+pub written : {K : Type 0} (held : K → Option (List ℕ)) (reply : Reply) (before after : K)
+    (res : Result Served LinkFault) → IfOk res (IsReported held reply before after) → IfErr res (IsCutOff held reply before after)
+    → IsWritten reply (held before) (held after) res
+written held reply before after (Ok done) reported cut =
+    record { written = reported.written; status = reported.status; handled = reported.handled }
+written held reply before after (Err fault.Read) reported cut = cut
+written held reply before after (Err (fault.Write handled)) reported cut = cut
+written held reply before after (Err (fault.NoMemory handled)) reported cut = (ap held cut.0, cut.1)

@@ -57,7 +57,11 @@ fn respond<K: Sink>(sink: &mut K, response: &Response, handled: bool) -> Result<
 }
 
 // Writes the response to an answer.
-fn send_answer<K: Sink>(alloc: Global, sink: &mut K, answer: &Answer) -> Result<Served, LinkFault>
+pub(crate) fn send_answer<K: Sink>(
+    alloc: Global,
+    sink: &mut K,
+    answer: &Answer,
+) -> Result<Served, LinkFault>
     ensures reported { IfOk result (IsReported K.held (Ok answer.now) sink.old sink.new) }
     ensures cut_off { IfErr result (IsCutOff K.held (Ok answer.now) sink.old sink.new) }
     ensures write { K.has_failed sink.new ≡ (if is_write result then true else K.has_failed sink.old) }
@@ -69,7 +73,7 @@ fn send_answer<K: Sink>(alloc: Global, sink: &mut K, answer: &Answer) -> Result<
 }
 
 // Writes the response to what is not a request.
-fn send_refusal<K: Sink>(
+pub(crate) fn send_refusal<K: Sink>(
     alloc: Global,
     sink: &mut K,
     refusal: &HttpRefusal,

@@ -1,12 +1,14 @@
-//! One exchange over HTTP: a request is read and handled, and its response is written. It re-exports what an exchange
-//! takes: the routes, and what remembers whether a reader or a writer failed, with a reader and a writer that fail for
-//! tests.
+//! One exchange over HTTP: a request is read and handled, and its response is written, with what a log tells of it, if
+//! that is asked for. It re-exports what an exchange takes: the routes, and what remembers whether a reader or a writer
+//! failed, with a reader and a writer that fail for tests.
 #![tactic(auto)]
 
 mod exchanging;
 pub mod laws;
+mod telling;
 
 pub use crate::exchanging::{LinkFault, Served, exchange};
+pub use crate::telling::{Exchanged, exchange_told};
 pub use opc_http_head::routes;
 pub use opc_http_head::routes::Routes;
 pub use opc_io::{sink, source, watched};

@@ -10,7 +10,8 @@ use Rattle.opc_machine.specs.declared.request.Request.{Request}
 use Rattle.opc_machine.specs.declared.request.Answer.{Answer}
 use Rattle.opc_gate.specs.Handling.{IsRun}
 use Rattle.opc_http_head.specs.declared.origins.Origins.{Origins}
-use Rattle.opc_http.specs.Exchange.{IsAsked, IsCutOff, IsFaulty, IsServed, IsReported, Reply}
+use Rattle.opc_http.specs.Exchange.{IsAsked, IsFaulty, IsServed, Reply}
+use Rattle.opc_http.specs.Told.{IsWritten}
 use Rattle.opc_http.specs.declared.exchanging.LinkFault.{LinkFault}
 use Rattle.opc_http.specs.declared.exchanging.LinkFault.TheVariants as fault
 use Rattle.opc_http.specs.declared.exchanging.Served.{Served}
@@ -39,11 +40,6 @@ abbrev pub IsReplied : Origins → (left : Option (List ℕ)) → (old new : Han
 IsReplied origins left old new moment (Ok answer) =
     (request : Request) × IsAsked origins left (Ok request) × (new ≡ handled_with old moment request answer)
 IsReplied origins left old new moment (Err refusal) = IsAsked origins left (Err refusal) × (new ≡ old)
-
--- What is written in addition is the response of a reply, or a part of it.
-abbrev pub IsWritten : Reply → (before after : Option (List ℕ)) → Result Served LinkFault → Type 0
-IsWritten reply before after (Ok served) = IsReported (λ held. held) reply before after served
-IsWritten reply before after (Err fault) = IsCutOff (λ held. held) reply before after fault
 
 -- A reply was reached, and its response written, or a part of it.
 pub record RepliesOnce (origins : Origins) (old : Handled) (left : Option (List ℕ)) (moment : ℕ)

@@ -3,3 +3,4 @@ pub mod Passing
 pub mod Arriving
 pub mod Serving
 pub mod Handled
+pub mod Logging

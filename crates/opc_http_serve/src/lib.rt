@@ -7,4 +7,5 @@ pub mod arrivals;
 pub mod clock;
 pub mod exchanges;
 pub mod passing;
+pub mod service;
 pub mod serving;

@@ -3,18 +3,21 @@ ghost use Rattle.std.specs.Prelude.{◌≡◌, Err, IfErr, OnErr, OnOk};
 ghost use Rattle.opc_http_connections.specs.Links.{Comes, link_of};
 ghost use Rattle.opc_http_serve.specs.Arriving.{Arrives};
 ghost use Rattle.opc_http_serve.specs.Handled.{AreHandled, IsExchange};
+ghost use Rattle.opc_http_serve.specs.Logging.{IsServiceExchange};
 ghost use Rattle.opc_http_serve.specs.Serving.{AreServed, IsCutShort, IsServed, IsTurn, ServesClients};
 
 use crate::acceptor::Acceptor;
 use crate::arrival::{Arrival, ServeFault};
 use crate::arrivals::{Arrivals, next};
 use crate::exchanges::Exchanges;
+use crate::service::Service;
 use opc_gate::gate::Gate;
 use opc_http_connections::connection::Connection;
 use opc_http_connections::drain::drain;
 use opc_http_connections::listener::ClientListener;
 use opc_http_connections::timer::Timer;
 use opc_http_head::routes::Routes;
+use opc_io::sink::Sink;
 use opc_state::tables::Tables;
 use std::alloc::Global;
 use std::rt::Clock;
@@ -109,4 +112,34 @@ pub fn serve_on<H: AllocGlobal + Clock, L: ClientListener, T: Tables>(
 {
     let mut acceptor = Acceptor::new(rt, listener);
     serve(rt.alloc(), rt, &mut acceptor, count, timeout, routes, gate)
+}
+
+/// Serves this many clients that come to a listener, and logs each exchange, if that is asked for.
+pub fn serve_logged_on<H: AllocGlobal + Clock, L: ClientListener, T: Tables, K: Sink>(
+    rt: &H,
+    listener: &L,
+    count: u32,
+    timeout: Option<Duration>,
+    routes: &Routes,
+    service: &mut Service<T, K>,
+) -> Result<(), ServeFault>
+    ensures sure { T.meaning.is_sure service.new.gate → T.meaning.is_sure service.old.gate }
+    ensures handled { AreHandled routes.now T.meaning
+        (link_of L.Client.limits ⟦<H as Timer>⟧.shows L.Client.reads L.Client.remaining L.Client.contents)
+        (Comes L.accepts L.Client.clones) timeout service.old.gate service.new.gate count result }
+    ensures served { ServesClients
+        (link_of L.Client.limits ⟦<H as Timer>⟧.shows L.Client.reads L.Client.remaining L.Client.contents)
+        routes.now (IsServiceExchange K.held K.has_failed routes.now T.meaning) (Comes L.accepts L.Client.clones) rt.now
+        timeout service.old count result service.new }
+{
+    let mut acceptor = Acceptor::new(rt, listener);
+    serve(
+        rt.alloc(),
+        rt,
+        &mut acceptor,
+        count,
+        timeout,
+        routes,
+        service,
+    )
 }

@@ -13,7 +13,7 @@ pub returns-clause-serves : goal.returns-clause-serves
 returns-clause-serves g c =
     let t = g.T.Tables in
     let made = c.in-Ok.ensures.made in
-    handed_back t.meaning c.in-Ok.gate c.serve_gate-end.new.gate
+    handed_back t.meaning c.in-Ok.gate c.serve_service-end.new.service.gate
     (λ s h. c.in-Ok.ensures.represents s (subst (λ tables. t.meaning.represents tables s) made.0 h))
-    _ _ c.args.serve.now c.serve_gate-end.result _ _ _ _ (λ asked port said. said.1) (λ path mode said. said.1)
-    _ _ made.0 c.into_store.ensures c.args.serve.now.address c.serve_gate-end.ensures.serves
+    _ _ c.args.serve.now c.serve_service-end.result _ _ _ _ (λ asked port said. said.1) (λ path mode said. said.1)
+    _ _ made.0 c.into_store.ensures c.args.serve.now.address c.serve_service-end.ensures.serves

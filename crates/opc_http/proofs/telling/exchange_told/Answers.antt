@@ -1,0 +1,82 @@
+use Rattle.std.proofs.Common.{Ok, Err, Some, None, refl, subst, sym}
+use Rattle.opc_http_requests.specs.Faults.{IfRefused}
+use Rattle.opc_http.specs.Exchange.{IsAsked}
+use Rattle.opc_http.proofs.Replies.{faulty, not_read, refused_read, served, written}
+use Rattle.opc_http.proofs.telling.exchange_told.Goals as goal
+
+pub returns-in-Ok-clause-served : goal.returns-in-Ok-clause-served
+returns-in-Ok-clause-served g c =
+    rw c.told.ensures.served
+    (served c.args.routes.now _ _ _ _ _ _ _ _ (Ok c.answer-handled.result.answer) (record {
+      request = c.in-Ok.request;
+      asked = c.in-Ok.ensures.asked;
+      handled = c.answer-handled.ensures.handled;
+    }) c.send_answer-served.result c.send_answer-served.ensures.reported)
+
+pub returns-in-Ok-clause-fault : goal.returns-in-Ok-clause-fault
+returns-in-Ok-clause-fault g c =
+    rw c.told.ensures.served
+    (faulty c.args.routes.now _ _ _ _ _ _ _ _ (Ok c.answer-handled.result.answer) (record {
+      request = c.in-Ok.request;
+      asked = c.in-Ok.ensures.asked;
+      handled = c.answer-handled.ensures.handled;
+    }) c.send_answer-served.result c.send_answer-served.ensures.cut_off)
+
+pub returns-in-Ok-clause-read : goal.returns-in-Ok-clause-read
+returns-in-Ok-clause-read g c =
+    rw (c.told.ensures.served, not_read g.K.Sink.held (Ok c.answer-handled.result.answer) _ _ c.send_answer-served.result c.send_answer-served.ensures.cut_off)
+    c.in-Ok.ensures.failed
+
+pub returns-in-Ok-clause-told : goal.returns-in-Ok-clause-told
+returns-in-Ok-clause-told g c = record {
+  at = c.told.ensures.moment;
+  status = rw c.told.ensures.served c.told.ensures.status;
+  told = rw (c.told.ensures.request, c.told.ensures.reply, c.told.ensures.user) (record {
+    asked = c.in-Ok.ensures.asked;
+    handled = c.answer-handled.ensures.handled;
+    acts = c.answer-handled.ensures.user;
+    written = rw c.told.ensures.served
+        (written g.K.Sink.held (Ok c.answer-handled.result.answer) _ _ c.send_answer-served.result c.send_answer-served.ensures.reported
+        c.send_answer-served.ensures.cut_off);
+  });
+}
+
+pub returns-in-Err-Refused-clause-fault : goal.returns-in-Err-Refused-clause-fault
+returns-in-Err-Refused-clause-fault g c =
+    rw c.told-in-Err-Refused.ensures.served
+    (faulty c.args.routes.now _ _ _ _ _ _ _ _ (Err c.in-Err-Refused.refusal) (
+      subst (λ fault. IfRefused fault (λ why. IsAsked c.args.routes.now (g.S.Source.left c.args.source.now) (Err why)))
+          c.in-Err-Refused.field-0-is c.in-Err-Refused.ensures.refused,
+      refl,
+    ) c.send_refusal-served.result
+    c.send_refusal-served.ensures.cut_off)
+
+pub returns-in-Err-Refused-clause-served : goal.returns-in-Err-Refused-clause-served
+returns-in-Err-Refused-clause-served g c =
+    rw c.told-in-Err-Refused.ensures.served
+    (served c.args.routes.now _ _ _ _ _ _ _ _ (Err c.in-Err-Refused.refusal) (
+      subst (λ fault. IfRefused fault (λ why. IsAsked c.args.routes.now (g.S.Source.left c.args.source.now) (Err why)))
+          c.in-Err-Refused.field-0-is c.in-Err-Refused.ensures.refused,
+      refl,
+    ) c.send_refusal-served.result
+    c.send_refusal-served.ensures.reported)
+
+pub returns-in-Err-Refused-clause-read : goal.returns-in-Err-Refused-clause-read
+returns-in-Err-Refused-clause-read g c =
+    rw (c.told-in-Err-Refused.ensures.served, not_read g.K.Sink.held (Err c.in-Err-Refused.refusal) _ _ c.send_refusal-served.result c.send_refusal-served.ensures.cut_off)
+    (refused_read c.in-Err-Refused.field-0 c.in-Err-Refused.refusal c.in-Err-Refused.field-0-is _ _ c.in-Err-Refused.ensures.failed)
+
+pub returns-in-Err-Refused-clause-told : goal.returns-in-Err-Refused-clause-told
+returns-in-Err-Refused-clause-told g c = record {
+  at = c.told-in-Err-Refused.ensures.moment;
+  status = rw c.told-in-Err-Refused.ensures.served c.told-in-Err-Refused.ensures.status;
+  told = rw (c.told-in-Err-Refused.ensures.request, c.told-in-Err-Refused.ensures.reply, c.told-in-Err-Refused.ensures.user) (record {
+    asked = subst (λ fault. IfRefused fault (λ why. IsAsked c.args.routes.now (g.S.Source.left c.args.source.now) (Err why)))
+        c.in-Err-Refused.field-0-is c.in-Err-Refused.ensures.refused;
+    same = refl;
+    nobody = refl;
+    written = rw c.told-in-Err-Refused.ensures.served
+        (written g.K.Sink.held (Err c.in-Err-Refused.refusal) _ _ c.send_refusal-served.result c.send_refusal-served.ensures.reported
+        c.send_refusal-served.ensures.cut_off);
+  });
+}

@@ -1,0 +1,66 @@
+-- How a log shows a command as it was typed: without a password.
+use Rattle.std.specs.Prelude.{
+  ℕ,
+  ◌-◌,
+  ◌==◌,
+  ◌||◌,
+  Bool,
+  true,
+  false,
+  List,
+  [],
+  ◌++◌,
+  Result,
+  Ok,
+  Err,
+  codes,
+  drop,
+  if◌then◌else◌,
+  length,
+  not,
+  take,
+}
+use Rattle.std.specs.List.{prefix_len}
+use Rattle.opc_reader.specs.Reading.{reading}
+use Rattle.opc_reader.specs.declared.line.ReadFault.{ReadFault}
+use Rattle.opc_reader_commands.specs.declared.command.Command.{Command}
+use Rattle.opc_reader_commands.specs.declared.command.Command.TheVariants.{Logon}
+
+abbrev pub is_space : ℕ → Bool
+is_space c = c == 32
+
+-- A word goes on to a space or a comma.
+abbrev pub is_in_word : ℕ → Bool
+is_in_word c = not ((c == 32) || (c == 44))
+
+abbrev pub after_spaces : List ℕ → List ℕ
+after_spaces text = drop (prefix_len is_space text) text
+
+-- what follows the first word of a text
+abbrev pub past_word : List ℕ → List ℕ
+past_word text = drop (prefix_len is_in_word (after_spaces text)) (after_spaces text)
+
+abbrev pub is_logon : Command → Bool
+is_logon (Logon user password) = true
+is_logon command = false
+
+-- what a text reads as
+unfoldable pub read_as : List ℕ → Result Command ReadFault
+read_as text = reading text
+
+-- What is not shown: of a LOGON what follows its user, and of what is no command all that follows its first word, since
+-- it may be a LOGON that is mistyped. Every other command is shown in whole.
+abbrev pub hidden_by : Result Command ReadFault → List ℕ → List ℕ
+hidden_by (Ok command) text = if is_logon command then past_word (past_word text) else []
+hidden_by (Err fault) text = past_word text
+
+-- what stands for all that is not shown
+abbrev pub stars : List ℕ
+stars = codes ",********"
+
+-- a text without its end
+abbrev pub without : (end text : List ℕ) → List ℕ
+without end text = if length end == 0 then text else take (length text - length end) text ++ stars
+
+unfoldable pub typed : List ℕ → List ℕ
+typed text = without (hidden_by (read_as text) text) text

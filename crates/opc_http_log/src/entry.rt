@@ -1,0 +1,20 @@
+//! What a log tells of an exchange.
+use opc_http_head::refusal::HttpRefusal;
+use opc_machine::request::{Answer, Request};
+use opc_names::name::UserId;
+use opc_terms::store_fault::StoreFault;
+
+/// An exchange that is over.
+#[derive(Drop)]
+pub struct LogEntry {
+    /// When its connection was accepted.
+    pub moment: u64,
+    /// What was requested, if that was read.
+    pub request: Option<Request>,
+    /// For whom the console acted before the request, if that could be loaded.
+    pub user: Result<Option<UserId>, StoreFault>,
+    /// What was replied: the answer to the request, or the refusal of what is not one. Nothing if nothing was read.
+    pub reply: Option<Result<Answer, HttpRefusal>>,
+    /// The status of the response, if that was written whole.
+    pub status: Option<u16>,
+}

@@ -1,0 +1,11 @@
+//! The line of an exchange in the log of a service.
+#![tactic(auto)]
+
+pub mod entry;
+mod escape;
+pub mod laws;
+pub mod line;
+mod operation;
+mod time;
+mod typed;
+mod words;

@@ -1,0 +1,39 @@
+-- A service with a log of its exchanges.
+use Rattle.std.specs.Prelude.{◌≡◌, ◌⊎◌, ⊤, ℕ, Bool, false, List, Option, Some, None, Result}
+use Rattle.std.specs.Io.KnownBytes.{Appends}
+use Rattle.opc_io.specs.Writes.{AppendsPrefix}
+use Rattle.opc_state.specs.Meaning.{Meaning}
+use Rattle.opc_http_head.specs.declared.origins.Origins.{Origins}
+use Rattle.opc_http_log.specs.LogLines.{IsLogLine}
+use Rattle.opc_http_log.specs.declared.entry.LogEntry.{LogEntry}
+use Rattle.opc_http.specs.Told.{IsEntry}
+use Rattle.opc_http.specs.declared.exchanging.LinkFault.{LinkFault}
+use Rattle.opc_http.specs.declared.exchanging.Served.{Served}
+use Rattle.opc_http_serve.specs.Handled.{IsExchange}
+use Rattle.opc_http_serve.specs.declared.service.Service.{Service}
+
+module _ {K : Type 0} (held : K → Option (List ℕ)) (has_failed : K → Bool) where
+  -- The line of an exchange was written to a log, whole unless a write failed; or there was no memory for it.
+  pub record IsLine (before after : K) (entry : LogEntry) : Type 0 where
+    pub line : List ℕ
+    pub is : IsLogLine entry line
+    pub part : AppendsPrefix (held before) (held after) line
+    pub whole : has_failed after ≡ false → Appends (held before) (held after) line
+
+  abbrev pub IsLineWritten : (before after : K) → LogEntry → Type 0
+  IsLineWritten before after entry = (after ≡ before) ⊎ IsLine before after entry
+
+  module _ (entry_of : LogEntry → Type 0) where
+    -- Without a log there is none afterwards. With one the line of this exchange was written.
+    abbrev pub IsLogged : (before after : Option K) → Type 0
+    IsLogged None None = ⊤
+    IsLogged None (Some log) = ⊥
+    IsLogged (Some log) None = ⊥
+    IsLogged (Some before) (Some after) = (entry : LogEntry) × entry_of entry × IsLineWritten before after entry
+
+  -- One exchange of a service, over its tables, and its line.
+  pub record IsServiceExchange (origins : Origins) {T : Type 0} (m : Meaning T) (old : Service T K)
+      (left : Option (List ℕ)) (moment : ℕ) (before after : Option (List ℕ)) (ended : Result Served LinkFault)
+      (new : Service T K) : Type 0 where
+    pub exchanged : IsExchange origins m old.gate left moment before after ended new.gate
+    pub logged : IsLogged (IsEntry origins m left old.gate new.gate moment before after ended) old.log new.log

@@ -7,7 +7,7 @@ _opcmds() {
         return
     fi
     if ((COMP_CWORD == 1)) || [[ ${COMP_WORDS[1]} == help && $COMP_CWORD == 2 ]]; then
-        mapfile -t COMPREPLY < <(compgen -W 'explain run import export serve help' -- "$word")
+        mapfile -t COMPREPLY < <(compgen -W 'explain run import export serve who digest help' -- "$word")
         return
     fi
     if [[ $before == = ]]; then
@@ -16,17 +16,19 @@ _opcmds() {
         before=${COMP_WORDS[COMP_CWORD - 1]} word=
     fi
     case ${COMP_WORDS[1]} in
-        explain) options='--user --class --resource --console --level --help' ;;
+        explain) options='--user --command --as --resource --level --class --console --json --why --help' ;;
         run) options='--db --policy --help' ;;
         import) options='--db --batch --console --help' ;;
         export) options='--db --help' ;;
-        serve) options='--db --port --socket --socket-mode --strict --count --timeout --help' ;;
+        serve) options='--db --port --socket --socket-mode --strict --count --timeout --log --help' ;;
+        who) options='--command --as --resource --level --class --console --json --allowed --policy --help' ;;
+        digest) options=--help ;;
         *) return ;;
     esac
     case "${COMP_WORDS[1]} $before" in
-        "explain --class") mapfile -t COMPREPLY < <(compgen -W 'OPERCMDS CONSOLE' -- "$word"); return ;;
         "explain --level") mapfile -t COMPREPLY < <(compgen -W 'NONE READ UPDATE CONTROL ALTER' -- "$word"); return ;;
-        "explain --user" | "explain --resource" | "explain --console") return ;;
+        "explain --class") mapfile -t COMPREPLY < <(compgen -W 'OPERCMDS CONSOLE' -- "$word"); return ;;
+        "explain --user" | "explain --command" | "explain --as" | "explain --resource" | "explain --console") return ;;
         "run --db" | "run --policy") compopt -o filenames; mapfile -t COMPREPLY < <(compgen -f -- "$word"); return ;;
         "import --db") compopt -o filenames; mapfile -t COMPREPLY < <(compgen -f -- "$word"); return ;;
         "import --batch" | "import --console") return ;;
@@ -34,6 +36,10 @@ _opcmds() {
         "serve --socket-mode") mapfile -t COMPREPLY < <(compgen -W '600 660 666' -- "$word"); return ;;
         "serve --db" | "serve --socket") compopt -o filenames; mapfile -t COMPREPLY < <(compgen -f -- "$word"); return ;;
         "serve --port" | "serve --count" | "serve --timeout") return ;;
+        "who --level") mapfile -t COMPREPLY < <(compgen -W 'NONE READ UPDATE CONTROL ALTER' -- "$word"); return ;;
+        "who --class") mapfile -t COMPREPLY < <(compgen -W 'OPERCMDS CONSOLE' -- "$word"); return ;;
+        "who --policy") compopt -o filenames; mapfile -t COMPREPLY < <(compgen -f -- "$word"); return ;;
+        "who --command" | "who --as" | "who --resource" | "who --console") return ;;
     esac
     # an option that was given is not given again
     for given in "${COMP_WORDS[@]:2:COMP_CWORD - 2}"; do

@@ -12,6 +12,7 @@ use Rattle.opc_terms.specs.declared.fault.Fault.TheVariants.{Store}
 use Rattle.opc_store.specs.declared.opening.OpenFault.{OpenFault}
 use Rattle.opc_store.specs.Opening.{IsNotOpened, opening_fault}
 use Rattle.opc_io.specs.declared.watched.Watched.{Watched}
+use Rattle.opc_cli_digest.specs.Answers.{IsPromptedAnswer}
 use Rattle.opc_cli_failures.specs.declared.failure.Failure.{Failure}
 use Rattle.opc_cli_failures.specs.declared.status.Status.{Status}
 use Rattle.opc_cli_failures.specs.declared.status.Status.TheVariants.{Failed}
@@ -20,7 +21,9 @@ use Rattle.opc_cli_failures.specs.Statuses.{status_of_end}
 use Rattle.opc_cli_words.specs.declared.words.Task.{Task}
 use Rattle.opc_cli_words.specs.declared.words.Task.TheVariants as task
 use Rattle.opc_cli_words.specs.Reading.{Ask, AskForNone}
-use Rattle.opc_cli_policy_files.specs.Questions.{IsReportedAnswer}
+use Rattle.opc_cli_policy_files.specs.Answers.{IsReportedBy}
+use Rattle.opc_cli_policy_files.specs.Enquiries.{enquiry_answer, left_in}
+use Rattle.opc_cli_policy_files.specs.Questions.{command_answer, question_answer}
 use Rattle.opc_cli_program.specs.declared.work.Work.{Work}
 use Rattle.opc_cli_program.specs.declared.work.Work.TheVariants as work
 use Rattle.opc_cli_works.specs.Works.{IsRunInMemory, IsWorkAt}
@@ -98,11 +101,24 @@ module _ {D : Type 0} (g : disk.Ghosts D) (is_fresh : Bool → D → Type 0) (im
   IsRun (Some path) policy = IsWorkInFile path.now (work.Run policy)
   IsRun None policy = IsDoneInMemory contents shown left before written quiet reported status policy
 
+  -- The digest of the password on the input was printed, or not; on a terminal it was said what is read.
+  abbrev pub IsDigestAnswered : Type 0
+  IsDigestAnswered = (is_terminal : Bool)
+      × IsPromptedAnswer (λ (e : Watched E). shown e.inner) (λ (e : Watched E). e.failed) contents before.inner
+      written.inner quiet reported is_terminal left status
+
   -- What a task asks for was done.
   abbrev pub IsTaskDone : Task → Type 0
   IsTaskDone (task.Explain question) =
-      IsReportedAnswer contents (λ (e : Watched E). shown e.inner) (λ (e : Watched E). e.failed) before.inner
-      written.inner quiet reported left question status
+      IsReportedBy contents (λ (e : Watched E). shown e.inner) (λ (e : Watched E). e.failed) before.inner
+      written.inner quiet reported (question_answer question) left status
+  IsTaskDone (task.ExplainCommand question) =
+      IsReportedBy contents (λ (e : Watched E). shown e.inner) (λ (e : Watched E). e.failed) before.inner
+      written.inner quiet reported (command_answer question) left status
+  IsTaskDone (task.Who enquiry) =
+      IsReportedBy contents (λ (e : Watched E). shown e.inner) (λ (e : Watched E). e.failed) before.inner
+      written.inner quiet reported (enquiry_answer enquiry) (left_in (λ path. None) left enquiry.policy) status
+  IsTaskDone task.Digest = IsDigestAnswered
   IsTaskDone (task.Run paths) = IsRun paths.database paths.policy
   IsTaskDone (task.Import import) = IsWorkInFile import.path.now (work.Import import)
   IsTaskDone (task.Export path) = IsWorkInFile path.now work.Export

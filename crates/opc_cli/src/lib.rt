@@ -26,12 +26,15 @@ use crate::database::reason_at;
 use crate::made::report_made;
 pub use crate::script::run_script;
 pub use crate::service::serve_on;
+use opc_cli_digest::answering::answer_password;
 use opc_cli_failures::failure::{Failure, Paths, Place, reported};
 use opc_cli_failures::reason::Reason;
 use opc_cli_failures::status::Status;
+use opc_cli_options::serve::Address;
 use opc_cli_policy_files::explain::answer_question;
+use opc_cli_policy_files::explain_command::answer_command_question;
+use opc_cli_policy_files::who::answer_enquiry;
 use opc_cli_program::work::Work;
-use opc_cli_words::serve::Address;
 use opc_cli_words::words::{Task, read_words};
 use opc_cli_works::file::{Closed, EndedWork, work_at};
 use opc_cli_works::memory::run_in_memory;
@@ -40,7 +43,7 @@ use opc_store::opening::{NotOpened, OpenFault};
 use opc_terms::fault::Fault;
 use sqlite::{Error, ErrorCode, FileFrom, Start, Wary};
 use sqlite_disk::Disk;
-use std::io::{Read, Write};
+use std::io::{IsTerminal, Read, Write};
 
 /// Does what the words of a command line ask for, the first of which is the program's own name, and returns the status:
 /// 0 done, 1 refused, 2 bad words or bad input, 3 failed.
@@ -92,6 +95,16 @@ fn do_words<S: Start, R: Read, W: Write, E: Write>(
         Ok(Task::Explain(question)) => {
             answer_question(rt.alloc(), &question, input, &mut output.inner, errors)
         }
+        Ok(Task::ExplainCommand(question)) => {
+            answer_command_question(rt.alloc(), &question, input, &mut output.inner, errors)
+        }
+        Ok(Task::Who(enquiry)) => {
+            answer_enquiry(rt.alloc(), rt, &enquiry, input, &mut output.inner, errors)
+        }
+        Ok(Task::Digest) => {
+            let is_typed = is_typed(rt);
+            answer_password(rt.alloc(), input, is_typed, &mut output.inner, errors)
+        }
         Ok(Task::Run(paths)) => run_over(rt, start, &paths, input, output, errors),
         Ok(Task::Import(import)) => {
             let (path, work) = (import.path, Work::Import(import));
@@ -106,6 +119,11 @@ fn do_words<S: Start, R: Read, W: Write, E: Write>(
         }
         Err(status) => status,
     }
+}
+
+/// Whether somebody types at a terminal and reads the messages there. No clause can state that.
+fn is_typed(rt: &HostRuntime) -> bool {
+    rt.stdin().is_terminal() && rt.stderr().is_terminal()
 }
 
 /// Runs the script on the input, over the database file that is named, or in memory.

@@ -9,7 +9,7 @@ from . import scripts, world
 from .faults import Fault
 from .files import Row
 from .machine import State
-from .steps import CLOCK, SOME_PORT, Explain, Run, Serve, Step, Take
+from .steps import CLOCK, SOME_PORT, Digest, Explain, ExplainCommand, Run, Serve, Step, Take, Who
 from .world import one_in
 
 
@@ -42,6 +42,8 @@ def rarest(chance: Random, makes: Callable[[], Any], keys_of: Callable[[Any], ob
 
 def explain(chance: Random) -> list[Step]:
     """A policy file, good or bad, with a question."""
+    if one_in(chance, 3):
+        return explain_command(chance)
     if one_in(chance, 2):
         rows, of = random_policies.first_policy(chance), random_policies.any_class(chance)
         makes = world.any_resource
@@ -75,7 +77,67 @@ def explain(chance: Random) -> list[Step]:
         words[chance.choice(list(words))] = chance.choice(
             ("X1", "anna", "A.B.", "", "é", "C", "A" * 40, "MVS.*", "read", "9X9", "CONSOLE", "A..B")
         )
+    if one_in(chance, 3):
+        words["why"] = ""
+    if one_in(chance, 4):
+        words["json"] = ""
     return [Explain(words, random_policies.joined(chance, lines))]
+
+
+def with_consoles(chance: Random) -> bytes:
+    """A policy file with consoles of all modes."""
+    rows = random_policies.first_policy(chance) if one_in(chance, 3) else overlapping(chance)[0]
+    rows += [
+        random_policies.row(
+            "console", name=name, value=world.any_auth(chance), flags=chance.choice(("OPTIONAL", "REQUIRED", "AUTO"))
+        )
+        for name in (*world.CONSOLES, *world.USERS) if names.is_console(name) and one_in(chance, 2)
+    ]
+    return random_policies.joined(chance, random_policies.written(chance, rows))
+
+
+def command_asked(chance: Random, first: bytes) -> dict[str, str]:
+    """A command, with what its unit is. No word of a command line has a NUL in it, and a hyphen begins an option."""
+    words = {"command": random_lines.any_line(chance, state_of(first)).replace("\0", "\1").lstrip("-")}
+    if one_in(chance, 3):
+        words["as"] = chance.choice(("TSU", "STC:PAY", "STC:", "JOB", "STC:A.B"))
+    return words
+
+
+def explain_command(chance: Random) -> list[Step]:
+    """A policy file with a question of a user, or of nobody, and a command."""
+    first = with_consoles(chance)
+    user = "-" if one_in(chance, 3) else chance.choice((*world.USERS, "NOBODY9"))
+    words = {"user": user, **command_asked(chance, first)}
+    if not one_in(chance, 4):
+        words["console"] = chance.choice((*world.CONSOLES, *filter(names.is_console, world.USERS)))
+    if one_in(chance, 40):
+        words["level"] = "READ"
+    if one_in(chance, 2):
+        words["why"] = ""
+    if one_in(chance, 4):
+        words["json"] = ""
+    return [ExplainCommand(words, first)]
+
+
+def who(chance: Random) -> list[Step]:
+    """A policy file with a question of who may."""
+    first, words = with_consoles(chance), {}
+    if one_in(chance, 3):
+        words |= {"resource": world.any_resource(chance), "level": chance.choice(names.LEVELS)}
+        if one_in(chance, 2):
+            words["class"] = chance.choice(names.CLASSES)
+    else:
+        words |= command_asked(chance, first)
+    if one_in(chance, 3):
+        words["console"] = chance.choice(world.CONSOLES)
+    if one_in(chance, 4):
+        words["allowed"] = ""
+    if one_in(chance, 3):
+        words["json"] = ""
+    if one_in(chance, 40):
+        words["as" if "resource" in words else "level"] = "READ"
+    return [Who(words, first)]
 
 
 def overlapping(chance: Random) -> tuple[list[Row], str]:
@@ -158,6 +220,14 @@ def scripts_of(chance: Random) -> list[Step]:
     if one_in(chance, 3):
         found.append(Run(first if one_in(chance, 6) else None, script(chance, state, 20)))
     return found
+
+
+def digests(chance: Random) -> list[Step]:
+    """Passwords, and what almost is one."""
+    letters = "AZaz09#$@" if one_in(chance, 2) else "Ab0@ .\r\xe4"
+    typed = "".join(chance.choice(letters) for _ in range(chance.randint(0, 10)))
+    end = chance.choice(("", "\n", "\r\n", "\nX"))
+    return [Digest((typed + end).encode())]
 
 
 def displays(chance: Random) -> list[Step]:
@@ -254,6 +324,6 @@ def first_lines(chance: Random) -> list[str]:
 
 
 PARTS = {
-    "explain": explain, "lines": lines, "scripts": scripts_of, "displays": displays, "requests": requests,
-    "imports": imports,
+    "explain": explain, "who": who, "lines": lines, "scripts": scripts_of, "digest": digests, "displays": displays,
+    "requests": requests, "imports": imports,
 }

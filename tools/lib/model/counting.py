@@ -40,7 +40,9 @@ WHYS = [
 ]
 OTHERS = {
     "command": "E01 E02 E03 E04 E05 E06 E10 E11", "LOGON": "E13 E14 E15 E17 WARN done", "LOGOFF": "E16 done",
-    "first policy": "E41 E52 E53 E57 done", "script": "bad", "explain": "ALLOWED DENIED UNDECIDED E53 words",
+    "first policy": "E41 E52 E53 E57 done", "script": "bad",
+    "explain": "ALLOWED DENIED UNDECIDED E01 E02 E03 E04 E05 E06 E10 E53 words",
+    "who": "E01 E02 E03 E04 E05 E06 E10 answered words", "digest": "done",
     "HTTP": "H400 H403 H404 H405 H413",
 }
 BRANCHES = {
@@ -50,6 +52,12 @@ BRANCHES = {
     ),
     "verdict": ("allowed", "warned", "denied", "no profile", "inactive class"),
     "line": ("shown", "hidden"),
+    "who": (
+        "a user, OWN", "a user, GROUP", "a user, EVERYONE", "a user, UACC", "a user, RESTRICTED", "a user, OWN AT",
+        "a user, GROUP AT", "a user, EVERYONE AT", "a console, AUTO", "a console, NOBODY", "as JSON",
+    ),
+    "why": ("OWN", "GROUP", "EVERYONE", "UACC", "RESTRICTED", "OWN AT", "GROUP AT", "EVERYONE AT"),
+    "digest": ("no password",),
     "acting": ("the user who is on", "the console's own user", "nobody at AUTO"),
 }
 

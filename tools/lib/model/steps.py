@@ -9,7 +9,7 @@ from dataclasses import dataclass
 from lib import clients
 from lib.places import built
 from lib.service import Service
-from . import counting, exchange, files, names, policy, scripts, tables
+from . import counting, digest, exchange, files, names, policy, scripts, tables, who, why
 from .faults import Fault
 from .machine import State
 from .requests import Import
@@ -17,6 +17,8 @@ from .requests import Import
 # How a moment of the clock is printed, which no model knows: as many digits as a moment has from 2001 to 2286.
 CLOCK = "0000000000"
 SOME_PORT = 8_011  # which no answer has
+# the options without a value
+FLAGS = ("allowed", "json", "why")
 # what was asked, with what came of each
 Answers = list[tuple[object, object]]
 LISTED = re.compile(rb'(?<=")(\d+) (\d{10}) ')
@@ -60,17 +62,25 @@ def refused(what: str, fault: Fault) -> tuple[int, str, str]:
     return (2 if fault.code == "E60" else 1), "", fault.printed()
 
 
+def options_of(words: dict[str, str]) -> list[str]:
+    """The words of these options, of which some have no value."""
+    return [part for name, value in words.items() for part in (f"--{name}", value)[:1 if name in FLAGS else 2]]
+
+
+def asked(command: str, words: dict[str, str], rows: bytes) -> Answers:
+    """What the program answers over a policy file; words that do not read are reported by a text that no rule fixes."""
+    status, output, errors = run([command, *options_of(words)], rows)
+    return [(command, (status, output, None if status == 2 and not errors.startswith("E60 ") else errors))]
+
+
 @dataclass
 class Explain:
-    """`explain` over a policy file; words that do not read are reported by a text that no rule fixes."""
+    """`explain` about a level of access, over a policy file."""
     words: dict
     rows: bytes
 
     def program(self, _: str) -> Answers:
-        status, output, errors = run(
-            ["explain", *(part for name, value in self.words.items() for part in (f"--{name}", value))], self.rows
-        )
-        return [("explain", (status, output, None if status == 2 and not errors.startswith("E60 ") else errors))]
+        return asked("explain", self.words, self.rows)
 
     def model(self, _: State) -> Answers:
         found = State()
@@ -88,8 +98,75 @@ class Explain:
             return [("explain", refused("explain", fault))]
         outcome, rule = policy.verdict(found.policy, of, resource, user, level, console)
         counting.met["explain", outcome] += 1
-        lines = [*(f"COVERS {pattern}" for pattern in policy.covering(found.policy, of, resource)), f"{outcome} {rule}"]
-        return [("explain", (int(outcome == "DENIED"), "".join(f"{line}\n" for line in lines), ""))]
+        covering = why.covers(found.policy, of, resource, user, self.words)
+        question = {"class": of, "console": console, "group": None, "level": level, "resource": resource, "user": user}
+        output = why.printed([], question, covering, outcome, rule, self.words)
+        return [("explain", (int(outcome == "DENIED"), output, ""))]
+
+
+@dataclass
+class ExplainCommand:
+    """`explain` about a command."""
+    words: dict
+    rows: bytes
+
+    def program(self, _: str) -> Answers:
+        return asked("explain", self.words, self.rows)
+
+    def model(self, _: State) -> Answers:
+        if not why.reads(self.words):
+            counting.met["explain", "words"] += 1
+            return [("explain", (2, "", None))]
+        found = State()
+        try:
+            rows = files.read(self.rows)
+            who.wants_command(self.words)
+            found.bootstrap(rows)
+            outcome, output = why.answer(found, self.words)
+        except Fault as fault:
+            return [("explain", refused("explain", fault))]
+        counting.met["explain", outcome] += 1
+        return [("explain", (int(outcome == "DENIED"), output, ""))]
+
+
+@dataclass
+class Who:
+    """`who` over a policy file, by the values of its options."""
+    words: dict
+    rows: bytes
+
+    def program(self, _: str) -> Answers:
+        return asked("who", self.words, self.rows)
+
+    def model(self, _: State) -> Answers:
+        if not who.reads(self.words):
+            counting.met["who", "words"] += 1
+            return [("who", (2, "", None))]
+        found = State()
+        try:
+            rows = files.read(self.rows)
+            who.wants_command(self.words)
+            found.bootstrap(rows)
+            output = who.answer(found, self.words)
+        except Fault as fault:
+            return [("who", refused("who", fault))]
+        counting.met["who", "answered"] += 1
+        return [("who", (0, output, ""))]
+
+
+@dataclass
+class Digest:
+    """`digest` of what is typed."""
+    typed: bytes
+
+    def program(self, _: str) -> Answers:
+        status, output, errors = run(["digest"], self.typed)
+        return [("digest", (status, output, None if status == 2 else errors))]
+
+    def model(self, _: State) -> Answers:
+        output = digest.answer(self.typed)
+        counting.met["digest", "done" if output else "no password"] += 1
+        return [("digest", (0, output, "") if output else (2, "", None))]
 
 
 @dataclass

@@ -15,7 +15,7 @@ from lib.files import bytes_of
 from lib.places import HEADER, POLICY, TOP, built, preload, wide_policy
 from .room import Ran, Room, asked
 
-HELPS = ("--help", "explain --help", "help explain", "run --help", "serve --help")
+HELPS = ("--help", "explain --help", "help explain", "run --help", "serve --help", "who --help", "digest --help")
 # requests that leave rows in every table, with the batch
 SCRIPT = """\
 1 * JOBIN PAY JOB
@@ -251,6 +251,8 @@ def table(name: str) -> Callable[[Room], None]:
 # By the words of the command line; each in a room of its own.
 PARTS: dict[str, Callable[[Room], None]] = {
     "explain": table("explain"),
+    "who": table("who"),
+    "digest": table("digest"),
     "name": another_name,
     "version": says_version,
     "words": table("words"),

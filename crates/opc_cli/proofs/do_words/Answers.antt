@@ -11,6 +11,22 @@ returns-in-Ok-Explain g c =
     c.args.errors.now c.read_words.new.errors done.new.errors done.result
     (task.Explain c.in-Ok-Explain.question) (rw c.in-Ok-Explain.field-0-is at c.in-Ok-Explain.ensures) done.ensures
 
+pub returns-in-Ok-ExplainCommand : goal.returns-in-Ok-ExplainCommand
+returns-in-Ok-ExplainCommand g c =
+    let done = c.answer_command_question in
+    task_done _ _ _ g.W.Write.contents g.E.Write.contents _ (words_after c.args.words.now) c.args.output.now
+    c.read_words.new.output (record c.read_words.new.output { inner = done.new.output })
+    c.args.errors.now c.read_words.new.errors done.new.errors done.result
+    (task.ExplainCommand c.in-Ok-ExplainCommand.question) (rw c.in-Ok-ExplainCommand.field-0-is at c.in-Ok-ExplainCommand.ensures) done.ensures
+
+pub returns-in-Ok-Who : goal.returns-in-Ok-Who
+returns-in-Ok-Who g c =
+    let done = c.answer_enquiry in
+    task_done _ _ _ g.W.Write.contents g.E.Write.contents _ (words_after c.args.words.now) c.args.output.now
+    c.read_words.new.output (record c.read_words.new.output { inner = c.answer_enquiry.new.output })
+    c.args.errors.now c.read_words.new.errors done.new.errors done.result
+    (task.Who c.in-Ok-Who.enquiry) (rw c.in-Ok-Who.field-0-is at c.in-Ok-Who.ensures) done.ensures
+
 pub returns-in-Ok-Run : goal.returns-in-Ok-Run
 returns-in-Ok-Run g c =
     let done = c.run_over in
@@ -42,3 +58,11 @@ returns-in-Ok-Serve g c =
     c.read_words.new.output c.work_in_file-in-Ok-Serve.new.output c.args.errors.now c.read_words.new.errors
     done.new.errors done.result
     (task.Serve c.in-Ok-Serve.serve) (rw c.in-Ok-Serve.field-0-is at c.in-Ok-Serve.ensures) done.ensures
+
+pub returns-in-Ok-Digest : goal.returns-in-Ok-Digest
+returns-in-Ok-Digest g c =
+    let done = c.answer_password in
+    task_done _ _ _ g.W.Write.contents g.E.Write.contents _ (words_after c.args.words.now) c.args.output.now
+    c.read_words.new.output (record c.read_words.new.output { inner = c.answer_password.new.output })
+    c.args.errors.now c.read_words.new.errors done.new.errors done.result
+    task.Digest (rw c.in-Ok-Digest.field-0-is at c.in-Ok-Digest.ensures) (c.is_typed-is_typed.result, done.ensures)

@@ -1,6 +1,5 @@
 pub mod Escapes
 pub mod Laws
 pub mod LogLines
-pub mod Times
 pub mod Typed
 pub mod Words

@@ -36,7 +36,7 @@ use Rattle.opc_http_head.specs.declared.refusal.HttpRefusal.TheVariants.{
   BadRow,
 }
 use Rattle.opc_http_log.specs.Escapes.{printable}
-use Rattle.opc_http_log.specs.Times.{IsTime}
+use Rattle.opc_times.specs.Times.{IsTime}
 use Rattle.opc_http_log.specs.Words.{request_words, shown}
 use Rattle.opc_http_log.specs.declared.entry.LogEntry.{LogEntry}
 

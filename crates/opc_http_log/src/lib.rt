@@ -6,6 +6,5 @@ mod escape;
 pub mod laws;
 pub mod line;
 mod operation;
-mod time;
 mod typed;
 mod words;

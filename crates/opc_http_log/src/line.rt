@@ -19,13 +19,13 @@ ghost use Rattle.opc_http_log.specs.LogLines.{
 
 use crate::entry::LogEntry;
 use crate::escape::printable;
-use crate::time::time_text;
 use crate::words::shown_request;
 use opc_http_head::refusal::HttpRefusal;
 use opc_machine::request::{Answer, Request};
 use opc_names::name::UserId;
 use opc_terms::rule::Rule;
 use opc_terms::store_fault::StoreFault;
+use opc_times::time::time_text;
 use std::alloc::{AllocError, Global};
 
 /// What stands for nothing.

@@ -1,4 +1,5 @@
 pub mod Opening
+pub mod Reading
 pub mod StoreTables
 pub mod StoreLaws
 pub mod Reopening

@@ -3,6 +3,7 @@
 
 pub mod laws;
 pub mod opening;
+mod reading;
 pub mod reopening;
 mod source;
 pub mod store;

@@ -48,7 +48,7 @@ use std::io::ErrorKind;
 use thiserror::Error;
 
 /// The version of our tables, as it is read.
-const OURS: u64 = VERSION as u64;
+pub(crate) const OURS: u64 = VERSION as u64;
 
 /// Why a database is not opened.
 #[derive(Clone, Copy, Debug, PartialEq, Eq, Error)]
@@ -101,7 +101,7 @@ pub struct NotOpened {
 
 impl NotOpened {
     /// The system refused the file.
-    fn by_system(error: io::Error) -> Self
+    pub(crate) fn by_system(error: io::Error) -> Self
         ensures { IsNoVersion result.fault }
     {
         let fault = match error.kind() {
@@ -116,7 +116,7 @@ impl NotOpened {
     }
 
     /// The files were not opened as a database.
-    fn by_files(error: Error) -> Self
+    pub(crate) fn by_files(error: Error) -> Self
         ensures { result.fault ≡ open_fault error }
     {
         let is_full = match &error {
@@ -131,7 +131,10 @@ impl NotOpened {
     }
 
     /// What the files held was not adopted.
-    fn by_tables<D: Disk + Drop>(fault: OpenFault, conn: Connection<FileStore<D>>) -> Self
+    pub(crate) fn by_tables<D: Disk + Drop>(
+        fault: OpenFault,
+        conn: Connection<FileStore<D>>,
+    ) -> Self
         ensures { result.fault ≡ fault }
     {
         NotOpened {
@@ -149,7 +152,7 @@ fn open_fault(error: Error) -> OpenFault
 }
 
 // If meta cannot be asked for its version, it is another program's.
-fn version_fault(error: Error) -> OpenFault
+pub(crate) fn version_fault(error: Error) -> OpenFault
     ensures { result ≡ unasked error }
 {
     match error {

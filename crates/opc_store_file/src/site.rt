@@ -54,6 +54,20 @@ pub fn prepare(rt: &HostRuntime, path: &str) -> io::Result<Option<Site>>
     }
 }
 
+/// Looks at what is at a path, where a database file is to be read: if nothing is, nothing is made, and that is the
+/// error. None if the path means no file.
+pub fn look(rt: &HostRuntime, path: &str) -> io::Result<Option<Site>>
+    ensures { IfOk result (λ site. is_none site ≡ means_no_file path.now) }
+{
+    if means_no_file(path) {
+        return Ok(None);
+    }
+    match Site::at(rt, path, false) {
+        Ok(site) => Ok(Some(site)),
+        Err(error) => Err(error),
+    }
+}
+
 /// Whether no file is there.
 fn is_missing(rt: &HostRuntime, path: &str) -> io::Result<bool> {
     match fs::metadata(rt, path) {

@@ -1,7 +1,7 @@
-use Rattle.std.proofs.Common.{◌≡◌, ◌∙◌, ◌+◌, ◌*◌, ap, arith, inl, pos, string_bytes}
+use Rattle.std.proofs.Common.{◌≡◌, ◌∙◌, ◌+◌, ◌*◌, ap, arith, inl, pos}
 use Rattle.std.proofs.lemmas.Result.{IfOk-weaker}
 use Rattle.jiff.specs.Words.{civil_nanos}
-use Rattle.opc_http_log.proofs.time.time_text.Goals as goal
+use Rattle.opc_times.proofs.time.time_text.Goals as goal
 
 pub returns-in-Ok : goal.returns-in-Ok
 returns-in-Ok c =

@@ -1,7 +1,7 @@
 //! Times, as RFC 3339 writes them.
 ghost use Rattle.std.specs.Prelude.{◌≡◌, IfOk, pos, string_bytes};
 ghost use Rattle.jiff.specs.Words.{civil_nanos};
-ghost use Rattle.opc_http_log.specs.Times.{IsTime};
+ghost use Rattle.opc_times.specs.Times.{IsTime};
 
 use jiff::Timestamp;
 use jiff::civil::DateTime;
@@ -17,7 +17,7 @@ fn epoch() -> DateTime
 }
 
 /// The time of a moment in UTC; after the year 9999 its number.
-pub(crate) fn time_text(alloc: Global, moment: u64) -> Result<String, AllocError>
+pub fn time_text(alloc: Global, moment: u64) -> Result<String, AllocError>
     ensures { IfOk result (λ time. IsTime moment (string_bytes time)) }
 {
     match epoch().checked_add(Duration::from_secs(moment)) {

@@ -1,0 +1,4 @@
+//! `opcmds account`: the rows of the account, printed as they are read.
+#![tactic(auto)]
+
+pub mod printing;

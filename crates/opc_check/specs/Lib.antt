@@ -1,0 +1,3 @@
+pub mod Checked
+pub mod Counted
+pub mod Laws

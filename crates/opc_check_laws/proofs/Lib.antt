@@ -1,0 +1,3 @@
+mod InEffect
+mod LastRows
+mod Steps

@@ -1,0 +1,24 @@
+-- The rows in effect of a policy file are what is stored.
+use Rattle.std.specs.Prelude.{◌≡◌, true, List, Ok}
+use Rattle.std.specs.List.{AllByRecursion}
+use Rattle.opc_policy_members.specs.declared.row.Row.{Row}
+use Rattle.opc_policy_members.specs.declared.row.Row.TheVariants as rows
+use Rattle.opc_state.specs.State.{State, empty}
+use Rattle.opc_machine.specs.Bootstrap.{bootstrapped}
+use Rattle.opc_machine_laws.specs.RowLaws.{IsWritten}
+use Rattle.opc_check_laws.specs.Stored.{IsInEffect, IsStored}
+
+-- If a file is loaded as a first policy, each of its rows in effect is stored.
+abbrev pub RowsInEffectAreStored : Type 0
+RowsInEffectAreStored = (all : List Row) (s : State) → AllByRecursion IsWritten all → bootstrapped all empty ≡ Ok s
+    → (row : Row) → IsInEffect all row → IsStored s row
+
+-- a class is inactive unless a row makes it active
+abbrev pub IsMade : Row → Type 0
+IsMade (rows.Class class active) = active ≡ true
+IsMade other = Unit {0}
+
+-- And nothing else is stored.
+abbrev pub StoredRowsAreInEffect : Type 0
+StoredRowsAreInEffect = (all : List Row) (s : State) → AllByRecursion IsWritten all → bootstrapped all empty ≡ Ok s
+    → (row : Row) → IsMade row → IsStored s row → IsInEffect all row

@@ -1,0 +1,5 @@
+pub mod Held
+pub mod Keys
+pub mod Rising
+pub mod Serving
+pub mod Steps

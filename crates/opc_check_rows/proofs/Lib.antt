@@ -1,0 +1,4 @@
+pub mod Agreeing
+mod Following
+mod Quoting
+pub mod Telling

@@ -1,0 +1,4 @@
+pub mod Judged
+pub mod Laws
+pub mod Lines
+pub mod Words

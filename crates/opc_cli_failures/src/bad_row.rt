@@ -1,7 +1,7 @@
 //! What is wrong with a row of a policy file, in words.
 ghost use Rattle.std.specs.Prelude.{◌≡◌, IfSome};
 
-use arrayvec::ArrayString;
+use crate::shown::TextStart;
 use csv::{ReaderBuilder, StringRecord};
 use opc_import::column::{COLUMNS, Column};
 use opc_import::extent::extent_of;
@@ -10,12 +10,6 @@ use opc_terms::fault::Why;
 use std::alloc::Global;
 use std::fmt;
 use std::fmt::{Display, Formatter};
-
-/// The most characters of a field that are shown: as many as the longest name has.
-const SHOWN_CHARACTERS: usize = 39;
-
-/// The most bytes that these have.
-const SHOWN_BYTES: usize = 4 * SHOWN_CHARACTERS;
 
 /// A bad row of a policy file after its header: which it is, and what is wrong with it first.
 #[derive(Clone, Copy)]
@@ -41,7 +35,7 @@ enum Problem {
 #[derive(Clone, Copy)]
 enum Shown {
     /// As much of it as there is room for.
-    Start(FieldStart),
+    Start(TextStart),
     /// How many characters it has. A digest that does not read may be a password, which no log should have.
     Length(usize),
 }
@@ -51,7 +45,7 @@ impl Shown {
         match column {
             Column::Digest => Shown::Length(field.chars().count()),
             // A field of another column is a name or a word, which a log may have.
-            _ => Shown::Start(FieldStart::of(field)),
+            _ => Shown::Start(TextStart::of(field)),
         }
     }
 }
@@ -63,38 +57,6 @@ impl Display for Shown {
             Shown::Length(1) => f.write_str("it has 1 character"),
             Shown::Length(count) => write!(f, "it has {count} characters"),
         }
-    }
-}
-
-/// The start of a field.
-#[derive(Clone, Copy)]
-struct FieldStart {
-    text: ArrayString<SHOWN_BYTES>,
-    is_whole: bool,
-}
-
-impl FieldStart {
-    fn of(field: &str) -> Self {
-        let mut text = ArrayString::new();
-        for (number, character) in field.chars().enumerate() {
-            if number >= SHOWN_CHARACTERS || text.try_push(character).is_err() {
-                return FieldStart {
-                    text,
-                    is_whole: false,
-                };
-            }
-        }
-        FieldStart {
-            text,
-            is_whole: true,
-        }
-    }
-}
-
-impl Display for FieldStart {
-    fn fmt<W: fmt::Write>(&self, f: &mut Formatter<W>) -> fmt::Result {
-        let rest = if self.is_whole { "" } else { ".." };
-        write!(f, "{:?}{rest}", self.text.as_str())
     }
 }
 

@@ -1,14 +1,14 @@
 //! What made the program fail, and how that is reported.
 ghost use Rattle.std.specs.Prelude.{◌≡◌, IfErr, OnOk, Some, false};
 ghost use Rattle.std.specs.IoError.{error_kind};
-ghost use Rattle.opc_cli_failures.specs.Printing.{IsReported};
+ghost use Rattle.opc_cli_failures.specs.Printing.{Grows, IsReported};
 ghost use Rattle.opc_cli_failures.specs.Statuses.{IsFailure, cause_in_gate, fault_of_kind, status_of, status_of_end};
 
-use crate::printing::print_failure;
+use crate::printing::{print_failure, print_note};
 use crate::reason::Reason;
 use crate::status::Status;
 use opc_io::sink::Sink;
-use opc_terms::fault::Fault;
+use opc_terms::fault::{Fault, Subject};
 use std::io;
 use std::io::ErrorKind;
 
@@ -41,6 +41,10 @@ pub enum Place {
     Socket,
     /// A connection that was to be accepted.
     Connection,
+    /// A console, at which a request is made.
+    Console(Subject),
+    /// The script on the input.
+    Script,
 }
 
 /// A fault, and what failed and why, if that is known.
@@ -108,6 +112,15 @@ impl Failure {
         let _ = print_failure(self, paths, errors);
         status_of(&self.fault)
     }
+}
+
+/// Prints what is wrong there and why, in a line of its own.
+pub fn note<K: Sink>(place: Place, reason: &Reason, errors: &mut K)
+    ensures noted { K.has_failed errors.new ≡ false → Grows (K.held errors.old) (K.held errors.new) }
+    ensures kept { K.has_failed errors.new ≡ false → K.has_failed errors.old ≡ false }
+{
+    // (without which the answer and the status still say that something is wrong)
+    let _ = print_note(&place, reason, &NO_PATHS, errors);
 }
 
 /// The status of what was to be done; a failure is reported.

@@ -49,20 +49,33 @@ fn print_cause<K: Sink>(
 {
     match &failure.cause {
         Some((place, reason)) if failure.fault != Fault::NoMemory => {
-            print_place(*place, paths, errors)?;
-            print_reason(reason, errors)
+            print_note(place, reason, paths, errors)
         }
         // Nothing more is known, or there is no memory to print it.
         _ => Ok(()),
     }
 }
 
-fn print_place<K: Sink>(place: Place, paths: &Paths<'_>, errors: &mut K) -> Result<(), WriteFault>
+/// Prints a line that names a place and says why it failed.
+pub(crate) fn print_note<K: Sink>(
+    place: &Place,
+    reason: &Reason,
+    paths: &Paths<'_>,
+    errors: &mut K,
+) -> Result<(), WriteFault>
     ensures text { OnOk result (Grows (K.held errors.old) (K.held errors.new)) }
     ensures failed { K.has_failed errors.new ≡ (if is_err result then true else K.has_failed errors.old) }
 {
-    print_pair("opcmds: ", kind_of(place), errors)?;
-    print_pair(path_of(place, paths), digits_of(place).as_str(), errors)
+    print_place(place, paths, errors)?;
+    print_reason(reason, errors)
+}
+
+fn print_place<K: Sink>(place: &Place, paths: &Paths<'_>, errors: &mut K) -> Result<(), WriteFault>
+    ensures text { OnOk result (Grows (K.held errors.old) (K.held errors.new)) }
+    ensures failed { K.has_failed errors.new ≡ (if is_err result then true else K.has_failed errors.old) }
+{
+    print_pair("opcmds: ", kind_of(*place), errors)?;
+    print_pair(path_of(place, paths), digits_of(*place).as_str(), errors)
 }
 
 fn print_reason<K: Sink>(reason: &Reason, errors: &mut K) -> Result<(), WriteFault>
@@ -92,16 +105,19 @@ fn kind_of(place: Place) -> &'static str {
         Place::Port(_) => "port ",
         Place::Socket => "socket ",
         Place::Connection => "connection",
+        Place::Console(_) => "console ",
+        Place::Script => "script",
     }
 }
 
-/// The path of a place that has one.
-fn path_of<'a>(place: Place, paths: &Paths<'a>) -> &'a str {
+/// The path or the name of a place that has one.
+fn path_of<'a>(place: &'a Place, paths: &Paths<'a>) -> &'a str {
     match place {
         Place::PolicyFile => paths.policy.unwrap_or(""),
         Place::Database => paths.database.unwrap_or(""),
         Place::Socket => paths.socket.unwrap_or(""),
-        // No other place has a path.
+        Place::Console(name) => name.text(),
+        // No other place has a path or a name.
         _ => "",
     }
 }
@@ -118,8 +134,8 @@ fn digits_of(place: Place) -> ArrayString<PORT_DIGITS> {
 
 fn separator_of(reason: &Reason) -> &'static str {
     match reason {
-        Reason::Row(_) => ", ",
-        // A row's reason continues its sentence; every other begins one.
+        Reason::Row(_) | Reason::Refused(_) | Reason::Line(_) => ", ",
+        // The number of a row or a line belongs to the place; every other reason begins a sentence.
         _ => ": ",
     }
 }

@@ -1,6 +1,10 @@
 //! Why the program failed, in words.
+use crate::bad_line::BadLine;
 use crate::bad_row::BadRow;
+use crate::first_row::FirstRow;
+use crate::refused_row::RefusedRow;
 use arrayvec::ArrayString;
+use opc_terms::fault::Subject;
 use std::fmt::{Display, Formatter, Write as _};
 use std::{fmt, io};
 
@@ -13,11 +17,26 @@ pub enum Reason {
     System(io::Error),
     /// A policy file of more bytes than one may have.
     TooLong,
+    /// A script of more bytes than one may have.
+    LongScript,
     NotUtf8,
-    /// A policy file whose first row is not the header.
-    NoHeader,
-    /// Another row of a policy file.
+    Utf16,
+    /// A policy file whose first row is not the header, or that has no row.
+    NoHeader(Option<FirstRow>),
+    /// Another row of a policy file, which does not read.
     Row(BadRow),
+    /// A row that reads and is refused.
+    Refused(RefusedRow),
+    /// A line that is no request.
+    Line(BadLine),
+    /// An import without a console, over tables in which users are stored.
+    UsersImported,
+    /// A run with a first policy, over such tables.
+    UsersRun,
+    /// A console for which nobody acts.
+    NobodyOn,
+    /// One for which this user acts, without SPECIAL.
+    NotSpecial(Subject),
     /// A name that means no file to SQLite.
     NoPath,
     /// A device or the like, or a file of several names.
@@ -47,9 +66,18 @@ impl Display for Reason {
                 }
             }
             Reason::TooLong => f.write_str("more than 16,777,216 bytes"),
+            Reason::LongScript => f.write_str("more than 1,048,576 bytes"),
             Reason::NotUtf8 => f.write_str("not UTF-8"),
-            Reason::NoHeader => f.write_str("the first row is not the header"),
+            Reason::Utf16 => f.write_str("UTF-16 and not UTF-8; save it as \"CSV UTF-8\""),
+            Reason::NoHeader(Some(row)) => write!(f, "the first row is not the header: {row}"),
+            Reason::NoHeader(None) => f.write_str("no rows; the first has to be the header"),
             Reason::Row(bad) => write!(f, "{bad}"),
+            Reason::Refused(row) => write!(f, "{row}"),
+            Reason::Line(bad) => write!(f, "{bad}"),
+            Reason::UsersImported => f.write_str("users are stored; use --console"),
+            Reason::UsersRun => f.write_str("users are stored; leave out --policy"),
+            Reason::NobodyOn => f.write_str("nobody is on"),
+            Reason::NotSpecial(user) => write!(f, "{user} is not SPECIAL"),
             Reason::NoPath => f.write_str("not the path of a file"),
             Reason::NoPlainFile => f.write_str("not a plain file of one name"),
             Reason::InUse => f.write_str("in use by another program"),

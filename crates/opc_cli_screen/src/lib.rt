@@ -1,7 +1,7 @@
-//! Standard output and standard error as they are read: on a terminal, characters that the terminal would act on or
-//! hide are escaped.
+//! The standard streams at a terminal: characters that it would act on or hide are escaped, and a read is announced.
 #![tactic(auto)]
 
+pub mod announced;
 pub mod laws;
 pub mod screen;
 pub mod shown;

@@ -6,3 +6,4 @@ pub mod Transcripts
 pub mod Statuses
 pub mod Running
 pub mod Laws
+pub mod Slips

@@ -62,6 +62,10 @@ request_in line = do
   request ← request_of parts.1
   Some (parts.0, request)
 
+-- the request of a line without a moment
+abbrev pub untimed_request_in : List ℕ → Option Request
+untimed_request_in line = separated line >>= request_of
+
 -- empty, or only spaces
 abbrev pub is_blank : List ℕ → Bool
 is_blank line = list_all is_space line

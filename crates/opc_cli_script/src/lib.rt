@@ -1,11 +1,12 @@
 //! Scripts: requests as lines of a text, and the answers to them.
 #![tactic(auto)]
 
+pub mod bad_line;
 mod event;
 pub mod laws;
 pub mod line;
 pub mod printer;
 pub mod run;
 pub mod script;
-mod status;
+pub mod status;
 pub mod transcript;

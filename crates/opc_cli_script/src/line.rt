@@ -2,7 +2,15 @@
 ghost use Rattle.std.specs.Prelude.{◌≡◌, IfOk, MatchOption, None, Some};
 ghost use Rattle.std.specs.Char.{is_ascii_digit};
 ghost use Rattle.std.specs.List.{list_all};
-ghost use Rattle.opc_cli_script.specs.Scripts.{is_blank, is_number, moment_in, parts_in, request_in, request_of};
+ghost use Rattle.opc_cli_script.specs.Scripts.{
+  is_blank,
+  is_number,
+  moment_in,
+  parts_in,
+  request_in,
+  request_of,
+  untimed_request_in,
+};
 
 use crate::event::{event_in, name_in, separated};
 use opc_board::text::KeptText;
@@ -10,7 +18,7 @@ use opc_gate::request::Request;
 use std::alloc::{AllocError, Global};
 
 /// The most digits of a moment.
-const MOMENT_DIGITS: usize = 13;
+pub(crate) const MOMENT_DIGITS: usize = 13;
 
 fn are_digits(bytes: &[u8]) -> bool
     ensures { result ≡ list_all is_ascii_digit bytes.now }
@@ -18,7 +26,7 @@ fn are_digits(bytes: &[u8]) -> bool
     bytes.iter().all(|c| c.is_ascii_digit())
 }
 
-fn is_number(text: &str) -> bool
+pub(crate) fn is_number(text: &str) -> bool
     ensures { result ≡ is_number text.now }
 {
     !text.is_empty() && are_digits(text.as_bytes())
@@ -64,7 +72,7 @@ fn parts_in(line: &str) -> Option<(u64, &str, &str)>
 }
 
 /// Whether a line is empty or only spaces.
-pub(crate) fn is_blank(line: &str) -> bool
+pub fn is_blank(line: &str) -> bool
     ensures { result ≡ is_blank line.now }
 {
     line.as_bytes().iter().all(|c| *c == b' ')
@@ -79,6 +87,16 @@ pub fn request_in(alloc: Global, line: &str) -> Result<Option<(u64, Request)>, A
     };
     match request_of(alloc, who, text)? {
         Some(request) => Ok(Some((moment, request))),
+        None => Ok(None),
+    }
+}
+
+/// The request of a line without a moment: who asks, one space, and what.
+pub fn untimed_request_in(alloc: Global, line: &str) -> Result<Option<Request>, AllocError>
+    ensures { IfOk result (λ request. request ≡ untimed_request_in line.now) }
+{
+    match separated(line) {
+        Some((who, text)) => request_of(alloc, who, text),
         None => Ok(None),
     }
 }

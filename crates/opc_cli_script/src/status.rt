@@ -8,7 +8,7 @@ use opc_gate::request::Answer;
 use opc_terms::fault::Fault;
 
 /// The status after these answers and one more.
-pub(crate) fn status_after(status: Status, answer: &Answer) -> Status
+pub fn status_after(status: Status, answer: &Answer) -> Status
     ensures { (answers : List TheAnswer) → status ≡ status_of answers
         → result ≡ status_of (answers ++ answer.now ∷ []) }
 {

@@ -53,7 +53,8 @@ pub fn answer_text(alloc: Global, moment: u64, answer: &Answer) -> Result<String
     }
 }
 
-pub(crate) fn bad_line_text(alloc: Global, number: usize) -> Result<String, AllocError>
+/// What is printed of a bad line.
+pub fn bad_line_text(alloc: Global, number: usize) -> Result<String, AllocError>
     ensures { IfOk result (λ text. string_bytes text ≡ bad_line_text number) }
 {
     let mut text = format!(in alloc; "BAD LINE {number}")?;

@@ -1,0 +1,43 @@
+//! What is shown of a text that somebody wrote.
+use arrayvec::ArrayString;
+use std::fmt;
+use std::fmt::{Display, Formatter};
+
+/// The most characters that are shown: as many as the longest name has.
+const SHOWN_CHARACTERS: usize = 39;
+
+/// The most bytes that these have.
+const SHOWN_BYTES: usize = 4 * SHOWN_CHARACTERS;
+
+/// The start of a text.
+#[derive(Clone, Copy)]
+pub struct TextStart {
+    text: ArrayString<SHOWN_BYTES>,
+    is_whole: bool,
+}
+
+impl TextStart {
+    /// What is shown of a text.
+    pub fn of(whole: &str) -> Self {
+        let mut text = ArrayString::new();
+        for (number, character) in whole.chars().enumerate() {
+            if number >= SHOWN_CHARACTERS || text.try_push(character).is_err() {
+                return TextStart {
+                    text,
+                    is_whole: false,
+                };
+            }
+        }
+        TextStart {
+            text,
+            is_whole: true,
+        }
+    }
+}
+
+impl Display for TextStart {
+    fn fmt<W: fmt::Write>(&self, f: &mut Formatter<W>) -> fmt::Result {
+        let rest = if self.is_whole { "" } else { ".." };
+        write!(f, "{:?}{rest}", self.text.as_str())
+    }
+}

@@ -1,0 +1,5 @@
+pub mod Typing
+pub mod Running
+pub mod Turning
+pub mod Taking
+pub mod Viewing

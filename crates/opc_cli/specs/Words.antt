@@ -2,6 +2,7 @@
 use Rattle.std.specs.Prelude.{◌≡◌, ◌⊎◌, ℕ, Bool, true, false, List, Option, Some, None, Result, Ok, Err, IfErr}
 use Rattle.std.specs.Io.KnownBytes.{Appends}
 use Rattle.std.specs.Borrow.{Bor}
+use Rattle.std.specs.Option.{option_copied}
 use Rattle.sqlite_disk.specs.declared.Disk as disk
 use Rattle.sqlite_disk.specs.declared.Files.{Files}
 use Rattle.sqlite_store.specs.declared.store.FileStore.{FileStore}
@@ -12,21 +13,27 @@ use Rattle.opc_terms.specs.declared.fault.Fault.TheVariants.{Store}
 use Rattle.opc_store.specs.declared.opening.OpenFault.{OpenFault}
 use Rattle.opc_store.specs.Opening.{IsNotOpened, opening_fault}
 use Rattle.opc_io.specs.declared.watched.Watched.{Watched}
+use Rattle.opc_store.specs.Reading.{IsNotRead}
+use Rattle.opc_account.specs.declared.query.Query.{Query}
 use Rattle.opc_cli_digest.specs.Answers.{IsPromptedAnswer}
 use Rattle.opc_cli_failures.specs.declared.failure.Failure.{Failure}
 use Rattle.opc_cli_failures.specs.declared.status.Status.{Status}
 use Rattle.opc_cli_failures.specs.declared.status.Status.TheVariants.{Failed}
 use Rattle.opc_cli_failures.specs.Printing.{IsReported}
 use Rattle.opc_cli_failures.specs.Statuses.{status_of_end}
+use Rattle.opc_cli_options.specs.declared.run.Lines.{Lines}
+use Rattle.opc_cli_options.specs.declared.run.Lines.TheVariants.{Script, Now}
 use Rattle.opc_cli_words.specs.declared.words.Task.{Task}
 use Rattle.opc_cli_words.specs.declared.words.Task.TheVariants as task
 use Rattle.opc_cli_words.specs.Reading.{Ask, AskForNone}
+use Rattle.opc_cli_check.specs.Answers.{IsReportedCheck, form_of}
 use Rattle.opc_cli_policy_files.specs.Answers.{IsReportedBy}
 use Rattle.opc_cli_policy_files.specs.Enquiries.{enquiry_answer, left_in}
 use Rattle.opc_cli_policy_files.specs.Questions.{command_answer, question_answer}
 use Rattle.opc_cli_program.specs.declared.work.Work.{Work}
 use Rattle.opc_cli_program.specs.declared.work.Work.TheVariants as work
-use Rattle.opc_cli_works.specs.Works.{IsRunInMemory, IsWorkAt}
+use Rattle.opc_cli_works.specs.Reads.{IsAccountAt}
+use Rattle.opc_cli_works.specs.Works.{AreLinesInMemory, IsRunInMemory, IsWorkAt}
 use Rattle.opc_cli.specs.Made.{made_line}
 
 -- the status of a work over a file: that of its end, or a failure if the file was not closed
@@ -69,6 +76,39 @@ pub record IsDoneInMemory {W E : Type 0} (contents : W → Option (List ℕ)) (s
   pub status_is : status ≡ status_of_end end
   pub end_reported : IsEndReported shown quiet reported end
 
+-- Or the lines on its input were answered over such tables.
+pub record AreLinesDoneInMemory {W E : Type 0} (contents : W → Option (List ℕ)) (shown : E → Option (List ℕ))
+    (left : Option (List ℕ)) (before written : Watched W) (quiet reported : Watched E) (status : Status)
+    (console : Option (List ℕ)) (policy : Option (Bor (List ℕ))) : Type 0 where
+  pub end : Result Status Failure
+  pub answered : AreLinesInMemory (λ (w : Watched W). contents w.inner) (λ (w : Watched W). w.failed) console
+      (λ path. None) policy left before written end
+  pub status_is : status ≡ status_of_end end
+  pub end_reported : IsEndReported shown quiet reported end
+
+-- Of the account of a database file, which is read.
+module _ {D : Type 0} (g : disk.Ghosts D) (is_fresh : Bool → D → Type 0) (image : Image) {W E : Type 0}
+    (contents : W → Option (List ℕ)) (shown : E → Option (List ℕ)) (before written : Watched W)
+    (quiet reported : Watched E) (status : Status) where
+  -- The file was opened to be read, the rows of its account that a query shows were printed, and it was closed, or not.
+  pub record IsAccountDone (query : Query) : Type 0 where
+    pub end : Result Status Failure
+    pub closed : Result (Files D) (Error × FileStore D g)
+    pub done : IsAccountAt {g = g} contents image query before.inner written.inner end closed
+    pub status_is : status ≡ status_of_work end closed
+    pub end_reported : IsWorkReported shown quiet reported end closed
+
+  -- It was not, and nothing was written.
+  pub record IsUnread : Type 0 where
+    pub fault : OpenFault
+    pub not_read : IsNotRead g is_fresh image fault
+    pub silent : written ≡ before
+    pub status_is : status ≡ Failed
+    pub fault_reported : IsFaultReported shown quiet reported (opening_fault fault)
+
+  abbrev pub IsAccountInFile : Query → Type 0
+  IsAccountInFile query = IsAccountDone query ⊎ IsUnread
+
 -- Of a database file: `image` is what it holds at first.
 module _ {D : Type 0} (g : disk.Ghosts D) (is_fresh : Bool → D → Type 0) (image : Image) {W E : Type 0}
     (contents : W → Option (List ℕ)) (shown : E → Option (List ℕ)) (left : Option (List ℕ)) (before written : Watched W)
@@ -94,18 +134,21 @@ module _ {D : Type 0} (g : disk.Ghosts D) (is_fresh : Bool → D → Type 0) (im
     pub status_is : status ≡ Failed
     pub fault_reported : IsFaultReported shown quiet reported (opening_fault fault)
 
-  abbrev pub IsWorkInFile : (path : List ℕ) → Work → Type 0
-  IsWorkInFile path work = IsDoneInFile path work ⊎ IsNotBegun
-
-  abbrev pub IsRun : (database policy : Option (Bor (List ℕ))) → Type 0
-  IsRun (Some path) policy = IsWorkInFile path.now (work.Run policy)
-  IsRun None policy = IsDoneInMemory contents shown left before written quiet reported status policy
-
   -- The digest of the password on the input was printed, or not; on a terminal it was said what is read.
   abbrev pub IsDigestAnswered : Type 0
   IsDigestAnswered = (is_terminal : Bool)
       × IsPromptedAnswer (λ (e : Watched E). shown e.inner) (λ (e : Watched E). e.failed) contents before.inner
       written.inner quiet reported is_terminal left status
+
+  abbrev pub IsWorkInFile : (path : List ℕ) → Work → Type 0
+  IsWorkInFile path work = IsDoneInFile path work ⊎ IsNotBegun
+
+  abbrev pub IsRun : (database policy : Option (Bor (List ℕ))) → Lines → Type 0
+  IsRun (Some path) policy Script = IsWorkInFile path.now (work.Run policy)
+  IsRun (Some path) policy (Now console) = IsWorkInFile path.now (work.Lines policy console)
+  IsRun None policy Script = IsDoneInMemory contents shown left before written quiet reported status policy
+  IsRun None policy (Now console) =
+      AreLinesDoneInMemory contents shown left before written quiet reported status console policy
 
   -- What a task asks for was done.
   abbrev pub IsTaskDone : Task → Type 0
@@ -118,8 +161,14 @@ module _ {D : Type 0} (g : disk.Ghosts D) (is_fresh : Bool → D → Type 0) (im
   IsTaskDone (task.Who enquiry) =
       IsReportedBy contents (λ (e : Watched E). shown e.inner) (λ (e : Watched E). e.failed) before.inner
       written.inner quiet reported (enquiry_answer enquiry) (left_in (λ path. None) left enquiry.policy) status
+  IsTaskDone (task.Check check) =
+      IsReportedCheck contents (λ (e : Watched E). shown e.inner) (λ (e : Watched E). e.failed) before.inner
+      written.inner quiet reported (form_of check.json) (option_copied check.allowed)
+      (left_in (λ path. None) left check.policy) status
+  IsTaskDone (task.Account account) =
+      IsAccountInFile g is_fresh image contents shown before written quiet reported status account.query
   IsTaskDone task.Digest = IsDigestAnswered
-  IsTaskDone (task.Run paths) = IsRun paths.database paths.policy
+  IsTaskDone (task.Run run) = IsRun run.database run.policy run.lines
   IsTaskDone (task.Import import) = IsWorkInFile import.path.now (work.Import import)
   IsTaskDone (task.Export path) = IsWorkInFile path.now work.Export
   IsTaskDone (task.Serve serve) = IsWorkInFile serve.path.now (work.Serve serve)

@@ -1,6 +1,6 @@
 //! Why a database file is not opened, as the system reports it if it is asked for the file again.
 use opc_cli_failures::reason::Reason;
-use opc_store_file::site::prepare;
+use opc_store_file::site::{look, prepare};
 use sqlite::Wary;
 use sqlite_std_file::OpenError;
 use std::fs::{File, OpenOptions};
@@ -29,6 +29,14 @@ pub fn reason_at(rt: &HostRuntime, path: &str) -> Reason {
             reason
         }
         Ok(None) => Reason::NoPath,
+        Err(error) => Reason::System(error),
+    }
+}
+
+/// Why it was not opened to be read: the same, but a file that is missing is not made.
+pub fn reason_to_read(rt: &HostRuntime, path: &str) -> Reason {
+    match look(rt, path) {
+        Ok(_) => reason_at(rt, path),
         Err(error) => Reason::System(error),
     }
 }

@@ -9,23 +9,26 @@ ghost use Rattle.opc_cli_failures.specs.Statuses.{number_of};
 ghost use Rattle.opc_cli_words.specs.Reading.{words_after};
 ghost use Rattle.opc_cli.specs.Words.{
   AreDone,
-  IsDoneInMemory,
   IsMadeNoted,
-  IsRun,
   IsWorkInFile,
   IsWorkReported,
   status_of_work,
 };
 
+mod account;
 mod database;
 mod made;
+mod run;
 pub mod script;
 pub mod service;
 
+use crate::account::account_in_file;
 use crate::database::reason_at;
 use crate::made::report_made;
+use crate::run::run_over;
 pub use crate::script::run_script;
 pub use crate::service::serve_on;
+use opc_cli_check::checking::answer_check;
 use opc_cli_digest::answering::answer_password;
 use opc_cli_failures::failure::{Failure, Paths, Place, reported};
 use opc_cli_failures::reason::Reason;
@@ -37,7 +40,6 @@ use opc_cli_policy_files::who::answer_enquiry;
 use opc_cli_program::work::Work;
 use opc_cli_words::words::{Task, read_words};
 use opc_cli_works::file::{Closed, EndedWork, work_at};
-use opc_cli_works::memory::run_in_memory;
 use opc_io::watched::Watched;
 use opc_store::opening::{NotOpened, OpenFault};
 use opc_terms::fault::Fault;
@@ -101,11 +103,15 @@ fn do_words<S: Start, R: Read, W: Write, E: Write>(
         Ok(Task::Who(enquiry)) => {
             answer_enquiry(rt.alloc(), rt, &enquiry, input, &mut output.inner, errors)
         }
+        Ok(Task::Check(check)) => {
+            answer_check(rt.alloc(), rt, &check, input, &mut output.inner, errors)
+        }
+        Ok(Task::Account(account)) => account_in_file(rt, start, &account, output, errors),
         Ok(Task::Digest) => {
             let is_typed = is_typed(rt);
             answer_password(rt.alloc(), input, is_typed, &mut output.inner, errors)
         }
-        Ok(Task::Run(paths)) => run_over(rt, start, &paths, input, output, errors),
+        Ok(Task::Run(run)) => run_over(rt, start, &run, input, output, errors),
         Ok(Task::Import(import)) => {
             let (path, work) = (import.path, Work::Import(import));
             work_in_file(rt, start, path, &work, input, output, errors)
@@ -126,45 +132,6 @@ fn is_typed(rt: &HostRuntime) -> bool {
     rt.stdin().is_terminal() && rt.stderr().is_terminal()
 }
 
-/// Runs the script on the input, over the database file that is named, or in memory.
-fn run_over<S: Start, R: Read, W: Write, E: Write>(
-    rt: &HostRuntime,
-    start: S,
-    paths: &Paths<'_>,
-    input: &mut R,
-    output: &mut Watched<W>,
-    errors: &mut Watched<E>,
-) -> Status
-    ensures { IsRun ⟦<FileFrom<S> as Disk>⟧ IsFresh (image_at S.Start) W.contents E.contents (R.remaining input.old)
-        output.old output.new errors.old errors.new result paths.now.database paths.now.policy }
-{
-    match paths.database {
-        Some(path) => {
-            let work = Work::Run(paths.policy);
-            work_in_file(rt, start, path, &work, input, output, errors)
-        }
-        None => run_without_file(rt, paths, input, output, errors),
-    }
-}
-
-/// Runs the script on the input over tables in memory.
-fn run_without_file<R: Read, W: Write, E: Write>(
-    rt: &HostRuntime,
-    paths: &Paths<'_>,
-    input: &mut R,
-    output: &mut Watched<W>,
-    errors: &mut Watched<E>,
-) -> Status
-    ensures { IsDoneInMemory W.contents E.contents (R.remaining input.old) output.old output.new errors.old errors.new
-        result paths.now.policy }
-{
-    reported(
-        run_in_memory(rt, paths.policy, input, output),
-        paths,
-        errors,
-    )
-}
-
 /// The Unix socket at which a work listens.
 fn socket_of<'a>(work: &Work<'a>) -> Option<&'a str> {
     match work {
@@ -180,7 +147,7 @@ fn socket_of<'a>(work: &Work<'a>) -> Option<&'a str> {
 /// The files that are named, if a work is done over the database file at a path.
 fn paths_of<'a>(path: &'a str, work: &Work<'a>) -> Paths<'a> {
     let policy = match work {
-        Work::Run(policy) => *policy,
+        Work::Run(policy) | Work::Lines(policy, _) => *policy,
         // Only a run reads a policy file of its own. An import reads its rows from the input.
         _ => None,
     };
@@ -193,7 +160,7 @@ fn paths_of<'a>(path: &'a str, work: &Work<'a>) -> Paths<'a> {
 
 /// Does a work over the tables of the database file at a path, which is made if it is not there. An export that made
 /// the tables reports that.
-fn work_in_file<S: Start, R: Read, W: Write, E: Write>(
+pub(crate) fn work_in_file<S: Start, R: Read, W: Write, E: Write>(
     rt: &HostRuntime,
     start: S,
     path: &str,
@@ -234,7 +201,7 @@ fn note_made<E: Write>(path: &str, work: &Work<'_>, are_made: bool, errors: &mut
                 report_made(path, errors);
             }
         }
-        Work::Run(_) | Work::Import(_) | Work::Serve(_) => {}
+        Work::Run(_) | Work::Lines(..) | Work::Import(_) | Work::Serve(_) => {}
     }
 }
 

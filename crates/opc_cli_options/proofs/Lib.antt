@@ -1,3 +1,4 @@
 pub mod Mistakes
 pub mod Numbers
 pub mod Printed
+pub mod Stars

@@ -1,6 +1,9 @@
+pub mod Accounts
 pub mod Checks
+pub mod Codes
 pub mod Enquiries
 pub mod Mistakes
 pub mod Numbers
 pub mod Options
+pub mod Runs
 pub mod Services

@@ -28,12 +28,14 @@ use Rattle.std.specs.Str.{bytes_eq}
 use Rattle.std.specs.declared.time.Duration.{Duration}
 use Rattle.opc_names.specs.Names.{console_rule, user_rule}
 use Rattle.opc_names.specs.Spellings.{classes, levels, lookup}
+use Rattle.opc_cli_options.specs.declared.check.PolicyCheck.{PolicyCheck}
 use Rattle.opc_cli_options.specs.declared.command_question.CommandQuestion.{CommandQuestion}
 use Rattle.opc_cli_options.specs.declared.import.Import.{Import}
 use Rattle.opc_cli_options.specs.declared.question.Question.{Question}
 use Rattle.opc_cli_options.specs.declared.serve.Serve.{Serve}
 use Rattle.opc_cli_options.specs.declared.who.Enquiry.{Enquiry}
 use Rattle.opc_cli_options.specs.Checks.{Check}
+use Rattle.opc_cli_options.specs.Codes.{allow_check}
 use Rattle.opc_cli_options.specs.Enquiries.{
   IsAsked,
   access_checks,
@@ -137,10 +139,14 @@ module _ (value : List ℕ → Option (List ℕ)) where
   service_checks = address_checks (value (codes "port")) (value (codes "socket")) (value (codes "socket-mode"))
       ++ strict_option ∷ count_option ∷ timeout_option ∷ []
 
-  -- and of `who`
+  -- of `who`,
   abbrev pub who_checks : List Check
   who_checks = enquiry_checks (value (codes "command")) (value (codes "as")) (value (codes "resource"))
       (value (codes "level")) (given (codes "class")) ++ console_option ∷ []
+
+  -- and of `check`
+  abbrev pub policy_checks : List Check
+  policy_checks = allow_check (value (codes "allow")) ∷ []
 
   -- the words of `explain`, about a level of access
   pub record IsQuestion (question : Question) : Type 0 where
@@ -185,3 +191,9 @@ module _ (value : List ℕ → Option (List ℕ)) where
     pub allowed : enquiry.allowed ≡ is_set (codes "allowed")
     pub json : enquiry.json ≡ is_set (codes "json")
     pub policy : option_copied enquiry.policy ≡ value (codes "policy")
+
+  -- and of `check`
+  pub record IsPolicyCheck (check : PolicyCheck) : Type 0 where
+    pub policy : option_copied check.policy ≡ value (codes "policy")
+    pub allowed : option_copied check.allowed ≡ value (codes "allow")
+    pub json : check.json ≡ is_set (codes "json")

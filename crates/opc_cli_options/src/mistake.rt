@@ -38,6 +38,12 @@ pub(crate) const UNIT_WITHOUT_COMMAND: &str = "--as needs --command";
 /// Nobody acts at a console.
 pub(crate) const NOBODY_WITHOUT_CONSOLE: &str = "--user - needs --console";
 
+/// The lines of a script name their consoles.
+pub(crate) const CONSOLE_WITHOUT_NOW: &str = "--console needs --now";
+
+/// The rows begin at one place.
+pub(crate) const TWO_BEGINNINGS: &str = "account takes --from or --last, not both";
+
 /// Prints a mistake, and which help to ask for.
 pub fn print_mistake<K: Sink>(
     command: &str,

@@ -1,2 +1,3 @@
 pub mod Files
+mod Refusing
 pub mod Taking

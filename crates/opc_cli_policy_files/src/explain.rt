@@ -16,6 +16,7 @@ ghost use Rattle.opc_cli_policy_files.specs.Questions.{
 
 use crate::policy_file::read_rows;
 use crate::printing::{Answer, print};
+use crate::refusals::refused;
 use crate::why::explained_with;
 use opc_answers_text::reasons_json::{Reasons, reasons_json};
 use opc_cli_failures::failure::{Failure, NO_PATHS, Place, reported};
@@ -55,8 +56,21 @@ fn answer<R: Read, W: Write>(
         result }
 {
     let rows = read_rows(alloc, Place::Input, input)?;
-    let answer = question_answer(alloc, &rows, question)?;
+    let answer = answer_of(alloc, &rows, question)?;
     print(&answer, output)
+}
+
+/// What the rows of a policy file answer; of a row that is refused, which it is.
+fn answer_of(alloc: Global, rows: &[Row], question: &Question) -> Result<Answer, Failure>
+    ensures ok { IfOk result (λ answer. question_answer question.now rows.now
+        ≡ Ok (answered (string_bytes answer.text) answer.status)) }
+    ensures fault { IfErr result (λ failure. IsFailure failure.fault
+        ⊎ (question_answer question.now rows.now ≡ Err failure.fault)) }
+{
+    match question_answer(alloc, rows, question) {
+        Ok(answer) => Ok(answer),
+        Err(fault) => Err(refused(alloc, Place::Input, &[], rows, fault)),
+    }
 }
 
 /// What the rows of a policy file answer.

@@ -20,6 +20,7 @@ ghost use Rattle.opc_cli_policy_files.specs.Questions.{
 use crate::explain::{policy_made, status_of};
 use crate::policy_file::read_rows;
 use crate::printing::{Answer, needs_nothing, print};
+use crate::refusals::refused;
 use crate::why::command_with;
 use opc_answers::explaining::{CommandExplained, explain_command};
 use opc_answers::needed::need_in;
@@ -63,7 +64,7 @@ fn answer<R: Read, W: Write>(
         result }
 {
     let rows = read_rows(alloc, Place::Input, input)?;
-    let answer = command_answer(alloc, &rows, question)?;
+    let answer = answer_of(alloc, &rows, question)?;
     print(&answer, output)
 }
 
@@ -173,6 +174,19 @@ fn text_of(
         with_levels(alloc, rows, question, explained)
     } else {
         Ok(command_text(alloc, explained)?)
+    }
+}
+
+/// What the rows of a policy file answer; of a row that is refused, which it is.
+fn answer_of(alloc: Global, rows: &[Row], question: &CommandQuestion<'_>) -> Result<Answer, Failure>
+    ensures ok { IfOk result (λ answer. command_answer question.now rows.now
+        ≡ Ok (answered (string_bytes answer.text) answer.status)) }
+    ensures fault { IfErr result (λ failure. IsFailure failure.fault
+        ⊎ (command_answer question.now rows.now ≡ Err failure.fault)) }
+{
+    match command_answer(alloc, rows, question) {
+        Ok(answer) => Ok(answer),
+        Err(fault) => Err(refused(alloc, Place::Input, &[], rows, fault)),
     }
 }
 

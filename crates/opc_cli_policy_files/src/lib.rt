@@ -6,6 +6,7 @@ pub mod explain_command;
 pub mod openings;
 pub mod policy_file;
 mod printing;
+pub mod refusals;
 pub mod streams;
 pub mod who;
 mod why;

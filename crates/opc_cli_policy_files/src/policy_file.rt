@@ -8,6 +8,7 @@ use crate::openings::Openings;
 use crate::streams::read_up_to;
 use opc_cli_failures::bad_row::BadRow;
 use opc_cli_failures::failure::{Failure, Place};
+use opc_cli_failures::first_row::FirstRow;
 use opc_cli_failures::reason::Reason;
 use opc_import::fault::ImportFault;
 use opc_import::read::read_policy;
@@ -32,13 +33,22 @@ fn no_text(place: Place, reason: Reason) -> Failure
     Failure::of(fault, place, reason)
 }
 
+/// Why bytes are not UTF-8: those of UTF-16 begin with a mark of their order.
+fn reason_of(bytes: &[u8]) -> Reason {
+    if bytes.starts_with(&[0xFE, 0xFF]) || bytes.starts_with(&[0xFF, 0xFE]) {
+        Reason::Utf16
+    } else {
+        Reason::NotUtf8
+    }
+}
+
 /// The fault of a row, with what is wrong with it, if there is memory to look.
 fn row_fault(alloc: Global, place: Place, text: &str, row: u32, why: Why) -> Failure
     ensures { result.fault ≡ Fault.RowFault row why }
 {
     let fault = Fault::RowFault { row, why };
     if why == Why::Header {
-        return Failure::of(fault, place, Reason::NoHeader);
+        return Failure::of(fault, place, Reason::NoHeader(FirstRow::of(text)));
     }
     match BadRow::find(alloc, text, row, why) {
         Some(bad) => Failure::of(fault, place, Reason::Row(bad)),
@@ -68,7 +78,7 @@ fn rows_in(alloc: Global, place: Place, bytes: &[u8]) -> Result<Vec<Row>, Failur
         return Err(no_text(place, Reason::TooLong));
     }
     let Ok(text) = str::from_utf8(bytes) else {
-        return Err(no_text(place, Reason::NotUtf8));
+        return Err(no_text(place, reason_of(bytes)));
     };
     // For the prover alone, which needs the type of a row's console named.
     let _nowhere: Option<ConsoleName> = None;

@@ -8,6 +8,7 @@ ghost use Rattle.opc_cli_policy_files.specs.Enquiries.{enquiry_answer, left_in, 
 use crate::openings::Openings;
 use crate::policy_file::{read_rows, read_rows_at};
 use crate::printing::{Answer, needs_nothing, print};
+use crate::refusals::refused;
 use opc_answers::needed::need_in;
 use opc_answers::wanted::Wanted;
 use opc_answers::who::{Who, who_may};
@@ -54,7 +55,7 @@ fn answer<F: Openings, R: Read, W: Write>(
         (left_in (F.holds files.now) (R.remaining input.old) enquiry.now.policy) result }
 {
     let rows = rows_of(alloc, files, enquiry, input)?;
-    let answer = enquiry_answer(alloc, &rows, enquiry)?;
+    let answer = answer_of(alloc, &rows, enquiry)?;
     print(&answer, output)
 }
 
@@ -75,6 +76,14 @@ fn rows_of<F: Openings, R: Read>(
     match enquiry.policy {
         Some(path) => read_rows_at(alloc, files, path),
         None => read_rows(alloc, Place::Input, input),
+    }
+}
+
+/// Where the policy file comes from.
+fn place_of(enquiry: &Enquiry<'_>) -> Place {
+    match enquiry.policy {
+        Some(_) => Place::PolicyFile,
+        None => Place::Input,
     }
 }
 
@@ -108,6 +117,19 @@ fn shown(alloc: Global, enquiry: &Enquiry<'_>, who: &Who) -> Result<String, Allo
         who_json(alloc, who, enquiry.allowed)
     } else {
         who_text(alloc, who, enquiry.allowed)
+    }
+}
+
+/// What the rows of a policy file answer; of a row that is refused, which it is.
+fn answer_of(alloc: Global, rows: &[Row], enquiry: &Enquiry<'_>) -> Result<Answer, Failure>
+    ensures ok { IfOk result (λ answer. enquiry_answer enquiry.now rows.now
+        ≡ Ok (answered (string_bytes answer.text) answer.status)) }
+    ensures fault { IfErr result (λ failure. IsFailure failure.fault
+        ⊎ (enquiry_answer enquiry.now rows.now ≡ Err failure.fault)) }
+{
+    match enquiry_answer(alloc, rows, enquiry) {
+        Ok(answer) => Ok(answer),
+        Err(fault) => Err(refused(alloc, place_of(enquiry), &[], rows, fault)),
     }
 }
 

@@ -1,4 +1,5 @@
 pub mod Runs
+pub mod Lines
 pub mod Listening
 pub mod Services
 pub mod Imports

@@ -10,6 +10,7 @@ use Rattle.opc_http_connections.specs.Links.{ClientSource}
 use Rattle.opc_http_serve.specs.declared.clock.TheConstants.{LAST_MOMENT}
 use Rattle.opc_cli_options.specs.declared.import.Import.{Import}
 use Rattle.opc_cli_program.specs.Imports.{IsExport, IsImport}
+use Rattle.opc_cli_program.specs.Lines.{AreProgramLines}
 use Rattle.opc_cli_program.specs.Runs.{IsProgramRun}
 use Rattle.opc_cli_program.specs.Services.{IsService}
 use Rattle.opc_cli_program.specs.declared.work.Work.{Work}
@@ -33,6 +34,9 @@ module _ {T : Type 0} (m : Meaning T) {W : Type 0}
   IsDone ports sockets holds (work.Run policy) =
       IsProgramRun m (λ (w : Watched W). contents w.inner) (λ (w : Watched W). w.failed)
       holds old new policy left before written end
+  IsDone ports sockets holds (work.Lines policy console) =
+      AreProgramLines m (λ (w : Watched W). contents w.inner) (λ (w : Watched W). w.failed)
+      console holds old new policy left before written end
   IsDone ports sockets holds (work.Import import) = IsImportNow import
   IsDone ports sockets holds work.Export =
       IsKept m old new

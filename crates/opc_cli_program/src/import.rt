@@ -5,12 +5,13 @@ ghost use Rattle.opc_machine.specs.Inputs.{input_of};
 ghost use Rattle.opc_cli_program.specs.Imports.{IsExport, IsFirstPolicy, IsImport, IsOneStep};
 
 use crate::printing::{print_answer, print_text};
+use crate::refusals::{not_imported, not_taken};
 use opc_cli_failures::failure::{Failure, Place};
 use opc_cli_failures::status::Status;
 use opc_cli_options::import::Import;
 use opc_cli_policy_files::policy_file::read_rows;
 use opc_gate::gate::Gate;
-use opc_gate::request::Request;
+use opc_gate::request::{Answer, Request};
 use opc_import::write::write_policy;
 use opc_io::sink::Sink;
 use opc_policy_members::row::Row;
@@ -52,7 +53,7 @@ fn import_over<T: Tables, R: Read, K: Sink>(
 {
     let rows = read_rows(alloc, Place::Input, input)?;
     let Some(console) = import.console else {
-        return take_first(alloc, gate, &rows);
+        return take_first(alloc, gate, Place::Input, &rows);
     };
     let request = Request::Import {
         console,
@@ -62,10 +63,11 @@ fn import_over<T: Tables, R: Read, K: Sink>(
     handle_alone(alloc, gate, moment, &request, output)
 }
 
-/// Takes the rows of a first policy.
+/// Takes the rows of a first policy, which come from this place.
 pub(crate) fn take_first<T: Tables>(
     alloc: Global,
     gate: &mut Gate<T>,
+    place: Place,
     rows: &[Row],
 ) -> Result<Status, Failure>
     ensures sure { T.meaning.is_sure gate.new → T.meaning.is_sure gate.old }
@@ -73,7 +75,7 @@ pub(crate) fn take_first<T: Tables>(
 {
     match gate.bootstrap(alloc, rows) {
         Ok(()) => Ok(Status::Done),
-        Err(fault) => Err(Failure::of_gate(fault)),
+        Err(fault) => Err(not_taken(alloc, gate, place, rows, fault)),
     }
 }
 
@@ -90,7 +92,10 @@ fn handle_alone<T: Tables, K: Sink>(
         output.old output.new moment (input_of request.now) }
 {
     let answer = gate.handle(alloc, moment, request);
-    print_answer(&answer, output)
+    match &answer {
+        Answer::Refused { fault, .. } => Err(not_imported(alloc, gate, request, *fault)),
+        Answer::Done { .. } => print_answer(&answer, output),
+    }
 }
 
 fn listed(alloc: Global, rows: &[Row]) -> Result<Rows<Row>, Failure>

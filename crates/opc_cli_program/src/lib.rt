@@ -2,10 +2,13 @@
 #![tactic(auto)]
 
 pub mod import;
+pub mod lines;
 mod listening;
 pub mod log_stream;
 pub mod ports;
 mod printing;
+mod refusals;
 pub mod run;
 pub mod serve;
+mod streams;
 pub mod work;

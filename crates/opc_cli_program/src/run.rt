@@ -5,15 +5,18 @@ ghost use Rattle.opc_cli_program.specs.Imports.{IsPolicyTaken};
 ghost use Rattle.opc_cli_program.specs.Runs.{IsAnsweredInput, IsEndOf, IsNamedPolicyTaken, IsProgramRun, IsRunOfBytes};
 
 use crate::import::take_first;
-use opc_cli_failures::failure::{Failure, Place};
+use crate::log_stream::LogStream;
+use opc_cli_failures::failure::{Failure, Place, note};
 use opc_cli_failures::status::Status;
 use opc_cli_policy_files::openings::Openings;
 use opc_cli_policy_files::policy_file::read_rows_at;
 use opc_cli_policy_files::streams::read_up_to;
+use opc_cli_script::bad_line::reason_of;
 use opc_cli_script::run::{print_bad_line, run_script};
 use opc_cli_script::script::{SCRIPT_LIMIT, ScriptFault};
 use opc_gate::gate::Gate;
 use opc_io::sink::Sink;
+use opc_io::watched::Watched;
 use opc_state::tables::Tables;
 use opc_terms::fault::Fault;
 use std::alloc::Global;
@@ -21,7 +24,7 @@ use std::io::Read;
 use std::str;
 
 /// Takes the first policy, if one is named, and then runs the script on the input over these tables, which it returns.
-pub fn run_on<H: AllocGlobal + Openings, T: Tables, R: Read, K: Sink>(
+pub fn run_on<H: AllocGlobal + LogStream + Openings, T: Tables, R: Read, K: Sink>(
     rt: &H,
     tables: T,
     policy: Option<&str>,
@@ -34,13 +37,13 @@ pub fn run_on<H: AllocGlobal + Openings, T: Tables, R: Read, K: Sink>(
 {
     let (taken, tables) = take_policy(rt, tables, policy);
     match taken {
-        Ok(_) => run_cached(rt.alloc(), tables, input, output),
+        Ok(_) => run_cached(rt, tables, input, output),
         Err(failure) => (Err(failure), tables),
     }
 }
 
 /// Takes the first policy, from a file if one is named.
-fn take_policy<H: AllocGlobal + Openings, T: Tables>(
+pub(crate) fn take_policy<H: AllocGlobal + Openings, T: Tables>(
     rt: &H,
     tables: T,
     policy: Option<&str>,
@@ -66,12 +69,12 @@ fn take_file<H: AllocGlobal + Openings, T: Tables>(
     ensures takes { IsPolicyTaken T.meaning gate.old gate.new result (H.holds rt.now path.now) }
 {
     let rows = read_rows_at(rt.alloc(), rt, path)?;
-    take_first(rt.alloc(), gate, &rows)
+    take_first(rt.alloc(), gate, Place::PolicyFile, &rows)
 }
 
 /// Runs the script on the input over these tables, with a cache of which profile decides, and returns them.
-fn run_cached<T: Tables, R: Read, K: Sink>(
-    alloc: Global,
+fn run_cached<H: AllocGlobal + LogStream, T: Tables, R: Read, K: Sink>(
+    rt: &H,
     tables: T,
     input: &mut R,
     output: &mut K,
@@ -80,17 +83,17 @@ fn run_cached<T: Tables, R: Read, K: Sink>(
     ensures runs { IsAnsweredInput T.meaning K.held K.has_failed tables result.1
         (R.remaining input.old) output.old output.new result.0 }
 {
-    let mut gate = match Gate::new(alloc, tables) {
+    let mut gate = match Gate::new(rt.alloc(), tables) {
         Ok(gate) => gate,
         Err((fault, tables)) => return (Err(Failure::from(fault)), tables),
     };
-    let end = answer_script(alloc, &mut gate, input, output);
+    let end = answer_script(rt, &mut gate, input, output);
     (end, gate.into_store())
 }
 
 /// Runs the script on the input. One that is not UTF-8 is a bad line, as is one that is too long.
-fn answer_script<T: Tables, R: Read, K: Sink>(
-    alloc: Global,
+fn answer_script<H: AllocGlobal + LogStream, T: Tables, R: Read, K: Sink>(
+    rt: &H,
     gate: &mut Gate<T>,
     input: &mut R,
     output: &mut K,
@@ -99,11 +102,13 @@ fn answer_script<T: Tables, R: Read, K: Sink>(
     ensures runs { IsAnsweredInput T.meaning K.held K.has_failed gate.old gate.new
         (R.remaining input.old) output.old output.new result }
 {
-    let bytes = match read_up_to(alloc, input, SCRIPT_LIMIT) {
+    let bytes = match read_up_to(rt.alloc(), input, SCRIPT_LIMIT) {
         Ok(bytes) => bytes,
         Err(error) => return Err(Failure::at(Place::Input, error)),
     };
-    ended(run_bytes(alloc, gate, &bytes, output))
+    let ran = run_bytes(rt.alloc(), gate, &bytes, output);
+    note_bad_line(rt, &bytes, &ran);
+    ended(ran)
 }
 
 fn run_bytes<T: Tables, K: Sink>(
@@ -120,6 +125,17 @@ fn run_bytes<T: Tables, K: Sink>(
     match str::from_utf8(bytes) {
         Ok(script) => run_script(gate, alloc, script, output),
         Err(_) => Err(print_bad_line(alloc, 0, output)),
+    }
+}
+
+/// Says on standard error why a line is bad. Nothing is known of what that stream holds, so no clause speaks of it; the
+/// tables of `tools/program` have the words.
+fn note_bad_line<H: LogStream>(rt: &H, bytes: &[u8], ran: &Result<Status, ScriptFault>) {
+    let Err(ScriptFault::BadLine(number)) = ran else {
+        return;
+    };
+    if let Some(reason) = reason_of(bytes, *number) {
+        note(Place::Script, &reason, &mut Watched::new(rt.log_stream()));
     }
 }
 

@@ -3,6 +3,7 @@ ghost use Rattle.opc_http_connections.specs.Links.{Comes, source_of, link_of};
 ghost use Rattle.opc_cli_program.specs.Works.{IsDone, IsImportNow};
 
 use crate::import::{export_on, import_on};
+use crate::lines::answer_lines_on;
 use crate::log_stream::LogStream;
 use crate::ports::Ports;
 use crate::run::run_on;
@@ -16,6 +17,7 @@ use opc_http_connections::listener::ClientListener;
 use opc_http_connections::timer::Timer;
 use opc_http_serve::clock::moment;
 use opc_io::watched::Watched;
+use opc_names::name::ConsoleName;
 use opc_state::tables::Tables;
 use std::io::{Read, Write};
 use std::rt::Clock;
@@ -25,6 +27,8 @@ use std::rt::Clock;
 pub enum Work<'a> {
     /// The first policy is taken, if a file of one is named, and then the script on the input is run.
     Run(Option<&'a str>),
+    /// The same, and then the lines on the input are answered as they are read, at this console, if one is named.
+    Lines(Option<&'a str>, Option<ConsoleName>),
     /// The policy file on the input is put into the tables, at the clock's moment.
     Import(Import<'a>),
     /// The policy is written as a policy file.
@@ -61,6 +65,9 @@ where
 {
     match work {
         Work::Run(policy) => run_on(rt, tables, *policy, input, output),
+        Work::Lines(policy, console) => {
+            answer_lines_on(rt, tables, *policy, console, input, output)
+        }
         Work::Import(import) => import_now(rt, tables, import, input, output),
         Work::Export => export_on(rt.alloc(), tables, output),
         Work::Serve(serve) => serve_tables(rt, ports, tables, serve, &mut output.inner),

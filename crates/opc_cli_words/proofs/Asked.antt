@@ -11,6 +11,10 @@ use Rattle.clap.specs.declared.parser.matches.ArgMatches.TheViews.{out-ArgMatche
 use Rattle.clap.specs.declared.parser.matches.Found.{Found}
 use Rattle.clap.proofs.WalkLemmas.{first_value-rows}
 use Rattle.opc_names.specs.Spellings.{classes, levels, lookup}
+use Rattle.opc_account.specs.declared.filter.Filter.{Filter}
+use Rattle.opc_account.specs.declared.query.First.{First}
+use Rattle.opc_cli_options.specs.declared.account.Account.{Account}
+use Rattle.opc_cli_options.specs.declared.check.PolicyCheck.{PolicyCheck}
 use Rattle.opc_cli_options.specs.declared.command_question.CommandQuestion.{CommandQuestion}
 use Rattle.opc_cli_options.specs.declared.import.Import.{Import}
 use Rattle.opc_cli_options.specs.declared.question.Question.{Question}
@@ -19,6 +23,16 @@ use Rattle.opc_cli_options.specs.declared.serve.Serve.{Serve}
 use Rattle.opc_cli_options.specs.declared.who.Enquiry.{Enquiry}
 use Rattle.opc_cli_words.specs.declared.words.Task.{Task}
 use Rattle.opc_cli_words.specs.declared.words.Task.TheVariants as task
+use Rattle.opc_cli_options.specs.Accounts.{
+  AreCodes,
+  IsAccount,
+  IsFilter,
+  IsFirst,
+  account_checks,
+  all_rows,
+  moment_of,
+  rows_of as number_of_rows,
+}
 use Rattle.opc_cli_options.specs.Numbers.{number_between}
 use Rattle.opc_cli_options.specs.Checks.{Check, first_mistake}
 use Rattle.opc_cli_options.specs.Mistakes.{unread}
@@ -28,16 +42,22 @@ use Rattle.opc_cli_options.specs.Options.{
   IsCommandQuestion,
   IsEnquiry,
   IsImport,
+  IsPolicyCheck,
   IsQuestion,
   IsService,
   actor_of,
   import_checks,
   is_set,
   longest,
+  policy_checks,
   question_checks,
   service_checks,
   who_checks,
 }
+use Rattle.opc_cli_options.specs.Runs.{IsLines, IsRun, run_checks}
+use Rattle.opc_cli_options.specs.declared.run.Lines.{Lines}
+use Rattle.opc_cli_options.specs.declared.run.Lines.TheVariants.{Script, Now}
+use Rattle.opc_cli_options.specs.declared.run.Run.{Run}
 use Rattle.opc_cli_words.specs.Tasks.{FailsAt, IsTask, IsTaskOf, options_of}
 
 -- an address, by values that are the same
@@ -46,14 +66,16 @@ at_once {p} {q} {p'} {q'} {m} {m'} e f g a is =
     subst (λ t. IsAddress p' q' t a) g (subst (λ t. IsAddress p' t m a) f (subst (λ t. IsAddress t q m a) e is))
 
 -- the checks of a command, by those of the commands that have some
-abbrev options_by : (explain import serve who : List Check) → (command : List ℕ) → List Check
-options_by explain import serve who command =
+abbrev options_by : (explain run import serve who check account : List Check) → (command : List ℕ) → List Check
+options_by explain run import serve who check account command =
     if bytes_eq command (codes "explain") then explain
-    else if bytes_eq command (codes "run") then []
+    else if bytes_eq command (codes "run") then run
     else if bytes_eq command (codes "import") then import
     else if bytes_eq command (codes "export") then []
     else if bytes_eq command (codes "serve") then serve
     else if bytes_eq command (codes "who") then who
+    else if bytes_eq command (codes "check") then check
+    else if bytes_eq command (codes "account") then account
     else if bytes_eq command (codes "digest") then []
     else (unread (codes "COMMAND"), false) ∷ []
 
@@ -89,6 +111,17 @@ module _ (one other : List ℕ → Option (List ℕ)) (same : (name : List ℕ) 
     json = is.json ∙ set (codes "json");
   }
 
+  answered : (l : Lines) → IsLines one l → IsLines other l
+  answered Script is = sym (set (codes "now")) ∙ is
+  answered (Now console) is = (sym (set (codes "now")) ∙ is.0, is.1 ∙ same (codes "console"))
+
+  run : (r : Run) → IsRun one r → IsRun other r
+  run r is = record {
+    database = is.database ∙ same (codes "db");
+    policy = is.policy ∙ same (codes "policy");
+    lines = answered r.lines is.lines;
+  }
+
   import : (i : Import) → IsImport one i → IsImport other i
   import i is = record {
     path = is.path ∙ given (codes "db");
@@ -122,15 +155,45 @@ module _ (one other : List ℕ → Option (List ℕ)) (same : (name : List ℕ) 
     policy = is.policy ∙ same (codes "policy");
   }
 
+  first : (f : First) → IsFirst (one (codes "from")) (one (codes "last")) f → IsFirst (other (codes "from")) (other (codes "last")) f
+  first f is = rw (sym (same (codes "from")), sym (same (codes "last"))) is
+
+  filter : (f : Filter) → IsFilter one f → IsFilter other f
+  filter f is = record {
+    since = ap (option_map moment_of) (sym (same (codes "since"))) ∙ is.since;
+    until = ap (option_map moment_of) (sym (same (codes "until"))) ∙ is.until;
+    user = is.user ∙ same (codes "user");
+    console = is.console ∙ same (codes "console");
+    codes_are = subst (λ (o : Option (List ℕ)). AreCodes o f.codes) (same (codes "code")) is.codes_are;
+  }
+
+  account : (a : Account) → IsAccount one a → IsAccount other a
+  account a is = record {
+    path = is.path ∙ given (codes "db");
+    first = first a.query.first is.first;
+    count = ap (λ (o : Option (List ℕ)). option_map_or number_of_rows o (Some all_rows)) (sym (same (codes "count"))) ∙ is.count;
+    filter = filter a.query.filter is.filter;
+    json = is.json ∙ set (codes "json");
+  }
+
+  policy_check : (p : PolicyCheck) → IsPolicyCheck one p → IsPolicyCheck other p
+  policy_check p is = record {
+    policy = is.policy ∙ same (codes "policy");
+    allowed = is.allowed ∙ same (codes "allow");
+    json = is.json ∙ set (codes "json");
+  }
+
   pub task_is : (command : List ℕ) (t : Task) → IsTaskOf one command t → IsTaskOf other command t
   task_is command (task.Explain q) is = (is.0, sym (same (codes "command")) ∙ is.1, question q is.2)
   task_is command (task.ExplainCommand q) is = (is.0, command_question q is.1)
-  task_is command (task.Run paths) is = (is.0, is.1 ∙ same (codes "db"), is.2 ∙ same (codes "policy"))
+  task_is command (task.Run r) is = (is.0, run r is.1)
   task_is command (task.Import i) is = (is.0, import i is.1)
   task_is command (task.Export path) is = (is.0, is.1 ∙ given (codes "db"))
   task_is command (task.Serve s) is = (is.0, service s is.1)
   task_is command (task.Who e) is = (is.0, enquiry e is.1)
+  task_is command (task.Account a) is = (is.0, account a is.1)
   task_is command task.Digest is = is
+  task_is command (task.Check p) is = (is.0, policy_check p is.1)
 
   same_questions : (o : Option (List ℕ)) → question_checks one o ≡ question_checks other o
   same_questions None =
@@ -140,6 +203,9 @@ module _ (one other : List ℕ → Option (List ℕ)) (same : (name : List ℕ) 
 
   questions : question_checks one (one (codes "command")) ≡ question_checks other (other (codes "command"))
   questions = same_questions (one (codes "command")) ∙ ap (question_checks other) (same (codes "command"))
+
+  runs : run_checks one ≡ run_checks other
+  runs = rw (same (codes "console"), same (codes "now")) refl
 
   imports : import_checks one ≡ import_checks other
   imports = rw (same (codes "batch"), same (codes "console")) refl
@@ -168,12 +234,34 @@ module _ (one other : List ℕ → Option (List ℕ)) (same : (name : List ℕ) 
       )
       refl
 
+  rows : account_checks one ≡ account_checks other
+  rows =
+      rw (
+        same (codes "from"),
+        same (codes "last"),
+        same (codes "count"),
+        same (codes "since"),
+        same (codes "until"),
+        same (codes "user"),
+        same (codes "console"),
+        same (codes "code"),
+      )
+      refl
+
+  policies : policy_checks one ≡ policy_checks other
+  policies = rw (same (codes "allow")) refl
+
   pub same_options : (command : List ℕ) → options_of one command ≡ options_of other command
   same_options command =
-      ap (λ e. options_by e (import_checks one) (service_checks one) (who_checks one) command) questions
-      ∙ ap (λ i. options_by (question_checks other (other (codes "command"))) i (service_checks one) (who_checks one) command) imports
-      ∙ ap (λ s. options_by (question_checks other (other (codes "command"))) (import_checks other) s (who_checks one) command) services
-      ∙ ap (λ w. options_by (question_checks other (other (codes "command"))) (import_checks other) (service_checks other) w command) enquiries
+      let asked : List Check = question_checks other (other (codes "command")) in
+      ap (λ e. options_by e (run_checks one) (import_checks one) (service_checks one) (who_checks one) (policy_checks one) (account_checks one) command)
+      questions
+      ∙ ap (λ r. options_by asked r (import_checks one) (service_checks one) (who_checks one) (policy_checks one) (account_checks one) command) runs
+      ∙ ap (λ i. options_by asked (run_checks other) i (service_checks one) (who_checks one) (policy_checks one) (account_checks one) command) imports
+      ∙ ap (λ s. options_by asked (run_checks other) (import_checks other) s (who_checks one) (policy_checks one) (account_checks one) command) services
+      ∙ ap (λ w. options_by asked (run_checks other) (import_checks other) (service_checks other) w (policy_checks one) (account_checks one) command) enquiries
+      ∙ ap (λ p. options_by asked (run_checks other) (import_checks other) (service_checks other) (who_checks other) p (account_checks one) command) policies
+      ∙ ap (λ a. options_by asked (run_checks other) (import_checks other) (service_checks other) (who_checks other) (policy_checks other) a command) rows
 
 -- a name and rows that are about one thing
 module _ {B : Type 0} (name_of : B → List ℕ) (rows_in : B → List Row) where

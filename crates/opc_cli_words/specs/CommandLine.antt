@@ -36,7 +36,8 @@ abbrev pub explain_options : List Rule
 explain_options = needed (codes "user") ∷ question_options ++ flag (codes "why") ∷ []
 
 abbrev pub run_options : List Rule
-run_options = valued (codes "db") ∷ valued (codes "policy") ∷ []
+run_options =
+    valued (codes "db") ∷ valued (codes "policy") ∷ flag (codes "now") ∷ valued (codes "console") ∷ []
 
 abbrev pub import_options : List Rule
 import_options = needed (codes "db") ∷ needed (codes "batch") ∷ valued (codes "console") ∷ []
@@ -56,6 +57,18 @@ serve_options =
 abbrev pub who_options : List Rule
 who_options = question_options ++ flag (codes "allowed") ∷ valued (codes "policy") ∷ []
 
+abbrev pub check_options : List Rule
+check_options = valued (codes "policy") ∷ valued (codes "allow") ∷ flag (codes "json") ∷ []
+
+abbrev pub row_options : List Rule
+row_options =
+    needed (codes "db") ∷ valued (codes "from") ∷ valued (codes "last") ∷ valued (codes "count") ∷ []
+
+abbrev pub account_options : List Rule
+account_options =
+    row_options ++ valued (codes "since") ∷ valued (codes "until") ∷ valued (codes "user") ∷ valued (codes "console")
+    ∷ valued (codes "code") ∷ flag (codes "json") ∷ []
+
 abbrev pub commands : List Shape
 commands =
     command (codes "explain") explain_options
@@ -64,6 +77,8 @@ commands =
     ∷ command (codes "export") export_options
     ∷ command (codes "serve") serve_options
     ∷ command (codes "who") who_options
+    ∷ command (codes "check") check_options
+    ∷ command (codes "account") account_options
     ∷ command (codes "digest") []
     ∷ []
 

@@ -3,6 +3,7 @@ use Rattle.std.specs.Prelude.{
   ◌≡◌,
   ◌≢◌,
   ◌⊎◌,
+  ◌++◌,
   ℕ,
   false,
   List,
@@ -41,6 +42,11 @@ use Rattle.opc_cli_words.specs.Version.{version_line}
 abbrev pub words_after : List (String Global) → List (List ℕ)
 words_after words = map string_bytes (drop 1 words)
 
+-- The line of a mistake was printed, and perhaps one about the value.
+pub record IsMistakePrinted (before written : Option (List ℕ)) (command mistake : List ℕ) : Type 0 where
+  pub more : List ℕ
+  pub text : Appends before written (mistake_line command mistake ++ more)
+
 -- help, or the version
 abbrev pub IsHelp : ErrorKind → Type 0
 IsHelp kind = (kind ≡ DisplayHelp) ⊎ (kind ≡ DisplayVersion)
@@ -70,7 +76,7 @@ module _ {E : Type 0} (shown : E → Option (List ℕ)) (quiet reported : Watche
     pub mistake : List ℕ
     pub fails : FailsAt found command mistake
     pub printed : reported.failed ≡ false
-        → Appends (shown quiet.inner) (shown reported.inner) (mistake_line command mistake)
+        → IsMistakePrinted (shown quiet.inner) (shown reported.inner) command mistake
 
   -- What was found is a task, and nothing is printed; or it is no command, or has a mistake in its options.
   abbrev pub IsTaskRead : Option (List ℕ × List Row) → Result Task Status → Type 0

@@ -12,25 +12,28 @@ use Rattle.std.specs.Prelude.{
   codes,
   if◌then◌else◌,
 }
-use Rattle.std.specs.Option.{option_copied}
 use Rattle.std.specs.Str.{bytes_eq}
 use Rattle.clap.specs.Simple.{subcommand_rows_of}
 use Rattle.clap.specs.Walk.{Row, first_of}
 use Rattle.clap.specs.declared.parser.matches.ArgMatches.{ArgMatches}
+use Rattle.opc_cli_options.specs.Accounts.{IsAccount, account_checks}
 use Rattle.opc_cli_options.specs.Checks.{Check, first_mistake}
 use Rattle.opc_cli_options.specs.Mistakes.{unread}
 use Rattle.opc_cli_options.specs.Options.{
   IsCommandQuestion,
   IsEnquiry,
   IsImport,
+  IsPolicyCheck,
   IsQuestion,
   IsService,
   given,
   import_checks,
+  policy_checks,
   question_checks,
   service_checks,
   who_checks,
 }
+use Rattle.opc_cli_options.specs.Runs.{IsRun, run_checks}
 use Rattle.opc_cli_words.specs.declared.words.Task.{Task}
 use Rattle.opc_cli_words.specs.declared.words.Task.TheVariants as task
 
@@ -40,11 +43,13 @@ module _ (value : List ℕ → Option (List ℕ)) where
   abbrev pub options_of : (command : List ℕ) → List Check
   options_of command =
       if bytes_eq command (codes "explain") then question_checks value (value (codes "command"))
-      else if bytes_eq command (codes "run") then []
+      else if bytes_eq command (codes "run") then run_checks value
       else if bytes_eq command (codes "import") then import_checks value
       else if bytes_eq command (codes "export") then []
       else if bytes_eq command (codes "serve") then service_checks value
       else if bytes_eq command (codes "who") then who_checks value
+      else if bytes_eq command (codes "check") then policy_checks value
+      else if bytes_eq command (codes "account") then account_checks value
       else if bytes_eq command (codes "digest") then []
       else (unread (codes "COMMAND"), false) ∷ []
 
@@ -53,12 +58,13 @@ module _ (value : List ℕ → Option (List ℕ)) where
   IsTaskOf command (task.Explain question) =
       (command ≡ codes "explain") × (value (codes "command") ≡ None) × IsQuestion value question
   IsTaskOf command (task.ExplainCommand question) = (command ≡ codes "explain") × IsCommandQuestion value question
-  IsTaskOf command (task.Run paths) = (command ≡ codes "run") × (option_copied paths.database ≡ value (codes "db"))
-      × (option_copied paths.policy ≡ value (codes "policy"))
+  IsTaskOf command (task.Run run) = (command ≡ codes "run") × IsRun value run
   IsTaskOf command (task.Import import) = (command ≡ codes "import") × IsImport value import
   IsTaskOf command (task.Export path) = (command ≡ codes "export") × (path.now ≡ given value (codes "db"))
   IsTaskOf command (task.Serve serve) = (command ≡ codes "serve") × IsService value serve
   IsTaskOf command (task.Who enquiry) = (command ≡ codes "who") × IsEnquiry value enquiry
+  IsTaskOf command (task.Check check) = (command ≡ codes "check") × IsPolicyCheck value check
+  IsTaskOf command (task.Account account) = (command ≡ codes "account") × IsAccount value account
   IsTaskOf command task.Digest = command ≡ codes "digest"
 
 -- The words are those of a command, with the values of its options in these rows and no mistake in them, and ask for

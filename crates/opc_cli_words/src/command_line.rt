@@ -17,6 +17,8 @@ ghost use Rattle.opc_cli_words.specs.CommandLine.{
   valued,
 };
 
+use crate::account_command::account_command;
+use crate::check_command::check_command;
 use crate::question_commands::{explain_command, who_command};
 use crate::version::VERSION;
 use clap::{Arg, ArgAction, Command};
@@ -86,7 +88,7 @@ fn run_command<'a>(alloc: Global) -> Result<Command<'a>, AllocError>
         alloc,
         "run",
         "Answers the commands and events of the script on standard input (1,048,576 bytes at most), one a line",
-        "A line: MOMENT CONSOLE COMMAND, or MOMENT * EVENT; the moment has 1 to 13 digits.\n\
+        "A line: MOMENT CONSOLE COMMAND, or MOMENT * EVENT; the moment has 1 to 13 digits. With --now no moment.\n\
          Example: echo '1 C1 S MONPL' | opcmds run --policy policy.csv\n\
          Status: 0 all done, 1 something refused, 2 bad words, policy file or line, 3 out of memory or a failed device",
     )
@@ -101,6 +103,17 @@ fn run_command<'a>(alloc: Global) -> Result<Command<'a>, AllocError>
         "policy",
         "FILE",
         "The first policy (16,777,216 bytes at most), for tables in which no user is stored",
+    ))?
+    .arg(flag(
+        alloc,
+        "now",
+        "Answers each line, which has no moment, before the next is read, by the clock",
+    ))?
+    .arg(value(
+        alloc,
+        "console",
+        "CONSOLE",
+        "With --now: each line is a command, typed at this console",
     ))
 }
 
@@ -261,5 +274,7 @@ pub(crate) fn command_line<'a>(alloc: Global) -> Result<Command<'a>, AllocError>
         .subcommand(export_command(alloc)?)?
         .subcommand(serve_command(alloc)?)?
         .subcommand(who_command(alloc)?)?
+        .subcommand(check_command(alloc)?)?
+        .subcommand(account_command(alloc)?)?
         .subcommand(digest_command(alloc))
 }

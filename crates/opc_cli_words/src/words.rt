@@ -1,6 +1,5 @@
 //! The words of the command line.
 ghost use Rattle.std.specs.Prelude.{◌≡◌, IfOk, codes, drop, false};
-ghost use Rattle.std.specs.Io.KnownBytes.{Appends};
 ghost use Rattle.clap.specs.Faults.{fault_of};
 ghost use Rattle.clap.specs.Kinds.{FailsBy};
 ghost use Rattle.clap.specs.Matches.{first_value, found_of};
@@ -12,25 +11,29 @@ ghost use Rattle.opc_cli_words.specs.Reading.{
   AreRead,
   IsHelpReported,
   IsKindReported,
+  IsMistakePrinted,
   IsTaskRead,
   IsReportedFailure,
   IsVersionReported,
   words_after,
 };
 ghost use Rattle.opc_cli_options.specs.Checks.{AreReadAs};
-ghost use Rattle.opc_cli_options.specs.Mistakes.{mistake_line};
 ghost use Rattle.opc_cli_words.specs.Tasks.{IsTaskOf, options_of};
 
 use crate::command_line::command_line;
+use crate::value::note_value;
 use crate::version::write_version;
 use clap::error::ErrorKind;
 use clap::{ArgMatches, Error};
-use opc_cli_failures::failure::{Failure, NO_PATHS, Paths, Place};
+use opc_cli_failures::failure::{Failure, NO_PATHS, Place};
 use opc_cli_failures::status::Status;
+use opc_cli_options::account::Account;
+use opc_cli_options::check::PolicyCheck;
 use opc_cli_options::command_question::CommandQuestion;
 use opc_cli_options::import::Import;
 use opc_cli_options::mistake::print_mistake;
 use opc_cli_options::question::Question;
+use opc_cli_options::run::Run;
 use opc_cli_options::serve::Serve;
 use opc_cli_options::who::Enquiry;
 use opc_io::sink::Sink;
@@ -44,12 +47,16 @@ use std::io::Write;
 pub enum Task<'a> {
     Explain(Question),
     ExplainCommand(CommandQuestion<'a>),
-    Run(Paths<'a>),
+    Run(Run<'a>),
     Import(Import<'a>),
     /// The policy in the tables of the file at this path is written.
     Export(&'a str),
     Serve(Serve<'a>),
     Who(Enquiry<'a>),
+    /// What is wrong with a policy file is shown.
+    Check(PolicyCheck<'a>),
+    /// Rows of the account in a database file are shown.
+    Account(Account<'a>),
     /// The digest of the password on the input is printed.
     Digest,
 }
@@ -103,7 +110,7 @@ fn task_of<'a, E: Write>(
     match asked(command, chosen) {
         Ok(task) => Ok(task),
         Err(mistake) => {
-            report_mistake(command, mistake, errors);
+            report_mistake(command, mistake, chosen, errors);
             Err(Status::BadInput)
         }
     }
@@ -116,11 +123,10 @@ fn asked<'a>(command: &str, chosen: &ArgMatches<'a>) -> Result<Task<'a>, &'stati
 {
     match command {
         "explain" => question(chosen),
-        "run" => Ok(Task::Run(Paths {
-            database: chosen.get_str("db"),
-            policy: chosen.get_str("policy"),
-            socket: None,
-        })),
+        "run" => match Run::read(chosen) {
+            Ok(run) => Ok(Task::Run(run)),
+            Err(mistake) => Err(mistake),
+        },
         "import" => match Import::read(chosen) {
             Ok(import) => Ok(Task::Import(import)),
             Err(mistake) => Err(mistake),
@@ -132,6 +138,14 @@ fn asked<'a>(command: &str, chosen: &ArgMatches<'a>) -> Result<Task<'a>, &'stati
         },
         "who" => match Enquiry::read(chosen) {
             Ok(enquiry) => Ok(Task::Who(enquiry)),
+            Err(mistake) => Err(mistake),
+        },
+        "check" => match PolicyCheck::read(chosen) {
+            Ok(check) => Ok(Task::Check(check)),
+            Err(mistake) => Err(mistake),
+        },
+        "account" => match Account::read(chosen) {
+            Ok(account) => Ok(Task::Account(account)),
             Err(mistake) => Err(mistake),
         },
         "digest" => Ok(Task::Digest),
@@ -157,13 +171,14 @@ fn question<'a>(chosen: &ArgMatches<'a>) -> Result<Task<'a>, &'static str>
     }
 }
 
-/// Reports a mistake in the options of a command.
-fn report_mistake<K: Sink>(command: &str, mistake: &str, errors: &mut K)
-    ensures { K.has_failed errors.new ≡ false → Appends (K.held errors.old) (K.held errors.new)
-        (mistake_line command.now mistake.now) }
+/// Reports a mistake in the options of a command, and what is taken in the place of a value that does not read.
+fn report_mistake<K: Sink>(command: &str, mistake: &str, chosen: &ArgMatches<'_>, errors: &mut K)
+    ensures { K.has_failed errors.new ≡ false
+        → IsMistakePrinted (K.held errors.old) (K.held errors.new) command.now mistake.now }
 {
     // The status reports it too, if no word can be printed.
     let _ = print_mistake(command, mistake, errors);
+    note_value(command, mistake, chosen, errors);
 }
 
 /// Prints what `clap` reports: help or the version to the output, a mistake to the errors.

@@ -112,7 +112,7 @@ module _ {D : Type 0} (g : disk.Ghosts D) where
   abbrev means : Meaning Tables
   means = store_meaning over_files
 
-  holds_last : (last : Tables) (files : Files D) → IsEnd last (Ok files) → AreClean g files.log files.db
+  pub holds_last : (last : Tables) (files : Files D) → IsEnd last (Ok files) → AreClean g files.log files.db
       → (s : State) → Are last s → HoldTablesOf g files s
   holds_last last files end clean s was =
       let copied = end.1 clean in

@@ -1,3 +1,4 @@
 mod Apart
 mod Keeping
 mod Shutting
+mod Accounts

@@ -1,3 +1,4 @@
 pub mod Works
 pub mod Kept
+pub mod Reads
 pub mod Shut

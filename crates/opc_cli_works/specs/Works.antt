@@ -32,6 +32,7 @@ use Rattle.opc_cli_failures.specs.declared.status.Status.{Status}
 use Rattle.opc_cli_failures.specs.declared.failure.Failure.{Failure}
 use Rattle.opc_cli_failures.specs.Statuses.{IsFailure}
 use Rattle.opc_io.specs.declared.watched.Watched.{Watched}
+use Rattle.opc_cli_program.specs.Lines.{AreProgramLines}
 use Rattle.opc_cli_program.specs.Runs.{IsProgramRun}
 use Rattle.opc_cli_program.specs.Works.{IsDone}
 use Rattle.opc_cli_program.specs.declared.work.Work.{Work}
@@ -76,4 +77,14 @@ IsRunInMemory held has_failed holds policy left before written end =
     (IsErrAnd end (λ failure. IsFailure failure.fault) × (written ≡ before))
     ⊎ ((opened : _) × (last : _) × Represents (state over_memory opened).now empty
     × IsProgramRun (store_meaning over_memory) held has_failed holds
+    opened last policy left before written end)
+
+-- Or it answered the lines on its input over such tables.
+abbrev pub AreLinesInMemory : {K : Type 0} → (K → Option (List ℕ)) → (K → Bool) → (console : Option (List ℕ))
+    → (holds : List ℕ → Option (List ℕ)) → Option (Bor (List ℕ)) → Option (List ℕ) → (before written : K)
+    → Result Status Failure → Type 0
+AreLinesInMemory held has_failed console holds policy left before written end =
+    (IsErrAnd end (λ failure. IsFailure failure.fault) × (written ≡ before))
+    ⊎ ((opened : _) × (last : _) × Represents (state over_memory opened).now empty
+    × AreProgramLines (store_meaning over_memory) held has_failed console holds
     opened last policy left before written end)

@@ -8,6 +8,7 @@ ghost use Rattle.opc_cli_works.specs.Kept.{
   RefusedPoliciesChangeNothing,
   RunsAreKept,
 };
+ghost use Rattle.opc_cli_works.specs.Reads.{AccountsAreShown};
 ghost use Rattle.opc_cli_works.specs.Shut.{RequestsAreLeftWhole, ShutTablesGiveUp, ShutTablesStay};
 
 use sqlite::Alter;
@@ -36,6 +37,11 @@ pub fn imports_are_kept<D: Disk, W: Write>()
 /// An export leaves in the file the state that was there, and writes its policy file.
 pub fn exports_leave_the_file<D: Disk, W: Write>()
     ensures { ExportsLeaveTheFile D.Disk W.contents }
+{}
+
+/// The account of a file is printed as the query shows it, and leaves in the file the state that was there.
+pub fn accounts_are_shown<D: Disk, W: Write>()
+    ensures { AccountsAreShown D.Disk W.contents }
 {}
 
 /// Whatever becomes of a request, a crash, or a fault of the disk that closes the tables, leaves those of the state

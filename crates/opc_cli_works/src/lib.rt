@@ -5,3 +5,4 @@
 pub mod file;
 pub mod laws;
 pub mod memory;
+pub mod reading;

@@ -4,11 +4,13 @@
 use opc_cli::run_words;
 use opc_cli_failures::failure::{Failure, NO_PATHS};
 use opc_cli_failures::status::Status;
+use opc_cli_screen::announced::Announced;
 use opc_cli_screen::screen::Screen;
 use opc_io::watched::Watched;
 use opc_terms::fault::Fault;
 use std::io::{ErrorKind, IsTerminal, Write};
 use std::process::ExitCode;
+use std::rt::{Stderr, Stdin};
 use std::{env, io};
 
 fn main(rt: HostRuntime) -> ExitCode {
@@ -21,7 +23,7 @@ fn status(rt: &HostRuntime) -> u8 {
         Ok(words) => run_words(
             rt,
             words.as_slice(),
-            &mut rt.stdin(),
+            &mut input(rt, words.as_slice()),
             &mut Watched::new(screen(rt, rt.stdout())),
             &mut errors,
         ),
@@ -32,6 +34,22 @@ fn status(rt: &HostRuntime) -> u8 {
             let _ = writeln!(errors.inner, "error: a word is not UTF-8");
             Status::BadInput.number()
         }
+    }
+}
+
+/// Standard input. If somebody types it at a terminal, and sees standard error there, its first read is announced;
+/// `digest` itself says what it reads.
+fn input(rt: &HostRuntime, words: &[String]) -> Announced<Stdin, Stderr> {
+    let (inner, errors) = (rt.stdin(), rt.stderr());
+    let is_typed = inner.is_terminal() && errors.is_terminal();
+    let is_digest = words.get(1).is_some_and(|word| word.as_str() == "digest");
+    Announced {
+        inner,
+        errors: if is_typed && !is_digest {
+            Some(errors)
+        } else {
+            None
+        },
     }
 }
 

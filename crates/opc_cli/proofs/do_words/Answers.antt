@@ -27,13 +27,21 @@ returns-in-Ok-Who g c =
     c.args.errors.now c.read_words.new.errors done.new.errors done.result
     (task.Who c.in-Ok-Who.enquiry) (rw c.in-Ok-Who.field-0-is at c.in-Ok-Who.ensures) done.ensures
 
+pub returns-in-Ok-Check : goal.returns-in-Ok-Check
+returns-in-Ok-Check g c =
+    let done = c.answer_check in
+    task_done _ _ _ g.W.Write.contents g.E.Write.contents _ (words_after c.args.words.now) c.args.output.now
+    c.read_words.new.output (record c.read_words.new.output { inner = c.answer_check.new.output })
+    c.args.errors.now c.read_words.new.errors done.new.errors done.result
+    (task.Check c.in-Ok-Check.check) (rw c.in-Ok-Check.field-0-is at c.in-Ok-Check.ensures) done.ensures
+
 pub returns-in-Ok-Run : goal.returns-in-Ok-Run
 returns-in-Ok-Run g c =
     let done = c.run_over in
     task_done _ _ _ g.W.Write.contents g.E.Write.contents _ (words_after c.args.words.now) c.args.output.now
     c.read_words.new.output c.run_over.new.output c.args.errors.now c.read_words.new.errors done.new.errors
     done.result
-    (task.Run c.in-Ok-Run.paths) (rw c.in-Ok-Run.field-0-is at c.in-Ok-Run.ensures) done.ensures
+    (task.Run c.in-Ok-Run.run') (rw c.in-Ok-Run.field-0-is at c.in-Ok-Run.ensures) done.ensures
 
 pub returns-in-Ok-Import : goal.returns-in-Ok-Import
 returns-in-Ok-Import g c =
@@ -58,6 +66,14 @@ returns-in-Ok-Serve g c =
     c.read_words.new.output c.work_in_file-in-Ok-Serve.new.output c.args.errors.now c.read_words.new.errors
     done.new.errors done.result
     (task.Serve c.in-Ok-Serve.serve) (rw c.in-Ok-Serve.field-0-is at c.in-Ok-Serve.ensures) done.ensures
+
+pub returns-in-Ok-Account : goal.returns-in-Ok-Account
+returns-in-Ok-Account g c =
+    let done = c.account_in_file in
+    task_done _ _ _ g.W.Write.contents g.E.Write.contents _ (words_after c.args.words.now) c.args.output.now
+    c.read_words.new.output c.account_in_file.new.output c.args.errors.now c.read_words.new.errors done.new.errors
+    done.result
+    (task.Account c.in-Ok-Account.account) (rw c.in-Ok-Account.field-0-is at c.in-Ok-Account.ensures) done.ensures
 
 pub returns-in-Ok-Digest : goal.returns-in-Ok-Digest
 returns-in-Ok-Digest g c =

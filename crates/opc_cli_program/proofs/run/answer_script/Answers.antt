@@ -11,8 +11,8 @@ returns-clause-runs g c =
     inr (record {
       script = c.deref.result.now;
       are = subst (AreScriptBytes (g.R.Read.remaining c.args.input.now)) (sym c.deref.ensures.value) c.in-Ok.ensures.bytes;
-      ran = c.run_bytes.result;
-      run = c.run_bytes.ensures.runs;
-      failed = c.run_bytes.ensures.failed;
+      ran = c.run_bytes-ran.result;
+      run = c.run_bytes-ran.ensures.runs;
+      failed = c.run_bytes-ran.ensures.failed;
       ends = c.ended.ensures;
     })

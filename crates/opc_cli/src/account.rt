@@ -1,0 +1,62 @@
+//! The account of a database file.
+ghost use Rattle.std.specs.Prelude.{◌≡◌};
+ghost use Rattle.sqlite.specs.WalFiles.{image_at};
+ghost use Rattle.sqlite_std_file.specs.File.{IsFresh};
+ghost use Rattle.opc_store.specs.Opening.{opening_fault};
+ghost use Rattle.opc_cli.specs.Words.{IsAccountInFile};
+
+use crate::database::reason_to_read;
+use crate::{ended, not_opened, of_database};
+use opc_cli_failures::failure::{Failure, Paths, reported};
+use opc_cli_failures::status::Status;
+use opc_cli_options::account::Account;
+use opc_cli_works::file::EndedWork;
+use opc_cli_works::reading::account_at;
+use opc_io::watched::Watched;
+use opc_store::opening::{NotOpened, OpenFault};
+use opc_terms::fault::Fault;
+use sqlite::{FileFrom, Start};
+use sqlite_disk::Disk;
+use std::io::Write;
+
+/// Prints the rows of the account that are asked for, of a database file that is neither made nor changed.
+pub(crate) fn account_in_file<S: Start, W: Write, E: Write>(
+    rt: &HostRuntime,
+    start: S,
+    account: &Account<'_>,
+    output: &mut Watched<W>,
+    errors: &mut Watched<E>,
+) -> Status
+    ensures { IsAccountInFile ⟦<FileFrom<S> as Disk>⟧ IsFresh (image_at S.Start) W.contents E.contents output.old
+        output.new errors.old errors.new result account.now.query }
+{
+    let path = account.path;
+    let paths = Paths {
+        database: Some(path),
+        policy: None,
+        socket: None,
+    };
+    match account_at(rt, path, start, &account.query, &mut output.inner) {
+        Ok(done) => {
+            let EndedWork {
+                end,
+                closed,
+                are_made: _,
+            } = done;
+            ended(end, closed, &paths, errors)
+        }
+        Err(refused) => reported(Err(not_read(rt, path, refused)), &paths, errors),
+    }
+}
+
+fn not_read(rt: &HostRuntime, path: &str, refused: NotOpened) -> Failure
+    ensures { result.fault ≡ opening_fault refused.fault }
+{
+    match refused.fault {
+        OpenFault::Store if !refused.is_full => {
+            of_database(Fault::Store, reason_to_read(rt, path))
+        }
+        // As of any opening.
+        _ => not_opened(rt, path, refused),
+    }
+}

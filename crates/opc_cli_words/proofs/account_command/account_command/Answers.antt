@@ -1,0 +1,12 @@
+use Rattle.std.proofs.lemmas.Result.{IfOk-weaker}
+use Rattle.opc_cli_words.proofs.CommandLine.{one_option_more}
+use Rattle.opc_cli_words.proofs.account_command.account_command.Goals as goal
+
+pub returns : goal.returns
+returns c =
+    let option_1 = one_option_more _ _ _ _ _ _ c.in_ok-with_rows.ensures c.value.ensures.rule c.value.ensures.alone c.in_ok-arg.ensures in
+    let option_2 = one_option_more _ _ _ _ _ _ option_1 c.value-2.ensures.rule c.value-2.ensures.alone c.in_ok-arg-2.ensures in
+    let option_3 = one_option_more _ _ _ _ _ _ option_2 c.value-3.ensures.rule c.value-3.ensures.alone c.in_ok-arg-3.ensures in
+    let option_4 = one_option_more _ _ _ _ _ _ option_3 c.value-4.ensures.rule c.value-4.ensures.alone c.in_ok-arg-4.ensures in
+    let option_5 = one_option_more _ _ _ _ _ _ option_4 c.value-5.ensures.rule c.value-5.ensures.alone c.in_ok-arg-5.ensures in
+    IfOk-weaker c.arg-6.result _ _ (λ built. one_option_more _ built _ _ _ _ option_5 c.flag.ensures.rule c.flag.ensures.alone) c.arg-6.ensures

@@ -1,0 +1,10 @@
+use Rattle.std.proofs.lemmas.Result.{IfOk-weaker}
+use Rattle.opc_cli_words.proofs.CommandLine.{one_option_more}
+use Rattle.opc_cli_words.proofs.account_command.with_rows.Goals as goal
+
+pub returns : goal.returns
+returns c =
+    let option_1 = one_option_more _ _ _ _ _ _ c.account_alone.ensures c.needed.ensures.rule c.needed.ensures.alone c.in_ok-arg.ensures in
+    let option_2 = one_option_more _ _ _ _ _ _ option_1 c.value.ensures.rule c.value.ensures.alone c.in_ok-arg-2.ensures in
+    let option_3 = one_option_more _ _ _ _ _ _ option_2 c.value-2.ensures.rule c.value-2.ensures.alone c.in_ok-arg-3.ensures in
+    IfOk-weaker c.arg-4.result _ _ (λ built. one_option_more _ built _ _ _ _ option_3 c.value-3.ensures.rule c.value-3.ensures.alone) c.arg-4.ensures

@@ -1,0 +1,74 @@
+//! The command `opcmds account`, as `clap` reads it.
+ghost use Rattle.std.specs.Prelude.{IfOk, [], codes};
+ghost use Rattle.opc_cli_words.specs.CommandLine.{IsCommand, account_options, row_options};
+
+use crate::command_line::{command, flag, needed, value};
+use clap::Command;
+use std::alloc::{AllocError, Global};
+
+/// The command `account` before its options.
+fn account_alone<'a>(alloc: Global) -> Command<'a>
+    ensures { IsCommand result (codes "account") [] }
+{
+    command(
+        alloc,
+        "account",
+        "Shows the account of a database file: each refusal, and each command that only a warning let pass",
+        "The file is not made, and not brought from an older version to this one.\n\
+         A moment T is a time with its offset from UTC, as 2026-11-27T08:00:00Z, or @ and its seconds since 1970.\n\
+         Example: opcmds account --db gate.db --last 1000 --user ANNA --code 'E2*'\n\
+         Status: 0 done, 2 bad words, 3 out of memory or a failed device",
+    )
+}
+
+/// With the options that say which rows are looked at, and how many are shown.
+fn with_rows<'a>(alloc: Global) -> Result<Command<'a>, AllocError>
+    ensures { IfOk result (λ built. IsCommand built (codes "account") row_options) }
+{
+    account_alone(alloc)
+        .arg(needed(alloc, "db", "FILE", "The database file"))?
+        .arg(value(
+            alloc,
+            "from",
+            "NUMBER",
+            "The number of the first row that is looked at; 1 without this",
+        ))?
+        .arg(value(
+            alloc,
+            "last",
+            "NUMBER",
+            "In place of --from: looks at this many rows, the last ones",
+        ))?
+        .arg(value(
+            alloc,
+            "count",
+            "NUMBER",
+            "How many rows are shown at most, of those that the other options ask for; all without this",
+        ))
+}
+
+pub(crate) fn account_command<'a>(alloc: Global) -> Result<Command<'a>, AllocError>
+    ensures { IfOk result (λ built. IsCommand built (codes "account") account_options) }
+{
+    with_rows(alloc)?
+        .arg(value(alloc, "since", "T", "Rows of this moment or a later one"))?
+        .arg(value(alloc, "until", "T", "Rows of this moment or an earlier one"))?
+        .arg(value(alloc, "user", "USER", "Rows of this user; - is nobody"))?
+        .arg(value(
+            alloc,
+            "console",
+            "CONSOLE",
+            "Rows of this console; * is that of events",
+        ))?
+        .arg(value(
+            alloc,
+            "code",
+            "CODE",
+            "Rows of this code, as E20; with a * at its end all that begin so, as E2*",
+        ))?
+        .arg(flag(
+            alloc,
+            "json",
+            "Writes a JSON object for each row, in place of columns under a header",
+        ))
+}

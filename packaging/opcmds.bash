@@ -7,7 +7,7 @@ _opcmds() {
         return
     fi
     if ((COMP_CWORD == 1)) || [[ ${COMP_WORDS[1]} == help && $COMP_CWORD == 2 ]]; then
-        mapfile -t COMPREPLY < <(compgen -W 'explain run import export serve who digest help' -- "$word")
+        mapfile -t COMPREPLY < <(compgen -W 'explain run import export serve who check account digest help' -- "$word")
         return
     fi
     if [[ $before == = ]]; then
@@ -17,11 +17,13 @@ _opcmds() {
     fi
     case ${COMP_WORDS[1]} in
         explain) options='--user --command --as --resource --level --class --console --json --why --help' ;;
-        run) options='--db --policy --help' ;;
+        run) options='--db --policy --now --console --help' ;;
         import) options='--db --batch --console --help' ;;
         export) options='--db --help' ;;
         serve) options='--db --port --socket --socket-mode --strict --count --timeout --log --help' ;;
         who) options='--command --as --resource --level --class --console --json --allowed --policy --help' ;;
+        check) options='--policy --allow --json --help' ;;
+        account) options='--db --from --last --count --since --until --user --console --code --json --help' ;;
         digest) options=--help ;;
         *) return ;;
     esac
@@ -30,6 +32,7 @@ _opcmds() {
         "explain --class") mapfile -t COMPREPLY < <(compgen -W 'OPERCMDS CONSOLE' -- "$word"); return ;;
         "explain --user" | "explain --command" | "explain --as" | "explain --resource" | "explain --console") return ;;
         "run --db" | "run --policy") compopt -o filenames; mapfile -t COMPREPLY < <(compgen -f -- "$word"); return ;;
+        "run --console") return ;;
         "import --db") compopt -o filenames; mapfile -t COMPREPLY < <(compgen -f -- "$word"); return ;;
         "import --batch" | "import --console") return ;;
         "export --db") compopt -o filenames; mapfile -t COMPREPLY < <(compgen -f -- "$word"); return ;;
@@ -40,6 +43,10 @@ _opcmds() {
         "who --class") mapfile -t COMPREPLY < <(compgen -W 'OPERCMDS CONSOLE' -- "$word"); return ;;
         "who --policy") compopt -o filenames; mapfile -t COMPREPLY < <(compgen -f -- "$word"); return ;;
         "who --command" | "who --as" | "who --resource" | "who --console") return ;;
+        "check --policy") compopt -o filenames; mapfile -t COMPREPLY < <(compgen -f -- "$word"); return ;;
+        "check --allow") return ;;
+        "account --db") compopt -o filenames; mapfile -t COMPREPLY < <(compgen -f -- "$word"); return ;;
+        "account --from" | "account --last" | "account --count" | "account --since" | "account --until" | "account --user" | "account --console" | "account --code") return ;;
     esac
     # an option that was given is not given again
     for given in "${COMP_WORDS[@]:2:COMP_CWORD - 2}"; do

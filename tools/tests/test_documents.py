@@ -6,6 +6,8 @@ import re
 import subprocess
 import unittest
 
+from lib.model import account
+
 TOP = os.path.dirname(os.path.dirname(os.path.dirname(os.path.abspath(__file__))))
 LINK = re.compile(r"\]\(([^)\s]+)\)")
 BLOCK = re.compile(r"(?ms)^```.*?^```")
@@ -111,6 +113,7 @@ class Documents(unittest.TestCase):
         rows = re.findall(r"(?m)^\| `(\d+ .*?)` \| `(\d+ .*?)` \|", readme)
         self.assertEqual([line for line, _ in rows], text_of(f"{tour}.script").splitlines())
         self.assertEqual([answer for _, answer in rows], text_of(f"{tour}.printed").splitlines())
-        account = [it.split(" ", 5) for it in text_of(f"{tour}.account").splitlines()]
-        self.assertIn("FROM account'\n" + "".join("|".join(it) + "\n" for it in account) + "```", readme)
+        stored = [it.split(" ", 5) for it in text_of(f"{tour}.account").splitlines()]
+        shown = account.answer([(int(moment), *rest) for _, moment, *rest in stored], {})
+        self.assertIn("opcmds account --db gate.db\n" + shown + "```", readme)
         self.assertIn("base-policy.csv\n" + text_of(f"{TOP}/crates/opcmds/stdout") + "```", readme)

@@ -85,10 +85,14 @@ class Asking:
         return found
 
     def program(self, data: str, *words: str) -> list[str]:
-        """What the program prints and says, after its status if that is not 0."""
+        """What the program prints and says, after its status if that is not 0. A second line of a fault, which names
+        row or console, is left to tools/program."""
         how = {"capture_output": True, "env": {**os.environ, **self.clock.environment}, "timeout": SECONDS}
         ran = subprocess.run([built(), *words, "--db", self.file], input=data.encode(), **how)
-        return end(ran.returncode, ran.stdout, ran.stderr)
+        said = ran.stderr
+        if said.startswith((b"E50 ", b"E52 ", b"E53 ", b"E57 ")):
+            said = said.partition(b"\n")[0] + b"\n"
+        return end(ran.returncode, ran.stdout, said)
 
     def bootstrap(self) -> list[str]:
         return self.program(policy_file(self.room.rows), "import", "--batch", "1") or ["taken"]

@@ -125,7 +125,7 @@ class Database(Input):
             answer = state.handle(CLOCK, Import("C2", 5, files.read(BATCH)))
             said = f"{answer.code} {answer.text}" if answer.code else ""
             return ran, (int(answer.code is not None), "".join(f"{line}\n" for line in answer.lines), said)
-        return run(["run", "--db", file], SCRIPT), state and (*scripts.run(state, SCRIPT), "")
+        return run(["run", "--db", file], SCRIPT), state and scripts.run(state, SCRIPT)
 
     def served(self, file: str, state: State | None) -> tuple[Ran, tuple[int, str, str] | None]:
         """Requests over the file, each with the form of a response; of rows as they were, with the model's."""

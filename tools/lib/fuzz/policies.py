@@ -1,6 +1,7 @@
 """Policy files that are turned: `explain` is asked over them, `run` begins with them, `import` takes them."""
 import functools
 import os
+import re
 from dataclasses import dataclass
 from random import Random
 
@@ -20,6 +21,7 @@ FIELDS = (
     b'"\r\n"', b"'", b"-", b"*", b"**", b"9X", b"anna", b"SYS,SYS", b'"SYS,IO"', b'"IO,SYS"', b"\xc3\xa9", b"\x1b[31m",
     b"\xc2\x85", b"OPERCMDS", b"ANNA", b"\\", b'"\x7f"', b"\xe2\x80\xae",
 )
+UTF_16 = (b"\xfe\xff", b"\xff\xfe")  # the marks that such a file begins with
 PIECES = (*turning.PIECES, b",,,,,,,", b"group,,DAY,,,,,\n", b"user,,EVE,,,,,,,Y\n", b"permit,", b"class,OPERCMDS,,,")
 
 
@@ -81,18 +83,21 @@ def wants_reason(ran: Ran, fault: str | None, called: str, data: bytes) -> None:
     line = ran.said.decode(errors="backslashreplace").split("\n")[1]
     _, _, row, _ = fault.split(" ")
     wanted = f"opcmds: {called}, row {row}: " if row != "0" else f"opcmds: {called}: {reason_of_header(data)}"
-    if not (line.startswith(wanted) if row != "0" else line == wanted):
+    is_start = row != "0" or wanted.endswith('"')
+    if not (line.startswith(wanted) if is_start else line == wanted):
         raise Wrong("not the reason of a bad row", f"{line!r} and not {wanted!r}")
 
 
 def reason_of_header(data: bytes) -> str:
+    """Why a file has no header; if its first row is shown, as far as that row."""
     if len(data) > files.MOST_BYTES:
         return "more than 16,777,216 bytes"
     try:
-        data.decode()
+        text = data.decode()
     except UnicodeDecodeError:
-        return "not UTF-8"
-    return "the first row is not the header"
+        return 'UTF-16 and not UTF-8; save it as "CSV UTF-8"' if data[:2] in UTF_16 else "not UTF-8"
+    has_row = any(re.split("\r?\n", text))
+    return 'the first row is not the header: "' if has_row else "no rows; the first has to be the header"
 
 
 def make(chance: Random) -> Policy:

@@ -34,6 +34,26 @@ CONTROL = re.compile(r"[\x00-\x1f\x7f-\x9f]")
 ESCAPED = re.compile(r"\\u\{[0-9a-f]+\}|\\x[0-9a-f]{2}|\\.")
 FIELD = re.compile(rf'"((?:[^"\\]|{ESCAPED.pattern})*)"(\.\.)?$')
 MOST_SHOWN = 39  # characters of a field
+# why a line of a script is bad; what follows a fault that some rows have, and the faults of which a line may follow
+BAD_LINE = re.compile(
+    rf'opcmds: script(?:: (?:more than 1,048,576 bytes|not UTF-8)|, line {NUMBER}: (?:no moment|no console|no command|'
+    r"the moment has more than 13 digits|the (?:console's name|event) does not read): (\".*\"(?:\.\.)?) "
+    r"\(a line (?:is MOMENT CONSOLE COMMAND|of an event is MOMENT \* EVENT)\))\n"
+)
+REFUSED_ROW = (
+    rf"opcmds: (?s:.*), row {NUMBER}: (?:no (?:user|group|user or group|profile (?:CONSOLE|OPERCMDS))|"
+    rf"a (?:user|group) has the name) {NAME}"
+)
+NOTES = {
+    "E50": r"opcmds: console \S+: (?:nobody is on|\S+ is not SPECIAL)", "E52": REFUSED_ROW, "E53": REFUSED_ROW,
+    "E57": r"(?s:opcmds: database .*): users are stored; (?:use --console|leave out --policy)",
+}
+HEADER = re.compile(
+    r': (the first row is not the header: (".*"(?:\.\.)?)'
+    r"(?:; fields are separated by '(?:;|\\t|\|)', expected ',')?|"
+    r'no rows; the first has to be the header|more than 16,777,216 bytes|(?:UTF-16 and )?not UTF-8(?:; save it as "CSV '
+    r'UTF-8")?)$'
+)
 RESPONSE = re.compile(
     rb"HTTP/1\.1 (\d{3}) ([A-Za-z ]+)\r\nContent-Type: application/json\r\nContent-Length: (\d+)\r\n"
     rb"(?:Allow: (GET|POST)\r\n)?Connection: close\r\n\r\n(.*)", re.S
@@ -95,6 +115,8 @@ def wrong_said(status: int, said: bytes) -> str | None:
         return None if MADE.fullmatch(text) else f"it is done, and says {text[:200]!r}"
     if status == 2 and text.startswith("error: "):
         return None
+    if status == 2 and text.startswith("opcmds: script"):
+        return wrong_note(text)
     first, end, rest = text.partition("\n")
     wrong = wrong_fault(first[:3], first[4:])
     if wrong:
@@ -103,6 +125,8 @@ def wrong_said(status: int, said: bytes) -> str | None:
         return f"{first} with the status {status}"
     if first[:3] in ("E60", "E91", "E92"):
         return wrong_reason(first, rest)
+    if end and first[:3] in NOTES and re.fullmatch(rf"(?:{NOTES[first[:3]]}\n)?", rest):
+        return None
     return None if end and not rest else f"not the fault alone the fault is said: {text[:300]!r}"
 
 
@@ -113,14 +137,22 @@ def wrong_reason(first: str, line: str) -> str | None:
     line = line[:-1]
     number = re.fullmatch(rf"E60 RowFault ({NUMBER}) \w+", first)
     if number and number[1] == "0":
-        good = re.search(": (the first row is not the header|more than 16,777,216 bytes|not UTF-8)$", line)
-        return None if good else f"not a reason for {first}: {line!r}"
+        good = HEADER.search(line)
+        is_good = good and (good[2] is None or is_clean(good[2]))
+        return None if is_good else f"not a reason for {first}: {line!r}"
     if number:
         reason = line.partition(f", row {number[1]}: ")[2]
         return None if reason and is_clean(reason) else f"not a reason for {first}: {line!r}"
     if first.startswith("E92") and not line.endswith(": " + reason_of_version(first)):
         return f"not the reason for {first}: {line!r}"
     return None
+
+
+def wrong_note(text: str) -> str | None:
+    """What is wrong with what is said of the bad line of a script."""
+    found = BAD_LINE.fullmatch(text)
+    is_good = found and (found[1] is None or is_clean(found[1]))
+    return None if is_good else f"not why a line is bad: {text[:400]!r}"
 
 
 def is_clean(reason: str) -> bool:

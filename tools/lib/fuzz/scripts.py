@@ -31,7 +31,7 @@ class Script(Input):
     def model(self) -> tuple[int, str, str]:
         state = State()
         state.bootstrap(files.read(self.policy))
-        return *scripts.run(state, self.data()), ""
+        return scripts.run(state, self.data())
 
     def tried(self, room: str) -> None:
         ran = run(["run", "--policy", written(f"{room}/policy.csv", self.policy)], self.data())

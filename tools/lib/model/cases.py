@@ -4,12 +4,12 @@ from collections import Counter
 from random import Random
 from typing import Any, Callable, Iterable
 
-from . import counting, exchange, files, machine, names, random_lines, random_policies, random_requests, random_unread
-from . import scripts, world
+from . import account, counting, exchange, files, machine, names, random_lines, random_policies, random_requests
+from . import random_unread, scripts, world
 from .faults import Fault
 from .files import Row
 from .machine import State
-from .steps import CLOCK, SOME_PORT, Digest, Explain, ExplainCommand, Run, Serve, Step, Take, Who
+from .steps import CLOCK, SOME_PORT, Account, Check, Digest, Explain, ExplainCommand, Run, Serve, Step, Take, Who
 from .world import one_in
 
 
@@ -140,6 +140,17 @@ def who(chance: Random) -> list[Step]:
     return [Who(words, first)]
 
 
+def check(chance: Random) -> list[Step]:
+    """A policy file, mostly with several bad rows, or with some that would be refused, or with notes."""
+    lines = first_lines(chance)
+    for _ in range(chance.choice((0, 0, 1, 3, 8))):
+        lines = random_policies.spoiled(chance, lines)
+    while one_in(chance, 2) and len(lines) > 2:
+        del lines[chance.randrange(1, len(lines))]
+    allowed = [f"N{number:02}" for number in range(1, 20) if one_in(chance, 3)] if one_in(chance, 4) else []
+    return [Check(one_in(chance, 3), allowed, random_policies.joined(chance, lines))]
+
+
 def overlapping(chance: Random) -> tuple[list[Row], str]:
     """Many profiles of short patterns in one class, with entries of each kind."""
     users, of = world.USERS, random_policies.any_class(chance)
@@ -220,6 +231,28 @@ def scripts_of(chance: Random) -> list[Step]:
     if one_in(chance, 3):
         found.append(Run(first if one_in(chance, 6) else None, script(chance, state, 20)))
     return found
+
+
+def account_asked(chance: Random, rows: list) -> dict:
+    """Options of `account` over these rows, of which most choose some."""
+    number = str(chance.choice((1, 2, 3, 7, len(rows), len(rows) + 1, (1 << 63) - 1, 0)))
+    moment = chance.choice([row[0] for row in rows] or [5])
+    time = chance.choice((f"@{moment}", account.time_of(moment), f"{moment}", "1970-02-29T00:00:00Z"))
+    row = chance.choice(rows) if rows else (5, "C1", "-", "E12", "-")
+    values = {
+        "from": number, "last": number, "count": number, "since": time, "until": time,
+        "user": chance.choice((row[2], row[2], "-", "anna")), "console": chance.choice((row[1], row[1], "*", "c1")),
+        "code": chance.choice((row[3], row[3][:2] + "*", "E*", "WARN", "*")), "json": "",
+    }
+    return {name: values[name] for name in chance.sample(sorted(values), chance.choice((0, 1, 1, 2, 2, 3)))}
+
+
+def accounts(chance: Random) -> list[Step]:
+    """Questions about the account of a script."""
+    first = first_file(chance, random_policies.first_policy(chance))
+    state = state_of(first)
+    found: list[Step] = [Run(first, script(chance, state, 40, first=begun(chance, state)))]
+    return found + [Account(account_asked(chance, state.account)) for _ in range(8)]
 
 
 def digests(chance: Random) -> list[Step]:
@@ -324,6 +357,6 @@ def first_lines(chance: Random) -> list[str]:
 
 
 PARTS = {
-    "explain": explain, "who": who, "lines": lines, "scripts": scripts_of, "digest": digests, "displays": displays,
-    "requests": requests, "imports": imports,
+    "explain": explain, "who": who, "check": check, "lines": lines, "scripts": scripts_of, "account": accounts,
+    "digest": digests, "displays": displays, "requests": requests, "imports": imports,
 }

@@ -151,7 +151,7 @@ def spoiled(chance: Random, lines: list[str]) -> list[str]:
         lines[0] = chance.choice(headers)
     elif at > 0 and lines[at].count(",") + 1 == width:
         fields = lines[at].split(",")
-        column = chance.randrange(width)
+        column = chance.randrange(min(width, len(files.COLUMNS)))
         fields[column] = quoted(chance.choice(STRANGE if one_in(chance, 3) else NEAR[files.COLUMNS[column]]))
         lines[at] = ",".join(fields)
     return lines

@@ -38,6 +38,31 @@ def read_line(line: str) -> Asked | None:
     return (int(moment), requests.Command(console, text)) if names.is_console(console) else None
 
 
+def slip(line: str) -> str:
+    """What is wrong with a line first, if it is no request."""
+    moment, _, rest = line.partition(" ")
+    console, more, _ = rest.partition(" ")
+    if not (moment.isascii() and moment.isdigit()):
+        return "no moment"
+    if len(moment) > 13:
+        return "the moment has more than 13 digits"
+    if not rest or more and not console:
+        return "no console"
+    if not more:
+        return "no command"
+    return "the event does not read" if console == "*" else "the console's name does not read"
+
+
+def why_bad(data: bytes, number: int) -> str:
+    """What is said of the first bad line, up to what is shown of it."""
+    if number == 0:
+        return f"opcmds: script: {'more than 1,048,576 bytes' if len(data) > MOST_BYTES else 'not UTF-8'}"
+    lines = data.decode().split("\n")
+    line = lines[number - 1]
+    line = line.removesuffix("\r") if number < len(lines) else line
+    return f"opcmds: script, line {number}: {slip(line)}: "
+
+
 def printed(moment: int, answer: requests.Answer) -> str:
     """The lines of one answer."""
     first = (
@@ -46,12 +71,12 @@ def printed(moment: int, answer: requests.Answer) -> str:
     return "".join(f"{line}\n" for line in [first, *(f"  {shown}" for shown in answer.lines)])
 
 
-def run(state: State, data: bytes) -> tuple[int, str]:
-    """Status and output of a script."""
+def run(state: State, data: bytes) -> tuple[int, str, str]:
+    """Status and output of a script, and what is said of it."""
     found = read(data)
     if isinstance(found, int):
         counting.met["script", "bad"] += 1
-        return 2, f"BAD LINE {found}\n"
+        return 2, f"BAD LINE {found}\n", why_bad(data, found)
     answers = [(moment, state.handle(moment, request)) for moment, request in found]
     status = 1 if any(answer.code for _, answer in answers) else 0
-    return status, "".join(printed(moment, answer) for moment, answer in answers)
+    return status, "".join(printed(moment, answer) for moment, answer in answers), ""

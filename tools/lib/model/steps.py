@@ -9,7 +9,7 @@ from dataclasses import dataclass
 from lib import clients
 from lib.places import built
 from lib.service import Service
-from . import counting, digest, exchange, files, names, policy, scripts, tables, who, why
+from . import account, check, counting, digest, exchange, files, names, policy, scripts, tables, who, why
 from .faults import Fault
 from .machine import State
 from .requests import Import
@@ -155,6 +155,45 @@ class Who:
 
 
 @dataclass
+class Check:
+    """`check` of a policy file."""
+    as_json: bool
+    allowed: list[str]
+    data: bytes
+
+    def program(self, _: str) -> Answers:
+        words = ["check", *["--json"] * self.as_json, *["--allow", ",".join(self.allowed)] * bool(self.allowed)]
+        status, output, errors = run(words, self.data)
+        return [("check", (status, output, errors))]
+
+    def model(self, _: State) -> Answers:
+        output, rows = check.found(self.data, self.as_json)
+        if output:
+            return [("check", (2, output, ""))]
+        counting.met["check", "good"] += 1
+        return [("check", (*check.noted(rows, self.allowed, self.as_json), ""))]
+
+
+@dataclass
+class Account:
+    """`account` of the file, by the values of its options, of which `json` has none."""
+    words: dict
+
+    def program(self, file: str) -> Answers:
+        options = [f"--{name}={value}" for name, value in self.words.items() if name != "json"]
+        status, output, errors = run(["account", "--db", file, *options, *["--json"] * ("json" in self.words)])
+        return [("account", (status, output, None if status == 2 else errors))]
+
+    def model(self, state: State) -> Answers:
+        if not account.reads(self.words):
+            counting.met["account", "words"] += 1
+            return [("account", (2, "", None))]
+        output = account.answer(state.account, self.words)
+        counting.met["account", "rows" if output not in ("", account.HEADER) else "no row"] += 1
+        return [("account", (0, output, ""))]
+
+
+@dataclass
 class Digest:
     """`digest` of what is typed."""
     typed: bytes
@@ -184,7 +223,9 @@ class Run:
             with open(f"{file}.csv", "wb") as policy_file:
                 policy_file.write(self.policy)
             words += ["--policy", f"{file}.csv"]
-        return [("run", run(words, self.data()))]
+        status, output, errors = run(words, self.data())
+        # what is shown of a bad line is left out
+        return [("run", (status, output, errors.partition('"')[0] if output.startswith("BAD LINE ") else errors))]
 
     def model(self, state: State) -> Answers:
         try:
@@ -193,7 +234,7 @@ class Run:
                 counting.met["first policy", "done"] += 1
         except Fault as fault:
             return [("run", refused("first policy", fault))]
-        return [("run", (*scripts.run(state, self.data()), ""))]
+        return [("run", scripts.run(state, self.data()))]
 
 
 @dataclass

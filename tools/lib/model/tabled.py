@@ -19,7 +19,7 @@ def taken(state: machine.State, rows: Iterable[str]) -> list[str]:
 
 
 def ran(state: machine.State, script: Iterable[str]) -> list[str]:
-    status, output = scripts.run(state, "".join(f"{line}\n" for line in script).encode())
+    status, output, _ = scripts.run(state, "".join(f"{line}\n" for line in script).encode())
     return rooms.end(status, output.encode())
 
 

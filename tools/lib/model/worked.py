@@ -14,7 +14,7 @@ def base() -> machine.State:
     state = machine.State()
     with open(POLICY, "rb") as policy_file:
         state.bootstrap(files.read(policy_file.read()))
-    status, _ = scripts.run(state, stored.EVENTS.encode())
+    status, _, _ = scripts.run(state, stored.EVENTS.encode())
     assert status == 0
     return state
 

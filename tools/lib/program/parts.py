@@ -1,21 +1,27 @@
 """The parts of tools/program: tables, and what no table can say."""
 import errno
 import fcntl
+import glob
 import os
 import pty
+import re
+import select
 import shutil
 import socket
 import sqlite3
 import subprocess
+import termios
+import time
 import tty
 from typing import Callable
 
 from lib import files, older, version
 from lib.files import bytes_of
 from lib.places import HEADER, POLICY, TOP, built, preload, wide_policy
-from .room import Ran, Room, asked
+from .room import SECONDS, Ran, Room, asked
 
-HELPS = ("--help", "explain --help", "help explain", "run --help", "serve --help", "who --help", "digest --help")
+HELPS = ("--help", "explain --help", "help explain", "run --help", "serve --help", "who --help", "check --help",
+         "account --help", "digest --help")
 # requests that leave rows in every table, with the batch
 SCRIPT = """\
 1 * JOBIN PAY JOB
@@ -164,6 +170,28 @@ def on_terminal(words: list[str], data: bytes, stream: str = "stdout") -> bytes:
     return printed
 
 
+def silent_terminal() -> tuple[int, int]:
+    """The two ends of a terminal that does not show what is typed."""
+    seen, shown = pty.openpty()
+    modes = termios.tcgetattr(shown)
+    modes[3] &= ~termios.ECHO
+    termios.tcsetattr(shown, termios.TCSANOW, modes)
+    return seen, shown
+
+
+def typed(words: list[str], data: bytes) -> bytes:
+    """What a run says on the terminal at which its input is typed, with the end after it."""
+    seen, shown = silent_terminal()
+    os.write(seen, data + b"\x04")
+    with subprocess.Popen([built(), *words], stdin=shown, stdout=subprocess.DEVNULL, stderr=shown):
+        os.close(shown)
+        said = b""
+        while part := read_from(seen):
+            said += part
+    os.close(seen)
+    return said
+
+
 def read_from(terminal: int) -> bytes:
     try:
         return os.read(terminal, 4096)
@@ -186,6 +214,10 @@ def terminal(room: Room) -> None:
     ended(room, "a path that is no terminal's", room.run(words), 3, said.format(words[-1]))
     shown = said.format(r"no\u{1b}[31m folder/\u{202e}gate.db")
     room.tally.equal("a path on a terminal", on_terminal(words, b"", "stderr").decode(), shown)
+    said = b"opcmds: reading from the terminal; end with Ctrl-D\r\n"
+    room.tally.equal("a script that is typed", typed(["run", "--policy", POLICY], b"1 C1 D U\n2 C1 D R\n"), said)
+    said = b"opcmds: type the password and Enter; it is shown as it is typed\r\n"
+    room.tally.equal("a password that is typed", typed(["digest"], b"ABC\n"), said)
 
 
 def units(room: Room) -> None:
@@ -248,15 +280,68 @@ def table(name: str) -> Callable[[Room], None]:
     return lambda room: room.table(name)
 
 
+def now(room: Room) -> None:
+    """Lines that are answered one by one: each answer is there before the next line is written, and before the end."""
+    room.table("now")
+    words = [built(), "run", "--now", "--console", "C1", "--policy", POLICY]
+    began = int(time.time())
+    with subprocess.Popen(words, stdin=subprocess.PIPE, stdout=subprocess.PIPE, stderr=subprocess.PIPE) as started:
+        answers = [answer_to(started, line) for line in ("D U", "D U", "FORCE X")]
+        started.stdin.close()
+        rest, said = started.stdout.read(), started.stderr.read()
+    ended = int(time.time())
+    moments = [int(answer.split(" ", 1)[0]) for answer in answers]
+    room.tally.wants("each line is answered before the next", began <= min(moments) <= max(moments) <= ended, answers)
+    room.tally.equal("and nothing is printed at the end", (rest, said, started.returncode), (b"", b"", 1))
+    scripts_now(room)
+    answer = typed_at_terminal(words, b"D U\n")
+    room.tally.equal("a line that is typed at a terminal", answer, b"DONE GROUP INFO AUTH SYS")
+
+
+def scripts_now(room: Room) -> None:
+    """The scripts of the examples without their moments: what is printed differs by the moments alone."""
+    for path in sorted(glob.glob(f"{TOP}/examples/scripts/*.script")):
+        name = path.removesuffix(".script")
+        policy = f"{name}.csv" if os.path.exists(f"{name}.csv") else POLICY
+        ran = room.run(["run", "--now", "--policy", policy], re.sub(rb"(?m)^\d+ ", b"", bytes_of(path)))
+        texts = [re.sub(rb"(?m)^\d+ ", b"", text) for text in (ran.printed, bytes_of(f"{name}.printed"))]
+        room.tally.equal(f"{os.path.basename(path)}, each line as it is read", *texts)
+
+
+def answer_to(started: subprocess.Popen, line: str) -> str:
+    """The line that answers this one."""
+    started.stdin.write(f"{line}\n".encode())
+    started.stdin.flush()
+    ready, _, _ = select.select([started.stdout], [], [], SECONDS)
+    return os.read(started.stdout.fileno(), 4096).decode() if ready else "- no answer"
+
+
+def typed_at_terminal(words: list[str], line: bytes) -> bytes:
+    """What answers a line that is typed at a terminal, without its moment; Ctrl-D is typed after it."""
+    seen, shown = silent_terminal()
+    with subprocess.Popen(words, stdin=shown, stdout=subprocess.PIPE, stderr=subprocess.DEVNULL) as started:
+        os.close(shown)
+        os.write(seen, line)
+        ready, _, _ = select.select([started.stdout], [], [], SECONDS)
+        answer = os.read(started.stdout.fileno(), 4096) if ready else b"- no answer"
+        os.write(seen, b"\x04")
+        started.wait(SECONDS)
+    os.close(seen)
+    return answer.split(b" ", 1)[1].rstrip()
+
+
 # By the words of the command line; each in a room of its own.
 PARTS: dict[str, Callable[[Room], None]] = {
     "explain": table("explain"),
     "who": table("who"),
+    "check": table("check"),
+    "account": table("account"),
     "digest": table("digest"),
     "name": another_name,
     "version": says_version,
     "words": table("words"),
     "scripts": table("scripts"),
+    "now": now,
     "files": table("files"),
     "imports": imports,
     "databases": databases,

@@ -22,6 +22,15 @@ NOT_SPECIAL, NOT_EMPTY = (1, "", "E50 NotSpecial\n"), (1, "", "E57 NotEmpty\n")
 TAKEN = (0, "", "")
 
 
+def without_note(said: str) -> str:
+    """What is said, without the second line of a refusal. The tables are read once more for it, so a fault may cost it
+    or cut it off."""
+    first, end, rest = said.partition("\n")
+    if first.startswith(("E50 ", "E52 ", "E53 ", "E57 ")) and rest[:8] == "opcmds: "[: len(rest)]:
+        rest = rest.partition("\n")[2]
+    return first + end + rest
+
+
 class Import(Aborting):
     """An import by the program. Sent once more over what is left, it comes to what it would have come to."""
 
@@ -35,6 +44,10 @@ class Import(Aborting):
 
     def sent_again(self, file: str) -> tuple[files.Ran, Tables]:
         return self.run(file, {}), held_in(file)
+
+    def run(self, file: str, environment: dict[str, str]) -> files.Ran:
+        status, output, errors = super().run(file, environment)
+        return status, output, without_note(errors)
 
     def tables_in(self, file: str) -> Tables:
         return held_in(file)

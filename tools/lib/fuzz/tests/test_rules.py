@@ -48,6 +48,12 @@ class Said(unittest.TestCase):
             (2, b'E60 RowFault 3 Name\nopcmds: policy file a, row 3: the name is no name: "\\u{1b}\\n"\n'),
             (3, b"E92 NotOurs 7\nopcmds: database a: tables of version 7\n"),
             (3, b"E91 Store\nopcmds: database a\nb: Is a directory\n"),
+            (2, b'opcmds: script, line 3: no moment: "x\\u{1b}" (a line is MOMENT CONSOLE COMMAND)\n'),
+            (2, b"opcmds: script: not UTF-8\n"),
+            (1, b"E53 Missing OP5\nopcmds: standard input, row 23: no user or group OP5\n"),
+            (1, b"E50 NotSpecial\nopcmds: console C2: nobody is on\n"),
+            (2, b"E60 RowFault 0 Header\nopcmds: standard input: the first row is not the header: \"a;b\"; "
+             b"fields are separated by ';', expected ','\n"),
         )
         for status, said in good:
             self.assertIsNone(rules.wrong_said(status, said), said)
@@ -62,6 +68,10 @@ class Said(unittest.TestCase):
             (2, b'E60 RowFault 3 Name\nopcmds: a, row 3: the name is no name: "\x1b"\n'),
             (2, b'E60 RowFault 3 Name\nopcmds: a, row 3: the name is no name: "' + b"x" * 40 + b'"\n'),
             (2, b'E60 RowFault 3 Name\nopcmds: a, row 3: the name is no name: "x"..\n'),
+            (2, b'opcmds: script, line 3: no moment: "x\x1b" (a line is MOMENT CONSOLE COMMAND)\n'),
+            (2, b'opcmds: script, line 3: odd: "x" (a line is MOMENT CONSOLE COMMAND)\n'),
+            (1, b"E53 Missing OP5\nopcmds: standard input: no user or group OP5\n"),
+            (1, b"E41 LastMaster\nopcmds: standard input, row 2: no user ANNA\n"),
         )
         for status, said in bad:
             self.assertIsNotNone(rules.wrong_said(status, said), said)

@@ -6,7 +6,7 @@ from lib.answers import done, refused
 from lib.requests import Step
 from lib.stops.faults import LOSSES, REFUSALS, Kind, is_reported, response
 from lib.stops.held import OPENED, Held, Tables
-from lib.stops.imports import KEPT, MISSING, TAKEN, FirstPolicy, Import
+from lib.stops.imports import KEPT, MISSING, TAKEN, FirstPolicy, Import, without_note
 from lib.stops.openings import Opening
 from lib.stops.prepared import Prepared
 from lib.stops.serving import Exchange, Ran
@@ -140,6 +140,13 @@ class Imports(unittest.TestCase):
         ):
             self.assertEqual(self.refused.allowed(kind, ran), {AFTER: ANSWERED}, ran)
         self.assertEqual(self.refused.allowed(READ, (1, "", "")), {})
+
+    def test_the_second_line_of_a_refusal_is_left_out(self) -> None:
+        said, note = MISSING[2], "opcmds: standard input, row 39: no group LATE\n"
+        for end in ("", DATABASE):
+            self.assertEqual(without_note(said + note + end), said + end)
+        for length in range(len(note)):
+            self.assertEqual(without_note(said + note[:length]), said)
 
     def test_aborted(self) -> None:
         for work in (self.kept, self.refused):

@@ -33,8 +33,8 @@ use Rattle.std.specs.Option.{is_some, option_or}
 use Rattle.opc_policy_members.specs.declared.row.Row.{Row}
 use Rattle.opc_policy_members.specs.declared.row.Row.TheVariants as rows
 use Rattle.opc_machine_laws.proofs.Keys.{class_itself, name_itself, place_itself}
-use Rattle.opc_check_notes.specs.declared.note.NumberedRow.{NumberedRow}
-use Rattle.opc_check_notes.specs.Effect.{in_effect, is_replaced, key_of, same_key}
+use Rattle.opc_check_effect.specs.declared.numbered.NumberedRow.{NumberedRow}
+use Rattle.opc_check_effect.specs.Effect.{in_effect, is_replaced, key_of, same_key}
 
 -- a row, if its key is that of another
 abbrev pub as_key : Row → Row → Option Row

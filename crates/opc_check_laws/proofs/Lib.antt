@@ -1,3 +1,4 @@
 mod InEffect
 mod LastRows
 mod Steps
+mod Unmet

@@ -18,8 +18,8 @@ use Rattle.opc_board.specs.declared.rows.ConsoleRow.{ConsoleRow}
 use Rattle.opc_board.specs.Invariants.{console_at}
 use Rattle.opc_state.specs.Loads.{is_connected}
 use Rattle.opc_state.specs.State.{State}
-use Rattle.opc_check_notes.specs.declared.note.NumberedRow.{NumberedRow}
-use Rattle.opc_check_notes.specs.Effect.{in_effect}
+use Rattle.opc_check_effect.specs.declared.numbered.NumberedRow.{NumberedRow}
+use Rattle.opc_check_effect.specs.Effect.{in_effect}
 
 -- a row is among those of a file that no later one replaces
 abbrev pub IsInEffect : List Row → Row → Type 0

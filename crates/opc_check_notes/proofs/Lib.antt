@@ -1,5 +1,4 @@
-pub mod Held
-pub mod Keys
-pub mod Rising
+pub mod Earliest
+pub mod OfCode
+pub mod Reached
 pub mod Serving
-pub mod Steps

@@ -1,7 +1,4 @@
-pub mod Digests
-pub mod Effect
-pub mod First
-pub mod Levels
-pub mod Named
+pub mod Met
 pub mod Notes
+pub mod Ranked
 pub mod Texts

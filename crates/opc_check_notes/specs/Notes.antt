@@ -30,21 +30,25 @@ use Rattle.opc_names.specs.declared.level.Level.TheVariants as level
 use Rattle.opc_terms.specs.declared.mode.Mode.TheVariants as mode
 use Rattle.opc_policy_members.specs.declared.row.Row.{Row}
 use Rattle.opc_policy_members.specs.declared.row.Row.TheVariants as rows
-use Rattle.opc_check_notes.specs.declared.effect.RowKey.TheVariants as key
-use Rattle.opc_check_notes.specs.declared.levels.Side.TheVariants as side
-use Rattle.opc_check_notes.specs.declared.names.Given.{Given}
-use Rattle.opc_check_notes.specs.declared.names.Given.TheVariants as given
+use Rattle.opc_check_effect.specs.declared.effect.RowKey.TheVariants as key
+use Rattle.opc_check_effect.specs.declared.connects.Side.TheVariants as side
+use Rattle.opc_check_effect.specs.declared.kinds.RowKind.{RowKind}
+use Rattle.opc_check_effect.specs.declared.kinds.RowKind.TheVariants as kind
+use Rattle.opc_check_effect.specs.declared.names.Given.{Given}
+use Rattle.opc_check_effect.specs.declared.names.Given.TheVariants as given
+use Rattle.opc_check_notes.specs.Met.{is_met}
 use Rattle.opc_check_notes.specs.declared.note.Finding.{Finding}
 use Rattle.opc_check_notes.specs.declared.note.Finding.TheVariants as found
 use Rattle.opc_check_notes.specs.declared.note.Note.{Note}
 use Rattle.opc_check_notes.specs.declared.note.NoteCode.{NoteCode}
 use Rattle.opc_check_notes.specs.declared.note.NoteCode.TheVariants as code
-use Rattle.opc_check_notes.specs.declared.note.NumberedRow.{NumberedRow}
-use Rattle.opc_check_notes.specs.Digests.{first_with}
-use Rattle.opc_check_notes.specs.Effect.{in_effect}
-use Rattle.opc_check_notes.specs.First.{first_of}
-use Rattle.opc_check_notes.specs.Levels.{level_at, partners}
-use Rattle.opc_check_notes.specs.Named.{count, is_named, named}
+use Rattle.opc_check_effect.specs.declared.numbered.NumberedRow.{NumberedRow}
+use Rattle.opc_check_effect.specs.Digests.{first_with}
+use Rattle.opc_check_effect.specs.Effect.{in_effect}
+use Rattle.opc_check_effect.specs.First.{first_of}
+use Rattle.opc_check_effect.specs.Connects.{partners}
+use Rattle.opc_check_effect.specs.Levels.{level_at}
+use Rattle.opc_check_effect.specs.Named.{count, is_named, named}
 
 abbrev pub if_so : Bool → Finding → Option Finding
 if_so holds finding = if holds then Some finding else None
@@ -61,6 +65,11 @@ abbrev pub open_to_all : Row → Option Finding
 open_to_all (rows.Profile class pattern uacc owner warns) =
     if_so (includes uacc level.Update) (found.OpenToAll class pattern uacc)
 open_to_all row = None
+
+-- N17
+abbrev pub no_resource : Row → Option Finding
+no_resource (rows.Profile Opercmds pattern uacc owner warns) = if_so (not (is_met pattern)) (found.NoResource pattern)
+no_resource row = None
 
 -- ---- users
 
@@ -191,9 +200,31 @@ finding list code.InactiveClass row = inactive_class row
 finding list code.NoProfile row = no_profile list row
 finding list code.OwnBelowGroup row = own_below_group list row
 finding list code.ServesNobody row = serves_nobody list row
+finding list code.NoResource row = no_resource row
 finding list code.SpecialConsole row = special_console list row
 finding list code.NoAccess row = no_access list row
 finding list code row = None
+
+-- the kind of the rows that a code is about
+abbrev pub about : NoteCode → RowKind
+about code.Warning = kind.Profile
+about code.OpenToAll = kind.Profile
+about code.NoDigest = kind.User
+about code.SameDigest = kind.User
+about code.EmptyGroup = kind.Group
+about code.RevokedEntry = kind.Permit
+about code.Special = kind.User
+about code.Auditor = kind.User
+about code.Master = kind.Console
+about code.OpenConsole = kind.Console
+about code.NoOwnUser = kind.Console
+about code.InactiveClass = kind.Class
+about code.NoProfile = kind.Class
+about code.OwnBelowGroup = kind.Permit
+about code.ServesNobody = kind.Permit
+about code.NoResource = kind.Profile
+about code.SpecialConsole = kind.Console
+about code.NoAccess = kind.User
 
 -- what is found of no row: what nobody has, and a class of which no row says whether it is active
 abbrev pub if_none : List NumberedRow → Given → Finding → List Finding
@@ -223,9 +254,10 @@ notes_of list code = filter_map (note_at list code) list ++ map note_of_none (fi
 
 -- the codes, in their order
 abbrev pub all_codes : List NoteCode
-all_codes = code.Warning ∷ code.OpenToAll ∷ code.NoDigest ∷ code.SameDigest ∷ code.EmptyGroup ∷ code.RevokedEntry
-    ∷ code.Special ∷ code.Auditor ∷ code.Master ∷ code.OpenConsole ∷ code.NoOwnUser ∷ code.InactiveClass
-    ∷ code.NoProfile ∷ code.OwnBelowGroup ∷ code.ServesNobody ∷ code.SpecialConsole ∷ code.NoAccess ∷ []
+all_codes = code.Warning ∷ code.OpenToAll ∷ code.NoDigest ∷ code.SameDigest ∷ code.EmptyGroup
+    ∷ code.RevokedEntry ∷ code.Special ∷ code.Auditor ∷ code.Master ∷ code.OpenConsole ∷ code.NoOwnUser
+    ∷ code.InactiveClass ∷ code.NoProfile ∷ code.OwnBelowGroup ∷ code.ServesNobody ∷ code.NoResource
+    ∷ code.SpecialConsole ∷ code.NoAccess ∷ []
 
 -- The notes on the rows of a policy file, by their codes and then by rows.
 abbrev pub notes : List Row → List Note

@@ -28,6 +28,7 @@ code_text code.InactiveClass = codes "N13"
 code_text code.NoProfile = codes "N14"
 code_text code.OwnBelowGroup = codes "N15"
 code_text code.ServesNobody = codes "N16"
+code_text code.NoResource = codes "N17"
 code_text code.SpecialConsole = codes "N18"
 code_text code.NoAccess = codes "N19"
 
@@ -48,6 +49,7 @@ code_of (found.InactiveClass class) = code.InactiveClass
 code_of (found.NoProfile class) = code.NoProfile
 code_of (found.OwnBelowGroup pattern user level group higher) = code.OwnBelowGroup
 code_of (found.ServesNobody pattern group level) = code.ServesNobody
+code_of (found.NoResource pattern) = code.NoResource
 code_of (found.SpecialConsole console) = code.SpecialConsole
 code_of (found.NoAccess user) = code.NoAccess
 
@@ -88,6 +90,8 @@ finding_text (found.OwnBelowGroup pattern user level group higher) =
     ++ (level_text higher ++ (codes " of " ++ group)))))))
 finding_text (found.ServesNobody pattern group level) =
     group ++ (codes "'s " ++ (level_text level ++ (codes " in " ++ (pattern ++ codes " serves nobody"))))
+finding_text (found.NoResource pattern) =
+    codes "profile OPERCMDS " ++ (pattern ++ codes " covers no resource of any command")
 finding_text (found.SpecialConsole console) =
     codes "console " ++ (console ++ (codes " is AUTO, and " ++ (console ++ codes " has SPECIAL: no password is asked")))
 finding_text (found.NoAccess user) = user ++ codes " is in no group and no access list"

@@ -1,12 +1,8 @@
 //! Notes on a policy file: what its rows leave open, or have no effect.
 #![tactic(auto)]
 
-mod digests;
-mod effect;
 mod entries;
-mod known;
-mod levels;
-mod names;
+mod groups;
 pub mod note;
 pub mod notes;
 mod phrases;

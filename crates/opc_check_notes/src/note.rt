@@ -6,15 +6,7 @@ use opc_names::auth::Auth;
 use opc_names::class::Class;
 use opc_names::level::Level;
 use opc_names::name::{ConsoleName, GroupName, Pattern, UserId};
-use opc_policy_members::row::Row;
 use opc_terms::entry_id::EntryId;
-
-/// A row of a policy file, with its number.
-#[derive(Clone, Copy)]
-pub struct NumberedRow {
-    pub number: u64,
-    pub row: Row,
-}
 
 /// What a note is about.
 #[derive(Clone, Copy)]
@@ -34,6 +26,7 @@ pub enum NoteCode {
     NoProfile,
     OwnBelowGroup,
     ServesNobody,
+    NoResource,
     SpecialConsole,
     NoAccess,
 }
@@ -59,6 +52,7 @@ impl NoteCode {
             NoteCode::NoProfile => "N14",
             NoteCode::OwnBelowGroup => "N15",
             NoteCode::ServesNobody => "N16",
+            NoteCode::NoResource => "N17",
             NoteCode::SpecialConsole => "N18",
             NoteCode::NoAccess => "N19",
         }
@@ -111,6 +105,7 @@ pub enum Finding {
         group: EntryId,
         level: Level,
     },
+    NoResource(Pattern),
     SpecialConsole(ConsoleName),
     NoAccess(UserId),
 }
@@ -136,6 +131,7 @@ impl Finding {
             Finding::NoProfile(_) => NoteCode::NoProfile,
             Finding::OwnBelowGroup { .. } => NoteCode::OwnBelowGroup,
             Finding::ServesNobody { .. } => NoteCode::ServesNobody,
+            Finding::NoResource(_) => NoteCode::NoResource,
             Finding::SpecialConsole(_) => NoteCode::SpecialConsole,
             Finding::NoAccess(_) => NoteCode::NoAccess,
         }

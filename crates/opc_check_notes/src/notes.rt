@@ -2,6 +2,7 @@
 ghost use Rattle.std.specs.Prelude.{◌≡◌, ◌++◌, ◌∷◌, [], IfOk, OnOk, filter_map, map};
 ghost use Rattle.std.specs.List.{cons_option, flat_map};
 ghost use Rattle.opc_check_notes.specs.Notes.{
+  about,
   all_codes,
   finding,
   findings,
@@ -13,15 +14,18 @@ ghost use Rattle.opc_check_notes.specs.Notes.{
   unnamed_class,
 };
 
-use crate::entries::{empty_group, own_below_group, revoked_entry, serves_nobody};
-use crate::known::Known;
-use crate::names::{Given, count};
-use crate::note::{Finding, Note, NoteCode, NumberedRow};
+use crate::entries::{empty_group, revoked_entry, serves_nobody};
+use crate::groups::own_below_group;
+use crate::note::{Finding, Note, NoteCode};
 use crate::profiles::{
-    has_class_row, inactive_class, no_own_user, no_profile, open_console, open_to_all,
+    has_class_row, inactive_class, no_own_user, no_profile, no_resource, open_console, open_to_all,
     special_console, warning,
 };
 use crate::users::{no_access, no_digest, one_special, same_digest};
+use opc_check_effect::kinds::RowKind;
+use opc_check_effect::known::Known;
+use opc_check_effect::names::{Given, count};
+use opc_check_effect::numbered::NumberedRow;
 use opc_names::class::Class;
 use opc_policy_members::row::Row;
 use opc_rows::Rows;
@@ -45,6 +49,7 @@ fn finding(known: &Known, code: NoteCode, row: &Row) -> Option<Finding>
         NoteCode::NoProfile => no_profile(known, row),
         NoteCode::OwnBelowGroup => own_below_group(known, row),
         NoteCode::ServesNobody => serves_nobody(known, row),
+        NoteCode::NoResource => no_resource(row),
         NoteCode::SpecialConsole => special_console(known, row),
         NoteCode::NoAccess => no_access(known, row),
         // These are found of no row.
@@ -121,7 +126,7 @@ fn add_if_none(
 fn add_unnamed_class(notes: &mut Rows<Note>, known: &Known, class: Class) -> Result<(), AllocError>
     ensures { OnOk result (notes.new ≡ notes.old ++ map note_of_none (unnamed_class known.now class)) }
 {
-    if !has_class_row(known.rows(), class) {
+    if !has_class_row(known, class) {
         add(notes, Finding::InactiveClass(class))?;
     }
     Ok(())
@@ -143,16 +148,45 @@ fn add_of_none(notes: &mut Rows<Note>, known: &Known, code: NoteCode) -> Result<
     }
 }
 
+/// The kind of the rows that a note of a code is about, if it is about one.
+fn about(code: NoteCode) -> RowKind
+    ensures { result ≡ about code }
+{
+    match code {
+        NoteCode::Warning | NoteCode::OpenToAll | NoteCode::NoResource => RowKind::Profile,
+        NoteCode::NoDigest
+        | NoteCode::SameDigest
+        | NoteCode::Special
+        | NoteCode::Auditor
+        | NoteCode::NoAccess => RowKind::User,
+        NoteCode::EmptyGroup => RowKind::Group,
+        NoteCode::RevokedEntry | NoteCode::OwnBelowGroup | NoteCode::ServesNobody => {
+            RowKind::Permit
+        }
+        NoteCode::Master | NoteCode::OpenConsole | NoteCode::NoOwnUser | NoteCode::SpecialConsole =>
+            RowKind::Console,
+        NoteCode::InactiveClass | NoteCode::NoProfile => RowKind::Class,
+    }
+}
+
+/// Adds what is found at the rows of the kind that a code is about.
+fn add_of_rows(notes: &mut Rows<Note>, known: &Known, code: NoteCode) -> Result<(), AllocError>
+    ensures { OnOk result (notes.new ≡ notes.old ++ filter_map (note_at known.now code) known.now) }
+{
+    add_at_rows(notes, known, known.rows().of(about(code)), code)?;
+    Ok(())
+}
+
 /// Adds the notes of a code.
 fn add_notes(notes: &mut Rows<Note>, known: &Known, code: NoteCode) -> Result<(), AllocError>
     ensures { OnOk result (notes.new ≡ notes.old ++ notes_of known.now code) }
 {
-    add_at_rows(notes, known, known.rows(), code)?;
+    add_of_rows(notes, known, code)?;
     add_of_none(notes, known, code)
 }
 
 /// All codes, in their order.
-pub fn all_codes() -> [NoteCode; 17]
+pub fn all_codes() -> [NoteCode; 18]
     ensures { result ≡ all_codes }
 {
     [
@@ -171,6 +205,7 @@ pub fn all_codes() -> [NoteCode; 17]
         NoteCode::NoProfile,
         NoteCode::OwnBelowGroup,
         NoteCode::ServesNobody,
+        NoteCode::NoResource,
         NoteCode::SpecialConsole,
         NoteCode::NoAccess,
     ]

@@ -149,6 +149,12 @@ fn serves_nobody_text(
     format!(in alloc; "{group}'s {level} in {pattern} serves nobody")
 }
 
+fn no_resource_text(alloc: Global, pattern: &Pattern) -> Result<String, AllocError>
+    ensures { IfOk result (λ text. string_bytes text ≡ finding_text (found.NoResource pattern.now)) }
+{
+    format!(in alloc; "profile OPERCMDS {pattern} covers no resource of any command")
+}
+
 fn special_console_text(alloc: Global, console: &ConsoleName) -> Result<String, AllocError>
     ensures { IfOk result (λ text. string_bytes text ≡ finding_text (found.SpecialConsole console.now)) }
 {
@@ -200,6 +206,7 @@ pub(crate) fn finding_text(alloc: Global, finding: &Finding) -> Result<String, A
             group,
             level,
         } => serves_nobody_text(alloc, &pattern, &group, level),
+        Finding::NoResource(pattern) => no_resource_text(alloc, &pattern),
         Finding::SpecialConsole(console) => special_console_text(alloc, &console),
         Finding::NoAccess(user) => no_access_text(alloc, &user),
     }

@@ -1,8 +1,9 @@
 //! Notes on profiles, classes and consoles.
-ghost use Rattle.std.specs.Prelude.{◌≡◌, not};
+ghost use Rattle.std.specs.Prelude.{◌≡◌};
 ghost use Rattle.std.specs.List.{list_any};
 ghost use Rattle.opc_names.specs.Authority.{same_class};
-ghost use Rattle.opc_check_notes.specs.declared.note.NumberedRow.{NumberedRow as Numbered};
+ghost use Rattle.opc_check_effect.specs.declared.numbered.NumberedRow.{NumberedRow as Numbered};
+ghost use Rattle.opc_check_notes.specs.Met.{is_met};
 ghost use Rattle.opc_check_notes.specs.Notes.{
   if_so,
   inactive_class,
@@ -10,16 +11,21 @@ ghost use Rattle.opc_check_notes.specs.Notes.{
   is_profile_row,
   no_own_user,
   no_profile,
+  no_resource,
   open_console,
   open_to_all,
   special_console,
   warning,
 };
 
-use crate::known::Known;
-use crate::note::{Finding, NumberedRow};
+use crate::note::Finding;
+use opc_check_effect::kinds::RowKind;
+use opc_check_effect::known::Known;
+use opc_check_effect::numbered::NumberedRow;
+use opc_check_reach::met;
 use opc_names::class::Class;
 use opc_names::level::Level;
+use opc_names::name::Pattern;
 use opc_policy_members::row::Row;
 use opc_terms::mode::Mode;
 
@@ -62,6 +68,29 @@ pub(crate) fn open_to_all(row: &Row) -> Option<Finding>
                 uacc,
             },
         ),
+        _ => None,
+    }
+}
+
+/// Whether a pattern of OPERCMDS covers a resource about which the gate asks.
+fn is_met(pattern: &Pattern) -> bool
+    ensures { result ≡ is_met pattern.now }
+{
+    // Named for the prover, which learns of it that the pattern is one.
+    let _text = pattern.text();
+    met::is_met(pattern)
+}
+
+/// A profile of OPERCMDS covers no such resource.
+pub(crate) fn no_resource(row: &Row) -> Option<Finding>
+    ensures { result ≡ no_resource row.now }
+{
+    match *row {
+        Row::Profile {
+            class: Class::Opercmds,
+            pattern,
+            ..
+        } => if_so(!is_met(&pattern), Finding::NoResource(pattern)),
         _ => None,
     }
 }
@@ -135,17 +164,29 @@ fn is_profile_row(class: Class, row: &Row) -> bool
     }
 }
 
-/// Whether a row says whether a class is active.
-pub(crate) fn has_class_row(rows: &[NumberedRow], class: Class) -> bool
+fn any_class_row(rows: &[NumberedRow], class: Class) -> bool
     ensures { result ≡ list_any (λ (at : Numbered). is_class_row class at.row) rows.now }
 {
     rows.iter().any(|at| is_class_row(class, &at.row))
 }
 
-fn has_profile(rows: &[NumberedRow], class: Class) -> bool
+/// Whether a row says whether a class is active.
+pub(crate) fn has_class_row(known: &Known, class: Class) -> bool
+    ensures { result ≡ list_any (λ (at : Numbered). is_class_row class at.row) known.now }
+{
+    any_class_row(known.rows().of(RowKind::Class), class)
+}
+
+fn any_profile(rows: &[NumberedRow], class: Class) -> bool
     ensures { result ≡ list_any (λ (at : Numbered). is_profile_row class at.row) rows.now }
 {
     rows.iter().any(|at| is_profile_row(class, &at.row))
+}
+
+fn has_profile(known: &Known, class: Class) -> bool
+    ensures { result ≡ list_any (λ (at : Numbered). is_profile_row class at.row) known.now }
+{
+    any_profile(known.rows().of(RowKind::Profile), class)
 }
 
 /// A class is inactive.
@@ -161,19 +202,13 @@ pub(crate) fn inactive_class(row: &Row) -> Option<Finding>
     }
 }
 
-fn lacks_profile(known: &Known, class: Class) -> bool
-    ensures { result ≡ not (list_any (λ (at : Numbered). is_profile_row class at.row) known.now) }
-{
-    !has_profile(known.rows(), class)
-}
-
 /// An active class has no profile.
 pub(crate) fn no_profile(known: &Known, row: &Row) -> Option<Finding>
     ensures { result ≡ no_profile known.now row.now }
 {
     match *row {
         Row::Class { class, active } => if_so(
-            active && lacks_profile(known, class),
+            active && !has_profile(known, class),
             Finding::NoProfile(class),
         ),
         _ => None,

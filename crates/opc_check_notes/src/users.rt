@@ -2,9 +2,9 @@
 ghost use Rattle.std.specs.Prelude.{◌≡◌};
 ghost use Rattle.opc_check_notes.specs.Notes.{no_access, no_digest, one_special, other_with, same_digest};
 
-use crate::known::Known;
 use crate::note::Finding;
 use crate::profiles::if_so;
+use opc_check_effect::known::Known;
 use opc_names::name::UserId;
 use opc_policy_members::row::Row;
 use opc_policy_members::user::User;

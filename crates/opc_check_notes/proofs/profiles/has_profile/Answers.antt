@@ -1,0 +1,11 @@
+use Rattle.std.proofs.Common.{ap, ◌∙◌}
+use Rattle.std.specs.List.{list_any}
+use Rattle.opc_check_effect.specs.declared.numbered.NumberedRow.{NumberedRow}
+use Rattle.opc_check_notes.specs.Notes.{is_profile_row}
+use Rattle.opc_check_notes.proofs.OfCode.{profile_rows}
+use Rattle.opc_check_notes.proofs.profiles.has_profile.Goals as goal
+
+pub returns : goal.returns
+returns c =
+    c.any_profile.ensures ∙ ap (list_any (λ (at : NumberedRow). is_profile_row c.args.class at.row)) (rw c.rows.ensures at c.of.ensures)
+    ∙ profile_rows c.args.known.now c.args.class

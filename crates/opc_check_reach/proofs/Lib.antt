@@ -1,0 +1,11 @@
+pub mod MetSuffixes
+pub mod Names
+pub mod Plain
+pub mod Witness
+pub mod Meeting
+pub mod Texts
+pub mod Typed
+pub mod Examples
+pub mod Asked
+pub mod Formed
+pub mod Worked

@@ -1,0 +1,23 @@
+-- Which patterns are met, to those who write a policy.
+use Rattle.std.specs.Prelude.{◌≡◌, ℕ, List, [], ◌∷◌, codes}
+use Rattle.std.specs.List.{AllByRecursion}
+use Rattle.opc_names.specs.Names.{qualifiers}
+use Rattle.opc_check_reach.specs.Reach.{IsMet}
+
+-- the patterns of the base policy are met
+abbrev pub BasePatternsAreMet : Type 0
+BasePatternsAreMet =
+    AllByRecursion IsMet
+    (codes "MVS.CANCEL.JOB.PAY*" ∷ codes "MVS.CANCEL.JOB.*" ∷ codes "MVS.DISPLAY.JOB.SECRET"
+    ∷ codes "MVS.DISPLAY.**" ∷ codes "MVS.VARY.DEV" ∷ codes "MVS.**" ∷ [])
+
+-- mistyped ones are not: a wrong word, a word too few, a name too many, a name that no console has
+abbrev pub MistypedAreNotMet : Type 0
+MistypedAreNotMet =
+    AllByRecursion (λ pattern. IsMet pattern → ⊥)
+    (codes "MVS.CANCLE.**" ∷ codes "MVS.DISPLAY.A" ∷ codes "MVS.CANCEL.JOB" ∷ codes "MVS.DISPLAY.U.0A80"
+    ∷ codes "MVS.DISPLAY.CN.1C" ∷ [])
+
+-- a pattern of `**` alone is met
+abbrev pub StarsAreMet : Type 0
+StarsAreMet = (pattern : List ℕ) → AllByRecursion (λ q. q ≡ codes "**") (qualifiers pattern) → IsMet pattern

@@ -14,7 +14,6 @@ use Rattle.opc_store.specs.declared.opening.OpenFault.{OpenFault}
 use Rattle.opc_store.specs.Opening.{IsNotOpened, opening_fault}
 use Rattle.opc_io.specs.declared.watched.Watched.{Watched}
 use Rattle.opc_store.specs.Reading.{IsNotRead}
-use Rattle.opc_account.specs.declared.query.Query.{Query}
 use Rattle.opc_cli_digest.specs.Answers.{IsPromptedAnswer}
 use Rattle.opc_cli_failures.specs.declared.failure.Failure.{Failure}
 use Rattle.opc_cli_failures.specs.declared.status.Status.{Status}
@@ -23,16 +22,20 @@ use Rattle.opc_cli_failures.specs.Printing.{IsReported}
 use Rattle.opc_cli_failures.specs.Statuses.{status_of_end}
 use Rattle.opc_cli_options.specs.declared.run.Lines.{Lines}
 use Rattle.opc_cli_options.specs.declared.run.Lines.TheVariants.{Script, Now}
+use Rattle.opc_cli_options.specs.declared.source.Source.{Source}
+use Rattle.opc_cli_options.specs.declared.source.Source.TheVariants.{PolicyFile, Database}
 use Rattle.opc_cli_words.specs.declared.words.Task.{Task}
 use Rattle.opc_cli_words.specs.declared.words.Task.TheVariants as task
 use Rattle.opc_cli_words.specs.Reading.{Ask, AskForNone}
 use Rattle.opc_cli_check.specs.Answers.{IsReportedCheck, form_of}
-use Rattle.opc_cli_policy_files.specs.Answers.{IsReportedBy}
-use Rattle.opc_cli_policy_files.specs.Enquiries.{enquiry_answer, left_in}
+use Rattle.opc_cli_policy_files.specs.Answers.{IsReportedBy, left_in}
+use Rattle.opc_cli_policy_files.specs.Enquiries.{enquiry_answer}
 use Rattle.opc_cli_policy_files.specs.Questions.{command_answer, question_answer}
 use Rattle.opc_cli_program.specs.declared.work.Work.{Work}
 use Rattle.opc_cli_program.specs.declared.work.Work.TheVariants as work
-use Rattle.opc_cli_works.specs.Reads.{IsAccountAt}
+use Rattle.opc_cli_readings.specs.declared.question.PolicyQuestion.{PolicyQuestion}
+use Rattle.opc_cli_readings.specs.declared.question.PolicyQuestion.TheVariants as question
+use Rattle.opc_cli_works.specs.Reads.{AccountOf, AnswerTo, IsReadAt, Reading}
 use Rattle.opc_cli_works.specs.Works.{AreLinesInMemory, IsRunInMemory, IsWorkAt}
 use Rattle.opc_cli.specs.Made.{made_line}
 
@@ -86,15 +89,15 @@ pub record AreLinesDoneInMemory {W E : Type 0} (contents : W → Option (List �
   pub status_is : status ≡ status_of_end end
   pub end_reported : IsEndReported shown quiet reported end
 
--- Of the account of a database file, which is read.
+-- Of a database file that is read.
 module _ {D : Type 0} (g : disk.Ghosts D) (is_fresh : Bool → D → Type 0) (image : Image) {W E : Type 0}
     (contents : W → Option (List ℕ)) (shown : E → Option (List ℕ)) (before written : Watched W)
     (quiet reported : Watched E) (status : Status) where
-  -- The file was opened to be read, the rows of its account that a query shows were printed, and it was closed, or not.
-  pub record IsAccountDone (query : Query) : Type 0 where
+  -- The file was opened to be read, what is asked for was read of it and written, and it was closed, or not.
+  pub record IsReadDone (asked : Reading) : Type 0 where
     pub end : Result Status Failure
     pub closed : Result (Files D) (Error × FileStore D g)
-    pub done : IsAccountAt {g = g} contents image query before.inner written.inner end closed
+    pub done : IsReadAt {g = g} contents image asked before.inner written.inner end closed
     pub status_is : status ≡ status_of_work end closed
     pub end_reported : IsWorkReported shown quiet reported end closed
 
@@ -106,8 +109,25 @@ module _ {D : Type 0} (g : disk.Ghosts D) (is_fresh : Bool → D → Type 0) (im
     pub status_is : status ≡ Failed
     pub fault_reported : IsFaultReported shown quiet reported (opening_fault fault)
 
-  abbrev pub IsAccountInFile : Query → Type 0
-  IsAccountInFile query = IsAccountDone query ⊎ IsUnread
+  abbrev pub IsReadInFile : Reading → Type 0
+  IsReadInFile asked = IsReadDone asked ⊎ IsUnread
+
+-- A question about a policy is answered by a policy file, which has this left.
+module _ {W E : Type 0} (contents : W → Option (List ℕ)) (shown : E → Option (List ℕ)) (before written : Watched W)
+    (quiet reported : Watched E) (status : Status) where
+  abbrev pub IsAnsweredByFile : PolicyQuestion → (left : Option (List ℕ)) → Type 0
+  IsAnsweredByFile (question.Explain q) left =
+      IsReportedBy contents (λ (e : Watched E). shown e.inner) (λ (e : Watched E). e.failed) before.inner
+      written.inner quiet reported (question_answer q) left status
+  IsAnsweredByFile (question.ExplainCommand q) left =
+      IsReportedBy contents (λ (e : Watched E). shown e.inner) (λ (e : Watched E). e.failed) before.inner
+      written.inner quiet reported (command_answer q) left status
+  IsAnsweredByFile (question.Who q) left =
+      IsReportedBy contents (λ (e : Watched E). shown e.inner) (λ (e : Watched E). e.failed) before.inner
+      written.inner quiet reported (enquiry_answer q) left status
+  IsAnsweredByFile (question.Check q) left =
+      IsReportedCheck contents (λ (e : Watched E). shown e.inner) (λ (e : Watched E). e.failed) before.inner
+      written.inner quiet reported (form_of q.json) (option_copied q.allowed) left status
 
 -- Of a database file: `image` is what it holds at first.
 module _ {D : Type 0} (g : disk.Ghosts D) (is_fresh : Bool → D → Type 0) (image : Image) {W E : Type 0}
@@ -150,23 +170,23 @@ module _ {D : Type 0} (g : disk.Ghosts D) (is_fresh : Bool → D → Type 0) (im
   IsRun None policy (Now console) =
       AreLinesDoneInMemory contents shown left before written quiet reported status console policy
 
+  -- A question about a policy was answered from its source: by the policy file at a path, by that on the input, or by
+  -- the database.
+  abbrev pub IsAnsweredFrom : Source → PolicyQuestion → Type 0
+  IsAnsweredFrom (PolicyFile policy) asked =
+      IsAnsweredByFile contents shown before written quiet reported status asked (left_in (λ path. None) left policy)
+  IsAnsweredFrom (Database path) asked =
+      IsReadInFile g is_fresh image contents shown before written quiet reported status (AnswerTo asked)
+
   -- What a task asks for was done.
   abbrev pub IsTaskDone : Task → Type 0
-  IsTaskDone (task.Explain question) =
-      IsReportedBy contents (λ (e : Watched E). shown e.inner) (λ (e : Watched E). e.failed) before.inner
-      written.inner quiet reported (question_answer question) left status
-  IsTaskDone (task.ExplainCommand question) =
-      IsReportedBy contents (λ (e : Watched E). shown e.inner) (λ (e : Watched E). e.failed) before.inner
-      written.inner quiet reported (command_answer question) left status
-  IsTaskDone (task.Who enquiry) =
-      IsReportedBy contents (λ (e : Watched E). shown e.inner) (λ (e : Watched E). e.failed) before.inner
-      written.inner quiet reported (enquiry_answer enquiry) (left_in (λ path. None) left enquiry.policy) status
-  IsTaskDone (task.Check check) =
-      IsReportedCheck contents (λ (e : Watched E). shown e.inner) (λ (e : Watched E). e.failed) before.inner
-      written.inner quiet reported (form_of check.json) (option_copied check.allowed)
-      (left_in (λ path. None) left check.policy) status
+  IsTaskDone (task.Explain asked) = IsAnsweredFrom asked.source (question.Explain asked)
+  IsTaskDone (task.ExplainCommand asked) = IsAnsweredFrom asked.source (question.ExplainCommand asked)
+  IsTaskDone (task.Who enquiry) = IsAnsweredFrom enquiry.source (question.Who enquiry)
+  IsTaskDone (task.Check check) = IsAnsweredFrom check.source (question.Check check)
   IsTaskDone (task.Account account) =
-      IsAccountInFile g is_fresh image contents shown before written quiet reported status account.query
+      IsReadInFile g is_fresh image contents shown before written quiet reported status
+      (AccountOf account.query)
   IsTaskDone task.Digest = IsDigestAnswered
   IsTaskDone (task.Run run) = IsRun run.database run.policy run.lines
   IsTaskDone (task.Import import) = IsWorkInFile import.path.now (work.Import import)

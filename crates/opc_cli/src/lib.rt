@@ -15,29 +15,28 @@ ghost use Rattle.opc_cli.specs.Words.{
   status_of_work,
 };
 
-mod account;
 mod database;
 mod made;
+mod questions;
+mod reading;
 mod run;
 pub mod script;
 pub mod service;
 
-use crate::account::account_in_file;
 use crate::database::reason_at;
 use crate::made::report_made;
+use crate::questions::answer_from;
+use crate::reading::account_in_file;
 use crate::run::run_over;
 pub use crate::script::run_script;
 pub use crate::service::serve_on;
-use opc_cli_check::checking::answer_check;
 use opc_cli_digest::answering::answer_password;
 use opc_cli_failures::failure::{Failure, Paths, Place, reported};
 use opc_cli_failures::reason::Reason;
 use opc_cli_failures::status::Status;
 use opc_cli_options::serve::Address;
-use opc_cli_policy_files::explain::answer_question;
-use opc_cli_policy_files::explain_command::answer_command_question;
-use opc_cli_policy_files::who::answer_enquiry;
 use opc_cli_program::work::Work;
+use opc_cli_readings::question::PolicyQuestion;
 use opc_cli_words::words::{Task, read_words};
 use opc_cli_works::file::{Closed, EndedWork, work_at};
 use opc_io::watched::Watched;
@@ -95,18 +94,24 @@ fn do_words<S: Start, R: Read, W: Write, E: Write>(
 {
     match read_words(rt.alloc(), words, output, errors) {
         Ok(Task::Explain(question)) => {
-            answer_question(rt.alloc(), &question, input, &mut output.inner, errors)
+            let (source, question) = (question.source, PolicyQuestion::Explain(question));
+            answer_from(rt, start, source, &question, input, output, errors)
         }
         Ok(Task::ExplainCommand(question)) => {
-            answer_command_question(rt.alloc(), &question, input, &mut output.inner, errors)
+            let (source, question) = (question.source, PolicyQuestion::ExplainCommand(question));
+            answer_from(rt, start, source, &question, input, output, errors)
         }
         Ok(Task::Who(enquiry)) => {
-            answer_enquiry(rt.alloc(), rt, &enquiry, input, &mut output.inner, errors)
+            let (source, question) = (enquiry.source, PolicyQuestion::Who(enquiry));
+            answer_from(rt, start, source, &question, input, output, errors)
         }
         Ok(Task::Check(check)) => {
-            answer_check(rt.alloc(), rt, &check, input, &mut output.inner, errors)
+            let (source, question) = (check.source, PolicyQuestion::Check(check));
+            answer_from(rt, start, source, &question, input, output, errors)
         }
-        Ok(Task::Account(account)) => account_in_file(rt, start, &account, output, errors),
+        Ok(Task::Account(account)) => {
+            account_in_file(rt, start, account.path, &account.query, output, errors)
+        }
         Ok(Task::Digest) => {
             let is_typed = is_typed(rt);
             answer_password(rt.alloc(), input, is_typed, &mut output.inner, errors)

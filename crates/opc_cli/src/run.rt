@@ -4,9 +4,10 @@ ghost use Rattle.sqlite_std_file.specs.File.{IsFresh};
 ghost use Rattle.opc_cli.specs.Words.{AreLinesDoneInMemory, IsDoneInMemory, IsRun};
 
 use crate::work_in_file;
-use opc_cli_failures::failure::{Paths, reported};
+use opc_cli_failures::failure::reported;
 use opc_cli_failures::status::Status;
 use opc_cli_options::run::{Lines, Run};
+use opc_cli_policy_files::policy_file::paths_of;
 use opc_cli_program::work::Work;
 use opc_cli_works::memory::{answer_lines_in_memory, run_in_memory};
 use opc_io::watched::Watched;
@@ -40,15 +41,6 @@ pub(crate) fn run_over<S: Start, R: Read, W: Write, E: Write>(
         (None, Lines::Now(console)) => {
             answer_without_file(rt, run.policy, &console, input, output, errors)
         }
-    }
-}
-
-/// The files that are named without a database.
-fn paths_of(policy: Option<&str>) -> Paths<'_> {
-    Paths {
-        database: None,
-        policy,
-        socket: None,
     }
 }
 

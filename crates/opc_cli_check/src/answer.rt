@@ -23,6 +23,7 @@ use opc_check::counted::{header_line, rows_word};
 use opc_check_notes::notes::notes;
 use opc_check_rows::form::Form;
 use opc_cli_failures::status::Status;
+use opc_cli_policy_files::printing::Answer;
 use opc_names::name::ConsoleName;
 use opc_policy_members::row::Row;
 use serde_json::{Value, json};
@@ -31,13 +32,6 @@ use std::str;
 
 /// The most bytes of a policy file.
 pub(crate) const POLICY_LIMIT: u32 = 16_777_216;
-
-/// The text of an answer, and the status.
-#[derive(Drop)]
-pub(crate) struct Answer {
-    pub(crate) text: String,
-    pub(crate) status: Status,
-}
 
 /// What is wrong with all of a file.
 fn whole(alloc: Global, form: Form, text: &str) -> Result<Answer, AllocError>
@@ -99,7 +93,7 @@ fn status_with(notes: usize) -> Status
 }
 
 /// What is answered about rows that can be loaded.
-fn noted(
+pub fn noted(
     alloc: Global,
     form: Form,
     allowed: Option<&str>,

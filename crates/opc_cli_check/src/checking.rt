@@ -4,14 +4,16 @@ ghost use Rattle.std.specs.Io.KnownBytes.{Appends};
 ghost use Rattle.std.specs.Option.{option_copied};
 ghost use Rattle.opc_cli_failures.specs.Statuses.{IsFailure};
 ghost use Rattle.opc_cli_check.specs.Answers.{AreFirst, IsAnswer, IsAnswered, IsReportedCheck, answered, form_of};
-ghost use Rattle.opc_cli_policy_files.specs.Enquiries.{left_in};
+ghost use Rattle.opc_cli_policy_files.specs.Answers.{left_in};
 
-use crate::answer::{Answer, POLICY_LIMIT, answer_about};
+use crate::answer::{POLICY_LIMIT, answer_about};
 use opc_check_rows::form::Form;
-use opc_cli_failures::failure::{Failure, Paths, Place, reported};
+use opc_cli_failures::failure::{Failure, Place, reported};
 use opc_cli_failures::status::Status;
 use opc_cli_options::check::PolicyCheck;
 use opc_cli_policy_files::openings::Openings;
+use opc_cli_policy_files::policy_file::paths_of;
+use opc_cli_policy_files::printing::{Answer, print};
 use opc_cli_policy_files::streams::read_up_to;
 use opc_io::sink::Sink;
 use opc_terms::fault::Fault;
@@ -19,16 +21,17 @@ use std::alloc::Global;
 use std::io::{Read, Write};
 
 /// For whom the lines are.
-fn form_of(json: bool) -> Form
+pub fn form_of(json: bool) -> Form
     ensures { result ≡ form_of json }
 {
     if json { Form::Json } else { Form::Text }
 }
 
-/// Checks the policy file that is named, or the one on the input, and gives the status.
+/// Checks the policy file at a path, or the one on the input, and returns the status.
 pub fn answer_check<F: Openings, R: Read, W: Write, K: Sink>(
     alloc: Global,
     files: &F,
+    policy: Option<&str>,
     check: &PolicyCheck<'_>,
     input: &mut R,
     output: &mut W,
@@ -36,15 +39,10 @@ pub fn answer_check<F: Openings, R: Read, W: Write, K: Sink>(
 ) -> Status
     ensures { IsReportedCheck W.contents K.held K.has_failed output.old output.new errors.old errors.new
         (form_of check.now.json) (option_copied check.now.allowed)
-        (left_in (F.holds files.now) (R.remaining input.old) check.now.policy) result }
+        (left_in (F.holds files.now) (R.remaining input.old) policy.entry) result }
 {
-    let paths = Paths {
-        database: None,
-        policy: check.policy,
-        socket: None,
-    };
-    let end = checked(alloc, files, check, input, output);
-    reported(end, &paths, errors)
+    let end = checked(alloc, files, policy, check, input, output);
+    reported(end, &paths_of(policy), errors)
 }
 
 /// The bytes of a reader, up to one more than a policy file may have.
@@ -98,30 +96,18 @@ fn answer_to(alloc: Global, check: &PolicyCheck<'_>, bytes: &[u8]) -> Result<Ans
     }
 }
 
-/// Prints an answer, and gives its status.
-fn print<W: Write>(answer: &Answer, output: &mut W) -> Result<Status, Failure>
-    ensures text { IfOk result (λ _. Appends (W.contents output.old) (W.contents output.new)
-        (string_bytes answer.now.text)) }
-    ensures status { IfOk result (λ status. status ≡ answer.now.status) }
-    ensures fault { IfErr result (λ failure. IsFailure failure.fault) }
-{
-    match output.write_all(answer.text.as_bytes()) {
-        Ok(()) => Ok(answer.status),
-        Err(error) => Err(Failure::at(Place::Output, error)),
-    }
-}
-
 fn checked<F: Openings, R: Read, W: Write>(
     alloc: Global,
     files: &F,
+    policy: Option<&str>,
     check: &PolicyCheck<'_>,
     input: &mut R,
     output: &mut W,
 ) -> Result<Status, Failure>
     ensures { IsAnswered W.contents output.old output.new (form_of check.now.json) (option_copied check.now.allowed)
-        (left_in (F.holds files.now) (R.remaining input.old) check.now.policy) result }
+        (left_in (F.holds files.now) (R.remaining input.old) policy.entry) result }
 {
-    let bytes = read_bytes(alloc, files, check.policy, input)?;
+    let bytes = read_bytes(alloc, files, policy, input)?;
     let answer = answer_to(alloc, check, &bytes)?;
     print(&answer, output)
 }

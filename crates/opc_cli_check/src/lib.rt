@@ -1,6 +1,6 @@
 //! `opcmds check`: what is wrong with a policy file.
 #![tactic(auto)]
 
-mod answer;
+pub mod answer;
 pub mod checking;
 mod noted;

@@ -2,7 +2,7 @@
 use Rattle.std.proofs.Common.{◌≡◌, ◌++◌, ◌∷◌, ℕ, List, [], Option, Some, codes, false, true}
 use Rattle.opc_cli_options.specs.Checks.{Check, first_mistake}
 use Rattle.opc_cli_options.specs.Enquiries.{enquiry_checks}
-use Rattle.opc_cli_options.specs.Options.{console_option, given, who_checks}
+use Rattle.opc_cli_options.specs.Options.{console_option, given, source_option, who_checks}
 
 first_stays : (one other : List Check) (mistake : List ℕ) → first_mistake one ≡ Some mistake → first_mistake (one ++ other) ≡ Some mistake
 first_stays [] other mistake h = absurd (cc)
@@ -16,4 +16,4 @@ asked_checks value =
 
 pub what_is_asked : (value : List ℕ → Option (List ℕ)) (mistake : List ℕ) → first_mistake (asked_checks value) ≡ Some mistake
     → first_mistake (who_checks value) ≡ Some mistake
-what_is_asked value mistake h = first_stays (asked_checks value) (console_option value ∷ []) mistake h
+what_is_asked value mistake h = first_stays (asked_checks value) (console_option value ∷ source_option value ∷ []) mistake h

@@ -7,3 +7,4 @@ pub mod Numbers
 pub mod Options
 pub mod Runs
 pub mod Services
+pub mod Sources

@@ -50,6 +50,7 @@ use Rattle.opc_cli_options.specs.Enquiries.{
 use Rattle.opc_cli_options.specs.Mistakes.{lacking, unread}
 use Rattle.opc_cli_options.specs.Numbers.{number_between}
 use Rattle.opc_cli_options.specs.Services.{IsAddress, address_checks}
+use Rattle.opc_cli_options.specs.Sources.{IsSource, source_check}
 
 -- in nanoseconds, where 0 seconds are as long as it takes
 abbrev pub longest : ℕ → Option ℕ
@@ -122,13 +123,16 @@ module _ (value : List ℕ → Option (List ℕ)) where
     is_some (actor_of (given (codes "user"))) || is_some (value (codes "console")),
   )
 
+  abbrev pub source_option : Check
+  source_option = source_check (value (codes "policy")) (value (codes "db"))
+
   -- the checks of `explain`, about a command or about a level of access
   abbrev pub question_checks : (command : Option (List ℕ)) → List Check
   question_checks (Some text) = actor_option ∷ command_checks (value (codes "as"))
-      (value (codes "resource")) (value (codes "level")) ++ console_option ∷ nobody_option ∷ []
+      (value (codes "resource")) (value (codes "level")) ++ console_option ∷ nobody_option ∷ source_option ∷ []
   question_checks None = user_option ∷ access_checks (value (codes "as"))
       (value (codes "resource")) (value (codes "level"))
-      ++ class_option ∷ resource_option ∷ console_option ∷ level_option ∷ []
+      ++ class_option ∷ resource_option ∷ console_option ∷ level_option ∷ source_option ∷ []
 
   -- the checks of `import`,
   abbrev pub import_checks : List Check
@@ -142,11 +146,11 @@ module _ (value : List ℕ → Option (List ℕ)) where
   -- of `who`,
   abbrev pub who_checks : List Check
   who_checks = enquiry_checks (value (codes "command")) (value (codes "as")) (value (codes "resource"))
-      (value (codes "level")) (given (codes "class")) ++ console_option ∷ []
+      (value (codes "level")) (given (codes "class")) ++ console_option ∷ source_option ∷ []
 
   -- and of `check`
   abbrev pub policy_checks : List Check
-  policy_checks = allow_check (value (codes "allow")) ∷ []
+  policy_checks = allow_check (value (codes "allow")) ∷ source_option ∷ []
 
   -- the words of `explain`, about a level of access
   pub record IsQuestion (question : Question) : Type 0 where
@@ -157,6 +161,7 @@ module _ (value : List ℕ → Option (List ℕ)) where
     pub level : lookup levels (given (codes "level")) ≡ Some question.level
     pub why : question.why ≡ is_set (codes "why")
     pub json : question.json ≡ is_set (codes "json")
+    pub source : IsSource (value (codes "policy")) (value (codes "db")) question.source
 
   -- and about a command
   pub record IsCommandQuestion (question : CommandQuestion) : Type 0 where
@@ -166,6 +171,7 @@ module _ (value : List ℕ → Option (List ℕ)) where
     pub console : question.console ≡ value (codes "console")
     pub why : question.why ≡ is_set (codes "why")
     pub json : question.json ≡ is_set (codes "json")
+    pub source : IsSource (value (codes "policy")) (value (codes "db")) question.source
 
   -- of `import`
   pub record IsImport (import : Import) : Type 0 where
@@ -190,10 +196,10 @@ module _ (value : List ℕ → Option (List ℕ)) where
     pub console : enquiry.console ≡ value (codes "console")
     pub allowed : enquiry.allowed ≡ is_set (codes "allowed")
     pub json : enquiry.json ≡ is_set (codes "json")
-    pub policy : option_copied enquiry.policy ≡ value (codes "policy")
+    pub source : IsSource (value (codes "policy")) (value (codes "db")) enquiry.source
 
   -- and of `check`
   pub record IsPolicyCheck (check : PolicyCheck) : Type 0 where
-    pub policy : option_copied check.policy ≡ value (codes "policy")
+    pub source : IsSource (value (codes "policy")) (value (codes "db")) check.source
     pub allowed : option_copied check.allowed ≡ value (codes "allow")
     pub json : check.json ≡ is_set (codes "json")

@@ -8,13 +8,14 @@ ghost use Rattle.opc_cli_options.specs.Options.{IsPolicyCheck, policy_checks};
 
 use crate::flag::is_set;
 use crate::mistake::unread;
+use crate::source::{Source, source_in};
 use clap::ArgMatches;
 
-/// Which policy file is checked, if it is not the input; which notes are allowed, by their codes with commas between
-/// them; and whether the lines are objects of JSON.
+/// Which policy is checked; which notes are allowed, by their codes with commas between them; and whether the lines are
+/// objects of JSON.
 #[derive(Clone, Copy)]
 pub struct PolicyCheck<'a> {
-    pub policy: Option<&'a str>,
+    pub source: Source<'a>,
     pub allowed: Option<&'a str>,
     pub json: bool,
 }
@@ -68,8 +69,9 @@ impl<'a> PolicyCheck<'a> {
             (policy_checks (first_value (found_of chosen.now))) result }
     {
         let allowed = allowed_in(chosen.get_str("allow"))?;
+        let source = source_in(chosen)?;
         Ok(PolicyCheck {
-            policy: chosen.get_str("policy"),
+            source,
             allowed,
             json: is_set(chosen, "json"),
         })

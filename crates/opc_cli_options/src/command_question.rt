@@ -16,12 +16,13 @@ use crate::asking::kind_beside;
 use crate::flag::is_set;
 use crate::mistake::{NOBODY_WITHOUT_CONSOLE, unread};
 use crate::question::console_in;
+use crate::source::{Source, source_in};
 use clap::ArgMatches;
 use opc_names::name::{ConsoleName, UserId};
 use opc_terms::unit_kind::UnitKindAt;
 
 /// What is asked: whether a user, or nobody, may enter a command, with the kind of the unit that it names, whether with
-/// the level held behind each pattern, and whether the answer is JSON.
+/// the level held behind each pattern, whether the answer is JSON, and by which policy.
 #[derive(Clone, Copy)]
 pub struct CommandQuestion<'a> {
     pub user: Option<UserId>,
@@ -30,6 +31,7 @@ pub struct CommandQuestion<'a> {
     pub console: Option<ConsoleName>,
     pub why: bool,
     pub json: bool,
+    pub source: Source<'a>,
 }
 
 /// The user, or nobody, written `-`.
@@ -74,6 +76,7 @@ impl<'a> CommandQuestion<'a> {
         let kind = chosen.get_str("as");
         let kind = kind_beside(kind, chosen.get_str("resource"), chosen.get_str("level"))?;
         let console = console_for(chosen, user.is_some())?;
+        let source = source_in(chosen)?;
         Ok(CommandQuestion {
             user,
             text,
@@ -81,6 +84,7 @@ impl<'a> CommandQuestion<'a> {
             console,
             why: is_set(chosen, "why"),
             json: is_set(chosen, "json"),
+            source,
         })
     }
 }

@@ -12,4 +12,5 @@ mod number;
 pub mod question;
 pub mod run;
 pub mod serve;
+pub mod source;
 pub mod who;

@@ -44,6 +44,9 @@ pub(crate) const CONSOLE_WITHOUT_NOW: &str = "--console needs --now";
 /// The rows begin at one place.
 pub(crate) const TWO_BEGINNINGS: &str = "account takes --from or --last, not both";
 
+/// The policy comes from one place.
+pub(crate) const ONE_SOURCE: &str = "give --policy or --db, not both";
+
 /// Prints a mistake, and which help to ask for.
 pub fn print_mistake<K: Sink>(
     command: &str,

@@ -17,15 +17,16 @@ ghost use Rattle.opc_cli_options.specs.Options.{
 use crate::asking::need_access;
 use crate::flag::is_set;
 use crate::mistake::unread;
+use crate::source::{Source, source_in};
 use clap::ArgMatches;
 use opc_names::class::Class;
 use opc_names::level::Level;
 use opc_names::name::{ConsoleName, Resource, UserId};
 
-/// What is asked: whether a user holds a level on a resource, whether with the level held behind each pattern, and
-/// whether the answer is JSON.
+/// What is asked: whether a user holds a level on a resource, whether with the level held behind each pattern, whether
+/// the answer is JSON, and by which policy.
 #[derive(Clone, Copy)]
-pub struct Question {
+pub struct Question<'a> {
     pub user: UserId,
     pub class: Class,
     pub resource: Resource,
@@ -33,6 +34,7 @@ pub struct Question {
     pub level: Level,
     pub why: bool,
     pub json: bool,
+    pub source: Source<'a>,
 }
 
 fn user_in(chosen: &ArgMatches<'_>) -> Result<UserId, &'static str>
@@ -92,9 +94,9 @@ pub(crate) fn level_in(chosen: &ArgMatches<'_>) -> Result<Level, &'static str>
     }
 }
 
-impl Question {
+impl<'a> Question<'a> {
     /// The question of these words, or the first mistake in their options.
-    pub fn read(chosen: &ArgMatches<'_>) -> Result<Self, &'static str>
+    pub fn read(chosen: &ArgMatches<'a>) -> Result<Self, &'static str>
         ensures { AreReadAs (IsQuestion (first_value (found_of chosen.now)))
             (question_checks (first_value (found_of chosen.now)) None) result }
     {
@@ -105,6 +107,7 @@ impl Question {
         let resource = resource_in(chosen)?;
         let console = console_in(chosen)?;
         let level = level_in(chosen)?;
+        let source = source_in(chosen)?;
         Ok(Question {
             user,
             class,
@@ -113,6 +116,7 @@ impl Question {
             level,
             why: is_set(chosen, "why"),
             json: is_set(chosen, "json"),
+            source,
         })
     }
 }

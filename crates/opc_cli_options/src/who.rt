@@ -9,6 +9,7 @@ ghost use Rattle.opc_cli_options.specs.Options.{IsEnquiry, given, who_checks};
 use crate::asking::{kind_beside, need_access};
 use crate::flag::is_set;
 use crate::question::{class_in, console_in, level_in, resource_in};
+use crate::source::{Source, source_in};
 use clap::ArgMatches;
 use opc_names::class::Class;
 use opc_names::level::Level;
@@ -30,14 +31,14 @@ pub enum Asked<'a> {
 }
 
 /// What is asked: about what, at a console if one is named, whether of those alone who may, whether the answer is JSON,
-/// and by which policy file, if it is not the input.
+/// and by which policy.
 #[derive(Clone, Copy)]
 pub struct Enquiry<'a> {
     pub asked: Asked<'a>,
     pub console: Option<ConsoleName>,
     pub allowed: bool,
     pub json: bool,
-    pub policy: Option<&'a str>,
+    pub source: Source<'a>,
 }
 
 /// About a level of access.
@@ -96,12 +97,13 @@ impl<'a> Enquiry<'a> {
         match about(chosen) {
             Ok(asked) => {
                 let console = console_in(chosen)?;
+                let source = source_in(chosen)?;
                 Ok(Enquiry {
                     asked,
                     console,
                     allowed: is_set(chosen, "allowed"),
                     json: is_set(chosen, "json"),
-                    policy: chosen.get_str("policy"),
+                    source,
                 })
             }
             Err(mistake) => Err(mistake),

@@ -1,4 +1,4 @@
--- Answers by a policy file, and how they are given.
+-- Answers by the rows of a policy, and how they are given.
 use Rattle.std.specs.Prelude.{
   ◌≡◌,
   ◌⊎◌,
@@ -8,6 +8,8 @@ use Rattle.std.specs.Prelude.{
   true,
   List,
   Option,
+  Some,
+  None,
   Result,
   Ok,
   Err,
@@ -15,6 +17,7 @@ use Rattle.std.specs.Prelude.{
   IsErrAnd,
   codes,
 }
+use Rattle.std.specs.Borrow.{Bor}
 use Rattle.std.specs.Io.KnownBytes.{Appends}
 use Rattle.opc_terms.specs.declared.fault.Fault.{Fault}
 use Rattle.opc_policy.specs.declared.verdict.Verdict.{Verdict}
@@ -45,6 +48,11 @@ needs_nothing json = answered (nothing_text json) Done
 abbrev pub status_of_verdict : Verdict → Status
 status_of_verdict Denied = Refused
 status_of_verdict verdict = Done
+
+-- what the policy file has: the one that is named, or the input
+abbrev pub left_in : (List ℕ → Option (List ℕ)) → Option (List ℕ) → Option (Bor (List ℕ)) → Option (List ℕ)
+left_in holds left None = left
+left_in holds left (Some path) = holds path.now
 
 module _ {W : Type 0} (contents : W → Option (List ℕ)) (before written : W) where
   -- The text was written, with this status; if there is no answer, its fault is returned. Or there was no memory, or

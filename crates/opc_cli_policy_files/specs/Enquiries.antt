@@ -1,6 +1,5 @@
 -- What `who` is answered by the rows of a policy file.
 use Rattle.std.specs.Prelude.{ℕ, List, Option, Some, None, Result, Ok, Err, if◌then◌else◌}
-use Rattle.std.specs.Borrow.{Bor}
 use Rattle.opc_terms.specs.declared.fault.Fault.{Fault}
 use Rattle.opc_terms.specs.declared.need.Need.{Need}
 use Rattle.opc_policy_members.specs.declared.row.Row.{Row}
@@ -43,8 +42,3 @@ text_by rows e (Err fault) = Err fault
 -- what the rows of a policy file answer
 abbrev pub enquiry_answer : Enquiry → List Row → Result Answer Fault
 enquiry_answer e rows = text_by rows e (wanted_of e.asked)
-
--- what the policy file has: the one that is named, or the input
-abbrev pub left_in : (List ℕ → Option (List ℕ)) → Option (List ℕ) → Option (Bor (List ℕ)) → Option (List ℕ)
-left_in holds left None = left
-left_in holds left (Some path) = holds path.now

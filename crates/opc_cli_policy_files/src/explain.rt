@@ -3,7 +3,7 @@ ghost use Rattle.std.specs.Prelude.{◌≡◌, ◌≢◌, ◌⊎◌, IfErr, IfOk
 ghost use Rattle.opc_policy.specs.Explained.{explained_text, explanation};
 ghost use Rattle.opc_terms.specs.declared.fault.Fault.TheVariants.{NoMemory};
 ghost use Rattle.opc_cli_failures.specs.Statuses.{IsFailure};
-ghost use Rattle.opc_cli_policy_files.specs.Answers.{IsAnsweredBy, IsReportedBy, answered, status_of_verdict};
+ghost use Rattle.opc_cli_policy_files.specs.Answers.{IsAnsweredBy, IsReportedBy, answered, left_in, status_of_verdict};
 ghost use Rattle.opc_cli_policy_files.specs.Questions.{
   json_of,
   levels_for,
@@ -14,12 +14,13 @@ ghost use Rattle.opc_cli_policy_files.specs.Questions.{
   words_of,
 };
 
-use crate::policy_file::read_rows;
+use crate::openings::Openings;
+use crate::policy_file::{paths_of, place_of, read_rows_from};
 use crate::printing::{Answer, print};
 use crate::refusals::refused;
 use crate::why::explained_with;
 use opc_answers_text::reasons_json::{Reasons, reasons_json};
-use opc_cli_failures::failure::{Failure, NO_PATHS, Place, reported};
+use opc_cli_failures::failure::{Failure, Place, reported};
 use opc_cli_failures::status::Status;
 use opc_cli_options::question::Question;
 use opc_io::sink::Sink;
@@ -32,36 +33,46 @@ use opc_terms::fault::Fault;
 use std::alloc::{AllocError, Global};
 use std::io::{Read, Write};
 
-/// Answers the question by the policy file on the input, and returns the status.
-pub fn answer_question<R: Read, W: Write, K: Sink>(
+/// Answers the question by the policy file at a path, or by the one on the input, and returns the status.
+pub fn answer_question<F: Openings, R: Read, W: Write, K: Sink>(
     alloc: Global,
-    question: &Question,
+    files: &F,
+    policy: Option<&str>,
+    question: &Question<'_>,
     input: &mut R,
     output: &mut W,
     errors: &mut K,
 ) -> Status
     ensures { IsReportedBy W.contents K.held K.has_failed output.old output.new errors.old errors.new
-        (question_answer question.now) (R.remaining input.old) result }
+        (question_answer question.now) (left_in (F.holds files.now) (R.remaining input.old) policy.entry) result }
 {
-    reported(answer(alloc, question, input, output), &NO_PATHS, errors)
+    let end = answer(alloc, files, policy, question, input, output);
+    reported(end, &paths_of(policy), errors)
 }
 
-fn answer<R: Read, W: Write>(
+fn answer<F: Openings, R: Read, W: Write>(
     alloc: Global,
-    question: &Question,
+    files: &F,
+    policy: Option<&str>,
+    question: &Question<'_>,
     input: &mut R,
     output: &mut W,
 ) -> Result<Status, Failure>
-    ensures { IsAnsweredBy W.contents output.old output.new (question_answer question.now) (R.remaining input.old)
-        result }
+    ensures { IsAnsweredBy W.contents output.old output.new (question_answer question.now)
+        (left_in (F.holds files.now) (R.remaining input.old) policy.entry) result }
 {
-    let rows = read_rows(alloc, Place::Input, input)?;
-    let answer = answer_of(alloc, &rows, question)?;
+    let rows = read_rows_from(alloc, files, policy, input)?;
+    let answer = answer_of(alloc, place_of(policy), &rows, question)?;
     print(&answer, output)
 }
 
 /// What the rows of a policy file answer; of a row that is refused, which it is.
-fn answer_of(alloc: Global, rows: &[Row], question: &Question) -> Result<Answer, Failure>
+fn answer_of(
+    alloc: Global,
+    place: Place,
+    rows: &[Row],
+    question: &Question<'_>,
+) -> Result<Answer, Failure>
     ensures ok { IfOk result (λ answer. question_answer question.now rows.now
         ≡ Ok (answered (string_bytes answer.text) answer.status)) }
     ensures fault { IfErr result (λ failure. IsFailure failure.fault
@@ -69,12 +80,16 @@ fn answer_of(alloc: Global, rows: &[Row], question: &Question) -> Result<Answer,
 {
     match question_answer(alloc, rows, question) {
         Ok(answer) => Ok(answer),
-        Err(fault) => Err(refused(alloc, Place::Input, &[], rows, fault)),
+        Err(fault) => Err(refused(alloc, place, &[], rows, fault)),
     }
 }
 
-/// What the rows of a policy file answer.
-fn question_answer(alloc: Global, rows: &[Row], question: &Question) -> Result<Answer, Fault>
+/// What the rows of a policy answer.
+pub fn question_answer(
+    alloc: Global,
+    rows: &[Row],
+    question: &Question<'_>,
+) -> Result<Answer, Fault>
     ensures ok { IfOk result (λ answer. question_answer question.now rows.now
         ≡ Ok (answered (string_bytes answer.text) answer.status)) }
     ensures fault { IfErr result (λ fault. IsFailure fault ⊎ (question_answer question.now rows.now ≡ Err fault)) }
@@ -87,7 +102,7 @@ fn question_answer(alloc: Global, rows: &[Row], question: &Question) -> Result<A
     })
 }
 
-fn reasons_of(question: &Question, explained: &Explained) -> Reasons
+fn reasons_of(question: &Question<'_>, explained: &Explained) -> Reasons
     ensures { result ≡ reasons_of question.now explained.now }
 {
     Reasons {
@@ -106,7 +121,7 @@ fn reasons_of(question: &Question, explained: &Explained) -> Reasons
 fn json_of(
     alloc: Global,
     policy: &Policy,
-    question: &Question,
+    question: &Question<'_>,
     explained: &Explained,
 ) -> Result<String, Fault>
     ensures ok { IfOk result (λ text. json_of (reasons_of question.now explained.now) (levels_for policy.now
@@ -123,7 +138,7 @@ fn json_of(
 fn words_of(
     alloc: Global,
     policy: &Policy,
-    question: &Question,
+    question: &Question<'_>,
     explained: &Explained,
 ) -> Result<String, Fault>
     ensures ok { IfOk result (λ text. words_of policy.now question.now explained.now
@@ -142,7 +157,7 @@ fn words_of(
 fn text_of(
     alloc: Global,
     policy: &Policy,
-    question: &Question,
+    question: &Question<'_>,
     explained: &Explained,
 ) -> Result<String, Fault>
     ensures ok { IfOk result (λ text. text_of policy.now question.now (Ok explained.now)
@@ -157,7 +172,7 @@ fn text_of(
     }
 }
 
-fn explained_by(alloc: Global, policy: &Policy, question: &Question) -> Result<Explained, Fault>
+fn explained_by(alloc: Global, policy: &Policy, question: &Question<'_>) -> Result<Explained, Fault>
     ensures ok { IfOk result (λ explained. explanation policy.now question.now.class question.now.resource
         question.now.user question.now.console question.now.level ≡ Ok explained) }
     ensures fault { IfErr result (λ fault. fault ≢ NoMemory → explanation policy.now question.now.class
@@ -178,7 +193,7 @@ fn explained_by(alloc: Global, policy: &Policy, question: &Question) -> Result<E
 fn levels_for(
     alloc: Global,
     policy: &Policy,
-    question: &Question,
+    question: &Question<'_>,
 ) -> Result<Vec<CoveringLevel>, Fault>
     ensures ok { IfOk result (λ levels. levels_for policy.now question.now ≡ Ok levels.items) }
     ensures fault { IfErr result (λ fault. fault ≢ NoMemory → levels_for policy.now question.now ≡ Err fault) }

@@ -3,7 +3,7 @@ ghost use Rattle.std.specs.Prelude.{◌≡◌, ◌≢◌, ◌⊎◌, IfErr, IfOk
 ghost use Rattle.std.specs.Option.{option_copied};
 ghost use Rattle.opc_terms.specs.declared.fault.Fault.TheVariants.{NoMemory};
 ghost use Rattle.opc_cli_failures.specs.Statuses.{IsFailure};
-ghost use Rattle.opc_cli_policy_files.specs.Answers.{IsAnsweredBy, IsReportedBy, answered, status_of_verdict};
+ghost use Rattle.opc_cli_policy_files.specs.Answers.{IsAnsweredBy, IsReportedBy, answered, left_in, status_of_verdict};
 ghost use Rattle.opc_cli_policy_files.specs.Questions.{
   acting,
   command_answer,
@@ -18,7 +18,8 @@ ghost use Rattle.opc_cli_policy_files.specs.Questions.{
 };
 
 use crate::explain::{policy_made, status_of};
-use crate::policy_file::read_rows;
+use crate::openings::Openings;
+use crate::policy_file::{paths_of, place_of, read_rows_from};
 use crate::printing::{Answer, needs_nothing, print};
 use crate::refusals::refused;
 use crate::why::command_with;
@@ -26,7 +27,7 @@ use opc_answers::explaining::{CommandExplained, explain_command};
 use opc_answers::needed::need_in;
 use opc_answers_text::command_text::command_text;
 use opc_answers_text::reasons_json::{Reasons, reasons_json};
-use opc_cli_failures::failure::{Failure, NO_PATHS, Place, reported};
+use opc_cli_failures::failure::{Failure, Place, reported};
 use opc_cli_failures::status::Status;
 use opc_cli_options::command_question::CommandQuestion;
 use opc_io::sink::Sink;
@@ -40,31 +41,36 @@ use opc_terms::need::Need;
 use std::alloc::Global;
 use std::io::{Read, Write};
 
-/// Answers the question by the policy file on the input, and gives the status.
-pub fn answer_command_question<R: Read, W: Write, K: Sink>(
+/// Answers the question by the policy file at a path, or by the one on the input, and returns the status.
+pub fn answer_command_question<F: Openings, R: Read, W: Write, K: Sink>(
     alloc: Global,
+    files: &F,
+    policy: Option<&str>,
     question: &CommandQuestion<'_>,
     input: &mut R,
     output: &mut W,
     errors: &mut K,
 ) -> Status
     ensures { IsReportedBy W.contents K.held K.has_failed output.old output.new errors.old errors.new
-        (command_answer question.now) (R.remaining input.old) result }
+        (command_answer question.now) (left_in (F.holds files.now) (R.remaining input.old) policy.entry) result }
 {
-    reported(answer(alloc, question, input, output), &NO_PATHS, errors)
+    let end = answer(alloc, files, policy, question, input, output);
+    reported(end, &paths_of(policy), errors)
 }
 
-fn answer<R: Read, W: Write>(
+fn answer<F: Openings, R: Read, W: Write>(
     alloc: Global,
+    files: &F,
+    policy: Option<&str>,
     question: &CommandQuestion<'_>,
     input: &mut R,
     output: &mut W,
 ) -> Result<Status, Failure>
-    ensures { IsAnsweredBy W.contents output.old output.new (command_answer question.now) (R.remaining input.old)
-        result }
+    ensures { IsAnsweredBy W.contents output.old output.new (command_answer question.now)
+        (left_in (F.holds files.now) (R.remaining input.old) policy.entry) result }
 {
-    let rows = read_rows(alloc, Place::Input, input)?;
-    let answer = answer_of(alloc, &rows, question)?;
+    let rows = read_rows_from(alloc, files, policy, input)?;
+    let answer = answer_of(alloc, place_of(policy), &rows, question)?;
     print(&answer, output)
 }
 
@@ -178,7 +184,12 @@ fn text_of(
 }
 
 /// What the rows of a policy file answer; of a row that is refused, which it is.
-fn answer_of(alloc: Global, rows: &[Row], question: &CommandQuestion<'_>) -> Result<Answer, Failure>
+fn answer_of(
+    alloc: Global,
+    place: Place,
+    rows: &[Row],
+    question: &CommandQuestion<'_>,
+) -> Result<Answer, Failure>
     ensures ok { IfOk result (λ answer. command_answer question.now rows.now
         ≡ Ok (answered (string_bytes answer.text) answer.status)) }
     ensures fault { IfErr result (λ failure. IsFailure failure.fault
@@ -186,12 +197,12 @@ fn answer_of(alloc: Global, rows: &[Row], question: &CommandQuestion<'_>) -> Res
 {
     match command_answer(alloc, rows, question) {
         Ok(answer) => Ok(answer),
-        Err(fault) => Err(refused(alloc, Place::Input, &[], rows, fault)),
+        Err(fault) => Err(refused(alloc, place, &[], rows, fault)),
     }
 }
 
-/// What the rows of a policy file answer.
-fn command_answer(
+/// What the rows of a policy answer.
+pub fn command_answer(
     alloc: Global,
     rows: &[Row],
     question: &CommandQuestion<'_>,

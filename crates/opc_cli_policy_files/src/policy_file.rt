@@ -2,12 +2,13 @@
 ghost use Rattle.std.specs.Prelude.{◌≡◌, ◌⊎◌, IfErr, IfOk, IsErrAnd};
 ghost use Rattle.opc_import.specs.Faults.{as_fault};
 ghost use Rattle.opc_cli_failures.specs.Statuses.{IsFailure};
+ghost use Rattle.opc_cli_policy_files.specs.Answers.{left_in};
 ghost use Rattle.opc_cli_policy_files.specs.PolicyFiles.{AreRead, IsNoPolicyFile, IsNoText, IsPolicyFile, IsUnread};
 
 use crate::openings::Openings;
 use crate::streams::read_up_to;
 use opc_cli_failures::bad_row::BadRow;
-use opc_cli_failures::failure::{Failure, Place};
+use opc_cli_failures::failure::{Failure, Paths, Place};
 use opc_cli_failures::first_row::FirstRow;
 use opc_cli_failures::reason::Reason;
 use opc_import::fault::ImportFault;
@@ -107,5 +108,42 @@ pub fn read_rows_at<F: Openings>(alloc: Global, files: &F, path: &str) -> Result
     match files.open_to_read(path) {
         Ok(mut file) => read_rows(alloc, Place::PolicyFile, &mut file),
         Err(error) => Err(Failure::at(Place::PolicyFile, error)),
+    }
+}
+
+/// The rows of the policy file at a path, or of the one on the input.
+pub(crate) fn read_rows_from<F: Openings, R: Read>(
+    alloc: Global,
+    files: &F,
+    policy: Option<&str>,
+    input: &mut R,
+) -> Result<Vec<Row>, Failure>
+    ensures rows { IfOk result (λ rows. AreRead
+        (left_in (F.holds files.now) (R.remaining input.old) policy.entry) rows.items) }
+    ensures fault { IfErr result (λ failure. IsUnread
+        (left_in (F.holds files.now) (R.remaining input.old) policy.entry) failure.fault) }
+{
+    // For the prover alone, which needs the type of a row's console named.
+    let _nowhere: Option<ConsoleName> = None;
+    match policy {
+        Some(path) => read_rows_at(alloc, files, path),
+        None => read_rows(alloc, Place::Input, input),
+    }
+}
+
+/// Where such a policy file is.
+pub fn place_of(policy: Option<&str>) -> Place {
+    match policy {
+        Some(_) => Place::PolicyFile,
+        None => Place::Input,
+    }
+}
+
+/// The paths that a message about it names.
+pub fn paths_of<'a>(policy: Option<&'a str>) -> Paths<'a> {
+    Paths {
+        database: None,
+        policy,
+        socket: None,
     }
 }

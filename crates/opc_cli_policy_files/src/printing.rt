@@ -1,4 +1,4 @@
-//! Answers by a policy file, as they are printed.
+//! Answers about a policy, as they are printed.
 ghost use Rattle.std.specs.Prelude.{◌≡◌, IfErr, IfOk, string_bytes};
 ghost use Rattle.std.specs.Io.KnownBytes.{Appends};
 ghost use Rattle.opc_cli_failures.specs.Statuses.{IsFailure};
@@ -11,9 +11,9 @@ use std::io::Write;
 
 /// The text of an answer, and the status.
 #[derive(Drop)]
-pub(crate) struct Answer {
-    pub(crate) text: String,
-    pub(crate) status: Status,
+pub struct Answer {
+    pub text: String,
+    pub status: Status,
 }
 
 fn nothing_text(json: bool) -> &'static str
@@ -36,8 +36,8 @@ pub(crate) fn needs_nothing(alloc: Global, json: bool) -> Result<Answer, AllocEr
     })
 }
 
-/// Prints an answer, and gives its status.
-pub(crate) fn print<W: Write>(answer: &Answer, output: &mut W) -> Result<Status, Failure>
+/// Prints an answer, and returns its status.
+pub fn print<W: Write>(answer: &Answer, output: &mut W) -> Result<Status, Failure>
     ensures text { IfOk result (λ _. Appends (W.contents output.old) (W.contents output.new)
         (string_bytes answer.now.text)) }
     ensures status { IfOk result (λ status. status ≡ answer.now.status) }

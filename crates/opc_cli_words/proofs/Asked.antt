@@ -20,6 +20,7 @@ use Rattle.opc_cli_options.specs.declared.import.Import.{Import}
 use Rattle.opc_cli_options.specs.declared.question.Question.{Question}
 use Rattle.opc_cli_options.specs.declared.serve.Address.{Address}
 use Rattle.opc_cli_options.specs.declared.serve.Serve.{Serve}
+use Rattle.opc_cli_options.specs.declared.source.Source.{Source}
 use Rattle.opc_cli_options.specs.declared.who.Enquiry.{Enquiry}
 use Rattle.opc_cli_words.specs.declared.words.Task.{Task}
 use Rattle.opc_cli_words.specs.declared.words.Task.TheVariants as task
@@ -37,6 +38,7 @@ use Rattle.opc_cli_options.specs.Numbers.{number_between}
 use Rattle.opc_cli_options.specs.Checks.{Check, first_mistake}
 use Rattle.opc_cli_options.specs.Mistakes.{unread}
 use Rattle.opc_cli_options.specs.Services.{IsAddress}
+use Rattle.opc_cli_options.specs.Sources.{IsSource}
 use Rattle.opc_cli_options.specs.Enquiries.{kind_given}
 use Rattle.opc_cli_options.specs.Options.{
   IsCommandQuestion,
@@ -90,6 +92,9 @@ module _ (one other : List ℕ → Option (List ℕ)) (same : (name : List ℕ) 
   set : (name : List ℕ) → is_set one name ≡ is_set other name
   set name = ap (λ (o : Option (List ℕ)). option_map_or (λ text. bytes_eq text (codes "true")) o false) (same name)
 
+  source : (s : Source) → IsSource (one (codes "policy")) (one (codes "db")) s → IsSource (other (codes "policy")) (other (codes "db")) s
+  source s is = rw (sym (same (codes "policy")), sym (same (codes "db"))) is
+
   command_question : (q : CommandQuestion) → IsCommandQuestion one q → IsCommandQuestion other q
   command_question q is = record {
     user = is.user ∙ ap actor_of (given (codes "user"));
@@ -98,6 +103,7 @@ module _ (one other : List ℕ → Option (List ℕ)) (same : (name : List ℕ) 
     console = is.console ∙ same (codes "console");
     why = is.why ∙ set (codes "why");
     json = is.json ∙ set (codes "json");
+    source = source q.source is.source;
   }
 
   question : (q : Question) → IsQuestion one q → IsQuestion other q
@@ -109,6 +115,7 @@ module _ (one other : List ℕ → Option (List ℕ)) (same : (name : List ℕ) 
     level = of_given (lookup levels) (codes "level") ∙ is.level;
     why = is.why ∙ set (codes "why");
     json = is.json ∙ set (codes "json");
+    source = source q.source is.source;
   }
 
   answered : (l : Lines) → IsLines one l → IsLines other l
@@ -152,7 +159,7 @@ module _ (one other : List ℕ → Option (List ℕ)) (same : (name : List ℕ) 
     console = is.console ∙ same (codes "console");
     allowed = is.allowed ∙ set (codes "allowed");
     json = is.json ∙ set (codes "json");
-    policy = is.policy ∙ same (codes "policy");
+    source = source e.source is.source;
   }
 
   first : (f : First) → IsFirst (one (codes "from")) (one (codes "last")) f → IsFirst (other (codes "from")) (other (codes "last")) f
@@ -178,7 +185,7 @@ module _ (one other : List ℕ → Option (List ℕ)) (same : (name : List ℕ) 
 
   policy_check : (p : PolicyCheck) → IsPolicyCheck one p → IsPolicyCheck other p
   policy_check p is = record {
-    policy = is.policy ∙ same (codes "policy");
+    source = source p.source is.source;
     allowed = is.allowed ∙ same (codes "allow");
     json = is.json ∙ set (codes "json");
   }
@@ -197,9 +204,28 @@ module _ (one other : List ℕ → Option (List ℕ)) (same : (name : List ℕ) 
 
   same_questions : (o : Option (List ℕ)) → question_checks one o ≡ question_checks other o
   same_questions None =
-      rw (same (codes "user"), same (codes "as"), same (codes "resource"), same (codes "level"), same (codes "class"), same (codes "console")) refl
+      rw (
+        same (codes "user"),
+        same (codes "as"),
+        same (codes "resource"),
+        same (codes "level"),
+        same (codes "class"),
+        same (codes "console"),
+        same (codes "policy"),
+        same (codes "db"),
+      )
+      refl
   same_questions (Some text) =
-      rw (same (codes "user"), same (codes "as"), same (codes "resource"), same (codes "level"), same (codes "console")) refl
+      rw (
+        same (codes "user"),
+        same (codes "as"),
+        same (codes "resource"),
+        same (codes "level"),
+        same (codes "console"),
+        same (codes "policy"),
+        same (codes "db"),
+      )
+      refl
 
   questions : question_checks one (one (codes "command")) ≡ question_checks other (other (codes "command"))
   questions = same_questions (one (codes "command")) ∙ ap (question_checks other) (same (codes "command"))
@@ -231,6 +257,8 @@ module _ (one other : List ℕ → Option (List ℕ)) (same : (name : List ℕ) 
         same (codes "level"),
         same (codes "class"),
         same (codes "console"),
+        same (codes "policy"),
+        same (codes "db"),
       )
       refl
 
@@ -249,7 +277,7 @@ module _ (one other : List ℕ → Option (List ℕ)) (same : (name : List ℕ) 
       refl
 
   policies : policy_checks one ≡ policy_checks other
-  policies = rw (same (codes "allow")) refl
+  policies = rw (same (codes "allow"), same (codes "policy"), same (codes "db")) refl
 
   pub same_options : (command : List ℕ) → options_of one command ≡ options_of other command
   same_options command =

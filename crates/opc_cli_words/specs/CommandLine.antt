@@ -32,8 +32,12 @@ question_options =
     valued (codes "command") ∷ valued (codes "as") ∷ valued (codes "resource") ∷ valued (codes "level")
     ∷ preset (codes "class") (codes "OPERCMDS") ∷ valued (codes "console") ∷ flag (codes "json") ∷ []
 
+-- where a policy comes from
+abbrev pub source_options : List Rule
+source_options = valued (codes "policy") ∷ valued (codes "db") ∷ []
+
 abbrev pub explain_options : List Rule
-explain_options = needed (codes "user") ∷ question_options ++ flag (codes "why") ∷ []
+explain_options = needed (codes "user") ∷ question_options ++ flag (codes "why") ∷ source_options
 
 abbrev pub run_options : List Rule
 run_options =
@@ -55,10 +59,10 @@ serve_options =
     ++ preset (codes "count") (codes "1000000") ∷ preset (codes "timeout") (codes "30") ∷ flag (codes "log") ∷ []
 
 abbrev pub who_options : List Rule
-who_options = question_options ++ flag (codes "allowed") ∷ valued (codes "policy") ∷ []
+who_options = question_options ++ flag (codes "allowed") ∷ source_options
 
 abbrev pub check_options : List Rule
-check_options = valued (codes "policy") ∷ valued (codes "allow") ∷ flag (codes "json") ∷ []
+check_options = source_options ++ valued (codes "allow") ∷ flag (codes "json") ∷ []
 
 abbrev pub row_options : List Rule
 row_options =

@@ -2,7 +2,7 @@
 ghost use Rattle.std.specs.Prelude.{IfOk, codes};
 ghost use Rattle.opc_cli_words.specs.CommandLine.{IsCommand, check_options};
 
-use crate::command_line::{command, flag, value};
+use crate::command_line::{DATABASE_FILE, POLICY_FILE, command, flag, value};
 use clap::Command;
 use std::alloc::{AllocError, Global};
 
@@ -12,17 +12,13 @@ pub(crate) fn check_command<'a>(alloc: Global) -> Result<Command<'a>, AllocError
     command(
         alloc,
         "check",
-        "Says what is wrong with a policy file: each row that does not read, or else each that loading it would \
+        "Says what is wrong with a policy: each row that does not read, or else each that loading it would \
          refuse, or else notes on what may be a mistake",
         "Example: opcmds check < policy.csv\n\
          Status: 0 nothing is wrong, 1 notes, 2 bad words or rows, 3 out of memory or a failed device",
     )
-    .arg(value(
-        alloc,
-        "policy",
-        "FILE",
-        "The policy file (16,777,216 bytes at most), in place of standard input",
-    ))?
+    .arg(value(alloc, "policy", "FILE", POLICY_FILE))?
+    .arg(value(alloc, "db", "FILE", DATABASE_FILE))?
     .arg(value(
         alloc,
         "allow",

@@ -24,6 +24,15 @@ use crate::version::VERSION;
 use clap::{Arg, ArgAction, Command};
 use std::alloc::{AllocError, Global};
 
+/// What the help says of `--policy` where a policy is asked.
+pub(crate) const POLICY_FILE: &str =
+    "The policy file (16,777,216 bytes at most), in place of standard input";
+
+/// What the help says of `--db` there.
+pub(crate) const DATABASE_FILE: &str =
+    "A database file, whose policy and consoles are asked, in place of a policy file; \
+     it is not made or changed";
+
 /// An option that takes a value.
 pub(crate) fn value<'a>(alloc: Global, name: &'a str, shown: &'a str, help: &'a str) -> Arg<'a>
     ensures rule { rule_of result ≡ valued name.entry.now }

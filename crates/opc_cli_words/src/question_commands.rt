@@ -2,7 +2,7 @@
 ghost use Rattle.std.specs.Prelude.{IfOk, [], ◌∷◌, codes};
 ghost use Rattle.opc_cli_words.specs.CommandLine.{IsCommand, explain_options, needed, question_options, who_options};
 
-use crate::command_line::{command, flag, needed, preset, value};
+use crate::command_line::{DATABASE_FILE, POLICY_FILE, command, flag, needed, preset, value};
 use clap::Command;
 use std::alloc::{AllocError, Global};
 
@@ -19,7 +19,8 @@ fn with_question<'a>(alloc: Global, asking: Command<'a>) -> Result<Command<'a>, 
             alloc,
             "as",
             "UNIT",
-            "What the unit is that the command names: TSU, or STC:MEMBER; a job without this",
+            "What the unit is that the command names: TSU, or STC:MEMBER; without this what the board has with --db, \
+             or else a job",
         ))?
         .arg(value(
             alloc,
@@ -49,15 +50,16 @@ fn with_question<'a>(alloc: Global, asking: Command<'a>) -> Result<Command<'a>, 
         .arg(flag(alloc, "json", "Answers in JSON, an object a line"))
 }
 
-pub(crate) fn explain_command<'a>(alloc: Global) -> Result<Command<'a>, AllocError>
-    ensures { IfOk result (λ built. IsCommand built (codes "explain") explain_options) }
+/// The command `explain` before the options that `who` has, too.
+fn explain_alone<'a>(alloc: Global) -> Result<Command<'a>, AllocError>
+    ensures { IfOk result (λ built. IsCommand built (codes "explain") (needed (codes "user") ∷ [])) }
 {
-    let explain = command(
+    command(
         alloc,
         "explain",
-        "Says which profile decides for a user, by the policy file on standard input (16,777,216 bytes at most)",
+        "Says which profile decides for a user, by a policy",
         "Asks about a command, or about a resource and a level.\n\
-         Examples: opcmds explain --user ANNA --command 'C PAYROLL' --console C1 --why < policy.csv\n\
+         Examples: opcmds explain --user ANNA --command 'C PAYROLL' --console C1 --why --db gate.db\n\
          \x20         opcmds explain --user ANNA --resource MVS.CANCEL.JOB.PAYROLL --level UPDATE < policy.csv\n\
          Status: 0 allowed or undecided, 1 refused, 2 bad words or policy file, 3 out of memory or a failed device",
     )
@@ -66,12 +68,20 @@ pub(crate) fn explain_command<'a>(alloc: Global) -> Result<Command<'a>, AllocErr
         "user",
         "USER",
         "The user: 1 to 8 name characters; - is nobody, with --command and --console",
-    ))?;
-    with_question(alloc, explain)?.arg(flag(
-        alloc,
-        "why",
-        "Shows behind each pattern which level the user holds in its profile, and from where",
     ))
+}
+
+pub(crate) fn explain_command<'a>(alloc: Global) -> Result<Command<'a>, AllocError>
+    ensures { IfOk result (λ built. IsCommand built (codes "explain") explain_options) }
+{
+    with_question(alloc, explain_alone(alloc)?)?
+        .arg(flag(
+            alloc,
+            "why",
+            "Shows behind each pattern which level the user holds in its profile, and from where",
+        ))?
+        .arg(value(alloc, "policy", "FILE", POLICY_FILE))?
+        .arg(value(alloc, "db", "FILE", DATABASE_FILE))
 }
 
 /// The command `who` before its options.
@@ -81,7 +91,7 @@ fn who_alone<'a>(alloc: Global) -> Command<'a>
     command(
         alloc,
         "who",
-        "Says who may enter a command, or holds a level, by a policy file: each user, and each console with nobody on",
+        "Says who may enter a command, or holds a level, by a policy: each user, and each console with nobody on",
         "Asks about a command, or about a resource and a level.\n\
          Example: opcmds who --command 'C PAYROLL' < policy.csv\n\
          Status: 0 answered, 1 refused, 2 bad words or policy file, 3 out of memory or a failed device",
@@ -93,10 +103,6 @@ pub(crate) fn who_command<'a>(alloc: Global) -> Result<Command<'a>, AllocError>
 {
     with_question(alloc, who_alone(alloc))?
         .arg(flag(alloc, "allowed", "Shows those alone who may"))?
-        .arg(value(
-            alloc,
-            "policy",
-            "FILE",
-            "The policy file (16,777,216 bytes at most), in place of standard input",
-        ))
+        .arg(value(alloc, "policy", "FILE", POLICY_FILE))?
+        .arg(value(alloc, "db", "FILE", DATABASE_FILE))
 }

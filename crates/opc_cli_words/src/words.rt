@@ -45,7 +45,7 @@ use std::io::Write;
 /// What the words ask for.
 #[derive(Clone, Copy)]
 pub enum Task<'a> {
-    Explain(Question),
+    Explain(Question<'a>),
     ExplainCommand(CommandQuestion<'a>),
     Run(Run<'a>),
     Import(Import<'a>),

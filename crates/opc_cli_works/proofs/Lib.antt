@@ -1,4 +1,4 @@
 mod Apart
 mod Keeping
 mod Shutting
-mod Accounts
+mod Readings

@@ -8,7 +8,7 @@ ghost use Rattle.opc_cli_works.specs.Kept.{
   RefusedPoliciesChangeNothing,
   RunsAreKept,
 };
-ghost use Rattle.opc_cli_works.specs.Reads.{AccountsAreShown};
+ghost use Rattle.opc_cli_works.specs.Reads.{AccountsAreShown, AnswersAreOfTheExport};
 ghost use Rattle.opc_cli_works.specs.Shut.{RequestsAreLeftWhole, ShutTablesGiveUp, ShutTablesStay};
 
 use sqlite::Alter;
@@ -42,6 +42,12 @@ pub fn exports_leave_the_file<D: Disk, W: Write>()
 /// The account of a file is printed as the query shows it, and leaves in the file the state that was there.
 pub fn accounts_are_shown<D: Disk, W: Write>()
     ensures { AccountsAreShown D.Disk W.contents }
+{}
+
+/// A question over a file is answered as by the policy file that an export of it writes, and leaves in the file the
+/// state that was there.
+pub fn answers_are_of_the_export<D: Disk, W: Write>()
+    ensures { AnswersAreOfTheExport D.Disk W.contents }
 {}
 
 /// Whatever becomes of a request, a crash, or a fault of the disk that closes the tables, leaves those of the state

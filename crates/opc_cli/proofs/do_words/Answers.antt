@@ -5,34 +5,30 @@ use Rattle.opc_cli.proofs.do_words.Goals as goal
 
 pub returns-in-Ok-Explain : goal.returns-in-Ok-Explain
 returns-in-Ok-Explain g c =
-    let done = c.answer_question in
+    let done = c.answer_from in
     task_done _ _ _ g.W.Write.contents g.E.Write.contents _ (words_after c.args.words.now) c.args.output.now
-    c.read_words.new.output (record c.read_words.new.output { inner = c.answer_question.new.output })
-    c.args.errors.now c.read_words.new.errors done.new.errors done.result
+    c.read_words.new.output done.new.output c.args.errors.now c.read_words.new.errors done.new.errors done.result
     (task.Explain c.in-Ok-Explain.question) (rw c.in-Ok-Explain.field-0-is at c.in-Ok-Explain.ensures) done.ensures
 
 pub returns-in-Ok-ExplainCommand : goal.returns-in-Ok-ExplainCommand
 returns-in-Ok-ExplainCommand g c =
-    let done = c.answer_command_question in
+    let done = c.answer_from-in-Ok-ExplainCommand in
     task_done _ _ _ g.W.Write.contents g.E.Write.contents _ (words_after c.args.words.now) c.args.output.now
-    c.read_words.new.output (record c.read_words.new.output { inner = done.new.output })
-    c.args.errors.now c.read_words.new.errors done.new.errors done.result
+    c.read_words.new.output done.new.output c.args.errors.now c.read_words.new.errors done.new.errors done.result
     (task.ExplainCommand c.in-Ok-ExplainCommand.question) (rw c.in-Ok-ExplainCommand.field-0-is at c.in-Ok-ExplainCommand.ensures) done.ensures
 
 pub returns-in-Ok-Who : goal.returns-in-Ok-Who
 returns-in-Ok-Who g c =
-    let done = c.answer_enquiry in
+    let done = c.answer_from-in-Ok-Who in
     task_done _ _ _ g.W.Write.contents g.E.Write.contents _ (words_after c.args.words.now) c.args.output.now
-    c.read_words.new.output (record c.read_words.new.output { inner = c.answer_enquiry.new.output })
-    c.args.errors.now c.read_words.new.errors done.new.errors done.result
+    c.read_words.new.output done.new.output c.args.errors.now c.read_words.new.errors done.new.errors done.result
     (task.Who c.in-Ok-Who.enquiry) (rw c.in-Ok-Who.field-0-is at c.in-Ok-Who.ensures) done.ensures
 
 pub returns-in-Ok-Check : goal.returns-in-Ok-Check
 returns-in-Ok-Check g c =
-    let done = c.answer_check in
+    let done = c.answer_from-in-Ok-Check in
     task_done _ _ _ g.W.Write.contents g.E.Write.contents _ (words_after c.args.words.now) c.args.output.now
-    c.read_words.new.output (record c.read_words.new.output { inner = c.answer_check.new.output })
-    c.args.errors.now c.read_words.new.errors done.new.errors done.result
+    c.read_words.new.output done.new.output c.args.errors.now c.read_words.new.errors done.new.errors done.result
     (task.Check c.in-Ok-Check.check) (rw c.in-Ok-Check.field-0-is at c.in-Ok-Check.ensures) done.ensures
 
 pub returns-in-Ok-Run : goal.returns-in-Ok-Run
@@ -71,7 +67,7 @@ pub returns-in-Ok-Account : goal.returns-in-Ok-Account
 returns-in-Ok-Account g c =
     let done = c.account_in_file in
     task_done _ _ _ g.W.Write.contents g.E.Write.contents _ (words_after c.args.words.now) c.args.output.now
-    c.read_words.new.output c.account_in_file.new.output c.args.errors.now c.read_words.new.errors done.new.errors
+    c.read_words.new.output done.new.output c.args.errors.now c.read_words.new.errors done.new.errors
     done.result
     (task.Account c.in-Ok-Account.account) (rw c.in-Ok-Account.field-0-is at c.in-Ok-Account.ensures) done.ensures
 

@@ -5,5 +5,6 @@ use Rattle.opc_cli_words.proofs.check_command.check_command.Goals as goal
 pub returns : goal.returns
 returns c =
     let policy = one_option_more _ _ _ _ _ _ c.command.ensures c.value.ensures.rule c.value.ensures.alone c.in_ok-arg.ensures in
-    let allowed = one_option_more _ _ _ _ _ _ policy c.value-2.ensures.rule c.value-2.ensures.alone c.in_ok-arg-2.ensures in
-    IfOk-weaker c.arg-3.result _ _ (λ built. one_option_more _ built _ _ _ _ allowed c.flag.ensures.rule c.flag.ensures.alone) c.arg-3.ensures
+    let database = one_option_more _ _ _ _ _ _ policy c.value-2.ensures.rule c.value-2.ensures.alone c.in_ok-arg-2.ensures in
+    let allowed = one_option_more _ _ _ _ _ _ database c.value-3.ensures.rule c.value-3.ensures.alone c.in_ok-arg-3.ensures in
+    IfOk-weaker c.arg-4.result _ _ (λ built. one_option_more _ built _ _ _ _ allowed c.flag.ensures.rule c.flag.ensures.alone) c.arg-4.ensures

@@ -1,4 +1,4 @@
-use Rattle.opc_cli_works.proofs.Accounts.{accounts_shown}
+use Rattle.opc_cli_works.proofs.Readings.{accounts_shown}
 use Rattle.opc_cli_works.proofs.laws.accounts_are_shown.Goals as goal
 
 pub returns : goal.returns

@@ -2,7 +2,7 @@ use Rattle.std.proofs.Common.{◌∙◌, ap, inl, inr}
 use Rattle.opc_io.specs.declared.watched.Watched.{Watched}
 use Rattle.opc_cli_failures.specs.Statuses.{status_of}
 use Rattle.opc_cli.proofs.Done.{openings_fail, same_fault}
-use Rattle.opc_cli.proofs.account.account_in_file.Goals as goal
+use Rattle.opc_cli.proofs.reading.account_in_file.Goals as goal
 
 pub returns-in-Ok : goal.returns-in-Ok
 returns-in-Ok g c = inl (record {

@@ -1,10 +1,12 @@
 """The program behind nginx: each login types at its own console, and at no other."""
 import json
+import os
 import subprocess
 
-from lib.places import built, wide_policy
+from lib.clients import HOST, SECONDS
+from lib.places import TOP, built, wide_policy
 from lib.tally import Tally
-from .front import Answer, Front
+from .front import LOGINS, NAME, Answer, Front
 
 # an AUTO console for each login but the last
 CONSOLES = ("console,,ANNA,,SYS,,AUTO,,,", "console,,CARL,,INFO,,AUTO,,,", "console,,SECADM,,MASTER,,AUTO,,,")
@@ -28,6 +30,16 @@ def typed(front: Front, login: str, text: str) -> tuple[int, dict[str, object]]:
     return answer.status, text_of(answer)
 
 
+def prompted(front: Front, login: str, *typed: str) -> tuple[int, str]:
+    """How the prompt of examples/opc ends for a login, which types these lines, and what it prints."""
+    words = [f"{TOP}/examples/opc", f"https://{login}@{NAME}:{front.port}"]
+    curl = f"--cacert {front.folder}/certificate.pem --resolve {NAME}:{front.port}:{HOST}"
+    how = {"input": "\n".join(typed), "text": True, "stdout": subprocess.PIPE, "timeout": SECONDS}
+    # (without a terminal, so that it reads the password from its input)
+    ran = subprocess.run(words, env={**os.environ, "CURL": curl}, start_new_session=True, **how)
+    return ran.returncode, ran.stdout
+
+
 def check(front: Front, tally: Tally, how: str) -> None:
     """Some requests of each login, with the answers of the rules."""
     status, text = typed(front, "anna", "C PAYROLL")
@@ -47,3 +59,7 @@ def check(front: Front, tally: Tally, how: str) -> None:
     answer = front.asked("GET", "/account/1/10", None, "secadm")
     found = [line.split(" ")[2:5] for line in text_of(answer).get("lines", [])]
     tally.equal(f"{how}: the account", found, [["ANNA", "ANNA", "E20"], ["ANNA", "ANNA", "E50"]])
+    found = prompted(front, "anna", LOGINS["anna"], "C PAYROLL", "D U")
+    tally.equal(f"{how}: the prompt of anna", found, (1, f"E20 DeniedProfile {DENIED}\n-- {rule}\n"))
+    found = prompted(front, "anna", LOGINS["carl"], "D U")
+    tally.equal(f"{how}: the prompt, a wrong password", found, (1, "not an answer of opcmds: 401 Unauthorized\n"))

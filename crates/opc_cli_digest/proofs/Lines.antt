@@ -1,5 +1,34 @@
 -- The line that is typed.
-use Rattle.std.proofs.Common.{◌≡◌, ◌≤◌, ◌<◌, ◌∙◌, ◌++◌, ◌∷◌, ◌==◌, ◌&&◌, ℕ, zero, suc, Bool, true, false, List, [], Option, Some, None, ap, length, not, refl, sym, slice_index, take, arith, rules}
+use Rattle.std.proofs.Common.{
+  ◌≡◌,
+  ◌≤◌,
+  ◌<◌,
+  ◌∙◌,
+  ◌++◌,
+  ◌∷◌,
+  ◌==◌,
+  ◌&&◌,
+  ℕ,
+  zero,
+  suc,
+  Bool,
+  true,
+  false,
+  List,
+  [],
+  Option,
+  Some,
+  None,
+  ap,
+  length,
+  not,
+  refl,
+  sym,
+  slice_index,
+  take,
+  arith,
+  rules,
+}
 use Rattle.std.specs.Io.KnownBytes.{Consumes, IsAtEnd, Keeps}
 use Rattle.std.specs.List.{list_all}
 use Rattle.std.specs.Str.{IsNotAscii}

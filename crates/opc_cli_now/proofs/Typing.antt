@@ -1,5 +1,40 @@
 -- A line that is read byte by byte.
-use Rattle.std.proofs.Common.{◌≡◌, ◌≤◌, ◌<◌, ◌+◌, ◌∙◌, ◌++◌, ◌∷◌, ◌==◌, ◌&&◌, inl, inr, ℕ, zero, suc, Bool, true, false, List, [], Option, Some, None, ap, length, length-take, nat_le, not, refl, sym, subst, slice_index, take, arith, rules}
+use Rattle.std.proofs.Common.{
+  ◌≡◌,
+  ◌≤◌,
+  ◌<◌,
+  ◌+◌,
+  ◌∙◌,
+  ◌++◌,
+  ◌∷◌,
+  ◌==◌,
+  ◌&&◌,
+  inl,
+  inr,
+  ℕ,
+  zero,
+  suc,
+  Bool,
+  true,
+  false,
+  List,
+  [],
+  Option,
+  Some,
+  None,
+  ap,
+  length,
+  length-take,
+  nat_le,
+  not,
+  refl,
+  sym,
+  subst,
+  slice_index,
+  take,
+  arith,
+  rules,
+}
 use Rattle.std.specs.Io.KnownBytes.{Consumes, IsAtEnd, Keeps}
 use Rattle.std.proofs.lemmas.Bool.Decides.{nat_tests}
 use Rattle.std.proofs.lemmas.List.{append-nil, append_assoc, length-append, take_all, take-append-le}

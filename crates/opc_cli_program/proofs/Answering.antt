@@ -1,5 +1,5 @@
 -- Lines that were answered over streams, by what is known of these.
-use Rattle.std.proofs.Common.{◌≡◌, ◌∙◌, ℕ, List, Option, Some, None, Result, Ok, Err, IfErr, IfOk, MatchResult, OnErr, arith, length, subst, sym}
+use Rattle.std.proofs.Common.{◌∙◌, ℕ, List, Option, Some, None, Result, Ok, Err, IfErr, IfOk, MatchResult, OnErr, arith, length, subst, sym}
 use Rattle.std.specs.Io.KnownBytes.{Appends, Keeps}
 use Rattle.std.proofs.lemmas.List.{take_all}
 use Rattle.opc_cli_script.specs.Running.{AppendsPrefix}

@@ -1,7 +1,5 @@
 -- What a service comes to, over tables with a cache and over the tables alone.
-use Rattle.std.proofs.Common.{◌≡◌, inl, inr, ℕ, List, Option, Result, ap, subst, sym}
-use Rattle.std.specs.declared.io.Error.{Error}
-use Rattle.std.specs.declared.time.Duration.{Duration}
+use Rattle.std.proofs.Common.{◌≡◌, inl, inr, ℕ, List, Result, ap, subst, sym}
 use Rattle.opc_state.specs.Meaning.{Meaning}
 use Rattle.opc_state.specs.State.{State}
 use Rattle.opc_state_cache.specs.Cache.{IsCached}
@@ -9,8 +7,7 @@ use Rattle.opc_state_cache.specs.Meaning.{cached_meaning}
 use Rattle.opc_state_cache.specs.declared.cached.Cached.{Cached}
 use Rattle.opc_http_connections.specs.Links.{ClientSource}
 use Rattle.opc_http_head.specs.declared.origins.Origins.{Origins}
-use Rattle.opc_http_serve.specs.declared.arrival.ServeFault.{ServeFault}
-use Rattle.opc_http_serve.specs.Handled.{AreHandled, Handled, IsRunOf}
+use Rattle.opc_http_serve.specs.Handled.{Handled, IsRunOf}
 use Rattle.opc_cli_failures.specs.declared.failure.Failure.{Failure}
 use Rattle.opc_cli_failures.specs.declared.status.Status.{Status}
 use Rattle.opc_cli_options.specs.declared.serve.Address.{Address}

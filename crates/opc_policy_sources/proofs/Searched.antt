@@ -1,5 +1,32 @@
 -- A binary search finds the entry for an id and a condition.
-use Rattle.std.proofs.Common.{◌≡◌, ℕ, ◌<◌, zero, suc, Bool, true, List, [], ◌∷◌, Option, Some, None, Result, Ok, Err, MatchResult, get_or, length, refl, sym, subst, ap, ap₂, ◌∙◌, arith}
+use Rattle.std.proofs.Common.{
+  ◌≡◌,
+  ℕ,
+  ◌<◌,
+  zero,
+  suc,
+  Bool,
+  true,
+  List,
+  [],
+  ◌∷◌,
+  Option,
+  Some,
+  None,
+  Result,
+  Ok,
+  Err,
+  MatchResult,
+  get_or,
+  length,
+  refl,
+  sym,
+  subst,
+  ap,
+  ap₂,
+  ◌∙◌,
+  arith,
+}
 use Rattle.std.specs.Prelude.{◌&&◌, option_map, position, find}
 use Rattle.std.specs.Cmp.{IsTotalOrder, tied_then}
 use Rattle.std.specs.Cmp.Lexicographic.{nat_list_cmp_total, options_total, slice_cmp}

@@ -3,7 +3,12 @@ use Rattle.std.proofs.lemmas.Bool.Decides.{nat_tests}
 use Rattle.opc_account.specs.Filters.{meets, met}
 use Rattle.opc_account.specs.Lines.{AreLines}
 use Rattle.opc_account.proofs.Paged.{count_added, line_added, none_more, not_shown}
-use Rattle.opc_account.proofs.page.page_of.Goals.{else-count-most, else-count-most-via-else-count-most, else-count-most-via-then-count-most+else-meets, then-count-most+then-meets+in_ok-push_row}
+use Rattle.opc_account.proofs.page.page_of.Goals.{
+  else-count-most,
+  else-count-most-via-else-count-most,
+  else-count-most-via-then-count-most+else-meets,
+  then-count-most+then-meets+in_ok-push_row,
+}
 use Rattle.opc_account.proofs.page.page_of.Goals as goal
 
 pub loop-number-preserved : goal.loop-number-preserved

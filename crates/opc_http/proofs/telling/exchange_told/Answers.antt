@@ -63,7 +63,11 @@ returns-in-Err-Refused-clause-served g c =
 
 pub returns-in-Err-Refused-clause-read : goal.returns-in-Err-Refused-clause-read
 returns-in-Err-Refused-clause-read g c =
-    rw (c.told-in-Err-Refused.ensures.served, not_read g.K.Sink.held (Err c.in-Err-Refused.refusal) _ _ c.send_refusal-served.result c.send_refusal-served.ensures.cut_off)
+    rw (
+      c.told-in-Err-Refused.ensures.served,
+      not_read g.K.Sink.held (Err c.in-Err-Refused.refusal) _ _
+          c.send_refusal-served.result c.send_refusal-served.ensures.cut_off,
+    )
     (refused_read c.in-Err-Refused.field-0 c.in-Err-Refused.refusal c.in-Err-Refused.field-0-is _ _ c.in-Err-Refused.ensures.failed)
 
 pub returns-in-Err-Refused-clause-told : goal.returns-in-Err-Refused-clause-told

@@ -2,7 +2,19 @@ use Rattle.opc_http_log.proofs.laws.digests_are_not_shown.Goals as goal
 
 pub returns : goal.returns
 returns c = record {
-  added = λ console id special auditor restricted one other entry line is. record { text = is.text; has = record { time = is.has.time; at = is.has.at; is = is.has.is }; is = is.is };
-  altered = λ console id special auditor revoked restricted one other entry line is. record { text = is.text; has = record { time = is.has.time; at = is.has.at; is = is.has.is }; is = is.is };
-  imported = λ console batch one other entry line is. record { text = is.text; has = record { time = is.has.time; at = is.has.at; is = is.has.is }; is = is.is };
+  added = λ console id special auditor restricted one other entry line is. record {
+    text = is.text;
+    has = record { time = is.has.time; at = is.has.at; is = is.has.is };
+    is = is.is;
+  };
+  altered = λ console id special auditor revoked restricted one other entry line is. record {
+    text = is.text;
+    has = record { time = is.has.time; at = is.has.at; is = is.has.is };
+    is = is.is;
+  };
+  imported = λ console batch one other entry line is. record {
+    text = is.text;
+    has = record { time = is.has.time; at = is.has.at; is = is.has.is };
+    is = is.is;
+  };
 }

@@ -16,13 +16,13 @@ _opcmds() {
         before=${COMP_WORDS[COMP_CWORD - 1]} word=
     fi
     case ${COMP_WORDS[1]} in
-        explain) options='--user --command --as --resource --level --class --console --json --why --help' ;;
+        explain) options='--user --command --as --resource --level --class --console --json --why --policy --db --help' ;;
         run) options='--db --policy --now --console --help' ;;
         import) options='--db --batch --console --help' ;;
         export) options='--db --help' ;;
         serve) options='--db --port --socket --socket-mode --strict --count --timeout --log --help' ;;
-        who) options='--command --as --resource --level --class --console --json --allowed --policy --help' ;;
-        check) options='--policy --allow --json --help' ;;
+        who) options='--command --as --resource --level --class --console --json --allowed --policy --db --help' ;;
+        check) options='--policy --db --allow --json --help' ;;
         account) options='--db --from --last --count --since --until --user --console --code --json --help' ;;
         digest) options=--help ;;
         *) return ;;
@@ -30,6 +30,7 @@ _opcmds() {
     case "${COMP_WORDS[1]} $before" in
         "explain --level") mapfile -t COMPREPLY < <(compgen -W 'NONE READ UPDATE CONTROL ALTER' -- "$word"); return ;;
         "explain --class") mapfile -t COMPREPLY < <(compgen -W 'OPERCMDS CONSOLE' -- "$word"); return ;;
+        "explain --policy" | "explain --db") compopt -o filenames; mapfile -t COMPREPLY < <(compgen -f -- "$word"); return ;;
         "explain --user" | "explain --command" | "explain --as" | "explain --resource" | "explain --console") return ;;
         "run --db" | "run --policy") compopt -o filenames; mapfile -t COMPREPLY < <(compgen -f -- "$word"); return ;;
         "run --console") return ;;
@@ -41,9 +42,9 @@ _opcmds() {
         "serve --port" | "serve --count" | "serve --timeout") return ;;
         "who --level") mapfile -t COMPREPLY < <(compgen -W 'NONE READ UPDATE CONTROL ALTER' -- "$word"); return ;;
         "who --class") mapfile -t COMPREPLY < <(compgen -W 'OPERCMDS CONSOLE' -- "$word"); return ;;
-        "who --policy") compopt -o filenames; mapfile -t COMPREPLY < <(compgen -f -- "$word"); return ;;
+        "who --policy" | "who --db") compopt -o filenames; mapfile -t COMPREPLY < <(compgen -f -- "$word"); return ;;
         "who --command" | "who --as" | "who --resource" | "who --console") return ;;
-        "check --policy") compopt -o filenames; mapfile -t COMPREPLY < <(compgen -f -- "$word"); return ;;
+        "check --policy" | "check --db") compopt -o filenames; mapfile -t COMPREPLY < <(compgen -f -- "$word"); return ;;
         "check --allow") return ;;
         "account --db") compopt -o filenames; mapfile -t COMPREPLY < <(compgen -f -- "$word"); return ;;
         "account --from" | "account --last" | "account --count" | "account --since" | "account --until" | "account --user" | "account --console" | "account --code") return ;;

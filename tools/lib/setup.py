@@ -18,6 +18,7 @@ PACKAGES = {
     "git": "git",
     "cc": "gcc libc6-dev",
     "curl": "curl",
+    "jq": "jq",
     "sqlite3": "sqlite3",
     "sqlite3.h": "gcc libc6-dev libsqlite3-dev",
     "valgrind": "valgrind",

@@ -15,7 +15,9 @@ from .runs import Word, Wrong, run, wants_answer, wants_end
 
 FILE = "policy.csv"
 OPTIONS = {
-    "explain": {"user": True, "class": False, "resource": True, "console": False, "level": True},
+    "explain": {
+        "user": True, "class": False, "resource": True, "console": False, "level": True, "policy": False, "db": False,
+    },
     "run": {"db": False, "policy": False},
     "import": {"db": True, "batch": True, "console": False},
     "export": {"db": True},
@@ -117,7 +119,7 @@ def pairs(words: list[str], flags: tuple[str, ...]) -> list[tuple[str, str]] | N
 
 def answer(command: str, values: dict[str, str]) -> tuple[int, str, str | None] | None:
     if command == "explain":
-        return Explain(values, scripts.base_policy()).model(State())[0][1]
+        return answer_of_explain(values)
     if command == "run" and "db" not in values:
         return answer_of_run(values.get("policy"))
     if not all(is_number(values[name], *NUMBERS[name]) for name in NUMBERS if name in values):
@@ -127,6 +129,15 @@ def answer(command: str, values: dict[str, str]) -> tuple[int, str, str | None] 
     if command == "serve" and not is_address(values):
         return 2, "", None
     return (3, "", "E91 Store") if values["db"] == "/" else None
+
+
+def answer_of_explain(values: dict[str, str]) -> tuple[int, str, str | None] | None:
+    found = Explain(values, scripts.base_policy()).model(State())[0][1]
+    if found[0] == 2:
+        return found
+    if "db" in values:
+        return (3, "", "E91 Store") if values["db"] == "/" else None
+    return found if values.get("policy", FILE) == FILE else answer_without(values["policy"])
 
 
 def is_address(values: dict[str, str]) -> bool:
@@ -141,6 +152,11 @@ def answer_of_run(policy: str | None) -> tuple[int, str, str] | None:
     if policy in (None, FILE):
         data = scripts.base_policy() if policy else None
         return Run(data, ["1 C1 D U\n"]).model(State())[0][1]
+    return answer_without(policy)
+
+
+def answer_without(policy: str) -> tuple[int, str, str] | None:
+    """If a policy file that is named is a folder, or missing."""
     return (3, "", "E91 Store") if policy in ("/", "/no/such") else None
 
 

@@ -9,7 +9,8 @@ from . import random_unread, scripts, world
 from .faults import Fault
 from .files import Row
 from .machine import State
-from .steps import CLOCK, SOME_PORT, Account, Check, Digest, Explain, ExplainCommand, Run, Serve, Step, Take, Who
+from .steps import CLOCK, SOME_PORT, Account, Check, Digest, Explain, ExplainCommand, OverFile, Run, Serve, Step, Take
+from .steps import Who
 from .world import one_in
 
 
@@ -38,6 +39,14 @@ def rarest(chance: Random, makes: Callable[[], Any], keys_of: Callable[[Any], ob
     chosen = min(range(len(found)), key=lambda at: min((seen[key] for key in keys[at]), default=10 ** 6))
     seen.update(keys[chosen])
     return found[chosen]
+
+
+def any_source(chance: Random) -> dict[str, str]:
+    """The policy file is on the input, or named; now and then a database is named beside it, which is a mistake. The
+    step has the paths."""
+    if not one_in(chance, 4):
+        return {}
+    return {"policy": "", "db": ""} if one_in(chance, 8) else {"policy": ""}
 
 
 def explain(chance: Random) -> list[Step]:
@@ -81,7 +90,7 @@ def explain(chance: Random) -> list[Step]:
         words["why"] = ""
     if one_in(chance, 4):
         words["json"] = ""
-    return [Explain(words, random_policies.joined(chance, lines))]
+    return [Explain(words | any_source(chance), random_policies.joined(chance, lines))]
 
 
 def with_consoles(chance: Random) -> bytes:
@@ -107,6 +116,11 @@ def command_asked(chance: Random, first: bytes) -> dict[str, str]:
 def explain_command(chance: Random) -> list[Step]:
     """A policy file with a question of a user, or of nobody, and a command."""
     first = with_consoles(chance)
+    return [ExplainCommand(explain_asked(chance, first) | any_source(chance), first)]
+
+
+def explain_asked(chance: Random, first: bytes) -> dict[str, str]:
+    """The question of a user, or of nobody, and a command."""
     user = "-" if one_in(chance, 3) else chance.choice((*world.USERS, "NOBODY9"))
     words = {"user": user, **command_asked(chance, first)}
     if not one_in(chance, 4):
@@ -117,12 +131,18 @@ def explain_command(chance: Random) -> list[Step]:
         words["why"] = ""
     if one_in(chance, 4):
         words["json"] = ""
-    return [ExplainCommand(words, first)]
+    return words
 
 
 def who(chance: Random) -> list[Step]:
     """A policy file with a question of who may."""
-    first, words = with_consoles(chance), {}
+    first = with_consoles(chance)
+    return [Who(who_asked(chance, first) | any_source(chance), first)]
+
+
+def who_asked(chance: Random, first: bytes) -> dict[str, str]:
+    """The question of who may enter a command, or has a level of access."""
+    words = {}
     if one_in(chance, 3):
         words |= {"resource": world.any_resource(chance), "level": chance.choice(names.LEVELS)}
         if one_in(chance, 2):
@@ -137,7 +157,7 @@ def who(chance: Random) -> list[Step]:
         words["json"] = ""
     if one_in(chance, 40):
         words["as" if "resource" in words else "level"] = "READ"
-    return [Who(words, first)]
+    return words
 
 
 def check(chance: Random) -> list[Step]:
@@ -148,7 +168,7 @@ def check(chance: Random) -> list[Step]:
     while one_in(chance, 2) and len(lines) > 2:
         del lines[chance.randrange(1, len(lines))]
     allowed = [f"N{number:02}" for number in range(1, 20) if one_in(chance, 3)] if one_in(chance, 4) else []
-    return [Check(one_in(chance, 3), allowed, random_policies.joined(chance, lines))]
+    return [Check(one_in(chance, 3), allowed, random_policies.joined(chance, lines), any_source(chance))]
 
 
 def overlapping(chance: Random) -> tuple[list[Row], str]:
@@ -255,6 +275,26 @@ def accounts(chance: Random) -> list[Step]:
     return found + [Account(account_asked(chance, state.account)) for _ in range(8)]
 
 
+def over_file(chance: Random, first: bytes) -> OverFile:
+    """A question of `explain`, `who` or `check`, as over a policy file, to the file in the place of it."""
+    command = chance.choice(("explain", "explain", "who", "who", "check"))
+    if command == "check":
+        words = {"allow": "N08,N14"} if one_in(chance, 3) else {}
+        return OverFile(command, words | ({"json": ""} if one_in(chance, 3) else {}))
+    words = (explain_asked if command == "explain" else who_asked)(chance, first)
+    return OverFile(command, words)
+
+
+def stored(chance: Random) -> list[Step]:
+    """Questions to the file that a script leaves, with units of all kinds on its board."""
+    first = first_file(chance, random_policies.first_policy(chance))
+    state = state_of(first)
+    events = ("JOBIN PAY JOB", "JOBIN CICS STC CICSPROD", "JOBIN ANNA TSU")
+    begin = [f"{at} * {event}\n" for at, event in enumerate(chance.sample(events, 2), 1)]
+    found: list[Step] = [Run(first, script(chance, state, 12, first=begin))]
+    return found + [over_file(chance, first) for _ in range(8)]
+
+
 def digests(chance: Random) -> list[Step]:
     """Passwords, and what almost is one."""
     letters = "AZaz09#$@" if one_in(chance, 2) else "Ab0@ .\r\xe4"
@@ -358,5 +398,5 @@ def first_lines(chance: Random) -> list[str]:
 
 PARTS = {
     "explain": explain, "who": who, "check": check, "lines": lines, "scripts": scripts_of, "account": accounts,
-    "digest": digests, "displays": displays, "requests": requests, "imports": imports,
+    "stored": stored, "digest": digests, "displays": displays, "requests": requests, "imports": imports,
 }

@@ -2,7 +2,7 @@
 import json
 from typing import Any, Iterator
 
-from . import counting, files, names
+from . import asked, counting, files, names
 
 Fields = dict[str, Any]  # a row by its columns, with its number
 WITHOUT_PROFILE = {
@@ -64,6 +64,8 @@ def of_profile(_: Known, row: Fields) -> Iterator[tuple[str, str]]:
         yield "N01", f"{profile} has WARNING"
     if names.is_at_least(row["value"], "UPDATE"):
         yield "N02", f"{profile} gives everyone {row['value']}"
+    if row["class"] == "OPERCMDS" and not asked.is_asked(row["name"]):
+        yield "N17", f"{profile} covers no resource of any command"
 
 
 def of_user(known: Known, row: Fields) -> Iterator[tuple[str, str]]:

@@ -9,7 +9,7 @@ from dataclasses import dataclass
 from lib import clients
 from lib.places import built
 from lib.service import Service
-from . import account, check, counting, digest, exchange, files, names, policy, scripts, tables, who, why
+from . import account, check, counting, digest, exchange, files, names, policy, reading, scripts, tables, who, why
 from .faults import Fault
 from .machine import State
 from .requests import Import
@@ -67,9 +67,22 @@ def options_of(words: dict[str, str]) -> list[str]:
     return [part for name, value in words.items() for part in (f"--{name}", value)[:1 if name in FLAGS else 2]]
 
 
-def asked(command: str, words: dict[str, str], rows: bytes) -> Answers:
+def sourced(words: dict[str, str], rows: bytes, file: str) -> tuple[dict[str, str], bytes]:
+    """The words with the paths of the policy file and the database, if they name them, and the input: the rows, if they
+    name no policy file."""
+    words = words | ({"db": file} if "db" in words else {})
+    if "policy" not in words:
+        return words, rows
+    path = f"{file}.csv"
+    with open(path, "wb") as policy_file:
+        policy_file.write(rows)
+    return words | {"policy": path}, b""
+
+
+def asked(command: str, words: dict[str, str], rows: bytes, file: str) -> Answers:
     """What the program answers over a policy file; words that do not read are reported by a text that no rule fixes."""
-    status, output, errors = run([command, *options_of(words)], rows)
+    words, data = sourced(words, rows, file)
+    status, output, errors = run([command, *options_of(words)], data)
     return [(command, (status, output, None if status == 2 and not errors.startswith("E60 ") else errors))]
 
 
@@ -79,15 +92,16 @@ class Explain:
     words: dict
     rows: bytes
 
-    def program(self, _: str) -> Answers:
-        return asked("explain", self.words, self.rows)
+    def program(self, file: str) -> Answers:
+        return asked("explain", self.words, self.rows, file)
 
     def model(self, _: State) -> Answers:
         found = State()
         user, resource, level = self.words["user"], self.words["resource"], self.words["level"]
         of, console = self.words.get("class", "OPERCMDS"), self.words.get("console")
         good = names.is_user(user) and names.is_resource(resource) and level in names.LEVELS and of in names.CLASSES
-        if not good or not (console is None or names.is_console(console)):
+        good = good and (console is None or names.is_console(console))
+        if not good or not who.has_one_source(self.words):
             counting.met["explain", "words"] += 1
             return [("explain", (2, "", None))]
         try:
@@ -110,8 +124,8 @@ class ExplainCommand:
     words: dict
     rows: bytes
 
-    def program(self, _: str) -> Answers:
-        return asked("explain", self.words, self.rows)
+    def program(self, file: str) -> Answers:
+        return asked("explain", self.words, self.rows, file)
 
     def model(self, _: State) -> Answers:
         if not why.reads(self.words):
@@ -135,8 +149,8 @@ class Who:
     words: dict
     rows: bytes
 
-    def program(self, _: str) -> Answers:
-        return asked("who", self.words, self.rows)
+    def program(self, file: str) -> Answers:
+        return asked("who", self.words, self.rows, file)
 
     def model(self, _: State) -> Answers:
         if not who.reads(self.words):
@@ -160,18 +174,60 @@ class Check:
     as_json: bool
     allowed: list[str]
     data: bytes
+    source: dict
 
-    def program(self, _: str) -> Answers:
-        words = ["check", *["--json"] * self.as_json, *["--allow", ",".join(self.allowed)] * bool(self.allowed)]
-        status, output, errors = run(words, self.data)
-        return [("check", (status, output, errors))]
+    def program(self, file: str) -> Answers:
+        source, data = sourced(self.source, self.data, file)
+        words = ["--json"] * self.as_json + ["--allow", ",".join(self.allowed)] * bool(self.allowed)
+        status, output, errors = run(["check", *words, *options_of(source)], data)
+        return [("check", (status, output, None if errors.startswith("error: ") else errors))]
 
     def model(self, _: State) -> Answers:
+        if not who.has_one_source(self.source):
+            counting.met["check", "words"] += 1
+            return [("check", (2, "", None))]
         output, rows = check.found(self.data, self.as_json)
         if output:
             return [("check", (2, output, ""))]
         counting.met["check", "good"] += 1
         return [("check", (*check.noted(rows, self.allowed, self.as_json), ""))]
+
+
+def on_board(state: State, words: dict[str, str]) -> dict[str, str]:
+    """The words, with what the unit is that the command names, by the board if they do not say it."""
+    if "as" in words or "command" not in words:
+        return words
+    command = reading.read(words["command"])
+    unit = state.board.units.get(command.operands[0]) if command.operands else None
+    if unit is None or unit.kind == "JOB":
+        return words
+    counting.met["over a file", f"a {unit.kind} on the board"] += 1
+    return words | {"as": f"STC:{unit.member}" if unit.kind == "STC" else "TSU"}
+
+
+@dataclass
+class OverFile:
+    """`explain`, `who` or `check` over the file: the answer by what it exports, with the units of its board."""
+    command: str
+    words: dict
+
+    def program(self, file: str) -> Answers:
+        words = [self.command, "--db", file, *options_of(self.words)]
+        status, output, errors = run(words)
+        return [(words, (status, output, None if status == 2 else errors))]
+
+    def model(self, state: State) -> Answers:
+        rows = state.exported().encode()
+        if self.command == "check":
+            return Check("json" in self.words, self.words.get("allow", "").split(","), rows, {}).model(state)
+        if self.command == "who":
+            step = Who
+        else:
+            step = ExplainCommand if "command" in self.words else Explain
+        try:
+            return step(on_board(state, self.words), rows).model(state)
+        except Fault:
+            return step(self.words, rows).model(state)
 
 
 @dataclass

@@ -205,10 +205,15 @@ def unit(text: str | None) -> Unit | None:
     return Unit("TSU", None, True) if text == "TSU" else Unit("STC", text[len("STC:"):], True)
 
 
+def has_one_source(words: dict[str, str]) -> bool:
+    """Whether the policy comes from one place: a policy file, on the input or named, or a database."""
+    return "policy" not in words or "db" not in words
+
+
 def reads(words: dict[str, str]) -> bool:
     """Whether the values of the options read, and belong together."""
     console = words.get("console")
-    if console is not None and not names.is_console(console):
+    if not has_one_source(words) or not (console is None or names.is_console(console)):
         return False
     if "command" in words:
         kind = words.get("as")

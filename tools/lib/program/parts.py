@@ -335,6 +335,7 @@ PARTS: dict[str, Callable[[Room], None]] = {
     "explain": table("explain"),
     "who": table("who"),
     "check": table("check"),
+    "sources": table("sources"),
     "account": table("account"),
     "digest": table("digest"),
     "name": another_name,

@@ -4,7 +4,6 @@ use Rattle.std.proofs.Common.{
   ◌<◌,
   ◌+◌,
   ℕ,
-  suc,
   Bool,
   true,
   false,
@@ -22,8 +21,6 @@ use Rattle.std.proofs.Common.{
   IfOk,
   OnOk,
   take,
-  drop,
-  drop-cons,
   get_or,
   length,
   is_some,
@@ -38,7 +35,6 @@ use Rattle.std.proofs.Common.{
   ap₂,
   ◌∙◌,
 }
-use Rattle.std.proofs.Math.ListN.{take-append-drop}
 use Rattle.std.proofs.lemmas.List.{take_more, append-nil}
 use Rattle.std.proofs.lemmas.List.Elements.{filter_map-append}
 use Rattle.opc_terms.specs.declared.fault.Fault.{Fault}
@@ -47,7 +43,7 @@ use Rattle.opc_policy_members.specs.declared.policy.Policy.{Policy}
 use Rattle.opc_policy_members.specs.declared.row.Row.{Row}
 use Rattle.opc_policy_members.specs.declared.row.Row.TheVariants as rows
 use Rattle.opc_policy_members.specs.Profiles.{profile_of}
-use Rattle.opc_policy_members.specs.Taken.{after_row, has_user, has_group, has_holder, unless, needing}
+use Rattle.opc_policy_members.specs.Taken.{after_row, has_user, has_group, has_holder, unless, needing, policy_after, then_policy}
 use Rattle.opc_board.specs.declared.board.BoardRows.{BoardRows}
 use Rattle.opc_board.specs.declared.rows.ConsoleRow.{ConsoleRow}
 use Rattle.opc_board.specs.Consoles.{defined}
@@ -61,7 +57,7 @@ use Rattle.opc_state.specs.declared.change.Edit.{Edit}
 use Rattle.opc_state.specs.State.{State}
 use Rattle.opc_state.specs.Changes.{edited, all_edited, with_board}
 use Rattle.opc_gate_imports.specs.RowEdits.{AreEditsOf, consoles_alone, HaveNothingNew, edit_of, edits_of}
-use Rattle.opc_machine.specs.Bootstrap.{then_policy, policy_after, console_after, consoles_after, with_rows_of, with_rows, loses_master, mastered}
+use Rattle.opc_machine.specs.Bootstrap.{console_after, consoles_after, with_rows_of, with_rows, loses_master, mastered}
 
 -- what follows from a success, or from a fault
 pub if_ok_both : {V E R : Type 0} {P Q : V → Type 0} (r : Result V E) → ((v : V) → P v → R → Q v) → IfOk r P → OnOk r R → IfOk r Q
@@ -71,35 +67,6 @@ if_ok_both (Err e) follows h k = tt
 pub if_err : {V E : Type 0} {P Q : E → Type 0} (r : Result V E) → ((e : E) → P e → Q e) → IfErr r P → IfErr r Q
 if_err (Ok v) follows h = tt
 if_err (Err e) follows h = follows e h
-
--- rows, and then more
-pub policy_steps : (one more : List Row) (p : Policy) → policy_after (one ++ more) p ≡ then_policy (policy_after one p) (λ q. policy_after more q)
-policy_steps [] more p = refl
-policy_steps (row ∷ one) more p = go (after_row row p) (λ q. policy_steps one more q)
-  where
-    go : (r : Result Policy Fault) → ((q : Policy) → policy_after (one ++ more) q ≡ then_policy (policy_after one q) (λ x. policy_after more x))
-        → then_policy r (λ q. policy_after (one ++ more) q) ≡ then_policy (then_policy r (λ q. policy_after one q)) (λ q. policy_after more q)
-    go (Ok q) later = later q
-    go (Err fault) later = refl
-
-pub policy_more : (all : List Row) (i : ℕ) (row : Row) (start p q : Policy) → i < length all → row ≡ get_or all i row
-    → policy_after (take i all) start ≡ Ok p → after_row row p ≡ Ok q
-    → policy_after (take (i + 1) all) start ≡ Ok q
-policy_more all i row start p q low is was next =
-    ap (λ xs. policy_after xs start) (take_more all i row low ∙ ap (λ x. take i all ++ x ∷ []) (sym is))
-    ∙ policy_steps (take i all) (row ∷ []) start
-    ∙ ap (λ r. then_policy r (λ x. policy_after (row ∷ []) x)) was
-    ∙ ap (λ r. then_policy r (λ x. policy_after [] x)) next
-
-pub policy_stops : (all : List Row) (i : ℕ) (row : Row) (start p : Policy) (f : Fault) → i < length all
-    → row ≡ get_or all i row → policy_after (take i all) start ≡ Ok p → after_row row p ≡ Err f
-    → policy_after all start ≡ Err f
-policy_stops all i row start p f low is was stops =
-    ap (λ xs. policy_after xs start) (sym (take-append-drop i all)
-    ∙ ap (λ xs. take i all ++ xs) (drop-cons all i row low ∙ ap (λ x. x ∷ drop (suc i) all) (sym is)))
-    ∙ policy_steps (take i all) (row ∷ drop (suc i) all) start
-    ∙ ap (λ r. then_policy r (λ x. policy_after (row ∷ drop (suc i) all) x)) was
-    ∙ ap (λ r. then_policy r (λ x. policy_after (drop (suc i) all) x)) stops
 
 pub consoles_steps : (one more : List Row) (b : BoardRows) → consoles_after (one ++ more) b ≡ consoles_after more (consoles_after one b)
 consoles_steps [] more b = refl

@@ -16,14 +16,8 @@ ghost use Rattle.opc_gate_imports.specs.RowEdits.{
   edit_of,
   edits_of,
 };
-ghost use Rattle.opc_machine.specs.Bootstrap.{
-  bootstrapped,
-  console_after,
-  consoles_after,
-  with_rows,
-  loses_master,
-  policy_after,
-};
+ghost use Rattle.opc_policy_members.specs.Taken.{policy_after};
+ghost use Rattle.opc_machine.specs.Bootstrap.{bootstrapped, console_after, consoles_after, with_rows, loses_master};
 
 use opc_board::board::{Board, BoardRows};
 use opc_board::rows::ConsoleRow;
@@ -106,16 +100,6 @@ fn add_edits(alloc: Global, edits: &mut Vec<Edit>, rows: &[Row]) -> Result<(), A
     Ok(())
 }
 
-fn take_all(policy: &mut Policy, alloc: Global, rows: &[Row]) -> Result<(), Fault>
-    ensures ok { OnOk result (policy_after rows.now policy.old ≡ Ok policy.new) }
-    ensures fault { IfErr result (λ f. f ≢ why.NoMemory → policy_after rows.now policy.old ≡ Err f) }
-{
-    for row in rows {
-        policy.take(alloc, row)?;
-    }
-    Ok(())
-}
-
 fn define_console(board: &mut Board, row: &Row) -> Result<(), AllocError>
     ensures { OnOk result (board.new ≡ console_after row.now board.old) }
 {
@@ -191,7 +175,9 @@ fn edits_of_rows(
     ensures refused { IfErr result (λ f. f ≢ why.NoMemory → (s : State) → policy.old ≡ s.policy
         → board.old ≡ consoles_alone s.board → IsInOrder s.board → with_rows rows.now s ≡ Err f) }
 {
-    take_all(policy, alloc, rows)?;
+    if let Err(refused) = policy.take_all(alloc, rows) {
+        return Err(refused.fault);
+    }
     let old = copied(alloc, board)?;
     edits_of_consoles(alloc, &old, board, rows)
 }

@@ -29,7 +29,7 @@ const FEW: usize = 1;
 
 /// The level that a user holds at a console in a profile, whose access list is still in the tables. More and more of
 /// the access list and of the user's groups are loaded, until one of them is whole; then it decides what is looked up
-/// in the other. So the time is in proportion to the shorter of both.
+/// in the other. So rows and look-ups are in proportion to the shorter of both; a list in memory is searched by halves.
 pub(crate) fn level_on<T: Tables>(
     tables: &mut T,
     alloc: Global,

@@ -126,7 +126,6 @@ fn are_lower_digits(text: &str) -> bool
     text.bytes().all(|c| is_lower_digit(c))
 }
 
-// The digest of a user, who may have none.
 /// The SHA-256 that a field of 64 hexadecimal digits is; an empty field is none.
 pub fn read_digest(text: &str) -> Option<Option<[u8; 32]>>
     ensures { result ≡ digest_of text.now }

@@ -5,22 +5,13 @@ use Rattle.opc_terms.specs.declared.fault.Fault.TheVariants.{NotEmpty, LastMaste
 use Rattle.opc_policy_members.specs.declared.policy.Policy.{Policy}
 use Rattle.opc_policy_members.specs.declared.row.Row.{Row}
 use Rattle.opc_policy_members.specs.declared.row.Row.TheVariants as rows
-use Rattle.opc_policy_members.specs.Taken.{after_row}
+use Rattle.opc_policy_members.specs.Taken.{policy_after}
 use Rattle.opc_board.specs.declared.board.BoardRows.{BoardRows}
 use Rattle.opc_board.specs.Consoles.{console_defined}
 use Rattle.opc_board.specs.Invariants.{has_master}
 use Rattle.opc_state.specs.State.{State, has_users}
 
-abbrev pub then_policy : Result Policy Fault → (Policy → Result Policy Fault) → Result Policy Fault
-then_policy (Ok p) next = next p
-then_policy (Err fault) next = Err fault
-
--- rows taken one after another, up to the first that has a fault
-abbrev pub policy_after : List Row → Policy → Result Policy Fault
-policy_after [] p = Ok p
-policy_after (row ∷ more) p = then_policy (after_row row p) (λ q. policy_after more q)
-
--- and their consoles, which have none
+-- the board after the consoles of rows, which have no faults
 abbrev pub console_after : Row → BoardRows → BoardRows
 console_after (rows.Console name auth mode) b = console_defined name auth mode b
 console_after other b = b

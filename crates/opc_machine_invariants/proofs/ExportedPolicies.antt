@@ -49,7 +49,7 @@ use Rattle.opc_policy_members.specs.Access.{entry_cmp, with_entry}
 use Rattle.opc_policy_members.specs.Members.{connect_cmp, is_group, name_cmp, user_cmp, user_of, with_connect, with_user}
 use Rattle.opc_policy_members.specs.Profiles.{class_cmp, is_of, profile_cmp, profile_of, with_definition, with_profile}
 use Rattle.opc_policy_members.proofs.Classes.{same_class_is}
-use Rattle.opc_policy_members.specs.Taken.{after_row, has_group, has_holder, has_user, needing, unless}
+use Rattle.opc_policy_members.specs.Taken.{after_row, has_group, has_holder, has_user, needing, unless, policy_after}
 use Rattle.opc_rows.specs.Ordered.{Ascends}
 use Rattle.opc_board.specs.declared.rows.ConsoleRow.{ConsoleRow}
 use Rattle.opc_state.specs.Invariants.{IsConnectOfStored, IsEntryOfStored, IsPolicy, IsProfileOfStored}
@@ -66,7 +66,6 @@ use Rattle.opc_state.specs.PolicyFile.{
   rows_of_classes,
 }
 use Rattle.opc_state.specs.State.{empty}
-use Rattle.opc_machine.specs.Bootstrap.{policy_after}
 use Rattle.opc_machine_invariants.specs.KeptInvariants.{IsOrdered}
 use Rattle.opc_machine_invariants.proofs.Appending.{all_before, all_of, find_past, insert_last, replace_last, replace_middle}
 use Rattle.opc_machine_invariants.proofs.Taken.{all_taken, then_rows}

@@ -38,7 +38,7 @@ use Rattle.opc_terms.specs.declared.rule.Rule.{Rule}
 use Rattle.opc_policy_members.specs.declared.user.User.{User}
 use Rattle.opc_policy_members.specs.Profiles.{of_class}
 use Rattle.opc_policy_members.specs.Members.{user_of}
-use Rattle.opc_policy_members.specs.Taken.{has_user}
+use Rattle.opc_policy_members.specs.Taken.{has_user, policy_after}
 use Rattle.opc_reader_commands.specs.declared.command.Command.{Command}
 use Rattle.opc_reader_commands.specs.declared.command.Command.TheVariants as command
 use Rattle.opc_board.specs.declared.board.BoardRows.{BoardRows}
@@ -54,7 +54,7 @@ use Rattle.opc_state.specs.Members.{with_batch}
 use Rattle.opc_state.specs.State.{State, has_users}
 use Rattle.opc_state.specs.Loads.{asked_for}
 use Rattle.opc_machine.specs.Administration.{admin_outcome, board_changed, changed, policy_changed}
-use Rattle.opc_machine.specs.Bootstrap.{console_after, consoles_after, with_rows_of, with_rows, loses_master, mastered, policy_after}
+use Rattle.opc_machine.specs.Bootstrap.{console_after, consoles_after, with_rows_of, with_rows, loses_master, mastered}
 use Rattle.opc_machine.specs.Commands.{
   acted,
   allowed,

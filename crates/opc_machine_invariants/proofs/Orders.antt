@@ -23,7 +23,7 @@ use Rattle.opc_policy_members.specs.declared.user.User.{User}
 use Rattle.opc_policy_members.specs.Access.{entry_cmp, is_for, with_entry}
 use Rattle.opc_policy_members.specs.Members.{connect_cmp, name_cmp, user_cmp, with_connect, with_group, with_user}
 use Rattle.opc_policy_members.specs.Profiles.{class_cmp, is_of, profile_cmp, profile_of, with_definition, with_permission}
-use Rattle.opc_policy_members.specs.Taken.{after_row, has_group, has_holder, has_user}
+use Rattle.opc_policy_members.specs.Taken.{after_row, has_group, has_holder, has_user, policy_after, then_policy}
 use Rattle.opc_policy_members.proofs.Placed.{order}
 use Rattle.opc_rows.specs.Ordered.{Ascends}
 use Rattle.opc_rows.proofs.Orders.{all_filter, all_found, ascends_filter}
@@ -31,7 +31,6 @@ use Rattle.opc_board.specs.declared.board.BoardRows.{BoardRows}
 use Rattle.opc_state.specs.Loads.{is_connected}
 use Rattle.opc_state.specs.Members.{without_connect, without_entry, without_permission, without_profile, without_user}
 use Rattle.opc_machine.specs.Administration.{definition, has_name, is_in_use, is_permitted, policy_changed}
-use Rattle.opc_machine.specs.Bootstrap.{policy_after, then_policy}
 use Rattle.opc_machine.specs.declared.operation.Operation.{Operation}
 use Rattle.opc_machine.specs.declared.operation.Operation.TheVariants as operation
 use Rattle.opc_machine_invariants.specs.KeptInvariants.{IsOrdered}

@@ -12,7 +12,7 @@ use Rattle.opc_policy_members.specs.declared.row.Row.TheVariants as rows
 use Rattle.opc_policy_members.specs.declared.user.User.{User}
 use Rattle.opc_policy_members.specs.Members.{with_connect, with_group, with_user}
 use Rattle.opc_policy_members.specs.Profiles.{is_of, profile_of, with_definition, with_permission}
-use Rattle.opc_policy_members.specs.Taken.{after_row, has_group, has_holder, has_user, needing, unless}
+use Rattle.opc_policy_members.specs.Taken.{after_row, has_group, has_holder, has_user, needing, unless, policy_after, then_policy}
 use Rattle.opc_rows.proofs.Orders.{all_filter}
 use Rattle.opc_board.specs.declared.board.BoardRows.{BoardRows}
 use Rattle.opc_state.specs.Invariants.{IsConnectOfStored, IsPolicy, IsProfileOfStored}
@@ -27,7 +27,6 @@ use Rattle.opc_machine.specs.Administration.{
   policy_changed,
   unless_in_use,
 }
-use Rattle.opc_machine.specs.Bootstrap.{policy_after, then_policy}
 use Rattle.opc_machine.specs.declared.operation.Operation.{Operation}
 use Rattle.opc_machine.specs.declared.operation.Operation.TheVariants as operation
 use Rattle.opc_machine_invariants.proofs.Boards.{IsKeptBoard, defined_kept}

@@ -4,9 +4,8 @@ use Rattle.std.specs.List.{AllByRecursion}
 use Rattle.opc_terms.specs.declared.fault.Fault.{Fault}
 use Rattle.opc_policy_members.specs.declared.policy.Policy.{Policy}
 use Rattle.opc_policy_members.specs.declared.row.Row.{Row}
-use Rattle.opc_policy_members.specs.Taken.{after_row}
+use Rattle.opc_policy_members.specs.Taken.{after_row, policy_after, then_policy}
 use Rattle.opc_rows.specs.Ordered.{Ascends}
-use Rattle.opc_machine.specs.Bootstrap.{policy_after, then_policy}
 use Rattle.opc_machine_invariants.proofs.Appending.{all_before}
 
 rows_then : (rows more : List Row) (p : Policy) → policy_after (rows ++ more) p ≡ then_policy (policy_after rows p) (λ q. policy_after more q)

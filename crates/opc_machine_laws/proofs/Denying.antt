@@ -29,7 +29,7 @@ use Rattle.opc_terms.specs.declared.rule.Rule.{Rule}
 use Rattle.opc_terms.specs.declared.rule.Rule.TheVariants as rule
 use Rattle.opc_policy_members.specs.Profiles.{profile_of, with_definition, with_permission}
 use Rattle.opc_policy_members.specs.Members.{with_user, with_group, with_connect}
-use Rattle.opc_policy_members.specs.Taken.{after_row, has_user, has_group, has_holder, unless, needing}
+use Rattle.opc_policy_members.specs.Taken.{after_row, has_user, has_group, has_holder, unless, needing, policy_after, then_policy}
 use Rattle.opc_board.specs.declared.board.BoardRows.{BoardRows}
 use Rattle.opc_board.specs.declared.rows.ConsoleRow.{ConsoleRow}
 use Rattle.opc_state.specs.Members.{without_user, without_connect, without_profile, without_permission}
@@ -43,7 +43,7 @@ use Rattle.opc_machine.specs.Administration.{
   is_permitted,
   unless_in_use,
 }
-use Rattle.opc_machine.specs.Bootstrap.{with_rows_of, loses_master, mastered, policy_after, then_policy}
+use Rattle.opc_machine.specs.Bootstrap.{with_rows_of, loses_master, mastered}
 use Rattle.opc_machine.specs.Commands.{denial_fault}
 use Rattle.opc_machine.specs.Inputs as input
 use Rattle.opc_machine_laws.specs.Laws.{IsNamedBy}

@@ -43,7 +43,8 @@ use Rattle.opc_state.specs.Members.{with_batch}
 use Rattle.opc_state.specs.State.{State}
 use Rattle.opc_state.specs.Loads.{asked_for}
 use Rattle.opc_machine.specs.Administration.{admin_outcome, changed, policy_changed, board_changed}
-use Rattle.opc_machine.specs.Bootstrap.{with_rows, policy_after, consoles_after}
+use Rattle.opc_policy_members.specs.Taken.{policy_after}
+use Rattle.opc_machine.specs.Bootstrap.{with_rows, consoles_after}
 use Rattle.opc_machine.specs.Commands.{acted, console_for, event_outcome}
 use Rattle.opc_machine.specs.Imports.{batch_line, batch_of, batch_outcome, import_outcome, same_rows}
 use Rattle.opc_machine.specs.Inputs.{Input}

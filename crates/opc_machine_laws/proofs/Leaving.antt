@@ -56,7 +56,8 @@ use Rattle.opc_state.specs.State.{State}
 use Rattle.opc_machine.specs.declared.operation.Operation.{Operation}
 use Rattle.opc_machine.specs.declared.request.Request.TheVariants as request
 use Rattle.opc_machine.specs.Administration.{admin_outcome, board_changed, changed, policy_changed}
-use Rattle.opc_machine.specs.Bootstrap.{consoles_after, loses_master, mastered, policy_after, with_rows, with_rows_of}
+use Rattle.opc_policy_members.specs.Taken.{policy_after}
+use Rattle.opc_machine.specs.Bootstrap.{consoles_after, loses_master, mastered, with_rows, with_rows_of}
 use Rattle.opc_machine.specs.Commands.{
   acted,
   allowed,

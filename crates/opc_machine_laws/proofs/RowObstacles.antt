@@ -30,12 +30,12 @@ use Rattle.opc_policy_members.specs.declared.profile.Profile.{Profile}
 use Rattle.opc_policy_members.specs.declared.row.Row.{Row}
 use Rattle.opc_policy_members.specs.declared.row.Row.TheVariants as rows
 use Rattle.opc_policy_members.specs.Profiles.{profile_of}
-use Rattle.opc_policy_members.specs.Taken.{after_row, has_group, has_holder, has_user}
+use Rattle.opc_policy_members.specs.Taken.{after_row, has_group, has_holder, has_user, policy_after, then_policy}
 use Rattle.opc_board.specs.declared.board.BoardRows.{BoardRows}
 use Rattle.opc_board.specs.declared.rows.ConsoleRow.{ConsoleRow}
 use Rattle.opc_board.specs.Consoles.{console_defined, defined, new_console}
 use Rattle.opc_board.specs.Invariants.{Name, console_at, console_before, has_master}
-use Rattle.opc_machine.specs.Bootstrap.{consoles_after, mastered, policy_after, then_policy, with_rows_of}
+use Rattle.opc_machine.specs.Bootstrap.{consoles_after, mastered, with_rows_of}
 use Rattle.opc_machine_laws.specs.EffectLaws.{OnlyConsoles}
 use Rattle.opc_machine_laws.specs.RowLaws.{
   ConsoleIsDefined,

@@ -36,7 +36,7 @@ use Rattle.opc_policy_members.specs.declared.row.Row.{Row}
 use Rattle.opc_policy_members.specs.declared.row.Row.TheVariants as rows
 use Rattle.opc_policy_members.specs.declared.user.User.{User}
 use Rattle.opc_policy_members.specs.Profiles.{profile_of}
-use Rattle.opc_policy_members.specs.Taken.{after_row, has_group, has_holder, has_user, needing, unless}
+use Rattle.opc_policy_members.specs.Taken.{after_row, has_group, has_holder, has_user, needing, unless, policy_after, then_policy}
 use Rattle.opc_board.specs.declared.board.BoardRows.{BoardRows}
 use Rattle.opc_board.specs.Invariants.{has_master}
 use Rattle.opc_state.specs.declared.change.Batch.{Batch}
@@ -45,7 +45,7 @@ use Rattle.opc_state.specs.State.{State, is_some_user}
 use Rattle.opc_machine.specs.declared.operation.Operation.{Operation}
 use Rattle.opc_machine.specs.declared.operation.Operation.TheVariants as operation
 use Rattle.opc_machine.specs.Administration.{board_changed, has_name, is_in_use, is_permitted, policy_changed, unless_in_use}
-use Rattle.opc_machine.specs.Bootstrap.{console_after, consoles_after, loses_master, mastered, policy_after, then_policy, with_rows, with_rows_of}
+use Rattle.opc_machine.specs.Bootstrap.{console_after, consoles_after, loses_master, mastered, with_rows, with_rows_of}
 use Rattle.opc_machine.specs.Imports.{batch_of}
 use Rattle.opc_machine_laws.specs.TakingLaws.{
   AreDefined,

@@ -2,7 +2,9 @@ pub mod Classes
 pub mod Highest
 pub mod KeyOrder
 pub mod ListedGroups
+pub mod Looked
 pub mod Maps
 pub mod Placed
 pub mod ProfilesByKey
+pub mod RowsTaken
 pub mod UsersById

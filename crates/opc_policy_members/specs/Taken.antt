@@ -1,5 +1,22 @@
 -- What the rows of a written policy make of a policy.
-use Rattle.std.specs.Prelude.{ℕ, Bool, ◌||◌, List, [], Result, Ok, Err, if◌then◌else◌, is_some, codes}
+use Rattle.std.specs.Prelude.{
+  ◌≡◌,
+  ◌+◌,
+  ◌||◌,
+  ℕ,
+  Bool,
+  false,
+  List,
+  [],
+  ◌∷◌,
+  Result,
+  Ok,
+  Err,
+  codes,
+  if◌then◌else◌,
+  is_some,
+  take,
+}
 use Rattle.std.specs.Str.{bytes_eq}
 use Rattle.opc_names.specs.declared.class.Class.{Class}
 use Rattle.opc_names.specs.declared.class.Class.TheVariants.{Console, Opercmds}
@@ -79,3 +96,27 @@ after_row (rows.Permit class pattern id level when) p =
         level = level;
       }) p.profiles;
     })))
+
+-- with nothing in it, and no class active
+abbrev pub no_policy : Policy
+no_policy = record {
+  users = [];
+  groups = [];
+  connects = [];
+  profiles = [];
+  active = record { console = false; opercmds = false };
+}
+
+abbrev pub then_policy : Result Policy Fault → (Policy → Result Policy Fault) → Result Policy Fault
+then_policy (Ok p) next = next p
+then_policy (Err fault) next = Err fault
+
+-- rows taken one after another, up to the first that has a fault
+abbrev pub policy_after : List Row → Policy → Result Policy Fault
+policy_after [] p = Ok p
+policy_after (row ∷ more) p = then_policy (after_row row p) (λ q. policy_after more q)
+
+-- This many rows make one policy out of another, and one row more has this fault.
+pub record IsRefusedAt (old new : Policy) (all : List Row) (count : ℕ) (fault : Fault) : Type 0 where
+  pub applied : policy_after (take count all) old ≡ Ok new
+  pub refused : policy_after (take (count + 1) all) old ≡ Err fault

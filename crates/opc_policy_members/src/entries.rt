@@ -60,8 +60,14 @@ impl Entries {
     pub fn level_of(&self, when: Option<&ConsoleName>, id: &str) -> Option<Level>
         ensures { result ≡ entry_level self.now (option_copied when.entry) id.now }
     {
-        let entry = self.list.iter().find(|entry| entry.is_for(when, id))?;
-        Some(entry.level)
+        // by halves, since a long list is asked once for each group of a user
+        match self
+            .list
+            .binary_search_by(|entry| entry.place_cmp_for(when, id))
+        {
+            Ok(at) => Some(self.list[at].level),
+            Err(_) => None,
+        }
     }
 
     /// Sets the level for an id and a console.

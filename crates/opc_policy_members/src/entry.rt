@@ -15,20 +15,23 @@ pub struct Entry {
 }
 
 impl Entry {
-    ghost use Rattle.std.specs.Option.{option_copied};
-    ghost use Rattle.opc_policy_members.specs.Access.{is_for, entry_cmp};
-
-    /// Whether it is for an id, and for this console alone or, if none is given, for every console.
-    pub(crate) fn is_for(&self, when: Option<&ConsoleName>, id: &str) -> bool
-        ensures { result ≡ is_for (option_copied when.entry) id.now self.now }
-    {
-        self.id.text() == id && self.when.as_ref() == when
-    }
+    ghost use Rattle.std.specs.Cmp.Lexicographic.{slice_cmp};
+    ghost use Rattle.std.specs.Option.{option_copied, option_cmp};
+    ghost use Rattle.std.specs.Ordering.{nat_cmp, ordering_then};
+    ghost use Rattle.opc_policy_members.specs.Access.{entry_cmp};
 
     /// The order of ids, and then that of consoles.
     pub(crate) fn place_cmp(&self, other: &Entry) -> Ordering
         ensures { result ≡ entry_cmp self.now other.now }
     {
         self.id.cmp(&other.id).then(self.when.cmp(&other.when))
+    }
+
+    /// Where it stands relative to the entry for an id and this console alone or, if none is given, every console.
+    pub(crate) fn place_cmp_for(&self, when: Option<&ConsoleName>, id: &str) -> Ordering
+        ensures { result ≡ ordering_then (slice_cmp nat_cmp self.now.id id.now)
+            (option_cmp (slice_cmp nat_cmp) self.now.when (option_copied when.entry)) }
+    {
+        self.id.text().cmp(id).then(self.when.as_ref().cmp(&when))
     }
 }

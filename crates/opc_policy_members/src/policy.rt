@@ -69,21 +69,29 @@ impl Drop for Policy {
     }
 }
 
+/// A row that is refused: its place among the rows that were to be applied, from 0 on, and why.
+#[derive(Clone, Copy)]
+pub struct RefusedAt {
+    pub at: usize,
+    pub fault: Fault,
+}
+
 impl Policy {
-    ghost use Rattle.std.specs.Prelude.{[], false};
-    ghost use Rattle.opc_policy_members.specs.Taken.{after_row, after_definition, has_holder};
+    ghost use Rattle.std.specs.Prelude.{IfOk};
+    ghost use Rattle.opc_policy_members.specs.Taken.{
+      IsRefusedAt,
+      after_row,
+      after_definition,
+      has_holder,
+      no_policy,
+      policy_after,
+    };
     ghost use Rattle.opc_terms.specs.declared.fault.Fault.TheVariants.{NoMemory};
     ghost use Rattle.opc_policy_members.specs.declared.row.Row.TheVariants as rows;
 
     /// A policy with nothing in it, and no class active.
     pub fn new(alloc: Global) -> Self
-        ensures { result ≡ record {
-          users = [];
-          groups = [];
-          connects = [];
-          profiles = [];
-          active = record { console = false; opercmds = false };
-        } }
+        ensures { result ≡ no_policy }
     {
         Policy {
             users: Users::new(alloc),
@@ -95,6 +103,35 @@ impl Policy {
                 opercmds: false,
             },
         }
+    }
+
+    /// The policy that rows make, one after another.
+    pub fn of_rows(alloc: Global, rows: &[Row]) -> Result<Self, Fault>
+        ensures ok { IfOk result (λ policy. policy_after rows.now no_policy ≡ Ok policy) }
+        ensures fault { IfErr result (λ fault. fault ≢ NoMemory → policy_after rows.now no_policy ≡ Err fault) }
+    {
+        let mut policy = Policy::new(alloc);
+        match policy.take_all(alloc, rows) {
+            Ok(()) => Ok(policy),
+            Err(refused) => Err(refused.fault),
+        }
+    }
+
+    /// Applies rows one after another, up to the first that is refused or for which there is no memory. Those before it
+    /// stay applied.
+    pub fn take_all(&mut self, alloc: Global, rows: &[Row]) -> Result<(), RefusedAt>
+        ensures ok { OnOk result (policy_after rows.now self.old ≡ Ok self.new) }
+        ensures fault { IfErr result (λ r. r.fault ≢ NoMemory → policy_after rows.now self.old ≡ Err r.fault) }
+        ensures refused { IfErr result (λ r. r.fault ≢ NoMemory
+            → IsRefusedAt self.old self.new rows.now r.at r.fault) }
+    {
+        for (at, row) in rows.iter().enumerate() {
+            match self.take(alloc, row) {
+                Ok(()) => {}
+                Err(fault) => return Err(RefusedAt { at, fault }),
+            }
+        }
+        Ok(())
     }
 
     /// Applies a row. A fault, out of memory among them, leaves the policy as it was.

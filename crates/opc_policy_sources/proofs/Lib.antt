@@ -1,5 +1,6 @@
 pub mod Given
 pub mod Highest
-pub mod Levels
+pub mod SourceLevels
 pub mod Raising
 pub mod Searched
+pub mod Patterns

@@ -1,3 +1,4 @@
 pub mod Laws
 pub mod SourceTexts
 pub mod Sources
+pub mod Levels

@@ -1,7 +1,9 @@
-//! Where a level comes from that a user holds in a profile.
+//! Where a level comes from that a user holds in a profile, and the level in each profile that covers a resource.
 #![tactic(auto)]
 
 mod entries;
 pub mod laws;
+pub mod levels;
+pub mod levels_text;
 pub mod sources;
 mod text;

@@ -223,6 +223,7 @@ pub fn read_command(line: &str) -> Result<Command<'_>, ReadFault>
     ensures command { (c : TheCommand) → (result ≡ Ok c) ↔ Reads line.now c }
     ensures fault { (f : TheFault) → (result ≡ Err f) ↔ IsReadFault line.now f }
     ensures slices { IfOk result (λ c. OperandsAreSlices line.now c) }
+    ensures reading { result ≡ reading line.now }
 {
     read(line)
 }

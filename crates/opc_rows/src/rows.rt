@@ -66,6 +66,13 @@ impl<R> Rows<R> {
         }
     }
 
+    /// These rows, in their order. None is copied.
+    pub fn of(rows: Vec<R>) -> Self
+        ensures { result ≡ rows.items }
+    {
+        Rows { items: rows }
+    }
+
     /// Adds a row at the end, whatever its key.
     pub fn push(&mut self, row: R) -> Result<(), AllocFailed<R>>
         ensures ok { OnOk result (self.new ≡ self.old ++ row ∷ []) }

@@ -2,7 +2,7 @@ use Rattle.std.proofs.Common.{subst, sym}
 use Rattle.std.specs.Option.{option_copied}
 use Rattle.opc_policy_sources.specs.Sources.{IsGiven}
 use Rattle.opc_policy_sources.proofs.Given.{held_given}
-use Rattle.opc_policy_sources.proofs.Levels.{held_so}
+use Rattle.opc_policy_sources.proofs.SourceLevels.{held_so}
 use Rattle.opc_policy_sources.proofs.sources.held_from.Goals as goal
 
 pub returns-clause-level : goal.returns-clause-level

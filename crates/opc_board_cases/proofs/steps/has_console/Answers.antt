@@ -1,4 +1,0 @@
-use Rattle.opc_board_cases.proofs.steps.has_console.Goals as goal
-
-pub find-requires : goal.find-requires
-find-requires c = rw c.rows.ensures.rows c.rows.ensures.invariants.consoles_rise

@@ -1,3 +1,0 @@
-//! Who is listed what.
-mod listings;
-mod small_room;

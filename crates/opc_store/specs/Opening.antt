@@ -20,13 +20,23 @@ use Rattle.std.specs.Prelude.{
 use Rattle.sqlite_disk.specs.declared.Disk as disk
 use Rattle.sqlite_disk.specs.declared.Files.{Files}
 use Rattle.sqlite_store.specs.declared.store.FileStore.{FileStore}
+use Rattle.sqlite_catalog.specs.Listing.{Lists}
+use Rattle.sqlite_trees.specs.Objects.{catalog_tree}
 use Rattle.sqlite_trees.specs.Tree.{Trees}
 use Rattle.sqlite_trees.specs.declared.store.Store.{Ghosts}
 use Rattle.sqlite.specs.Held.{Held, state}
 use Rattle.sqlite.specs.Recovery.{Image}
 use Rattle.sqlite.specs.Start.{FindsIn}
 use Rattle.sqlite.specs.State.{State, FailsToQuery, HasCleanDisk, IsLive, Opens, Survives}
-use Rattle.sqlite.specs.Files.{over_files, FailsToOpenFiles, IsCleanLeft, LeavesFiles}
+use Rattle.sqlite.specs.Files.{
+  over_files,
+  file_state,
+  AreFoundIn,
+  FailsToOpenFiles,
+  HoldsDatabase,
+  IsCleanLeft,
+  LeavesFiles,
+}
 use Rattle.sqlite.specs.declared.file.Leftover.{Leftover}
 use Rattle.sqlite.specs.declared.error.Error.{Error}
 use Rattle.sqlite.specs.declared.error.Error.TheVariants.{SqlInputError, SqliteFailure}
@@ -43,7 +53,7 @@ use Rattle.opc_store_old_tables.specs.Old.{AreOldTablesOf}
 use Rattle.opc_store_old_tables.specs.Tables.{Older}
 use Rattle.opc_store_schema.specs.Changes.{fault_of}
 use Rattle.opc_store_schema.specs.Making.{AreMadeOver}
-use Rattle.opc_store_schema.specs.Represented.{AreTablesOf, made_version}
+use Rattle.opc_store_schema.specs.Represented.{AreTablesOf, Represents, made_version}
 use Rattle.opc_store_schema.specs.Ours.{has_our_name, NamesVersion, version_query}
 
 -- a log and a database file in which nothing is written
@@ -123,6 +133,19 @@ IsAdopted {D = D} {g = g} image are_made store =
 -- A crash leaves what is there.
 abbrev pub LeavesItself : State → Type 0
 LeavesItself s = HasCleanDisk s → (db : Trees) → s.may_leave db → db ≡ s.now.trees
+
+module _ {D : Type 0} {g : disk.Ghosts D} where
+  -- Files were opened, or made: what they held is what the tables represent, also of older tables; where nothing was
+  -- defined the tables are those of the empty state; a crash leaves that; and they were made now, or not.
+  pub record IsOpenedAt (image : Image) (are_made : Bool) (opened : Held (FileStore D g)) : Type 0 where
+    pub found : HasCleanDisk (file_state opened) → (db : Trees) → HoldsDatabase image db → (s : TheState)
+        → AreTablesOf db s → Represents (file_state opened).now s
+    pub copied : HasCleanDisk (file_state opened) → (db : Trees) → HoldsDatabase image db → (version : Older)
+        → (s : TheState) → AreOldTablesOf version db s → Represents (file_state opened).now s
+    pub made : HasCleanDisk (file_state opened) → (trees : Trees) × AreFoundIn image trees
+        × (Lists (trees catalog_tree) no_schema → Represents (file_state opened).now empty)
+    pub settled : LeavesItself (file_state opened)
+    pub adopted : HasCleanDisk (file_state opened) → IsAdopted image are_made opened
 
 -- The files were not opened: the system refused them or is out of memory, and nothing is left; or `left` is what an
 -- opening that meets this error leaves of `files`.

@@ -2,11 +2,8 @@
 ghost use Rattle.std.specs.Prelude.{◌≡◌, ◌⊎◌, Bool, false, IfOk, IfErr, IsTrue, IsFalse};
 ghost use Rattle.sqlite.specs.Held.{state};
 ghost use Rattle.sqlite.specs.Closing.{IsCopied};
+ghost use Rattle.sqlite.specs.Files.{file_state};
 ghost use Rattle.sqlite_std_file.specs.File.{IsFresh};
-ghost use Rattle.sqlite.specs.Files.{file_state, AreFoundIn, HoldsDatabase};
-ghost use Rattle.sqlite_catalog.specs.Listing.{Lists};
-ghost use Rattle.sqlite_trees.specs.Objects.{catalog_tree};
-ghost use Rattle.sqlite.specs.Tree.{Trees};
 ghost use Rattle.sqlite.specs.WalFiles.{image_at};
 ghost use Rattle.sqlite.specs.WalReads.{AreClean};
 ghost use Rattle.sqlite.specs.State.{HasCleanDisk, Survives};
@@ -21,8 +18,8 @@ ghost use Rattle.opc_store.specs.Opening.{
   open_fault,
   unasked,
   IsKnown,
-  IsAdopted,
   IsNoVersion,
+  IsOpenedAt,
   IsRefused,
   IsNotOpened,
   LeavesItself,
@@ -32,6 +29,7 @@ ghost use Rattle.opc_store.specs.Opening.{
 ghost use Rattle.opc_store.specs.declared.opening.OpenFault.TheVariants as TheFault;
 
 use crate::store::Store;
+use opc_store_file::copying::NotCopied;
 use opc_store_file::site::prepare;
 use opc_store_migration::migrate::migrate_on;
 use opc_store_schema::faults::fault;
@@ -112,6 +110,28 @@ impl NotOpened {
         NotOpened {
             fault,
             is_full: is_no_room(&error),
+        }
+    }
+
+    /// The files were not read.
+    pub(crate) fn by_copying(error: NotCopied) -> Self
+        ensures { IsNoVersion result.fault }
+    {
+        match error {
+            NotCopied::System(error) => NotOpened::by_system(error),
+            NotCopied::NoMemory => NotOpened::unread(OpenFault::NoMemory),
+            // A file that cannot be read as a database, whatever stands at its path.
+            _ => NotOpened::unread(OpenFault::Store),
+        }
+    }
+
+    /// A file that was to be read, and not written.
+    pub(crate) fn unread(fault: OpenFault) -> Self
+        ensures { result.fault ≡ fault }
+    {
+        NotOpened {
+            fault,
+            is_full: false,
         }
     }
 
@@ -258,18 +278,7 @@ impl<S: Start> Store<FileStore<FileFrom<S>>> {
     /// `open_files` states. `NotOurs` is returned only for what was opened. A new file is its owner's alone, and a
     /// refused opening leaves no file that it made and nobody needs.
     pub fn open_at(rt: &HostRuntime, path: &str, start: S) -> Result<(Self, bool), NotOpened>
-        ensures found { IfOk result (λ opened. HasCleanDisk (file_state opened.0) → (db : Trees)
-            → HoldsDatabase (image_at S.Start) db → (s : _) → AreTablesOf db s
-            → Represents (file_state opened.0).now s) }
-        ensures copied { IfOk result (λ opened. HasCleanDisk (file_state opened.0) → (db : Trees)
-            → HoldsDatabase (image_at S.Start) db → (version : _) → (s : _) → AreOldTablesOf version db s
-            → Represents (file_state opened.0).now s) }
-        ensures made { IfOk result (λ opened. HasCleanDisk (file_state opened.0) → (trees : Trees)
-            × AreFoundIn (image_at S.Start) trees
-            × (Lists (trees catalog_tree) no_schema → Represents (file_state opened.0).now empty)) }
-        ensures settled { IfOk result (λ opened. LeavesItself (file_state opened.0)) }
-        ensures adopted { IfOk result (λ opened. HasCleanDisk (file_state opened.0)
-            → IsAdopted (image_at S.Start) opened.1 opened.0) }
+        ensures opened { IfOk result (λ opened. IsOpenedAt (image_at S.Start) opened.1 opened.0) }
         ensures failed { IfErr result (λ refused. IsNotOpened ⟦<FileFrom<S> as Disk>⟧ IsFresh (image_at S.Start)
             refused.fault) }
     {
@@ -290,18 +299,7 @@ impl<S: Start> Store<FileStore<FileFrom<S>>> {
 
     /// The same, if the file has been made.
     fn open_prepared(rt: &HostRuntime, path: &str, start: S) -> Result<(Self, bool), NotOpened>
-        ensures found { IfOk result (λ opened. HasCleanDisk (file_state opened.0) → (db : Trees)
-            → HoldsDatabase (image_at S.Start) db → (s : _) → AreTablesOf db s
-            → Represents (file_state opened.0).now s) }
-        ensures copied { IfOk result (λ opened. HasCleanDisk (file_state opened.0) → (db : Trees)
-            → HoldsDatabase (image_at S.Start) db → (version : _) → (s : _) → AreOldTablesOf version db s
-            → Represents (file_state opened.0).now s) }
-        ensures made { IfOk result (λ opened. HasCleanDisk (file_state opened.0) → (trees : Trees)
-            × AreFoundIn (image_at S.Start) trees
-            × (Lists (trees catalog_tree) no_schema → Represents (file_state opened.0).now empty)) }
-        ensures settled { IfOk result (λ opened. LeavesItself (file_state opened.0)) }
-        ensures adopted { IfOk result (λ opened. HasCleanDisk (file_state opened.0)
-            → IsAdopted (image_at S.Start) opened.1 opened.0) }
+        ensures opened { IfOk result (λ opened. IsOpenedAt (image_at S.Start) opened.1 opened.0) }
         ensures failed { IfErr result (λ refused. IsNotOpened ⟦<FileFrom<S> as Disk>⟧ IsFresh (image_at S.Start)
             refused.fault) }
     {
@@ -322,17 +320,7 @@ impl Store<FileStore<FileFrom<Wary>>> {
     /// The clauses are about a file that is new, for which `Wary` stands; what is found in one that is not, `open_at`
     /// states, for any contents.
     pub fn open_from(rt: &HostRuntime, path: &str) -> Result<Self, OpenFault>
-        ensures found { IfOk result (λ store. HasCleanDisk (file_state store) → (db : Trees)
-            → HoldsDatabase new_files db → (s : _) → AreTablesOf db s → Represents (file_state store).now s) }
-        ensures copied { IfOk result (λ store. HasCleanDisk (file_state store) → (db : Trees)
-            → HoldsDatabase new_files db → (version : _) → (s : _) → AreOldTablesOf version db s
-            → Represents (file_state store).now s) }
-        ensures made { IfOk result (λ store. HasCleanDisk (file_state store) → (trees : Trees)
-            × AreFoundIn new_files trees
-            × (Lists (trees catalog_tree) no_schema → Represents (file_state store).now empty)) }
-        ensures settled { IfOk result (λ store. LeavesItself (file_state store)) }
-        ensures adopted { IfOk result (λ store. HasCleanDisk (file_state store) → (made : Bool)
-            × IsAdopted new_files made store) }
+        ensures opened { IfOk result (λ store. (made : Bool) × IsOpenedAt new_files made store) }
         ensures failed { FailsAtPath IsFresh new_files result }
     {
         match Store::open_at(rt, path, Wary) {

@@ -1,25 +1,27 @@
-//! Opening to read: the database file is not made, nor are its tables, and those of an older version stay as they are.
-ghost use Rattle.std.specs.Prelude.{◌≡◌, IfOk, IfErr, IsTrue, IsFalse, false};
+//! Opening to read: nothing is made or changed, and tables of an older version are refused.
+ghost use Rattle.std.specs.Prelude.{◌≡◌, IfOk, IfErr, IsErrAnd, IsTrue, IsFalse, false, true};
 ghost use Rattle.sqlite.specs.Held.{state};
-ghost use Rattle.sqlite.specs.Files.{file_state, HoldsDatabase};
 ghost use Rattle.sqlite.specs.State.{HasCleanDisk, Survives};
-ghost use Rattle.sqlite.specs.Tree.{Trees};
 ghost use Rattle.sqlite.specs.WalFiles.{image_at};
-ghost use Rattle.sqlite_std_file.specs.File.{IsFresh};
+ghost use Rattle.opc_store_file.specs.Copies.{IsAsRead, bytes_read, is_blank};
 ghost use Rattle.opc_store_schema.specs.Ours.{has_our_name};
 ghost use Rattle.opc_store_schema.specs.Represented.{Represents, AreTablesOf};
 ghost use Rattle.opc_store.specs.Opening.{LeavesItself};
-ghost use Rattle.opc_store.specs.Reading.{IsNotRead, IsOfAnother};
+ghost use Rattle.opc_store.specs.Reading.{IsFoundAt, IsNotRead, IsOfAnother};
 ghost use Rattle.opc_store.specs.declared.opening.OpenFault.TheVariants as TheFault;
 
 use crate::opening::{NotOpened, OURS, OpenFault, version_fault};
 use crate::store::Store;
-use opc_store_file::site::look;
+use opc_store_file::copy::CopyFrom;
+use opc_store_file::copying::copy_files;
 use opc_store_schema::names::has_our_name;
 use opc_store_schema::version::version_on;
-use sqlite::{Alter, Connection, FileFrom, FileStore, Start};
+use sqlite::{Alter, Connection, FileStore, Files, Options, Start};
 use sqlite_disk::Disk;
 use std::alloc::Global;
+
+/// The log of a copy is never read again, so its pages need no number to tell them from those of an earlier one.
+const SALT: u64 = 0;
 
 impl<S: Alter> Store<S> {
     /// Adopts a connection to tables of this version, and changes nothing. Others are `NotOurs`, with the version that
@@ -60,44 +62,39 @@ impl<S: Alter> Store<S> {
     }
 }
 
-impl<S: Start> Store<FileStore<FileFrom<S>>> {
-    /// Opens the database file at a path to read its tables. It is not made if it is missing, and tables of another
-    /// version stay as they are. `start` stands for what the files hold. A refused opening leaves nothing that was not there.
+impl<S: Start> Store<FileStore<CopyFrom<S>>> {
+    /// Opens the database file at a path to read its tables: the file and its log are read whole, and what they hold is
+    /// opened in memory. On the disk nothing is made or changed, so it is enough to be allowed to read. `start` stands
+    /// for what the files hold. A file that is empty, or of one byte, is refused before it is opened: it is `NotOurs`.
     pub fn open_to_read(rt: &HostRuntime, path: &str, start: S) -> Result<Self, NotOpened>
-        ensures found { IfOk result (λ store. HasCleanDisk (file_state store) → (db : Trees)
-            → HoldsDatabase (image_at S.Start) db → (s : _) → AreTablesOf db s → Represents (file_state store).now s) }
-        ensures settled { IfOk result (λ store. LeavesItself (file_state store)) }
-        ensures failed { IfErr result (λ refused. IsNotRead ⟦<FileFrom<S> as Disk>⟧ IsFresh (image_at S.Start)
+        ensures found { IfOk result (IsFoundAt (image_at S.Start)) }
+        ensures failed { IfErr result (λ refused. IsNotRead ⟦<CopyFrom<S> as Disk>⟧ IsAsRead (image_at S.Start)
             refused.fault) }
     {
-        let site = match look(rt, path) {
-            Ok(site) => site,
-            Err(error) => return Err(NotOpened::by_system(error)),
-        };
-        match Store::open_found(rt, path, start) {
-            Ok(store) => Ok(store),
-            Err(refused) => {
-                if let Some(site) = site {
-                    site.tidy(rt);
-                }
-                Err(refused)
-            }
+        match copy_files(rt, path, start) {
+            Ok(files) => Store::open_copies(rt.alloc(), files),
+            Err(error) => Err(NotOpened::by_copying(error)),
         }
     }
 
-    /// The same, if something is there.
-    fn open_found(rt: &HostRuntime, path: &str, start: S) -> Result<Self, NotOpened>
-        ensures found { IfOk result (λ store. HasCleanDisk (file_state store) → (db : Trees)
-            → HoldsDatabase (image_at S.Start) db → (s : _) → AreTablesOf db s → Represents (file_state store).now s) }
-        ensures settled { IfOk result (λ store. LeavesItself (file_state store)) }
-        ensures failed { IfErr result (λ refused. IsNotRead ⟦<FileFrom<S> as Disk>⟧ IsFresh (image_at S.Start)
+    /// The same, if the files have been read.
+    pub fn open_copies(alloc: Global, files: Files<CopyFrom<S>>) -> Result<Self, NotOpened>
+        requires log { IsAsRead true files.log }
+        requires db { IsAsRead false files.db }
+        ensures found { IfOk result (IsFoundAt (image_at S.Start)) }
+        ensures blank { IsTrue (is_blank (bytes_read files.db)) → IsErrAnd result
+            (λ refused. refused.fault ≡ TheFault.NotOurs 0) }
+        ensures failed { IfErr result (λ refused. IsNotRead ⟦<CopyFrom<S> as Disk>⟧ IsAsRead (image_at S.Start)
             refused.fault) }
     {
-        let conn = match Connection::open_from(rt, path, false, start) {
+        if files.db.is_blank() {
+            return Err(NotOpened::unread(OpenFault::NotOurs(0)));
+        }
+        let conn = match Connection::open_files(alloc, files, Options::new(SALT)) {
             Ok(conn) => conn,
             Err((error, _)) => return Err(NotOpened::by_files(error)),
         };
-        match Store::read_files(rt.alloc(), conn) {
+        match Store::read_files(alloc, conn) {
             Ok(store) => Ok(store),
             Err((fault, conn)) => Err(NotOpened::by_tables(fault, conn)),
         }

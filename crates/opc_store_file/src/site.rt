@@ -16,7 +16,7 @@ use std::{fs, io};
 const OWNER_ALONE: u32 = 0o600;
 
 /// The bytes of a database file that SQLite locks, and how many they are.
-const LOCK_BYTES: (u64, u64) = (1 << 30, 512);
+pub(crate) const LOCK_BYTES: (u64, u64) = (1 << 30, 512);
 
 /// Where a database file and its log lie, with no link in their paths, and what was there.
 #[derive(Drop)]
@@ -51,20 +51,6 @@ pub fn prepare(rt: &HostRuntime, path: &str) -> io::Result<Option<Site>>
             }
             Err(error)
         }
-    }
-}
-
-/// Looks at what is at a path, where a database file is to be read: if nothing is, nothing is made, and that is the
-/// error. None if the path means no file.
-pub fn look(rt: &HostRuntime, path: &str) -> io::Result<Option<Site>>
-    ensures { IfOk result (λ site. is_none site ≡ means_no_file path.now) }
-{
-    if means_no_file(path) {
-        return Ok(None);
-    }
-    match Site::at(rt, path, false) {
-        Ok(site) => Ok(Some(site)),
-        Err(error) => Err(error),
     }
 }
 
@@ -170,6 +156,6 @@ fn locked(rt: &HostRuntime, path: &str) -> Option<(File, u64)> {
     }
 }
 
-fn is_same(one: &Metadata, other: &Metadata) -> bool {
+pub(crate) fn is_same(one: &Metadata, other: &Metadata) -> bool {
     one.dev() == other.dev() && one.ino() == other.ino()
 }

@@ -13,42 +13,44 @@ use Rattle.opc_store.proofs.opening.Store+FileStore+FileFrom+S.open_prepared.Goa
 
 pub returns-in-Ok-open_files : goal.returns-in-Ok-open_files
 returns-in-Ok-open_files g c = record {
-  found = λ clean db holds s alone.
-      let conn = c.in-Ok.conn in
-      let early : HasCleanDisk (file_state conn) = omega (arith, c.in-Ok-open_files.ensures.crash.clean) in
-      let opened = c.in-Ok.ensures.opened early in
-      let trees : (file_state conn).now.trees ≡ db = ap (λ (d : Database). d.trees) opened.0.clean ∙ (c.in-Ok.ensures.found early).holds db holds in
-      c.in-Ok-open_files.ensures.found clean opened.0.is_open s (subst (λ (t : Trees). AreTablesOf t s) (sym trees) alone);
-  copied = λ clean db holds version s alone.
-      let conn = c.in-Ok.conn in
-      let early : HasCleanDisk (file_state conn) = omega (arith, c.in-Ok-open_files.ensures.crash.clean) in
-      let opened = c.in-Ok.ensures.opened early in
-      let trees : (file_state conn).now.trees ≡ db = ap (λ (d : Database). d.trees) opened.0.clean ∙ (c.in-Ok.ensures.found early).holds db holds in
-      c.in-Ok-open_files.ensures.copied clean opened.0.is_open version s (subst (λ (t : Trees). AreOldTablesOf version t s) (sym trees) alone);
-  made = λ clean.
-      let conn = c.in-Ok.conn in
-      let early : HasCleanDisk (file_state conn) = omega (arith, c.in-Ok-open_files.ensures.crash.clean) in
-      let opened = c.in-Ok.ensures.opened early in
-      let found = (file_state conn).committed in (
-        found.trees,
-        (c.in-Ok.ensures.found early).reads,
-        λ bare. c.in-Ok-open_files.ensures.made clean
-            (ap (λ (d : Database). d.schema) opened.0.clean
-            ∙ lists_once (found.trees catalog_tree) found.schema no_schema (opened.1 opened.0.is_open).1.lists bare),
-      );
-  settled = c.in-Ok-open_files.ensures.settled;
-  adopted = λ clean.
-      let conn = c.in-Ok.conn in
-      let early : HasCleanDisk (file_state conn) = omega (arith, c.in-Ok-open_files.ensures.crash.clean) in (
-        conn,
-        record {
-          opens = c.in-Ok.ensures.opened early;
-          found = c.in-Ok.ensures.found early;
-          known = c.in-Ok-open_files.ensures.ours clean;
-          made = c.in-Ok-open_files.ensures.unnamed clean;
-          counts = ap not (c.has_our_name-is_made.ensures ∙ ap has_our_name c.schema.ensures.value);
-        },
-      );
+  opened = record {
+    found = λ clean db holds s alone.
+        let conn = c.in-Ok.conn in
+        let early : HasCleanDisk (file_state conn) = omega (arith, c.in-Ok-open_files.ensures.crash.clean) in
+        let opened = c.in-Ok.ensures.opened early in
+        let trees : (file_state conn).now.trees ≡ db = ap (λ (d : Database). d.trees) opened.0.clean ∙ (c.in-Ok.ensures.found early).holds db holds in
+        c.in-Ok-open_files.ensures.found clean opened.0.is_open s (subst (λ (t : Trees). AreTablesOf t s) (sym trees) alone);
+    copied = λ clean db holds version s alone.
+        let conn = c.in-Ok.conn in
+        let early : HasCleanDisk (file_state conn) = omega (arith, c.in-Ok-open_files.ensures.crash.clean) in
+        let opened = c.in-Ok.ensures.opened early in
+        let trees : (file_state conn).now.trees ≡ db = ap (λ (d : Database). d.trees) opened.0.clean ∙ (c.in-Ok.ensures.found early).holds db holds in
+        c.in-Ok-open_files.ensures.copied clean opened.0.is_open version s (subst (λ (t : Trees). AreOldTablesOf version t s) (sym trees) alone);
+    made = λ clean.
+        let conn = c.in-Ok.conn in
+        let early : HasCleanDisk (file_state conn) = omega (arith, c.in-Ok-open_files.ensures.crash.clean) in
+        let opened = c.in-Ok.ensures.opened early in
+        let found = (file_state conn).committed in (
+          found.trees,
+          (c.in-Ok.ensures.found early).reads,
+          λ bare. c.in-Ok-open_files.ensures.made clean
+              (ap (λ (d : Database). d.schema) opened.0.clean
+              ∙ lists_once (found.trees catalog_tree) found.schema no_schema (opened.1 opened.0.is_open).1.lists bare),
+        );
+    settled = c.in-Ok-open_files.ensures.settled;
+    adopted = λ clean.
+        let conn = c.in-Ok.conn in
+        let early : HasCleanDisk (file_state conn) = omega (arith, c.in-Ok-open_files.ensures.crash.clean) in (
+          conn,
+          record {
+            opens = c.in-Ok.ensures.opened early;
+            found = c.in-Ok.ensures.found early;
+            known = c.in-Ok-open_files.ensures.ours clean;
+            made = c.in-Ok-open_files.ensures.unnamed clean;
+            counts = ap not (c.has_our_name-is_made.ensures ∙ ap has_our_name c.schema.ensures.value);
+          },
+        );
+  };
   failed = tt;
 }
 

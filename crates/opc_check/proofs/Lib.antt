@@ -1,1 +1,9 @@
+pub mod Agreeing
+mod Alike
+mod Following
+mod Keeping
+mod Names
+mod Quoting
+pub mod Telling
+pub mod Applying
 mod Checking

@@ -13,20 +13,20 @@ use Rattle.std.specs.Prelude.{
   codes,
   if◌then◌else◌,
   length,
+  map,
   string_bytes,
   take,
 }
-use Rattle.std.specs.List.{flat_map}
 use Rattle.opc_policy_members.specs.declared.policy.Policy.{Policy}
 use Rattle.opc_policy_members.specs.declared.row.Row.{Row}
-use Rattle.opc_state.specs.State.{empty}
-use Rattle.opc_check_rows.specs.Judged.{Bad, File, bad_rows, file_of, good_rows}
-use Rattle.opc_check_rows.specs.Lines.{bad_line, most_told}
-use Rattle.opc_check_rows.specs.declared.form.Form.{Form}
-use Rattle.opc_check_rows.specs.declared.reading.Reading.{Reading}
-use Rattle.opc_check_refusals.specs.Lines.{refusal_line}
-use Rattle.opc_check_refusals.specs.declared.refusing.Refused.{Refused}
-use Rattle.opc_check_refusals.specs.Refusals.{Refusal, policy_of_kept, refusals_of}
+use Rattle.opc_policy_members.specs.Taken.{no_policy}
+use Rattle.opc_check.specs.Judged.{Bad, File, bad_rows, file_of, good_rows}
+use Rattle.opc_check.specs.Lines.{problem_lines}
+use Rattle.opc_check.specs.Problems.{bad_problem, most_told, problems_of, refused_problem}
+use Rattle.opc_check.specs.declared.form.Form.{Form}
+use Rattle.opc_check.specs.declared.reading.Reading.{Reading}
+use Rattle.opc_check.specs.declared.refusing.Refused.{Refused}
+use Rattle.opc_check.specs.Refusals.{Refusal, policy_of_kept, refusals_of}
 use Rattle.opc_check.specs.Counted.{header_line, share_line}
 use Rattle.opc_check.specs.declared.checked.Checked.{Checked}
 use Rattle.opc_check.specs.declared.checked.Checked.TheVariants as checked
@@ -38,16 +38,16 @@ pub data Finding : Type 0 where
 
 -- the first bad rows, and how many are bad
 abbrev pub bad_lines : Form → File → List ℕ
-bad_lines form file = flat_map (bad_line form file.width) (take most_told (bad_rows file.rows))
+bad_lines form file = problem_lines form (map (bad_problem file.width) (take most_told (bad_rows file.rows)))
     ++ share_line form (codes "bad") (length (bad_rows file.rows)) (length file.rows)
 
 -- the first refused rows, and how many are refused
 abbrev pub refused_lines : Form → List Row → List ℕ
-refused_lines form rows = flat_map (refusal_line form) (take most_told (refusals_of rows))
+refused_lines form rows = problem_lines form (map refused_problem (take most_told (refusals_of rows)))
     ++ share_line form (codes "refused") (length (refusals_of rows)) (length rows)
 
 abbrev pub unless_refused : Form → List Row → List Refusal → Finding
-unless_refused form rows [] = taken rows (policy_of_kept rows empty.policy)
+unless_refused form rows [] = taken rows (policy_of_kept rows no_policy)
 unless_refused form rows (refusal ∷ more) = told (refused_lines form rows)
 
 abbrev pub unless_bad : Form → File → List Bad → Finding
@@ -67,11 +67,11 @@ finding_of form text = found_in form (file_of text)
 abbrev pub finding_by : Form → Option Reading → Finding
 finding_by form None = told (header_line form (codes "the first row is not the header"))
 finding_by form (Some r) = if r.bad == 0 then unless_refused form r.rows.items (refusals_of r.rows.items)
-    else told (string_bytes r.lines ++ share_line form (codes "bad") r.bad r.judged)
+    else told (problem_lines form (problems_of r.problems.items) ++ share_line form (codes "bad") r.bad r.judged)
 
 abbrev pub finding_after : Form → List Row → Refused → Finding
 finding_after form rows r = if r.count == 0 then taken rows r.policy
-    else told (string_bytes r.lines ++ share_line form (codes "refused") r.count (length rows))
+    else told (problem_lines form (problems_of r.problems.items) ++ share_line form (codes "refused") r.count (length rows))
 
 -- what was found
 abbrev pub IsFound : Finding → Checked → Type 0

@@ -2,9 +2,9 @@
 use Rattle.std.specs.Prelude.{◌++◌, ◌==◌, ℕ, List, [], ◌∷◌, codes, decimal, if◌then◌else◌}
 use Rattle.serde_json.specs.Data.{Data, member, no_members, null, number, object, unsigned}
 use Rattle.serde_json.specs.Written.{compact_text}
-use Rattle.opc_check_rows.specs.Lines.{bad_value, row_line}
-use Rattle.opc_check_rows.specs.declared.form.Form.{Form}
-use Rattle.opc_check_rows.specs.declared.form.Form.TheVariants as form
+use Rattle.opc_check.specs.Lines.{bad_value, row_line}
+use Rattle.opc_check.specs.declared.form.Form.{Form}
+use Rattle.opc_check.specs.declared.form.Form.TheVariants as form
 
 -- a line about row 0, the header
 abbrev pub header_line : Form → List ℕ → List ℕ

@@ -1,3 +1,10 @@
+pub mod Escape
+pub mod Excess
+pub mod Judged
+pub mod Laws
+pub mod Problems
+pub mod Lines
+pub mod Words
+pub mod Refusals
 pub mod Checked
 pub mod Counted
-pub mod Laws

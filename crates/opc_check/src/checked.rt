@@ -1,13 +1,17 @@
 //! A policy file, checked.
-ghost use Rattle.std.specs.Prelude.{◌++◌, IfOk, string_bytes};
+ghost use Rattle.std.specs.Prelude.{◌++◌, IfOk};
 ghost use Rattle.opc_check.specs.Checked.{IsFound, finding_after, finding_by, finding_of, told, unless_refused};
-ghost use Rattle.opc_check_refusals.specs.Refusals.{refusals_of};
+ghost use Rattle.opc_check.specs.Lines.{problem_lines};
+ghost use Rattle.opc_check.specs.Problems.{problems_of};
+ghost use Rattle.opc_check.specs.Refusals.{refusals_of};
 
 use crate::counted::{bad_line, header_line, refused_line};
-use opc_check_refusals::refusing::{Refused, refused_of};
-use opc_check_rows::form::Form;
-use opc_check_rows::judge;
-use opc_check_rows::reading::Reading;
+use crate::form::Form;
+use crate::judge;
+use crate::lines::problem_lines;
+use crate::problem::RowProblem;
+use crate::reading::Reading;
+use crate::refusing::{Refused, refused_of};
 use opc_names::name::ConsoleName;
 use opc_policy_members::policy::Policy;
 use opc_policy_members::row::Row;
@@ -21,9 +25,15 @@ pub enum Checked {
 }
 
 /// The lines of what is bad, with the last that counts them.
-fn with_last(mut lines: String, last: &str) -> Result<Checked, AllocError>
-    ensures { IfOk result (IsFound (told (string_bytes lines ++ last.now))) }
+fn with_last(
+    alloc: Global,
+    form: Form,
+    problems: &[RowProblem],
+    last: &str,
+) -> Result<Checked, AllocError>
+    ensures { IfOk result (IsFound (told (problem_lines form (problems_of problems.now) ++ last.now))) }
 {
+    let mut lines = problem_lines(alloc, form, problems)?;
     lines.push_str(last)?;
     Ok(Checked::Bad(lines))
 }
@@ -42,13 +52,13 @@ fn after_refusing(
     let Refused {
         policy,
         count,
-        lines,
+        problems,
     } = refused;
     if count == 0 {
         return Ok(Checked::Taken(rows, policy));
     }
     let last = refused_line(alloc, form, count, rows.len())?;
-    with_last(lines, last.as_str())
+    with_last(alloc, form, &problems, last.as_str())
 }
 
 /// Checks rows all of which read.
@@ -57,7 +67,7 @@ fn check_rows(alloc: Global, form: Form, rows: Vec<Row>) -> Result<Checked, Allo
 {
     // Named for the prover, which else does not find the type of a row's console.
     let _nowhere: Option<ConsoleName> = None;
-    let refused = refused_of(alloc, &rows, form)?;
+    let refused = refused_of(alloc, &rows)?;
     after_refusing(alloc, form, rows, refused)
 }
 
@@ -70,13 +80,13 @@ fn check_reading(alloc: Global, form: Form, reading: Reading) -> Result<Checked,
         rows,
         judged,
         bad,
-        lines,
+        problems,
     } = reading;
     if bad == 0 {
         return check_rows(alloc, form, rows);
     }
     let last = bad_line(alloc, form, bad as usize, judged as usize)?;
-    with_last(lines, last.as_str())
+    with_last(alloc, form, &problems, last.as_str())
 }
 
 fn check_found(alloc: Global, form: Form, found: Option<Reading>) -> Result<Checked, AllocError>
@@ -94,6 +104,6 @@ pub fn check(alloc: Global, text: &str, form: Form) -> Result<Checked, AllocErro
 {
     // Named for the prover, which else does not find the type of a row's console.
     let _nowhere: Option<ConsoleName> = None;
-    let found = judge(alloc, text, form)?;
+    let found = judge(alloc, text)?;
     check_found(alloc, form, found)
 }

@@ -1,12 +1,11 @@
 //! The last line of a check, and the line of a file without a header.
-ghost use Rattle.std.specs.Prelude.{◌≡◌, ◌++◌, ◌∷◌, [], IfOk, codes, string_bytes};
+ghost use Rattle.std.specs.Prelude.{◌≡◌, IfOk, codes, string_bytes};
 ghost use Rattle.serde_json.specs.View.{view};
-ghost use Rattle.serde_json.specs.Written.{compact_text};
 ghost use Rattle.opc_check.specs.Counted.{header_line, rows_word, share_line, share_value, verb};
-ghost use Rattle.opc_check_rows.specs.declared.form.Form.TheVariants as form_is;
+ghost use Rattle.opc_check.specs.declared.form.Form.TheVariants as form_is;
 
-use opc_check_rows::form::Form;
-use opc_check_rows::line::{row_line, row_object};
+use crate::form::Form;
+use crate::lines::{bad_object, row_line, value_line};
 use serde_json::{Value, json};
 use std::alloc::{AllocError, Global};
 
@@ -16,7 +15,7 @@ pub fn header_line(alloc: Global, form: Form, text: &str) -> Result<String, Allo
 {
     match form {
         Form::Text => row_line(alloc, 0, text),
-        Form::Json => row_object(alloc, 0, text),
+        Form::Json => bad_object(alloc, 0, None, text),
     }
 }
 
@@ -46,28 +45,10 @@ fn bad_value(alloc: Global, some: u64, all: u64) -> Result<Value, AllocError>
     json!(in alloc; {"bad": some, "rows": all})
 }
 
-fn bad_share(alloc: Global, some: u64, all: u64) -> Result<String, AllocError>
-    ensures { IfOk result (λ line. string_bytes line ≡ share_line form_is.Json (codes "bad") some all) }
-{
-    let value = bad_value(alloc, some, all)?;
-    let mut line = value.to_string(alloc)?;
-    line.push_str("\n")?;
-    Ok(line)
-}
-
 fn refused_value(alloc: Global, some: u64, all: u64) -> Result<Value, AllocError>
     ensures { IfOk result (λ value. view value ≡ share_value (codes "refused") some all) }
 {
     json!(in alloc; {"refused": some, "rows": all})
-}
-
-fn refused_share(alloc: Global, some: u64, all: u64) -> Result<String, AllocError>
-    ensures { IfOk result (λ line. string_bytes line ≡ share_line form_is.Json (codes "refused") some all) }
-{
-    let value = refused_value(alloc, some, all)?;
-    let mut line = value.to_string(alloc)?;
-    line.push_str("\n")?;
-    Ok(line)
 }
 
 /// How many of the rows are bad.
@@ -81,7 +62,7 @@ pub(crate) fn bad_line(
 {
     match form {
         Form::Text => share_text(alloc, "bad", some, all),
-        Form::Json => bad_share(alloc, some as u64, all as u64),
+        Form::Json => value_line(alloc, &bad_value(alloc, some as u64, all as u64)?),
     }
 }
 
@@ -96,6 +77,6 @@ pub(crate) fn refused_line(
 {
     match form {
         Form::Text => share_text(alloc, "refused", some, all),
-        Form::Json => refused_share(alloc, some as u64, all as u64),
+        Form::Json => value_line(alloc, &refused_value(alloc, some as u64, all as u64)?),
     }
 }

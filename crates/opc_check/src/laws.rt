@@ -1,12 +1,12 @@
-//! The laws of a check.
-ghost use Rattle.opc_check.specs.Laws.{FoundIsTaken, TakenIsFound};
+//! Laws of judging and applying each row; each law is what a call without a body ensures.
+ghost use Rattle.opc_check.specs.Laws.{ObstaclesEndWithTheName, ReadsIfNoneIsBad};
 
-/// What a check finds to be rows with their policy can be loaded, and makes that policy.
-pub fn found_is_taken()
-    ensures { FoundIsTaken }
+/// A text is a policy file if and only if it has a header and no bad row; otherwise its fault is the first bad row.
+pub fn reads_if_none_is_bad()
+    ensures { ReadsIfNoneIsBad }
 {}
 
-/// A check finds nothing bad in a file that can be loaded.
-pub fn taken_is_found()
-    ensures { TakenIsFound }
+/// Why a row is refused ends with the name that its fault has.
+pub fn obstacles_end_with_the_name()
+    ensures { ObstaclesEndWithTheName }
 {}

@@ -1,8 +1,23 @@
-//! What is bad in a policy file: rows that do not read, and rows that would be refused.
+//! What is bad in a policy file, in words: rows that do not read, and rows that would be refused.
 #![tactic(auto)]
 
 pub mod checked;
 pub mod counted;
+pub mod escape;
+mod excess;
+pub mod form;
+mod judging;
 pub mod laws;
+mod lines;
+mod obstacle;
+pub mod problem;
+mod quoted;
+pub mod reading;
+pub mod refusing;
+mod words;
 
 pub use crate::checked::{Checked, check};
+pub use crate::form::Form;
+pub use crate::judging::{first_bad, judge};
+pub use crate::problem::{RowProblem, refusal};
+pub use crate::refusing::{Refused, refused_of};

@@ -51,17 +51,17 @@ use Rattle.opc_names.specs.declared.class.Class.{Class}
 use Rattle.opc_names.specs.declared.level.Level.{Level}
 use Rattle.opc_policy_members.specs.declared.row.Row.{Row}
 use Rattle.opc_policy_members.specs.declared.row.Row.TheVariants as rows
-use Rattle.opc_check_effect.specs.declared.connects.Side.TheVariants as side
-use Rattle.opc_check_effect.specs.declared.effect.RowKey.TheVariants as key
-use Rattle.opc_check_effect.specs.declared.entries.Place.{Place}
-use Rattle.opc_check_effect.specs.declared.names.Given.TheVariants as given
-use Rattle.opc_check_effect.specs.declared.numbered.NumberedRow.{NumberedRow}
-use Rattle.opc_check_effect.specs.Connects.{connects, number_at, pair, partners}
-use Rattle.opc_check_effect.specs.Effect.{AreInOrder}
-use Rattle.opc_check_effect.specs.Entries.{groups_at, placed, same_place}
-use Rattle.opc_check_effect.specs.First.{first_of, paired}
-use Rattle.opc_check_effect.specs.Levels.{entry_level, level_at, level_in}
-use Rattle.opc_check_effect.specs.Named.{is_name, is_named, named}
+use Rattle.opc_check_notes.specs.declared.connects.Side.TheVariants as side
+use Rattle.opc_check_notes.specs.declared.effect.RowKey.TheVariants as key
+use Rattle.opc_check_notes.specs.declared.entries.Place.{Place}
+use Rattle.opc_check_notes.specs.declared.names.Given.TheVariants as given
+use Rattle.opc_check_notes.specs.declared.numbered.NumberedRow.{NumberedRow}
+use Rattle.opc_check_notes.specs.Connects.{connects, number_at, pair, partners}
+use Rattle.opc_check_notes.specs.Effect.{AreInOrder}
+use Rattle.opc_check_notes.specs.Entries.{groups_at, placed, same_place}
+use Rattle.opc_check_notes.specs.First.{first_of, paired}
+use Rattle.opc_check_notes.specs.Levels.{entry_level, level_at, level_in}
+use Rattle.opc_check_notes.specs.Named.{is_name, is_named, named}
 use Rattle.opc_check_notes.specs.declared.groups.Ranked.{Ranked}
 use Rattle.opc_check_notes.specs.declared.note.Finding.{Finding}
 use Rattle.opc_check_notes.specs.Notes.{above, group_above}

@@ -1,4 +1,11 @@
+pub mod Keys
+pub mod Listing
+pub mod OfKind
+pub mod Placing
+pub mod Rising
+pub mod Steps
 pub mod Earliest
+pub mod Floats
 pub mod OfCode
 pub mod Reached
 pub mod Serving

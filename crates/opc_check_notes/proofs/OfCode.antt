@@ -6,10 +6,10 @@ use Rattle.std.specs.List.{list_any}
 use Rattle.opc_names.specs.declared.class.Class.{Class}
 use Rattle.opc_policy_members.specs.declared.row.Row.{Row}
 use Rattle.opc_policy_members.specs.declared.row.Row.TheVariants as rows
-use Rattle.opc_check_effect.specs.declared.kinds.RowKind.TheVariants as kind
-use Rattle.opc_check_effect.specs.declared.numbered.NumberedRow.{NumberedRow}
-use Rattle.opc_check_effect.specs.Kinds.{is_of, of_kind}
-use Rattle.opc_check_effect.proofs.OfKind.{others_fail, others_give_none}
+use Rattle.opc_check_notes.specs.declared.kinds.RowKind.TheVariants as kind
+use Rattle.opc_check_notes.specs.declared.numbered.NumberedRow.{NumberedRow}
+use Rattle.opc_check_notes.specs.Kinds.{is_of, of_kind}
+use Rattle.opc_check_notes.proofs.OfKind.{others_fail, others_give_none}
 use Rattle.opc_check_notes.specs.declared.note.NoteCode.{NoteCode}
 use Rattle.opc_check_notes.specs.declared.note.NoteCode.TheVariants as code
 use Rattle.opc_check_notes.specs.Notes.{about, finding, is_class_row, is_profile_row, note_at}

@@ -5,13 +5,13 @@ use Rattle.opc_names.specs.declared.class.Class.{Class}
 use Rattle.opc_names.specs.declared.level.Level.{Level}
 use Rattle.opc_policy_members.specs.declared.row.Row.{Row}
 use Rattle.opc_policy_members.specs.declared.row.Row.TheVariants as rows
-use Rattle.opc_check_effect.specs.declared.connects.Side.TheVariants as side
-use Rattle.opc_check_effect.specs.declared.names.Given.TheVariants as given
+use Rattle.opc_check_notes.specs.declared.connects.Side.TheVariants as side
+use Rattle.opc_check_notes.specs.declared.names.Given.TheVariants as given
 use Rattle.opc_check_notes.specs.declared.note.Finding.{Finding}
 use Rattle.opc_check_notes.specs.declared.note.Finding.TheVariants as found
-use Rattle.opc_check_effect.specs.declared.numbered.NumberedRow.{NumberedRow}
-use Rattle.opc_check_effect.specs.Connects.{partners}
-use Rattle.opc_check_effect.specs.Named.{is_named}
+use Rattle.opc_check_notes.specs.declared.numbered.NumberedRow.{NumberedRow}
+use Rattle.opc_check_notes.specs.Connects.{partners}
+use Rattle.opc_check_notes.specs.Named.{is_named}
 use Rattle.opc_check_notes.specs.Notes.{has_own, if_so, serves_nobody}
 
 pub serves_so : (list : List NumberedRow) (row : Row) (class : Class) (pattern id : List ℕ) (level : Level) (when : Option (List ℕ))

@@ -1,3 +1,12 @@
+pub mod Connects
+pub mod Digests
+pub mod Effect
+pub mod Entries
+pub mod First
+pub mod Kinds
+pub mod Levels
+pub mod Lists
+pub mod Named
 pub mod Met
 pub mod Notes
 pub mod Ranked

@@ -30,25 +30,25 @@ use Rattle.opc_names.specs.declared.level.Level.TheVariants as level
 use Rattle.opc_terms.specs.declared.mode.Mode.TheVariants as mode
 use Rattle.opc_policy_members.specs.declared.row.Row.{Row}
 use Rattle.opc_policy_members.specs.declared.row.Row.TheVariants as rows
-use Rattle.opc_check_effect.specs.declared.effect.RowKey.TheVariants as key
-use Rattle.opc_check_effect.specs.declared.connects.Side.TheVariants as side
-use Rattle.opc_check_effect.specs.declared.kinds.RowKind.{RowKind}
-use Rattle.opc_check_effect.specs.declared.kinds.RowKind.TheVariants as kind
-use Rattle.opc_check_effect.specs.declared.names.Given.{Given}
-use Rattle.opc_check_effect.specs.declared.names.Given.TheVariants as given
+use Rattle.opc_check_notes.specs.declared.effect.RowKey.TheVariants as key
+use Rattle.opc_check_notes.specs.declared.connects.Side.TheVariants as side
+use Rattle.opc_check_notes.specs.declared.kinds.RowKind.{RowKind}
+use Rattle.opc_check_notes.specs.declared.kinds.RowKind.TheVariants as kind
+use Rattle.opc_check_notes.specs.declared.names.Given.{Given}
+use Rattle.opc_check_notes.specs.declared.names.Given.TheVariants as given
 use Rattle.opc_check_notes.specs.Met.{is_met}
 use Rattle.opc_check_notes.specs.declared.note.Finding.{Finding}
 use Rattle.opc_check_notes.specs.declared.note.Finding.TheVariants as found
 use Rattle.opc_check_notes.specs.declared.note.Note.{Note}
 use Rattle.opc_check_notes.specs.declared.note.NoteCode.{NoteCode}
 use Rattle.opc_check_notes.specs.declared.note.NoteCode.TheVariants as code
-use Rattle.opc_check_effect.specs.declared.numbered.NumberedRow.{NumberedRow}
-use Rattle.opc_check_effect.specs.Digests.{first_with}
-use Rattle.opc_check_effect.specs.Effect.{in_effect}
-use Rattle.opc_check_effect.specs.First.{first_of}
-use Rattle.opc_check_effect.specs.Connects.{partners}
-use Rattle.opc_check_effect.specs.Levels.{level_at}
-use Rattle.opc_check_effect.specs.Named.{count, is_named, named}
+use Rattle.opc_check_notes.specs.declared.numbered.NumberedRow.{NumberedRow}
+use Rattle.opc_check_notes.specs.Digests.{first_with}
+use Rattle.opc_check_notes.specs.Effect.{in_effect}
+use Rattle.opc_check_notes.specs.First.{first_of}
+use Rattle.opc_check_notes.specs.Connects.{partners}
+use Rattle.opc_check_notes.specs.Levels.{level_at}
+use Rattle.opc_check_notes.specs.Named.{count, is_named, named}
 
 abbrev pub if_so : Bool → Finding → Option Finding
 if_so holds finding = if holds then Some finding else None

@@ -4,9 +4,9 @@ use Rattle.std.specs.List.{fold}
 use Rattle.std.specs.Option.{option_and_then}
 use Rattle.opc_policy_members.specs.declared.row.Row.{Row}
 use Rattle.opc_policy_members.specs.declared.row.Row.TheVariants as rows
-use Rattle.opc_check_effect.specs.declared.entries.Place.{Place}
-use Rattle.opc_check_effect.specs.declared.numbered.NumberedRow.{NumberedRow}
-use Rattle.opc_check_effect.specs.Connects.{number_at}
+use Rattle.opc_check_notes.specs.declared.entries.Place.{Place}
+use Rattle.opc_check_notes.specs.declared.numbered.NumberedRow.{NumberedRow}
+use Rattle.opc_check_notes.specs.Connects.{number_at}
 use Rattle.opc_check_notes.specs.declared.groups.Ranked.{Ranked}
 use Rattle.opc_check_notes.specs.declared.note.Finding.{Finding}
 use Rattle.opc_check_notes.specs.Notes.{group_above}

@@ -1,6 +1,8 @@
 -- The texts of notes.
 use Rattle.std.specs.Prelude.{ℕ, List, [], ◌∷◌, ◌++◌, Option, Some, None, codes}
 use Rattle.std.specs.Fmt.{decimal}
+use Rattle.serde_json.specs.Data.{Data, member, no_members, null, number, object, string, unsigned}
+use Rattle.serde_json.specs.Written.{compact_text}
 use Rattle.opc_names.specs.declared.auth.Auth.{Auth}
 use Rattle.opc_names.specs.declared.auth.Auth.TheVariants as auth
 use Rattle.opc_names.specs.declared.class.Class.{Class}
@@ -99,17 +101,22 @@ finding_text (found.NoAccess user) = user ++ codes " is in no group and no acces
 -- a note as a line: its code, the row that it is about, and what was found; 10 is the line feed
 abbrev pub row_text : Option ℕ → List ℕ
 row_text None = codes " "
-row_text (Some number) = codes " row " ++ (decimal number ++ codes ": ")
+row_text (Some row) = codes " row " ++ (decimal row ++ codes ": ")
 
 abbrev pub note_text : Note → List ℕ
 note_text note = code_text (code_of note.finding) ++ (row_text note.row ++ (finding_text note.finding ++ 10 ∷ []))
 
--- a note as a JSON object on a line
-abbrev pub row_json : Option ℕ → List ℕ
-row_json None = codes "null"
-row_json (Some number) = decimal number
+-- a note as a JSON object, whose row is null if the note is about none
+abbrev pub row_value : Option ℕ → Data
+row_value None = null
+row_value (Some row) = number (unsigned row)
 
+abbrev pub note_value : Note → Data
+note_value note =
+    object (member (codes "code") (string (code_text (code_of note.finding)))
+    (member (codes "row") (row_value note.row)
+    (member (codes "text") (string (finding_text note.finding)) no_members)))
+
+-- on a line
 abbrev pub note_json : Note → List ℕ
-note_json note = codes "{\"code\":\"" ++ (code_text (code_of note.finding)
-    ++ (codes "\",\"row\":" ++ (row_json note.row
-    ++ (codes ",\"text\":\"" ++ (finding_text note.finding ++ codes "\"}\n")))))
+note_json note = compact_text (note_value note) ++ 10 ∷ []

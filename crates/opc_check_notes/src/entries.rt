@@ -1,133 +1,103 @@
-//! Notes on groups and entries.
-ghost use Rattle.std.specs.Prelude.{◌≡◌, ◌&&◌, ℕ, List};
-ghost use Rattle.std.specs.List.{list_all};
-ghost use Rattle.opc_check_effect.specs.Connects.{partners};
-ghost use Rattle.opc_check_effect.specs.Named.{is_named};
-ghost use Rattle.opc_check_effect.specs.declared.connects.Side.TheVariants as side;
-ghost use Rattle.opc_check_effect.specs.declared.names.Given.TheVariants as given;
-ghost use Rattle.opc_check_notes.specs.declared.note.Finding.TheVariants as found;
-ghost use Rattle.opc_check_notes.specs.Notes.{
-  empty_group,
-  has_own,
-  if_so,
-  revoked_entry,
-  serves_nobody,
-};
+//! The entries of groups, by their places.
+ghost use Rattle.std.specs.Prelude.{◌≡◌, ℕ, List, IfOk, Some, None, filter_map, if◌then◌else◌};
+ghost use Rattle.std.specs.List.{list_any};
+ghost use Rattle.std.specs.Str.{bytes_eq};
+ghost use Rattle.opc_check_notes.specs.declared.names.Given.TheVariants as given;
+ghost use Rattle.opc_check_notes.specs.declared.numbered.NumberedRow.{NumberedRow as Numbered};
+ghost use Rattle.opc_check_notes.specs.Entries.{HasPlaced, all_placed, placed_by};
+ghost use Rattle.opc_check_notes.specs.Named.{HasNames};
 
-use crate::note::Finding;
-use crate::profiles::if_so;
-use opc_check_effect::effect::RowKey;
-use opc_check_effect::known::Known;
-use opc_check_effect::names::copied;
-use opc_names::bytes::Bytes;
-use opc_names::level::Level;
-use opc_names::name::Pattern;
+use crate::kinds::{ByKind, RowKind};
+use crate::lists::{Lists, push_if};
+use crate::names::SortedNames;
+use crate::numbered::NumberedRow;
+use opc_names::class::Class;
+use opc_names::name::{ConsoleName, Pattern};
 use opc_policy_members::row::Row;
 use opc_terms::entry_id::EntryId;
+use std::alloc::{AllocError, Global};
 
-/// Nobody is in a group.
-pub(crate) fn empty_group(known: &Known, row: &Row) -> Option<Finding>
-    ensures { result ≡ empty_group known.now row.now }
+/// Where an entry is: in which profile, and for which console if it is for one.
+#[derive(Clone, Copy, PartialEq, Eq, PartialOrd, Ord)]
+pub struct Place {
+    pub class: Class,
+    pub pattern: Pattern,
+    pub when: Option<ConsoleName>,
+}
+
+/// The groups that have an entry at each place.
+pub(crate) type GroupEntries = Lists<Place, EntryId>;
+
+/// A place and a group, if somebody is in the group.
+fn of_members(members: &SortedNames, place: Place, id: EntryId) -> Option<(Place, EntryId)>
+    ensures { result ≡ if list_any (λ (n : List ℕ). bytes_eq n id) members.now then Some (place, id) else None }
 {
-    match *row {
-        Row::Group { name } => if_so(!known.has_members(&name), Finding::EmptyGroup(name)),
-        _ => None,
+    if members.has(id.text()) {
+        Some((place, id))
+    } else {
+        None
     }
 }
 
-/// An entry is for a revoked user.
-pub(crate) fn revoked_entry(known: &Known, row: &Row) -> Option<Finding>
-    ensures { result ≡ revoked_entry known.now row.now }
+/// The place of an entry and whom it is for, if this is a group that somebody is in.
+fn placed(members: &SortedNames, row: &Row) -> Option<(Place, EntryId)>
+    ensures { result ≡ placed_by members.now row.now }
 {
     match *row {
         Row::Permit {
             class,
             pattern,
             id,
-            ..
-        } => if_so(
-            known.is_revoked(&id),
-            Finding::RevokedEntry {
-                class,
-                pattern,
-                user: id,
-            },
-        ),
-        _ => None,
-    }
-}
-
-/// Whether a user has an own entry beside one of a group.
-fn has_own(known: &Known, row: &Row, user: &EntryId) -> bool
-    ensures { result ≡ has_own known.now row.now user.now }
-{
-    match *row {
-        Row::Permit {
-            class,
-            pattern,
             when,
             ..
-        } => known
-            .level_of(&RowKey::Permit(copied(user.text()), class, pattern, when))
-            .is_some(),
-        _ => false,
-    }
-}
-
-fn have_own(known: &Known, row: &Row, users: &[(Bytes<8>, EntryId)]) -> bool
-    ensures { result ≡ list_all (λ (p : List ℕ × List ℕ). has_own known.now row.now p.1) users.now }
-{
-    users.iter().all(|pair| has_own(known, row, &pair.1))
-}
-
-/// The same of all users of a group.
-fn users_have_own(known: &Known, row: &Row, group: &EntryId) -> bool
-    ensures { result ≡ list_all (has_own known.now row.now) (partners known.now side.Group group.now) }
-{
-    have_own(known, row, known.users_of(group))
-}
-
-/// Whether an entry is for a group each user of which has an own entry beside it.
-fn is_idle(known: &Known, row: &Row, id: &EntryId) -> bool
-    ensures { result ≡ (is_named known.now given.Group id.now
-        && list_all (has_own known.now row.now) (partners known.now side.Group id.now)) }
-{
-    known.is_group(id) && users_have_own(known, row, id)
-}
-
-/// The finding of an entry that serves nobody.
-fn idle(
-    known: &Known,
-    row: &Row,
-    pattern: &Pattern,
-    group: &EntryId,
-    level: Level,
-) -> Option<Finding>
-    ensures { result ≡ if_so (is_named known.now given.Group group.now
-        && list_all (has_own known.now row.now) (partners known.now side.Group group.now))
-        (found.ServesNobody pattern.now group.now level) }
-{
-    if_so(
-        is_idle(known, row, group),
-        Finding::ServesNobody {
-            pattern: *pattern,
-            group: *group,
-            level,
-        },
-    )
-}
-
-/// Each user of a group has an own entry beside that of the group.
-pub(crate) fn serves_nobody(known: &Known, row: &Row) -> Option<Finding>
-    ensures { result ≡ serves_nobody known.now row.now }
-{
-    match *row {
-        Row::Permit {
-            pattern,
+        } => of_members(
+            members,
+            Place {
+                class,
+                pattern,
+                when,
+            },
             id,
-            level,
-            ..
-        } => idle(known, row, &pattern, &id, level),
+        ),
+        // No other row is of an access list.
         _ => None,
     }
+}
+
+fn placed_among(
+    alloc: Global,
+    rows: &[NumberedRow],
+    members: &SortedNames,
+) -> Result<Vec<(Place, EntryId)>, AllocError>
+    ensures { IfOk result (λ list. list.items
+        ≡ filter_map (λ (at : Numbered). placed_by members.now at.row) rows.now) }
+{
+    let mut list = Vec::new(alloc);
+    for at in rows {
+        push_if(&mut list, placed(members, &at.row))?;
+    }
+    Ok(list)
+}
+
+fn all_placed(
+    alloc: Global,
+    rows: &ByKind,
+    members: &SortedNames,
+) -> Result<Vec<(Place, EntryId)>, AllocError>
+    requires { HasNames rows.now given.ConnectedGroup members.now }
+    ensures { IfOk result (λ list. list.items ≡ all_placed rows.now) }
+{
+    placed_among(alloc, rows.of(RowKind::Permit), members)
+}
+
+/// The groups that have an entry at each place, where these are the names of those that somebody is in.
+pub(crate) fn group_entries(
+    alloc: Global,
+    rows: &ByKind,
+    members: &SortedNames,
+) -> Result<GroupEntries, AllocError>
+    requires { HasNames rows.now given.ConnectedGroup members.now }
+    ensures { IfOk result (HasPlaced rows.now) }
+{
+    Lists::sorted(all_placed(alloc, rows, members)?)
 }

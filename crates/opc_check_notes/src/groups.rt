@@ -1,18 +1,18 @@
 //! Own entries that give less than one of a group.
 ghost use Rattle.std.specs.Prelude.{◌≡◌, ℕ, List, Some, map, option_map};
-ghost use Rattle.opc_check_effect.specs.declared.connects.Side.TheVariants as side;
-ghost use Rattle.opc_check_effect.specs.Connects.{partners};
-ghost use Rattle.opc_check_effect.specs.First.{first_of};
+ghost use Rattle.opc_check_notes.specs.declared.connects.Side.TheVariants as side;
+ghost use Rattle.opc_check_notes.specs.Connects.{partners};
+ghost use Rattle.opc_check_notes.specs.First.{first_of};
 ghost use Rattle.opc_check_notes.specs.declared.groups.Ranked.{Ranked as RankedFinding};
 ghost use Rattle.opc_check_notes.specs.Notes.{above, group_above, own_below_group};
 ghost use Rattle.opc_check_notes.specs.Ranked.{earlier, first_ranked, place_of, ranked};
 
+use crate::effect::RowKey;
+use crate::entries::Place;
+use crate::known::Known;
+use crate::names::copied;
 use crate::note::Finding;
 use crate::profiles::if_so;
-use opc_check_effect::effect::RowKey;
-use opc_check_effect::entries::Place;
-use opc_check_effect::known::Known;
-use opc_check_effect::names::copied;
 use opc_names::bytes::Bytes;
 use opc_names::level::Level;
 use opc_names::name::Pattern;
@@ -60,6 +60,7 @@ fn group_above(known: &Known, row: &Row, group: &EntryId) -> Option<Finding>
             let higher = known.level_of(&key);
             above(&pattern, &id, level, group, higher)
         }
+        // No other row is an entry, above which another could stand.
         _ => None,
     }
 }
@@ -195,6 +196,7 @@ pub(crate) fn own_below_group(known: &Known, row: &Row) -> Option<Finding>
                 when,
             },
         ),
+        // The note is about entries.
         _ => None,
     }
 }

@@ -14,18 +14,18 @@ ghost use Rattle.opc_check_notes.specs.Notes.{
   unnamed_class,
 };
 
-use crate::entries::{empty_group, revoked_entry, serves_nobody};
+use crate::entry_notes::{empty_group, revoked_entry, serves_nobody};
 use crate::groups::own_below_group;
+use crate::kinds::RowKind;
+use crate::known::Known;
+use crate::names::{Given, count};
 use crate::note::{Finding, Note, NoteCode};
+use crate::numbered::NumberedRow;
 use crate::profiles::{
     has_class_row, inactive_class, no_own_user, no_profile, no_resource, open_console, open_to_all,
     special_console, warning,
 };
 use crate::users::{no_access, no_digest, one_special, same_digest};
-use opc_check_effect::kinds::RowKind;
-use opc_check_effect::known::Known;
-use opc_check_effect::names::{Given, count};
-use opc_check_effect::numbered::NumberedRow;
 use opc_names::class::Class;
 use opc_policy_members::row::Row;
 use opc_rows::Rows;

@@ -18,6 +18,7 @@ fn opened(auth: &Auth) -> &str
     match auth {
         Auth::Master => "everything",
         Auth::All => "everything but MASTER",
+        // The word of another authority says which commands it enters.
         _ => auth.text(),
     }
 }

@@ -2,7 +2,7 @@
 ghost use Rattle.std.specs.Prelude.{◌≡◌};
 ghost use Rattle.std.specs.List.{list_any};
 ghost use Rattle.opc_names.specs.Authority.{same_class};
-ghost use Rattle.opc_check_effect.specs.declared.numbered.NumberedRow.{NumberedRow as Numbered};
+ghost use Rattle.opc_check_notes.specs.declared.numbered.NumberedRow.{NumberedRow as Numbered};
 ghost use Rattle.opc_check_notes.specs.Met.{is_met};
 ghost use Rattle.opc_check_notes.specs.Notes.{
   if_so,
@@ -18,10 +18,10 @@ ghost use Rattle.opc_check_notes.specs.Notes.{
   warning,
 };
 
+use crate::kinds::RowKind;
+use crate::known::Known;
 use crate::note::Finding;
-use opc_check_effect::kinds::RowKind;
-use opc_check_effect::known::Known;
-use opc_check_effect::numbered::NumberedRow;
+use crate::numbered::NumberedRow;
 use opc_check_reach::met;
 use opc_names::class::Class;
 use opc_names::level::Level;
@@ -46,6 +46,7 @@ pub(crate) fn warning(row: &Row) -> Option<Finding>
             warning,
             ..
         } => if_so(warning, Finding::Warning { class, pattern }),
+        // The note is about profiles.
         _ => None,
     }
 }
@@ -68,6 +69,7 @@ pub(crate) fn open_to_all(row: &Row) -> Option<Finding>
                 uacc,
             },
         ),
+        // The note is about profiles.
         _ => None,
     }
 }
@@ -91,6 +93,7 @@ pub(crate) fn no_resource(row: &Row) -> Option<Finding>
             pattern,
             ..
         } => if_so(!is_met(&pattern), Finding::NoResource(pattern)),
+        // The gate asks about no class but OPERCMDS by name.
         _ => None,
     }
 }
@@ -108,6 +111,7 @@ pub(crate) fn open_console(row: &Row) -> Option<Finding>
             console: name,
             auth,
         }),
+        // The note is about consoles that need no LOGON.
         _ => None,
     }
 }
@@ -122,6 +126,7 @@ pub(crate) fn no_own_user(known: &Known, row: &Row) -> Option<Finding>
             mode: Mode::Auto,
             ..
         } => if_so(!known.has_own_user(&name), Finding::NoOwnUser(name)),
+        // The note is about AUTO consoles.
         _ => None,
     }
 }
@@ -136,6 +141,7 @@ pub(crate) fn special_console(known: &Known, row: &Row) -> Option<Finding>
             mode: Mode::Auto,
             ..
         } => if_so(known.has_special_user(&name), Finding::SpecialConsole(name)),
+        // The note is about AUTO consoles.
         _ => None,
     }
 }
@@ -151,6 +157,7 @@ fn is_class_row(class: Class, row: &Row) -> bool
 {
     match *row {
         Row::Class { class: other, .. } => same_class(other, class),
+        // No other row makes a class active or inactive.
         _ => false,
     }
 }
@@ -160,6 +167,7 @@ fn is_profile_row(class: Class, row: &Row) -> bool
 {
     match *row {
         Row::Profile { class: other, .. } => same_class(other, class),
+        // No other row defines a profile.
         _ => false,
     }
 }
@@ -198,6 +206,7 @@ pub(crate) fn inactive_class(row: &Row) -> Option<Finding>
             class,
             active: false,
         } => Some(Finding::InactiveClass(class)),
+        // A class that is active is no such class; other rows are about none.
         _ => None,
     }
 }
@@ -211,6 +220,7 @@ pub(crate) fn no_profile(known: &Known, row: &Row) -> Option<Finding>
             active && !has_profile(known, class),
             Finding::NoProfile(class),
         ),
+        // The note is about classes.
         _ => None,
     }
 }

@@ -2,9 +2,9 @@
 ghost use Rattle.std.specs.Prelude.{◌≡◌};
 ghost use Rattle.opc_check_notes.specs.Notes.{no_access, no_digest, one_special, other_with, same_digest};
 
+use crate::known::Known;
 use crate::note::Finding;
 use crate::profiles::if_so;
-use opc_check_effect::known::Known;
 use opc_names::name::UserId;
 use opc_policy_members::row::Row;
 use opc_policy_members::user::User;
@@ -18,6 +18,7 @@ pub(crate) fn no_digest(known: &Known, row: &Row) -> Option<Finding>
             user.digest.is_none() && !user.revoked && !known.has_console(&user.id),
             Finding::NoDigest(user.id),
         ),
+        // The note is about users.
         _ => None,
     }
 }
@@ -44,6 +45,7 @@ pub(crate) fn same_digest(known: &Known, row: &Row) -> Option<Finding>
                 ..
             },
         ) => other_with(id, known.first_with(&digest)),
+        // A user without a digest shares none; other rows have none.
         _ => None,
     }
 }
@@ -57,6 +59,7 @@ pub(crate) fn one_special(known: &Known, row: &Row) -> Option<Finding>
             user.special && !user.revoked && known.specials() == 1,
             Finding::OneSpecial(user.id),
         ),
+        // The note is about users.
         _ => None,
     }
 }
@@ -70,6 +73,7 @@ pub(crate) fn no_access(known: &Known, row: &Row) -> Option<Finding>
             !(known.is_connected(&user.id) || known.is_holder(&user.id)),
             Finding::NoAccess(user.id),
         ),
+        // The note is about users.
         _ => None,
     }
 }

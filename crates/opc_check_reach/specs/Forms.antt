@@ -1,5 +1,5 @@
 -- The forms of the resources about which the gate asks, and which patterns meet one of them, computed. The public call
--- is about `IsMet` of Reach. The note N17 is computed by these forms; a law of opc_check_laws says that it is the same.
+-- is about `IsMet` of Reach. The note N17 is computed by these forms; a law of opc_answers_laws says that it is the same.
 use Rattle.std.specs.Prelude.{
   ◌≡◌,
   ℕ,

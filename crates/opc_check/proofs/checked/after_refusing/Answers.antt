@@ -8,4 +8,4 @@ returns-then-count-eq0 c = rw (is_zero _ c.if-count-eq0.true) (refl, refl)
 pub returns : goal.returns
 returns c =
     let all : c.len.result ≡ length c.args.rows.items = omega (arith, c.args.rows.ok.0, c.len.ensures) in
-    rw (not_zero _ c.if-count-eq0.false) (rw (c.as_str.ensures.value, c.in_ok-last.ensures, all) at c.with_last.ensures)
+    rw (not_zero _ c.if-count-eq0.false) (rw (c.deref.ensures.value, c.as_str.ensures.value, c.in_ok-last.ensures, all) at c.with_last.ensures)

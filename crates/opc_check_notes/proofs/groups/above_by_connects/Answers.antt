@@ -1,5 +1,5 @@
 use Rattle.std.proofs.Common.{ℕ, List, ap, sym, ◌∙◌}
-use Rattle.opc_check_effect.specs.First.{first_of}
+use Rattle.opc_check_notes.specs.First.{first_of}
 use Rattle.opc_check_notes.specs.Notes.{group_above}
 use Rattle.opc_check_notes.proofs.Earliest.{first_of-map}
 use Rattle.opc_check_notes.proofs.groups.above_by_connects.Goals as goal

@@ -1,6 +1,6 @@
 use Rattle.std.proofs.Common.{ℕ, List, arith, sym, ◌∙◌}
 use Rattle.opc_check_notes.specs.Notes.{group_above}
-use Rattle.opc_check_effect.proofs.Steps.{first_found, none_more}
+use Rattle.opc_check_notes.proofs.Steps.{first_found, none_more}
 use Rattle.opc_check_notes.proofs.groups.first_above.Goals as goal
 
 pub returns-in-Some : goal.returns-in-Some

@@ -1,5 +1,5 @@
 use Rattle.std.proofs.Common.{ℕ, List, ap, arith, ◌∙◌}
-use Rattle.opc_check_effect.specs.declared.entries.Place.{Place}
+use Rattle.opc_check_notes.specs.declared.entries.Place.{Place}
 use Rattle.opc_check_notes.specs.Ranked.{earlier}
 use Rattle.opc_check_notes.proofs.Earliest.{ranked_step}
 use Rattle.opc_check_notes.proofs.groups.first_ranked.Goals as goal

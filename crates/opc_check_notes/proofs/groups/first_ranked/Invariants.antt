@@ -1,6 +1,6 @@
 use Rattle.std.proofs.Common.{◌≡◌, ℕ, List, map, take}
 use Rattle.opc_check_notes.specs.Ranked.{first_ranked}
-use Rattle.opc_check_effect.specs.declared.entries.Place.{Place}
+use Rattle.opc_check_notes.specs.declared.entries.Place.{Place}
 use Rattle.opc_check_notes.proofs.groups.first_ranked.Given as goal
 
 abbrev pub invariant-loop-pair : goal.invariant-loop-pair

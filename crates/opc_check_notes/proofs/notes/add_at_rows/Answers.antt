@@ -1,6 +1,6 @@
 use Rattle.std.proofs.Common.{arith}
 use Rattle.opc_check_notes.specs.Notes.{note_at}
-use Rattle.opc_check_effect.proofs.Steps.{found_step}
+use Rattle.opc_check_notes.proofs.Steps.{found_step}
 use Rattle.opc_check_notes.proofs.notes.add_at_rows.Goals as goal
 
 pub loop-at-preserved : goal.loop-at-preserved

@@ -1,6 +1,6 @@
 use Rattle.std.proofs.Common.{◌++◌, ap, ◌∙◌}
 use Rattle.std.specs.Prelude.{filter_map}
-use Rattle.opc_check_effect.specs.Kinds.{of_kind}
+use Rattle.opc_check_notes.specs.Kinds.{of_kind}
 use Rattle.opc_check_notes.specs.Notes.{note_at}
 use Rattle.opc_check_notes.proofs.OfCode.{notes_about}
 use Rattle.opc_check_notes.proofs.notes.add_of_rows.Goals as goal

@@ -1,6 +1,6 @@
 use Rattle.std.proofs.Common.{◌≡◌, take}
 use Rattle.std.specs.List.{flat_map}
-use Rattle.opc_check_effect.specs.Effect.{in_effect}
+use Rattle.opc_check_notes.specs.Effect.{in_effect}
 use Rattle.opc_check_notes.specs.Notes.{notes_of}
 use Rattle.opc_check_notes.proofs.notes.notes.Given as goal
 

@@ -1,6 +1,6 @@
 use Rattle.std.proofs.Common.{ap, ◌∙◌}
 use Rattle.std.specs.List.{list_any}
-use Rattle.opc_check_effect.specs.declared.numbered.NumberedRow.{NumberedRow}
+use Rattle.opc_check_notes.specs.declared.numbered.NumberedRow.{NumberedRow}
 use Rattle.opc_check_notes.specs.Notes.{is_profile_row}
 use Rattle.opc_check_notes.proofs.OfCode.{profile_rows}
 use Rattle.opc_check_notes.proofs.profiles.has_profile.Goals as goal

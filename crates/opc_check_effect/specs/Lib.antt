@@ -1,9 +1,0 @@
-pub mod Connects
-pub mod Digests
-pub mod Effect
-pub mod Entries
-pub mod First
-pub mod Kinds
-pub mod Levels
-pub mod Lists
-pub mod Named

@@ -1,4 +1,0 @@
-mod InEffect
-mod LastRows
-mod Steps
-mod Unmet

@@ -1,5 +1,0 @@
-use Rattle.opc_check_laws.proofs.InEffect.{in_effect_stored, stored_in_effect}
-use Rattle.opc_check_laws.proofs.laws.rows_in_effect.Goals as goal
-
-pub returns : goal.returns
-returns c = record { stored = in_effect_stored; effect = stored_in_effect }

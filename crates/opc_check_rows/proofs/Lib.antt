@@ -1,4 +1,0 @@
-pub mod Agreeing
-mod Following
-mod Quoting
-pub mod Telling

@@ -1,5 +1,0 @@
-use Rattle.opc_check_rows.proofs.Agreeing.{reads}
-use Rattle.opc_check_rows.proofs.laws.reads_if_none_is_bad.Goals as goal
-
-pub returns : goal.returns
-returns c = reads

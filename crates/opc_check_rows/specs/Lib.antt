@@ -1,4 +1,0 @@
-pub mod Judged
-pub mod Laws
-pub mod Lines
-pub mod Words

@@ -1,3 +1,4 @@
 pub mod Counted
 pub mod Padded
 pub mod Paged
+mod Pages

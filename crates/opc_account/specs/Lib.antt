@@ -1,3 +1,4 @@
 pub mod Filters
 pub mod Lines
 pub mod Queries
+pub mod Printed

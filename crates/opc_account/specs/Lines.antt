@@ -17,6 +17,7 @@ use Rattle.std.specs.Prelude.{
 }
 use Rattle.serde_json.specs.Data.{Data, member, no_members, number, object, string, unsigned}
 use Rattle.serde_json.specs.Written.{compact_text}
+use Rattle.opc_cli_failures.specs.Escaped.{escaped}
 use Rattle.opc_state.specs.declared.account.AccountRow.{AccountRow}
 use Rattle.opc_times.specs.Times.{IsTime}
 
@@ -27,11 +28,13 @@ padded width text = text ++ replicate (width - length text) 32
 abbrev pub header : List ℕ
 header = codes "NUMBER TIME                 CONSOLE  USER     CODE RULE\n"
 
--- a row under the header: each column but the last is padded and followed by a space
+-- A row under the header: each column but the last is padded and followed by a space. A character of a text that would
+-- end the line, or act on a terminal, is escaped.
 abbrev pub columns_line : (time : List ℕ) → ℕ × AccountRow → List ℕ
 columns_line time (n, row) =
-    padded 6 (decimal n) ++ codes " " ++ padded 20 time ++ codes " " ++ padded 8 row.console ++ codes " "
-    ++ padded 8 row.user ++ codes " " ++ padded 4 row.code ++ codes " " ++ row.rule ++ codes "\n"
+    padded 6 (decimal n) ++ codes " " ++ padded 20 time ++ codes " " ++ padded 8 (escaped row.console) ++ codes " "
+    ++ padded 8 (escaped row.user) ++ codes " " ++ padded 4 (escaped row.code) ++ codes " " ++ escaped row.rule
+    ++ codes "\n"
 
 -- a row as JSON, its keys in ASCII order
 abbrev pub row_value : (time : List ℕ) → ℕ × AccountRow → Data

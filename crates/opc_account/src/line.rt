@@ -2,8 +2,10 @@
 ghost use Rattle.std.specs.Prelude.{◌≡◌, ◌≤◌, ◌++◌, ℕ, List, IfOk, OnOk, codes, string_bytes, true};
 ghost use Rattle.serde_json.specs.View.{view};
 ghost use Rattle.serde_json.specs.Written.{compact_text};
+ghost use Rattle.opc_cli_failures.specs.Escaped.{escaped};
 ghost use Rattle.opc_account.specs.Lines.{IsRowLine, columns_line, padded, row_text, row_value};
 
+use opc_cli_failures::escaped::{escaped_text, has_unprintable};
 use opc_state::account::AccountRow;
 use opc_times::time::time_text;
 use serde_json::{Value, json};
@@ -27,6 +29,37 @@ fn push_column(line: &mut Vec<u8>, text: &[u8], width: usize) -> Result<(), Allo
     Ok(())
 }
 
+/// Adds a text in which nothing ends the line, and nothing acts on a terminal. Only rows that another program wrote
+/// have texts that are not added as they are.
+#[tactic(auto, using(opc_cli_failures::proofs::Escaping::printable_stay))]
+fn push_text(alloc: Global, line: &mut Vec<u8>, text: &str) -> Result<(), AllocError>
+    ensures { OnOk result (line.new.items ≡ line.old.items ++ escaped text.now) }
+{
+    if has_unprintable(text) {
+        line.extend_from_slice(escaped_text(alloc, text)?.as_bytes())
+    } else {
+        line.extend_from_slice(text.as_bytes())
+    }
+}
+
+/// Adds a column with such a text.
+#[tactic(auto, using(opc_cli_failures::proofs::Escaping::printable_stay))]
+fn push_text_column(
+    alloc: Global,
+    line: &mut Vec<u8>,
+    text: &str,
+    width: usize,
+) -> Result<(), AllocError>
+    requires { width ≤ 20 }
+    ensures { OnOk result (line.new.items ≡ line.old.items ++ (padded width (escaped text.now) ++ codes " ")) }
+{
+    if has_unprintable(text) {
+        push_column(line, escaped_text(alloc, text)?.as_bytes(), width)
+    } else {
+        push_column(line, text.as_bytes(), width)
+    }
+}
+
 /// Adds a row under the header.
 fn push_columns(
     alloc: Global,
@@ -39,10 +72,10 @@ fn push_columns(
 {
     push_column(line, number.to_string(alloc)?.as_bytes(), 6)?;
     push_column(line, time.as_bytes(), 20)?;
-    push_column(line, row.console.as_str().as_bytes(), 8)?;
-    push_column(line, row.user.as_str().as_bytes(), 8)?;
-    push_column(line, row.code.as_str().as_bytes(), 4)?;
-    line.extend_from_slice(row.rule.as_str().as_bytes())?;
+    push_text_column(alloc, line, row.console.as_str(), 8)?;
+    push_text_column(alloc, line, row.user.as_str(), 8)?;
+    push_text_column(alloc, line, row.code.as_str(), 4)?;
+    push_text(alloc, line, row.rule.as_str())?;
     line.extend_from_slice(b"\n")
 }
 

@@ -1,5 +1,5 @@
 -- What is explained at a console, by what is found there.
-use Rattle.std.proofs.Common.{◌≡◌, ℕ, List, Option, Some, None, Result, Ok, Err, sym, ap, ◌∙◌}
+use Rattle.std.proofs.Common.{◌≡◌, ℕ, List, Some, None, Result, Ok, Err, sym, ap, ◌∙◌}
 use Rattle.opc_names.specs.declared.class.Class.TheVariants.{Opercmds}
 use Rattle.opc_terms.specs.declared.fault.Fault.{Fault}
 use Rattle.opc_terms.specs.declared.fault.Fault.TheVariants.{Missing}
@@ -19,27 +19,27 @@ use Rattle.opc_answers.proofs.Found.{has_the_id}
 
 module _ (s : State) (need : Need) (c : ConsoleRow) (ruled : Ruling) (out : Result CommandExplained Fault) where
   pub with_own : (id : List ℕ) (r : Result Explained Fault) → Some id ≡ own_user s c → ruled ≡ ruling s (nobody_at c) need
-      → by_profiles s.policy need id (Some c.name) ≡ r → with_ruling need ruled r ≡ out → at_console s need None c ≡ out
+      → by_profiles s.policy need id (Some c.name) ≡ r → with_ruling ruled r ≡ out → at_console s need None c ≡ out
   with_own id r own is by so =
       ap (by_actor s need c) (sym own)
-      ∙ ap (λ x. with_ruling need x (by_profiles s.policy need id (Some c.name))) (sym is)
-      ∙ ap (with_ruling need ruled) by
+      ∙ ap (λ x. with_ruling x (by_profiles s.policy need id (Some c.name))) (sym is)
+      ∙ ap (with_ruling ruled) by
       ∙ so
 
-  pub without_own : None ≡ own_user s c → ruled ≡ ruling s (nobody_at c) need → Ok (with_nobody need ruled) ≡ out
+  pub without_own : None ≡ own_user s c → ruled ≡ ruling s (nobody_at c) need → Ok (with_nobody ruled) ≡ out
       → at_console s need None c ≡ out
-  without_own own is so = ap (by_actor s need c) (sym own) ∙ ap (λ x. Ok (with_nobody need x)) (sym is) ∙ so
+  without_own own is so = ap (by_actor s need c) (sym own) ∙ ap (λ x. Ok (with_nobody x)) (sym is) ∙ so
 
   pub with_on : (id : List ℕ) (u : User) (r : Result Explained Fault) → Some u ≡ user_of s.policy.users id
-      → ruled ≡ ruling s (on_at u.id c) need → by_profiles s.policy need id (Some c.name) ≡ r → with_ruling need ruled r ≡ out
+      → ruled ≡ ruling s (on_at u.id c) need → by_profiles s.policy need id (Some c.name) ≡ r → with_ruling ruled r ≡ out
       → at_console s need (Some id) c ≡ out
   with_on id u r found is by so =
-      ap (λ x. with_ruling need x (by_profiles s.policy need id (Some c.name)))
+      ap (λ x. with_ruling x (by_profiles s.policy need id (Some c.name)))
       (ap (λ name. ruling s (on_at name c) need) (has_the_id s.policy.users id u (sym found)) ∙ sym is)
-      ∙ ap (with_ruling need ruled) by
+      ∙ ap (with_ruling ruled) by
       ∙ so
 
 pub not_stored : (s : State) (need : Need) (c : ConsoleRow) (id : List ℕ) → None ≡ user_of s.policy.users id
     → at_console s need (Some id) c ≡ Err (Missing id)
 not_stored s need c id none =
-    ap (λ o. with_ruling need (ruling s (on_at id c) need) (explained_to o s.policy Opercmds need.resource id (Some c.name) need.level)) (sym none)
+    ap (λ o. with_ruling (ruling s (on_at id c) need) (explained_to o s.policy Opercmds need.resource id (Some c.name) need.level)) (sym none)

@@ -5,3 +5,5 @@ pub mod Making
 pub mod Placed
 pub mod Ruled
 pub mod Said
+pub mod Floats
+pub mod Words

@@ -1,44 +1,12 @@
 -- The rows of a policy file, taken one after another.
-use Rattle.std.proofs.Common.{
-  ◌≡◌,
-  ◌<◌,
-  ◌+◌,
-  ℕ,
-  suc,
-  true,
-  false,
-  List,
-  [],
-  ◌∷◌,
-  ◌++◌,
-  Option,
-  Result,
-  Ok,
-  Err,
-  take,
-  drop,
-  drop-cons,
-  get_or,
-  length,
-  is_some,
-  map,
-  refl,
-  sym,
-  ap,
-  subst,
-  ◌∙◌,
-}
+use Rattle.std.proofs.Common.{◌≡◌, ◌<◌, ◌+◌, ℕ, true, false, List, [], ◌∷◌, ◌++◌, Result, Ok, Err, take, get_or, length, is_some, map, refl, sym, ap, subst, ◌∙◌}
 use Rattle.std.specs.Prelude.{Bool}
 use Rattle.std.specs.BTreeMap.{insert_entry}
 use Rattle.std.specs.Map.{values_of}
-use Rattle.std.proofs.Math.ListN.{take-append-drop}
 use Rattle.std.proofs.lemmas.List.{take_more}
-use Rattle.std.proofs.lemmas.Simd.{map-map}
-use Rattle.opc_names.specs.declared.level.Level.{Level}
 use Rattle.opc_terms.specs.declared.fault.Fault.{Fault}
 use Rattle.opc_policy_members.specs.declared.connect.Connect.{Connect}
 use Rattle.opc_policy_members.specs.declared.policy.Policy.{Policy}
-use Rattle.opc_policy_members.specs.declared.profile.Profile.{Profile}
 use Rattle.opc_policy_members.specs.declared.row.Row.{Row}
 use Rattle.opc_policy_members.specs.declared.row.Row.TheVariants as rows
 use Rattle.opc_policy_members.specs.declared.user.User.{User}
@@ -46,42 +14,12 @@ use Rattle.opc_policy_members.proofs.UsersById.{AreById-insert, values-with_user
 use Rattle.opc_policy_members.specs.Members.{name_cmp, with_user}
 use Rattle.opc_policy_members.specs.Profiles.{profile_of}
 use Rattle.opc_policy_members.specs.Stored.{AreById}
-use Rattle.opc_policy_members.specs.Taken.{after_row, has_user, has_group, has_holder, unless, needing}
+use Rattle.opc_policy_members.specs.Taken.{after_row, has_user, has_group, has_holder, unless, needing, policy_after, then_policy}
 use Rattle.opc_board.specs.declared.board.BoardRows.{BoardRows}
 use Rattle.opc_state.specs.State.{empty}
-use Rattle.opc_machine.specs.Bootstrap.{bootstrapped, then_policy, policy_after, console_after, consoles_after, with_rows_of}
+use Rattle.opc_machine.specs.Bootstrap.{bootstrapped, console_after, consoles_after, with_rows_of}
 use Rattle.opc_answers.specs.declared.members.Member.{Member}
-use Rattle.opc_answers.specs.Who.{member_line, user_lines}
 use Rattle.opc_answers.specs.Made.{connect_after, connects_after, member_of, members_of, state_of, user_after, users_after}
-
--- rows, and then more
-policy_steps : (one more : List Row) (p : Policy) → policy_after (one ++ more) p ≡ then_policy (policy_after one p) (λ q. policy_after more q)
-policy_steps [] more p = refl
-policy_steps (row ∷ one) more p = go (after_row row p) (λ q. policy_steps one more q)
-  where
-    go : (r : Result Policy Fault) → ((q : Policy) → policy_after (one ++ more) q ≡ then_policy (policy_after one q) (λ x. policy_after more x))
-        → then_policy r (λ q. policy_after (one ++ more) q) ≡ then_policy (then_policy r (λ q. policy_after one q)) (λ q. policy_after more q)
-    go (Ok q) later = later q
-    go (Err fault) later = refl
-
-pub policy_more : (all : List Row) (i : ℕ) (row : Row) (start p q : Policy) → i < length all → row ≡ get_or all i row
-    → policy_after (take i all) start ≡ Ok p → after_row row p ≡ Ok q
-    → policy_after (take (i + 1) all) start ≡ Ok q
-policy_more all i row start p q low is was next =
-    ap (λ xs. policy_after xs start) (take_more all i row low ∙ ap (λ x. take i all ++ x ∷ []) (sym is))
-    ∙ policy_steps (take i all) (row ∷ []) start
-    ∙ ap (λ r. then_policy r (λ x. policy_after (row ∷ []) x)) was
-    ∙ ap (λ r. then_policy r (λ x. policy_after [] x)) next
-
-pub policy_stops : (all : List Row) (i : ℕ) (row : Row) (start p : Policy) (f : Fault) → i < length all
-    → row ≡ get_or all i row → policy_after (take i all) start ≡ Ok p → after_row row p ≡ Err f
-    → policy_after all start ≡ Err f
-policy_stops all i row start p f low is was stops =
-    ap (λ xs. policy_after xs start) (sym (take-append-drop i all)
-    ∙ ap (λ xs. take i all ++ xs) (drop-cons all i row low ∙ ap (λ x. x ∷ drop (suc i) all) (sym is)))
-    ∙ policy_steps (take i all) (row ∷ drop (suc i) all) start
-    ∙ ap (λ r. then_policy r (λ x. policy_after (row ∷ drop (suc i) all) x)) was
-    ∙ ap (λ r. then_policy r (λ x. policy_after (drop (suc i) all) x)) stops
 
 consoles_steps : (one more : List Row) (b : BoardRows) → consoles_after (one ++ more) b ≡ consoles_after more (consoles_after one b)
 consoles_steps [] more b = refl
@@ -204,12 +142,6 @@ pub members_so : (all : List Row) (p : Policy) (users : List User) (connects : L
 members_so all p users connects members taken are have is =
     is ∙ ap (λ cs. map (member_of cs) users) (have ∙ sym (connects_so all empty.policy p taken))
     ∙ ap (map (member_of p.connects)) (are ∙ sym (users_so all empty.policy p taken))
-
--- what is said of the users, by their groups
-pub lines_so : (p : Policy) (decided : Option Profile) (console : Option (List ℕ)) (needed : Level) (members : List Member)
-    → members ≡ members_of p → map (member_line decided console needed) members ≡ user_lines p decided console needed p.users
-lines_so p decided console needed members are =
-    ap (map (member_line decided console needed)) are ∙ map-map (member_line decided console needed) (member_of p.connects) p.users
 
 -- ---- the first policy of new tables
 

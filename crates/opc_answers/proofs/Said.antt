@@ -9,13 +9,12 @@ use Rattle.opc_terms.specs.declared.rule.Rule.{Rule}
 use Rattle.opc_terms.specs.declared.rule.Rule.TheVariants as rule
 use Rattle.opc_policy_members.specs.declared.profile.Profile.{Profile}
 use Rattle.opc_policy_members.specs.declared.user.User.{User}
-use Rattle.opc_policy_members.specs.Held.{held}
 use Rattle.opc_policy_members.specs.Members.{groups_of, user_of}
 use Rattle.opc_policy.specs.declared.ruling.Ruling.{Ruling}
 use Rattle.opc_policy.specs.declared.ruling.Ruling.TheVariants.{Denied}
 use Rattle.opc_policy.specs.Rulings.{console_ruling, profile_ruling, ruling_at}
 use Rattle.opc_policy_sources.specs.Sources.{held_from}
-use Rattle.opc_policy_sources.proofs.Levels.{held_so}
+use Rattle.opc_policy_sources.proofs.SourceLevels.{held_so}
 use Rattle.opc_policy_sources.proofs.Raising.{plain_where_none_raises, unnamed_raises_none}
 use Rattle.opc_board.specs.declared.rows.ConsoleRow.{ConsoleRow}
 use Rattle.opc_state.specs.State.{State}

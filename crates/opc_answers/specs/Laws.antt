@@ -1,15 +1,17 @@
 -- What an answer says is what the access machine rules, with the user on at the console.
-use Rattle.std.specs.Prelude.{◌≡◌, ℕ, false, true, List, Option, Some, None, unwrap_or}
+use Rattle.std.specs.Prelude.{◌≡◌, ℕ, false, true, List, Option, Some, None, unwrap_or, ◌↔◌, codes}
 use Rattle.opc_terms.specs.declared.need.Need.{Need}
 use Rattle.opc_policy_members.specs.declared.user.User.{User}
 use Rattle.opc_policy_members.specs.Members.{user_of}
 use Rattle.opc_policy.specs.Rulings.{console_ruling}
 use Rattle.opc_board.specs.declared.rows.ConsoleRow.{ConsoleRow}
 use Rattle.opc_state.specs.State.{State}
-use Rattle.opc_machine.specs.Rulings.{ruling}
+use Rattle.opc_machine.specs.Rulings.{ruling, is_allowed}
 use Rattle.opc_answers.specs.declared.lines.UserLine.{UserLine}
 use Rattle.opc_answers.specs.declared.wanted.Wanted.TheVariants.{Command}
 use Rattle.opc_answers.specs.Who.{decider, is_named, is_raised, on_at, or_authority, user_line}
+use Rattle.opc_policy.specs.declared.ruling.Ruling.{Ruling}
+use Rattle.opc_answers.specs.Texts.{ruling_word}
 
 -- what is said of a user and a command, at a console if one is given
 abbrev pub said : State → Need → Option (List ℕ) → User → UserLine
@@ -38,3 +40,7 @@ SaysTheRulingElsewhere = (s : State) (need : Need) (c : ConsoleRow) (user : User
 abbrev pub RaisesWhereNamed : Type 0
 RaisesWhereNamed = (s : State) (need : Need) (c : ConsoleRow) (user : User)
     → is_named (decider s.policy (Command need)) c ≡ false → is_raised (said s need (Some c.name) user) ≡ false
+
+-- A line with a ruling says DENIED exactly if the ruling denies.
+abbrev pub SaysWhatIsDenied : Type 0
+SaysWhatIsDenied = (r : Ruling) → (ruling_word r ≡ codes "DENIED") ↔ (is_allowed r ≡ false)

@@ -1,5 +1,11 @@
+pub mod Answers
 pub mod Explaining
+pub mod Json
 pub mod Laws
 pub mod Made
 pub mod Needed
+pub mod Questions
+pub mod Texts
 pub mod Who
+pub mod Why
+pub mod WhyJson

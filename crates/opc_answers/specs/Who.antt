@@ -1,5 +1,7 @@
--- Who may do what is asked about: each user, and each console where nobody is on.
+-- Who may do what is asked about: each user, and each console where nobody is on. An answer has what its lines are made
+-- of; the lines follow from it.
 use Rattle.std.specs.Prelude.{
+  ◌≡◌,
   ℕ,
   Bool,
   false,
@@ -31,7 +33,6 @@ use Rattle.opc_terms.specs.declared.rule.Rule.TheVariants as rule
 use Rattle.opc_policy_members.specs.declared.entry.Entry.{Entry}
 use Rattle.opc_policy_members.specs.declared.policy.Policy.{Policy}
 use Rattle.opc_policy_members.specs.declared.profile.Profile.{Profile}
-use Rattle.opc_policy_members.specs.declared.row.Row.{Row}
 use Rattle.opc_policy_members.specs.declared.user.User.{User}
 use Rattle.opc_policy_members.specs.Members.{groups_of}
 use Rattle.opc_policy_members.specs.Taken.{is_active}
@@ -41,16 +42,19 @@ use Rattle.opc_policy.specs.Rulings.{console_ruling, profile_ruling}
 use Rattle.opc_policy_sources.specs.declared.sources.HeldLevel.{HeldLevel}
 use Rattle.opc_policy_sources.specs.Sources.{held_from}
 use Rattle.opc_board.specs.declared.rows.ConsoleRow.{ConsoleRow}
+use Rattle.opc_board.specs.declared.board.BoardRows.{BoardRows}
 use Rattle.opc_board.specs.Invariants.{console_at}
-use Rattle.opc_state.specs.State.{State, deciding_in, empty}
-use Rattle.opc_machine.specs.Bootstrap.{bootstrapped}
+use Rattle.opc_state.specs.State.{State, deciding_in}
 use Rattle.opc_machine.specs.Rulings.{own_user, ruling}
 use Rattle.opc_answers.specs.declared.wanted.Wanted.{Wanted}
 use Rattle.opc_answers.specs.declared.wanted.Wanted.TheVariants.{Command, Access}
 use Rattle.opc_answers.specs.declared.consoles.ConsoleLine.{ConsoleLine}
 use Rattle.opc_answers.specs.declared.lines.UserLine.{UserLine}
 use Rattle.opc_answers.specs.declared.members.Member.{Member}
+use Rattle.opc_answers.specs.declared.who.AskedAt.{AskedAt}
+use Rattle.opc_answers.specs.declared.who.AskedAt.TheVariants.{Everywhere, Named, OnBoard}
 use Rattle.opc_answers.specs.declared.who.Who.{Who}
+use Rattle.opc_answers.specs.Made.{members_of, state_of}
 
 -- the class, the resource and the level that are asked about; the resources of commands are in OPERCMDS
 abbrev pub class_of : Wanted → Class
@@ -89,16 +93,9 @@ member_line decided console needed m = line_of decided console needed m.groups m
 abbrev pub user_line : Policy → Option Profile → Option (List ℕ) → Level → User → UserLine
 user_line p decided console needed user = line_of decided console needed (groups_of p.connects user.id) user
 
-abbrev pub user_lines : Policy → Option Profile → Option (List ℕ) → Level → List User → List UserLine
-user_lines p decided console needed users = map (user_line p decided console needed) users
-
 -- At a console of the board a command that no profile decides is decided by the console's authority.
 abbrev pub or_authority : ConsoleRow → Need → UserLine → UserLine
 or_authority c need line = record line { ruling = Some (unwrap_or line.ruling (console_ruling c.auth need)) }
-
--- what is said of a command of each user, on at a console
-abbrev pub lines_at : Policy → Option Profile → ConsoleRow → Need → List User → List UserLine
-lines_at p decided c need users = map (or_authority c need) (user_lines p decided (Some c.name) need.level users)
 
 -- whether an entry is for the console of this name alone
 abbrev pub is_for : List ℕ → Entry → Bool
@@ -117,11 +114,8 @@ abbrev pub is_raised : UserLine → Bool
 is_raised line = option_map_or (λ (h : HeldLevel). is_some h.when) line.held false
 
 -- What is said of users at one console alone, if an entry for it raises the level that they hold.
-abbrev pub raised_at : Policy → Option Profile → Level → List User → ConsoleRow → List UserLine
-raised_at p decided needed users c = filter is_raised (user_lines p decided (Some c.name) needed users)
-
-abbrev pub raised_lines : Policy → Option Profile → Level → List User → List ConsoleRow → List UserLine
-raised_lines p decided needed users consoles = flat_map (raised_at p decided needed users) (named decided consoles)
+abbrev pub raised_at : Option Profile → Level → List Member → ConsoleRow → List UserLine
+raised_at decided needed members c = filter is_raised (map (member_line decided (Some c.name) needed) members)
 
 -- by the profile that decides or, if none does, by an authority
 abbrev pub by_decider : Option Profile → User → Option (List ℕ) → List (List ℕ) → Auth → Need → Ruling
@@ -146,58 +140,83 @@ console_line s need c = record {
 abbrev pub console_lines : State → Need → List ConsoleRow → List ConsoleLine
 console_lines s need consoles = map (console_line s need) consoles
 
--- of a command alone
-abbrev pub consoles_of : State → Wanted → List ConsoleRow → Option (List ConsoleLine)
-consoles_of s (Command need) consoles = Some (console_lines s need consoles)
-consoles_of s (Access class resource level) consoles = None
+-- the console that is named, if one is
+abbrev pub name_of : AskedAt → Option (List ℕ)
+name_of Everywhere = None
+name_of (OnBoard c) = Some c.name
+name_of (Named name) = Some name
 
--- The answer, wherever users are on: each user, whom entries for one console raise there, and each console.
-abbrev pub everywhere : State → Wanted → Who
-everywhere s w = let decided = decider s.policy w in record {
+abbrev pub command_at : Need → AskedAt → UserLine → UserLine
+command_at need (OnBoard c) line = or_authority c need line
+command_at need place line = line
+
+abbrev pub decided_at : Wanted → AskedAt → UserLine → UserLine
+decided_at (Command need) place line = command_at need place line
+decided_at (Access class resource level) place line = line
+
+-- The lines of an answer: what is said of each user;
+abbrev pub user_said : Who → Member → UserLine
+user_said who m =
+    decided_at who.wanted who.at (member_line who.decided (name_of who.at) (level_of who.wanted) m)
+
+abbrev pub users_of : Who → List UserLine
+users_of who = map (user_said who) who.room.members
+
+-- if no console is named, what is said of users at one console alone, console by console;
+abbrev pub named_at : AskedAt → Option Profile → List ConsoleRow → List ConsoleRow
+named_at Everywhere decided consoles = named decided consoles
+named_at place decided consoles = []
+
+abbrev pub named_of : Who → List ConsoleRow
+named_of who = named_at who.at who.decided who.room.board.consoles
+
+abbrev pub raised_there : Who → ConsoleRow → List UserLine
+raised_there who c = raised_at who.decided (level_of who.wanted) who.room.members c
+
+abbrev pub raised_of : Who → List UserLine
+raised_of who = flat_map (raised_there who) (named_of who)
+
+-- and, of a command alone, what is said of each console, or of the one of the board that is named.
+abbrev pub consoles_at : State → Need → AskedAt → Option (List ConsoleLine)
+consoles_at s need Everywhere = Some (console_lines s need s.board.consoles)
+consoles_at s need (OnBoard c) = Some (console_lines s need (c ∷ []))
+consoles_at s need (Named name) = None
+
+abbrev pub consoles_in : State → Wanted → AskedAt → Option (List ConsoleLine)
+consoles_in s (Command need) place = consoles_at s need place
+consoles_in s (Access class resource level) place = None
+
+abbrev pub consoles_of : Who → Option (List ConsoleLine)
+consoles_of who = consoles_in (state_of who.room.policy who.room.board) who.wanted who.at
+
+-- the profile of an answer is the one that decides
+abbrev pub HasDecider : Who → Type 0
+HasDecider who = who.decided ≡ decider who.room.policy who.wanted
+
+-- A command can be asked about at a console of the board, a level of access at any.
+abbrev pub on_board : Option ConsoleRow → Result AskedAt Fault
+on_board None = Err NoConsole
+on_board (Some c) = Ok (OnBoard c)
+
+abbrev pub asked_at : BoardRows → Wanted → Option (List ℕ) → Result AskedAt Fault
+asked_at b w None = Ok Everywhere
+asked_at b (Command need) (Some name) = on_board (console_at b name)
+asked_at b (Access class resource level) (Some name) = Ok (Named name)
+
+-- the answer, by the profile that decides
+abbrev pub who_at : Policy → BoardRows → Wanted → AskedAt → Who
+who_at p b w place = record {
   wanted = w;
-  active = is_active s.policy.active (class_of w);
-  decided = decided;
-  users = user_lines s.policy decided None (level_of w) s.policy.users;
-  raised = raised_lines s.policy decided (level_of w) s.policy.users s.board.consoles;
-  consoles = consoles_of s w s.board.consoles;
+  active = is_active p.active (class_of w);
+  decided = decider p w;
+  room = record { policy = p; members = members_of p; board = b };
+  at = place;
 }
 
--- The answer at one console, which has to be on the board if a command is asked about.
-abbrev pub at_found : State → Need → Option ConsoleRow → Result Who Fault
-at_found s need None = Err NoConsole
-at_found s need (Some c) = let decided = decider s.policy (Command need) in Ok (record {
-  wanted = Command need;
-  active = is_active s.policy.active Opercmds;
-  decided = decided;
-  users = lines_at s.policy decided c need s.policy.users;
-  raised = [];
-  consoles = Some (console_line s need c ∷ []);
-})
-
--- a level of access can be asked about at any console
-abbrev pub at_named : State → Wanted → List ℕ → Who
-at_named s w name = let decided = decider s.policy w in record {
-  wanted = w;
-  active = is_active s.policy.active (class_of w);
-  decided = decided;
-  users = user_lines s.policy decided (Some name) (level_of w) s.policy.users;
-  raised = [];
-  consoles = None;
-}
-
-abbrev pub at_console : State → Wanted → List ℕ → Result Who Fault
-at_console s (Command need) name = at_found s need (console_at s.board name)
-at_console s (Access class resource level) name = Ok (at_named s (Access class resource level) name)
+abbrev pub who_placed : Policy → BoardRows → Wanted → Result AskedAt Fault → Result Who Fault
+who_placed p b w (Ok place) = Ok (who_at p b w place)
+who_placed p b w (Err fault) = Err fault
 
 -- who may do what is asked about, at the console that is named, or everywhere
 abbrev pub who_in : State → Wanted → Option (List ℕ) → Result Who Fault
-who_in s w None = Ok (everywhere s w)
-who_in s w (Some name) = at_console s w name
-
-abbrev pub who_by : Result State Fault → Wanted → Option (List ℕ) → Result Who Fault
-who_by (Ok s) w console = who_in s w console
-who_by (Err fault) w console = Err fault
-
--- by the rows of a policy file, as the first policy of new tables
-abbrev pub who_of : List Row → Wanted → Option (List ℕ) → Result Who Fault
-who_of rows w console = who_by (bootstrapped rows empty) w console
+who_in s w console = who_placed s.policy s.board w (asked_at s.board w console)

@@ -6,15 +6,15 @@ ghost use Rattle.opc_answers.specs.Explaining.{
   at_console,
   at_none,
   by_profiles,
-  command_explained,
   console_named,
+  explained_in,
   with_ruling,
 };
 ghost use Rattle.opc_answers.specs.Made.{state_of};
 
 use crate::consoles::{own_name, ruling};
 use crate::lines::{decider, ruling_with};
-use crate::made::{Made, state_made};
+use crate::room::Room;
 use crate::wanted::Wanted;
 use crate::who::console_of;
 use opc_board::rows::ConsoleRow;
@@ -24,20 +24,18 @@ use opc_policy::explained::{Explained, Patterns, explain};
 use opc_policy::ruling::Ruling;
 use opc_policy::verdict::Verdict;
 use opc_policy_members::policy::Policy;
-use opc_policy_members::row::Row;
 use opc_terms::fault::{Fault, Subject};
 use opc_terms::need::Need;
 use opc_terms::rule::Rule;
 use std::alloc::Global;
 
-/// Why a command may or may not be entered: what it needs, the patterns of the profiles that cover, if it is entered
-/// for a user, and the verdict with its rule.
+/// Why a command may or may not be entered: the patterns of the profiles that cover, if it is entered for a user, and
+/// the verdict with its rule.
 #[derive(Drop)]
-pub struct CommandExplained {
-    pub need: Need,
-    pub covering: Option<Patterns>,
-    pub verdict: Verdict,
-    pub rule: Rule,
+pub(crate) struct CommandExplained {
+    pub(crate) covering: Option<Patterns>,
+    pub(crate) verdict: Verdict,
+    pub(crate) rule: Rule,
 }
 
 /// What the profiles say of a user who enters what a command needs.
@@ -65,11 +63,10 @@ fn by_profiles(
 }
 
 /// The patterns that cover, and the ruling at a console.
-fn with_ruling(need: &Need, ruling: Ruling, explained: Explained) -> CommandExplained
-    ensures { with_ruling need.now ruling (Ok explained) ≡ Ok result }
+fn with_ruling(ruling: Ruling, explained: Explained) -> CommandExplained
+    ensures { with_ruling ruling (Ok explained) ≡ Ok result }
 {
     CommandExplained {
-        need: *need,
         covering: Some(explained.covering),
         verdict: ruling.verdict(),
         rule: ruling.rule(),
@@ -80,25 +77,24 @@ fn with_ruling(need: &Need, ruling: Ruling, explained: Explained) -> CommandExpl
 #[tactic(auto, using(crate::proofs::Explained::with_own, crate::proofs::Explained::without_own))]
 fn with_nobody_on(
     alloc: Global,
-    made: &Made,
+    room: &Room,
     need: &Need,
     console: &ConsoleRow,
 ) -> Result<CommandExplained, Fault>
-    ensures ok { IfOk result (λ explained. at_console (state_of made.now.policy made.now.board) need.now None
+    ensures ok { IfOk result (λ explained. at_console (state_of room.now.policy room.now.board) need.now None
         console.now ≡ Ok explained) }
     ensures fault { IfErr result (λ fault. fault ≢ why.NoMemory
-        → at_console (state_of made.now.policy made.now.board) need.now None console.now ≡ Err fault) }
+        → at_console (state_of room.now.policy room.now.board) need.now None console.now ≡ Err fault) }
 {
-    let (policy, board) = (&made.policy, &made.board);
+    let (policy, board) = (&room.policy, &room.board);
     let found = decider(policy, &Wanted::Command(*need))?;
     let ruled = ruling(alloc, policy, board, found.as_ref(), need, console)?;
     match own_name(policy, board, console) {
         Some(id) => {
             let explained = by_profiles(alloc, policy, need, &id, Some(&console.name))?;
-            Ok(with_ruling(need, ruled, explained))
+            Ok(with_ruling(ruled, explained))
         }
         None => Ok(CommandExplained {
-            need: *need,
             covering: None,
             verdict: ruled.verdict(),
             rule: ruled.rule(),
@@ -110,64 +106,63 @@ fn with_nobody_on(
 #[tactic(auto, using(crate::proofs::Found::stored, crate::proofs::Explained::with_on, crate::proofs::Explained::not_stored))]
 fn with_user_on(
     alloc: Global,
-    made: &Made,
+    room: &Room,
     need: &Need,
     id: &UserId,
     console: &ConsoleRow,
 ) -> Result<CommandExplained, Fault>
-    ensures ok { IfOk result (λ explained. at_console (state_of made.now.policy made.now.board) need.now (Some id.now)
+    ensures ok { IfOk result (λ explained. at_console (state_of room.now.policy room.now.board) need.now (Some id.now)
         console.now ≡ Ok explained) }
     ensures fault { IfErr result (λ fault. fault ≢ why.NoMemory
-        → at_console (state_of made.now.policy made.now.board) need.now (Some id.now) console.now ≡ Err fault) }
+        → at_console (state_of room.now.policy room.now.board) need.now (Some id.now) console.now ≡ Err fault) }
 {
-    let policy = &made.policy;
+    let policy = &room.policy;
     let Some(user) = policy.users.get(id) else {
         return Err(Fault::Missing(Subject::of(id)));
     };
     let found = decider(policy, &Wanted::Command(*need))?;
-    let ruled = ruling_with(alloc, made, found.as_ref(), need, console, user)?;
+    let ruled = ruling_with(alloc, room, found.as_ref(), need, console, user)?;
     let explained = by_profiles(alloc, policy, need, id, Some(&console.name))?;
-    Ok(with_ruling(need, ruled, explained))
+    Ok(with_ruling(ruled, explained))
 }
 
 /// At a console with this user on or, without one, with nobody on.
 fn at_console(
     alloc: Global,
-    made: &Made,
+    room: &Room,
     need: &Need,
     user: Option<&UserId>,
     console: &ConsoleRow,
 ) -> Result<CommandExplained, Fault>
-    ensures ok { IfOk result (λ explained. at_console (state_of made.now.policy made.now.board) need.now
+    ensures ok { IfOk result (λ explained. at_console (state_of room.now.policy room.now.board) need.now
         (option_copied user.entry) console.now ≡ Ok explained) }
-    ensures fault { IfErr result (λ fault. fault ≢ why.NoMemory → at_console (state_of made.now.policy made.now.board)
+    ensures fault { IfErr result (λ fault. fault ≢ why.NoMemory → at_console (state_of room.now.policy room.now.board)
         need.now (option_copied user.entry) console.now ≡ Err fault) }
 {
     match user {
-        Some(id) => with_user_on(alloc, made, need, id, console),
-        None => with_nobody_on(alloc, made, need, console),
+        Some(id) => with_user_on(alloc, room, need, id, console),
+        None => with_nobody_on(alloc, room, need, console),
     }
 }
 
 /// At no console of the board, where the profiles alone decide. Nobody acts there.
 fn at_none(
     alloc: Global,
-    made: &Made,
+    room: &Room,
     need: &Need,
     user: Option<&UserId>,
     console: Option<&ConsoleName>,
 ) -> Result<CommandExplained, Fault>
-    ensures ok { IfOk result (λ explained. at_none (state_of made.now.policy made.now.board) need.now
+    ensures ok { IfOk result (λ explained. at_none (state_of room.now.policy room.now.board) need.now
         (option_copied user.entry) (option_copied console.entry) ≡ Ok explained) }
-    ensures fault { IfErr result (λ fault. fault ≢ why.NoMemory → at_none (state_of made.now.policy made.now.board)
+    ensures fault { IfErr result (λ fault. fault ≢ why.NoMemory → at_none (state_of room.now.policy room.now.board)
         need.now (option_copied user.entry) (option_copied console.entry) ≡ Err fault) }
 {
     let Some(id) = user else {
         return Err(Fault::NoConsole);
     };
-    let explained = by_profiles(alloc, &made.policy, need, id, console)?;
+    let explained = by_profiles(alloc, &room.policy, need, id, console)?;
     Ok(CommandExplained {
-        need: *need,
         covering: Some(explained.covering),
         verdict: explained.verdict,
         rule: explained.rule,
@@ -175,33 +170,33 @@ fn at_none(
 }
 
 /// The console of the board, if one is named that is there.
-fn console_named<'a>(made: &'a Made, console: Option<&ConsoleName>) -> Option<&'a ConsoleRow>
-    ensures { option_copied result ≡ console_named (state_of made.entry.now.policy made.entry.now.board)
+fn console_named<'a>(room: &'a Room, console: Option<&ConsoleName>) -> Option<&'a ConsoleRow>
+    ensures { option_copied result ≡ console_named (state_of room.entry.now.policy room.entry.now.board)
         (option_copied console.entry) }
 {
     match console {
-        Some(name) => console_of(&made.board, name),
+        Some(name) => console_of(&room.board, name),
         None => None,
     }
 }
 
-/// Why a command that needs this may or may not be entered for a user, or, without one, with nobody on, by the rows of
-/// a policy file: at a console if one is named.
-pub fn explain_command(
+/// Why a command that needs this may or may not be entered for a user, or, without one, with nobody on: at a console if
+/// one is named.
+pub(crate) fn explained_in(
     alloc: Global,
-    rows: &[Row],
+    room: &Room,
     need: &Need,
     user: Option<&UserId>,
     console: Option<&ConsoleName>,
 ) -> Result<CommandExplained, Fault>
-    ensures ok { IfOk result (λ explained. command_explained rows.now need.now (option_copied user.entry)
-        (option_copied console.entry) ≡ Ok explained) }
-    ensures fault { IfErr result (λ fault. fault ≢ why.NoMemory → command_explained rows.now need.now
-        (option_copied user.entry) (option_copied console.entry) ≡ Err fault) }
+    ensures ok { IfOk result (λ explained. explained_in (state_of room.now.policy room.now.board) need.now
+        (option_copied user.entry) (option_copied console.entry) ≡ Ok explained) }
+    ensures fault { IfErr result (λ fault. fault ≢ why.NoMemory → explained_in
+        (state_of room.now.policy room.now.board) need.now (option_copied user.entry) (option_copied console.entry)
+        ≡ Err fault) }
 {
-    let made = state_made(alloc, rows)?;
-    match console_named(&made, console) {
-        Some(found) => at_console(alloc, &made, need, user, found),
-        None => at_none(alloc, &made, need, user, console),
+    match console_named(room, console) {
+        Some(found) => at_console(alloc, room, need, user, found),
+        None => at_none(alloc, room, need, user, console),
     }
 }

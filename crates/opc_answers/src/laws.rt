@@ -4,6 +4,7 @@ ghost use Rattle.opc_answers.specs.Laws.{
   SaysTheRulingAtAConsole,
   SaysTheRulingElsewhere,
   SaysTheRulingWhereRaised,
+  SaysWhatIsDenied,
 };
 
 /// What is said of a user and a command is the ruling with that user on at the console: at one console, and, if no
@@ -13,4 +14,9 @@ pub fn says_what_is_ruled()
     ensures raised { SaysTheRulingWhereRaised }
     ensures elsewhere { SaysTheRulingElsewhere }
     ensures named { RaisesWhereNamed }
+{}
+
+/// A line with a ruling says `DENIED` exactly if the ruling denies.
+pub fn says_what_is_denied()
+    ensures { SaysWhatIsDenied }
 {}

@@ -1,13 +1,20 @@
-//! Answers for people, by a policy: who may do what, and why.
+//! Answers for people, by a policy: who may do what, and why, as text and as JSON.
 #![tactic(auto)]
 
+pub mod answer;
 pub mod consoles;
-pub mod explaining;
+pub mod counts;
+mod explaining;
+pub mod json;
 pub mod laws;
 pub mod lines;
-mod made;
 mod members;
 pub mod needed;
+pub mod question;
 mod raised;
+pub mod room;
+pub mod text;
 pub mod wanted;
 pub mod who;
+pub mod why;
+mod why_json;

@@ -1,25 +1,16 @@
 //! What is said of users.
-ghost use Rattle.std.specs.Prelude.{◌≡◌, IfOk, IsOkUnless, Some, map, unwrap_or};
+ghost use Rattle.std.specs.Prelude.{◌≡◌, IfOk, IsOkUnless, Some, unwrap_or};
 ghost use Rattle.std.specs.Option.{option_copied};
 ghost use Rattle.opc_policy.specs.Rulings.{console_ruling};
 ghost use Rattle.opc_policy_members.specs.Members.{user_of};
 ghost use Rattle.opc_machine.specs.Rulings.{ruling};
 ghost use Rattle.opc_terms.specs.declared.store_fault.StoreFault.TheVariants.{NoMemory};
-ghost use Rattle.opc_answers.specs.Made.{members_of, state_of};
+ghost use Rattle.opc_answers.specs.Made.{state_of};
 ghost use Rattle.opc_answers.specs.declared.wanted.Wanted.TheVariants.{Command};
-ghost use Rattle.opc_answers.specs.Who.{
-  by_profile,
-  decider,
-  line_of,
-  lines_at,
-  member_line,
-  on_at,
-  or_authority,
-  user_lines,
-};
+ghost use Rattle.opc_answers.specs.Who.{by_profile, decider, line_of, member_line, on_at, or_authority};
 
-use crate::made::Made;
 use crate::members::Member;
+use crate::room::Room;
 use crate::wanted::Wanted;
 use opc_board::rows::ConsoleRow;
 use opc_names::level::Level;
@@ -31,7 +22,6 @@ use opc_policy_members::policy::Policy;
 use opc_policy_members::profile::Profile;
 use opc_policy_members::user::User;
 use opc_policy_sources::sources::{HeldLevel, LevelSource, held_from};
-use opc_rows::Rows;
 use opc_terms::need::Need;
 use opc_terms::rule::Rule;
 use opc_terms::store_fault::StoreFault;
@@ -104,42 +94,8 @@ fn line_of(
     by_profile(decided, console, needed, groups, user)
 }
 
-/// What is said of each user, in order.
-pub(crate) fn user_lines(
-    alloc: Global,
-    made: &Made,
-    decided: Option<&Profile>,
-    console: Option<&ConsoleName>,
-    needed: Level,
-) -> Result<Rows<UserLine>, AllocError>
-    requires { made.now.members ≡ members_of made.now.policy }
-    ensures { IfOk result (λ lines. lines ≡ user_lines made.now.policy (option_copied decided.entry)
-        (option_copied console.entry) needed made.now.policy.users) }
-{
-    member_lines(alloc, decided, console, needed, made.members.as_slice())
-}
-
-fn member_lines(
-    alloc: Global,
-    decided: Option<&Profile>,
-    console: Option<&ConsoleName>,
-    needed: Level,
-    members: &[Member],
-) -> Result<Rows<UserLine>, AllocError>
-    ensures { IfOk result (λ lines. lines ≡ map (member_line (option_copied decided.entry)
-        (option_copied console.entry) needed) members.now) }
-{
-    // Named for the prover, which else does not find the types of a line.
-    let (_no_rule, _no_ruling): (Option<Rule>, Option<Ruling>) = (None, None);
-    let (_no_held, _no_source): (Option<HeldLevel>, Option<LevelSource>) = (None, None);
-    let mut lines = Rows::new(alloc);
-    for member in members {
-        lines.push(member_line(decided, console, needed, member))?;
-    }
-    Ok(lines)
-}
-
-fn member_line(
+/// What is said of a user with these groups.
+pub(crate) fn member_line(
     decided: Option<&Profile>,
     console: Option<&ConsoleName>,
     needed: Level,
@@ -167,7 +123,7 @@ fn ruling_or(console: &ConsoleRow, need: &Need, ruling: Option<Ruling>) -> Rulin
 }
 
 /// At a console of the board a command that no profile decides is decided by the console's authority.
-fn or_authority(console: &ConsoleRow, need: &Need, line: &UserLine) -> UserLine
+pub(crate) fn or_authority(console: &ConsoleRow, need: &Need, line: &UserLine) -> UserLine
     ensures { result ≡ or_authority console.now need.now line.now }
 {
     UserLine {
@@ -177,43 +133,21 @@ fn or_authority(console: &ConsoleRow, need: &Need, line: &UserLine) -> UserLine
     }
 }
 
-/// What is said of a command of each user, on at a console.
-pub(crate) fn lines_at(
-    alloc: Global,
-    made: &Made,
-    decided: Option<&Profile>,
-    console: &ConsoleRow,
-    need: &Need,
-) -> Result<Rows<UserLine>, AllocError>
-    requires { made.now.members ≡ members_of made.now.policy }
-    ensures { IfOk result (λ lines. lines ≡ lines_at made.now.policy (option_copied decided.entry) console.now need.now
-        made.now.policy.users) }
-{
-    // Named for the prover, which else does not find the types of a line.
-    let _no_rule: Option<Rule> = None;
-    let plain = user_lines(alloc, made, decided, Some(&console.name), need.level)?;
-    let mut lines = Rows::new(alloc);
-    for line in plain.as_slice() {
-        lines.push(or_authority(console, need, line))?;
-    }
-    Ok(lines)
-}
-
 /// The ruling on a command at a console with this user on.
 pub(crate) fn ruling_with(
     alloc: Global,
-    made: &Made,
+    room: &Room,
     decided: Option<&Profile>,
     need: &Need,
     console: &ConsoleRow,
     user: &User,
 ) -> Result<Ruling, AllocError>
-    requires decided { option_copied decided ≡ decider made.now.policy (Command need.now) }
-    requires stored { user_of made.now.policy.users user.now.id ≡ Some user.now }
-    ensures { IfOk result (λ answer. answer ≡ ruling (state_of made.now.policy made.now.board)
+    requires decided { option_copied decided ≡ decider room.now.policy (Command need.now) }
+    requires stored { user_of room.now.policy.users user.now.id ≡ Some user.now }
+    ensures { IfOk result (λ answer. answer ≡ ruling (state_of room.now.policy room.now.board)
         (on_at user.now.id console.now) need.now) }
 {
-    let groups = made.policy.connects.groups_of(alloc, &user.id)?;
+    let groups = room.policy.connects.groups_of(alloc, &user.id)?;
     let line = line_of(decided, Some(&console.name), need.level, &groups, user);
     Ok(ruling_or(console, need, line.ruling))
 }

@@ -1,28 +1,21 @@
 //! What a command needs.
 ghost use Rattle.std.specs.Prelude.{◌≡◌};
-ghost use Rattle.opc_reader.specs.Reading.{reading};
 ghost use Rattle.opc_answers.specs.Needed.{need_in};
 
 use opc_machine::fault::of_line;
-use opc_reader::line::{ReadFault, read_command};
+use opc_reader::line::read_command;
 use opc_reader_commands::command::Command;
 use opc_table::need;
 use opc_terms::fault::Fault;
 use opc_terms::need::Need;
 use opc_terms::unit_kind::UnitKindAt;
 
-fn read(text: &str) -> Result<Command<'_>, ReadFault>
-    ensures { result ≡ reading text.now }
-{
-    read_command(text)
-}
-
 /// What a text needs as a command, if the unit that it names is of this kind. LOGON and LOGOFF need nothing. A text
 /// that is no command has the fault with which the gate refuses it. It takes no memory.
 pub fn need_in(text: &str, kind: UnitKindAt) -> Result<Option<Need>, Fault>
     ensures { result ≡ need_in text.now kind }
 {
-    match read(text) {
+    match read_command(text) {
         Ok(command) => Ok(need(&command, kind)),
         Err(fault) => Err(of_line(fault)),
     }

@@ -1,17 +1,18 @@
 //! Users whose level an entry for one console alone raises.
-ghost use Rattle.std.specs.Prelude.{◌≡◌, ◌++◌, IfOk, OnOk};
+ghost use Rattle.std.specs.Prelude.{◌≡◌, IfOk};
 ghost use Rattle.std.specs.List.{list_any};
 ghost use Rattle.std.specs.Option.{option_copied};
-ghost use Rattle.opc_answers.specs.Made.{members_of};
-ghost use Rattle.opc_answers.specs.Who.{is_for, is_named, is_raised, named, raised_at, raised_lines};
+ghost use Rattle.opc_answers.specs.Who.{is_for, is_named, is_raised, named, raised_at};
 
-use crate::lines::{UserLine, user_lines};
-use crate::made::Made;
+use crate::lines::{UserLine, member_line};
+use crate::members::Member;
 use opc_board::rows::ConsoleRow;
 use opc_names::level::Level;
 use opc_names::name::ConsoleName;
+use opc_policy::ruling::Ruling;
 use opc_policy_members::entry::Entry;
 use opc_policy_members::profile::Profile;
+use opc_policy_sources::sources::{HeldLevel, LevelSource};
 use opc_rows::Rows;
 use opc_terms::rule::Rule;
 use std::alloc::{AllocError, Global};
@@ -41,7 +42,7 @@ fn is_named(decided: Option<&Profile>, console: &ConsoleRow) -> bool
 }
 
 /// The consoles that entries of the profile that decides are for.
-fn named(
+pub(crate) fn named(
     alloc: Global,
     decided: Option<&Profile>,
     consoles: &[ConsoleRow],
@@ -67,48 +68,25 @@ fn is_raised(line: &UserLine) -> bool
     }
 }
 
-/// Adds what is said of users at a console, if an entry for it raises their level.
-fn add_raised(
+/// What is said of users at a console, if an entry for it raises the level that they hold.
+pub(crate) fn raised_at(
     alloc: Global,
-    lines: &mut Rows<UserLine>,
-    made: &Made,
     decided: Option<&Profile>,
     needed: Level,
+    members: &[Member],
     console: &ConsoleRow,
-) -> Result<(), AllocError>
-    requires { made.now.members ≡ members_of made.now.policy }
-    ensures { OnOk result (lines.new ≡ lines.old ++ raised_at made.now.policy (option_copied decided.entry)
-        needed made.now.policy.users console.now) }
-{
-    // Named for the prover, which else does not find the types of a line.
-    let _no_rule: Option<Rule> = None;
-    let there = user_lines(alloc, made, decided, Some(&console.name), needed)?;
-    for line in there.as_slice() {
-        if is_raised(line) {
-            lines.push(*line)?;
-        }
-    }
-    Ok(())
-}
-
-/// What is said of users at one console alone, if an entry for it raises the level that they hold.
-pub(crate) fn raised_lines(
-    alloc: Global,
-    made: &Made,
-    decided: Option<&Profile>,
-    needed: Level,
-    consoles: &[ConsoleRow],
 ) -> Result<Rows<UserLine>, AllocError>
-    requires { made.now.members ≡ members_of made.now.policy }
-    ensures { IfOk result (λ lines. lines ≡ raised_lines made.now.policy (option_copied decided.entry) needed
-        made.now.policy.users consoles.now) }
+    ensures { IfOk result (λ lines. lines ≡ raised_at (option_copied decided.entry) needed members.now console.now) }
 {
     // Named for the prover, which else does not find the types of a line.
-    let _no_rule: Option<Rule> = None;
-    let named = named(alloc, decided, consoles)?;
+    let (_no_rule, _no_ruling): (Option<Rule>, Option<Ruling>) = (None, None);
+    let (_no_held, _no_source): (Option<HeldLevel>, Option<LevelSource>) = (None, None);
     let mut lines = Rows::new(alloc);
-    for console in &named {
-        add_raised(alloc, &mut lines, made, decided, needed, console)?;
+    for member in members {
+        let line = member_line(decided, Some(&console.name), needed, member);
+        if is_raised(&line) {
+            lines.push(line)?;
+        }
     }
     Ok(lines)
 }

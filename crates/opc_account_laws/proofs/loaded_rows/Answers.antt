@@ -1,5 +1,0 @@
-use Rattle.opc_account_laws.proofs.Whole.{are_all_shown}
-use Rattle.opc_account_laws.proofs.loaded_rows.Goals as goal
-
-pub returns : goal.returns
-returns c = are_all_shown

@@ -1,0 +1,177 @@
+-- The text of an answer: what is needed, what decides, a line for each user and each console, and how many may.
+use Rattle.std.specs.Prelude.{
+  ℕ,
+  Bool,
+  true,
+  false,
+  not,
+  ◌&&◌,
+  ◌==◌,
+  List,
+  [],
+  ◌∷◌,
+  ◌++◌,
+  Option,
+  Some,
+  None,
+  codes,
+  count_by,
+  if◌then◌else◌,
+  length,
+  option_map,
+}
+use Rattle.std.specs.Fmt.{decimal}
+use Rattle.std.specs.List.{flat_map}
+use Rattle.std.specs.Option.{is_none}
+use Rattle.opc_names.specs.declared.class.Class.{Class}
+use Rattle.opc_names.specs.Spellings.{class_text, group_text, level_text}
+use Rattle.opc_terms.specs.declared.need.Need.{Need}
+use Rattle.opc_terms.specs.Rules.{rule_text}
+use Rattle.opc_policy_members.specs.declared.profile.Profile.{Profile}
+use Rattle.opc_policy.specs.declared.ruling.Ruling.{Ruling}
+use Rattle.opc_policy.specs.declared.ruling.Ruling.TheVariants.{Allowed, Denied}
+use Rattle.opc_policy.specs.Rulings.{rule_of}
+use Rattle.opc_policy_sources.specs.declared.sources.HeldLevel.{HeldLevel}
+use Rattle.opc_policy_sources.specs.SourceTexts.{held_source_text}
+use Rattle.opc_board.specs.Texts.{columns, left}
+use Rattle.opc_machine.specs.Machine.{is_warned}
+use Rattle.opc_machine.specs.Rulings.{is_allowed}
+use Rattle.opc_answers.specs.declared.consoles.ConsoleLine.{ConsoleLine}
+use Rattle.opc_answers.specs.declared.lines.UserLine.{UserLine}
+use Rattle.opc_answers.specs.declared.wanted.Wanted.{Wanted}
+use Rattle.opc_answers.specs.declared.wanted.Wanted.TheVariants.{Command, Access}
+use Rattle.opc_answers.specs.declared.who.Who.{Who}
+use Rattle.opc_answers.specs.Who.{class_of, consoles_of, raised_of, users_of}
+use Rattle.opc_answers.specs.declared.counts.Counts.{Counts}
+use Rattle.opc_answers.specs.declared.counts.Share.{Share}
+
+-- what a ruling says in a word; what a warning alone lets pass has a word of its own
+abbrev pub ruling_word : Ruling → List ℕ
+ruling_word (Allowed rule) = if is_warned (Some rule) then codes "WARNED" else codes "ALLOWED"
+ruling_word (Denied rule) = codes "DENIED"
+
+abbrev pub verdict_word : Option Ruling → List ℕ
+verdict_word None = codes "UNDECIDED"
+verdict_word (Some ruling) = ruling_word ruling
+
+-- the level held, if it was asked
+abbrev pub level_word : Option HeldLevel → List ℕ
+level_word None = codes "-"
+level_word (Some held) = level_text held.level
+
+-- the source of the level, or the rule that decided
+abbrev pub ground_of : Option Ruling → List ℕ
+ground_of None = codes "NOPROFILE"
+ground_of (Some ruling) = rule_text (rule_of ruling)
+
+abbrev pub ground_text : Option HeldLevel → Option Ruling → List ℕ
+ground_text None ruling = ground_of ruling
+ground_text (Some held) ruling = held_source_text held
+
+-- 10 is the line feed
+abbrev pub user_text : UserLine → List ℕ
+user_text line = columns (left 7 (verdict_word line.ruling) ∷ left 8 line.id ∷ left 7 (level_word line.held)
+    ∷ (ground_text line.held line.ruling ++ 10 ∷ []) ∷ [])
+
+-- for whom a console acts where nobody is on
+abbrev pub actor_word : Bool → List ℕ
+actor_word true = codes "AUTO"
+actor_word false = codes "NOBODY"
+
+-- a console's name has a `*` (42) before it, with which no user's begins
+abbrev pub console_text : ConsoleLine → List ℕ
+console_text line = columns (left 7 (ruling_word line.ruling) ∷ (42 ∷ left 7 line.name)
+    ∷ left 7 (actor_word line.own) ∷ (rule_text (rule_of line.ruling) ++ 10 ∷ []) ∷ [])
+
+-- if only those are asked for who may, the other lines are left out
+abbrev pub allows : Option Ruling → Bool
+allows None = false
+allows (Some ruling) = is_allowed ruling
+
+abbrev pub may : UserLine → Bool
+may line = allows line.ruling
+
+abbrev pub may_with_nobody_on : ConsoleLine → Bool
+may_with_nobody_on line = is_allowed line.ruling
+
+abbrev pub shown_user : Bool → UserLine → List ℕ
+shown_user allowed line = if allowed && not (may line) then [] else user_text line
+
+abbrev pub shown_console : Bool → ConsoleLine → List ℕ
+shown_console allowed line = if allowed && not (may_with_nobody_on line) then [] else console_text line
+
+abbrev pub need_line : Need → List ℕ
+need_line need = columns
+    (codes "NEEDS" ∷ level_text need.level ∷ need.resource ∷ codes "GROUP" ∷ (group_text need.group ++ 10 ∷ []) ∷ [])
+
+abbrev pub needs_text : Wanted → List ℕ
+needs_text (Command need) = need_line need
+needs_text (Access class resource level) = []
+
+-- what decides: a profile, or none
+abbrev pub warning_text : Bool → List ℕ
+warning_text true = codes " WARNING"
+warning_text false = []
+
+abbrev pub profile_text : Option Profile → List ℕ
+profile_text None = codes "NOPROFILE"
+profile_text (Some p) = columns (codes "PROFILE" ∷ class_text p.class ∷ p.pattern ∷ codes "UACC"
+    ∷ (level_text p.uacc ++ warning_text p.warning) ∷ [])
+
+abbrev pub class_note : Bool → Class → List ℕ
+class_note true class = []
+class_note false class = codes ", CLASS " ++ class_text class ++ codes " INACTIVE"
+
+abbrev pub decides_text : Who → List ℕ
+decides_text who = codes "DECIDES "
+    ++ (profile_text who.decided ++ (class_note who.active (class_of who.wanted) ++ 10 ∷ []))
+
+-- how many of how many may
+abbrev pub share_text : Share → List ℕ
+share_text share = columns (decimal share.may ∷ codes "of" ∷ decimal share.all ∷ [])
+
+abbrev pub share_of : List UserLine → Share
+share_of lines = record { may = count_by may lines; all = length lines }
+
+abbrev pub console_share_of : List ConsoleLine → Share
+console_share_of lines = record { may = count_by may_with_nobody_on lines; all = length lines }
+
+abbrev pub is_undecided : UserLine → Bool
+is_undecided line = is_none line.ruling
+
+-- what the last line counts
+abbrev pub counts_of : Who → Counts
+counts_of who = record {
+  users = share_of (users_of who);
+  undecided = count_by is_undecided (users_of who);
+  raised = share_of (raised_of who);
+  consoles = option_map console_share_of (consoles_of who);
+}
+
+abbrev pub undecided_text : ℕ → List ℕ
+undecided_text n = if n == 0 then [] else codes ", " ++ decimal n ++ codes " undecided"
+
+abbrev pub raised_text : Share → List ℕ
+raised_text share =
+    if share.all == 0 then [] else codes ", " ++ share_text share ++ codes " at one console alone"
+
+abbrev pub consoles_text : Option Share → List ℕ
+consoles_text None = codes "; --command shows consoles, too"
+consoles_text (Some share) = codes ", " ++ share_text share ++ codes " consoles with nobody on"
+
+abbrev pub counts_text : Counts → List ℕ
+counts_text counts = share_text counts.users ++ (codes " users" ++ (undecided_text counts.undecided
+    ++ (raised_text counts.raised ++ (consoles_text counts.consoles ++ 10 ∷ []))))
+
+abbrev pub console_lines_text : Bool → Option (List ConsoleLine) → List ℕ
+console_lines_text allowed None = []
+console_lines_text allowed (Some lines) = flat_map (shown_console allowed) lines
+
+-- what is needed, and what decides
+abbrev pub beginning_text : Who → List ℕ
+beginning_text who = needs_text who.wanted ++ decides_text who
+
+abbrev pub who_text : Bool → Who → List ℕ
+who_text allowed who = beginning_text who ++ flat_map (shown_user allowed) (users_of who)
+    ++ flat_map (shown_user allowed) (raised_of who) ++ console_lines_text allowed (consoles_of who)
+    ++ counts_text (counts_of who)

@@ -1,0 +1,10 @@
+mod Checks
+mod InEffect
+mod LastRows
+mod Steps
+mod Unmet
+pub mod Asking
+pub mod Deciders
+mod Shown
+mod Whole
+mod Digits

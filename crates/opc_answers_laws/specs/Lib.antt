@@ -1,0 +1,6 @@
+pub mod CheckLaws
+pub mod NoteLaws
+pub mod Stored
+pub mod ReachLaws
+pub mod AccountLaws
+pub mod DigestLaws

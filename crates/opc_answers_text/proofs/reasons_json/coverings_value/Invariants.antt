@@ -1,7 +1,0 @@
-use Rattle.std.proofs.Common.{◌≡◌, map, take}
-use Rattle.serde_json.specs.View.{view}
-use Rattle.opc_answers_text.specs.ReasonsJson.{covering_value}
-use Rattle.opc_answers_text.proofs.reasons_json.coverings_value.Given as goal
-
-abbrev pub invariant-loop-level : goal.invariant-loop-level
-invariant-loop-level l = map view l.items.items ≡ map covering_value (take l.level-index l.levels)

@@ -1,9 +1,0 @@
-use Rattle.std.proofs.Common.{◌≡◌, ◌++◌, take}
-use Rattle.std.specs.Prelude.{string_bytes}
-use Rattle.std.specs.List.{flat_map}
-use Rattle.opc_answers_text.specs.Texts.{shown_console}
-use Rattle.opc_answers_text.proofs.text.add_consoles.Given as goal
-
-abbrev pub invariant-loop-line : goal.invariant-loop-line
-invariant-loop-line l =
-    string_bytes l.text ≡ string_bytes l.fn.text ++ flat_map (shown_console l.allowed) (take l.line-index l.lines)

@@ -1,6 +1,0 @@
-use Rattle.std.proofs.Common.{◌≡◌, count_by, take}
-use Rattle.opc_answers_text.specs.Texts.{may}
-use Rattle.opc_answers_text.proofs.text.count_who_may.Given as goal
-
-abbrev pub invariant-loop-line : goal.invariant-loop-line
-invariant-loop-line l = l.count ≡ count_by may (take l.line-index l.lines)

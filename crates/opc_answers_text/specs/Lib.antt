@@ -1,5 +1,0 @@
-pub mod CommandTexts
-pub mod Json
-pub mod Laws
-pub mod ReasonsJson
-pub mod Texts

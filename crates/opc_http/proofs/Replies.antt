@@ -1,9 +1,9 @@
 -- What is reported of the reply to a request.
-use Rattle.std.proofs.Common.{◌≡◌, ℕ, true, false, List, Option, Result, Ok, Err, IfErr, IfOk, ap, refl, rules}
+use Rattle.std.proofs.Common.{◌≡◌, ℕ, true, false, List, Option, Result, Ok, Err, IfErr, IfOk, ap, refl, rules, ◌∙◌}
 use Rattle.std.specs.Prelude.{Bool, if◌then◌else◌}
 use Rattle.opc_machine.specs.declared.request.Request.{Request}
-use Rattle.opc_http_head.specs.declared.origins.Origins.{Origins}
-use Rattle.opc_http_head.specs.declared.refusal.HttpRefusal.{HttpRefusal}
+use Rattle.opc_http_requests.specs.declared.origins.Origins.{Origins}
+use Rattle.opc_http_requests.specs.declared.refusal.HttpRefusal.{HttpRefusal}
 use Rattle.opc_http_requests.specs.Faults as faults
 use Rattle.opc_http_requests.specs.declared.fault.ReadingFault.{ReadingFault}
 use Rattle.opc_http_requests.specs.declared.fault.ReadingFault.TheVariants as reading
@@ -51,6 +51,11 @@ not_read held reply before after (Err (fault.NoMemory handled)) cut = refl
 pub refused_read : (fault : ReadingFault) (why : HttpRefusal) → fault ≡ reading.Refused why → (old new : Bool)
     → new ≡ (if faults.is_read {A = Request} (Err fault) then true else old) → new ≡ old
 refused_read fault why is old new h = rw is at h
+
+-- what failed of a reader or a writer of which nothing had failed before is what is reported
+pub only_failed : (reported old new : Bool) → old ≡ false → new ≡ (if reported then true else old) → new ≡ reported
+only_failed true old new fine is = is
+only_failed false old new fine is = is ∙ fine
 
 -- A reply that is reported or cut off was written, by what its writer holds.
 pub written : {K : Type 0} (held : K → Option (List ℕ)) (reply : Reply) (before after : K)

@@ -1,9 +1,9 @@
 -- An exchange with a web page if a service is strict.
 use Rattle.std.proofs.Common.{◌≡◌, ℕ, List, Option, Result, Ok, Err, Some, subst}
 use Rattle.opc_machine.specs.declared.request.Request.{Request}
-use Rattle.opc_http_head.specs.declared.origins.Origins.TheVariants.{Only}
-use Rattle.opc_http_head.specs.declared.refusal.HttpRefusal.{HttpRefusal}
-use Rattle.opc_http_head.specs.declared.refusal.HttpRefusal.TheVariants.{Forbidden}
+use Rattle.opc_http_requests.specs.declared.origins.Origins.TheVariants.{Only}
+use Rattle.opc_http_requests.specs.declared.refusal.HttpRefusal.{HttpRefusal}
+use Rattle.opc_http_requests.specs.declared.refusal.HttpRefusal.TheVariants.{Forbidden}
 use Rattle.opc_http_requests.specs.Asked.{AsksOnly}
 use Rattle.opc_http_requests.proofs.Strictness.{web_pages_are_forbidden}
 use Rattle.opc_state.specs.Meaning.{Meaning}

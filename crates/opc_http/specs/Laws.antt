@@ -1,8 +1,8 @@
 -- What an exchange with a web page comes to if a service is strict.
 use Rattle.std.specs.Prelude.{◌≡◌, ℕ, false, List, Option, Some}
 use Rattle.std.specs.Io.KnownBytes.{Appends}
-use Rattle.opc_http_head.specs.declared.origins.Origins.TheVariants.{Only}
-use Rattle.opc_http_head.specs.declared.refusal.HttpRefusal.TheVariants.{Forbidden}
+use Rattle.opc_http_requests.specs.declared.origins.Origins.TheVariants.{Only}
+use Rattle.opc_http_requests.specs.declared.refusal.HttpRefusal.TheVariants.{Forbidden}
 use Rattle.opc_http_requests.specs.Laws.{MayBeFromPage}
 use Rattle.opc_http_responses.specs.Responses.{refusal_response}
 use Rattle.opc_state.specs.Meaning.{Meaning}

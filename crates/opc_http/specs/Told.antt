@@ -8,8 +8,8 @@ use Rattle.opc_machine.specs.declared.request.Request.{Request}
 use Rattle.opc_machine.specs.Inputs.{input_of}
 use Rattle.opc_machine.specs.Machine.{user_acting}
 use Rattle.opc_gate.specs.Handling.{IsHandled}
-use Rattle.opc_http_head.specs.declared.origins.Origins.{Origins}
-use Rattle.opc_http_head.specs.declared.refusal.HttpRefusal.{HttpRefusal}
+use Rattle.opc_http_requests.specs.declared.origins.Origins.{Origins}
+use Rattle.opc_http_requests.specs.declared.refusal.HttpRefusal.{HttpRefusal}
 use Rattle.opc_http_log.specs.declared.entry.LogEntry.{LogEntry}
 use Rattle.opc_http.specs.Exchange.{IsAsked, IsCutOff, IsReported, Reply}
 use Rattle.opc_http.specs.declared.exchanging.LinkFault.{LinkFault}

@@ -1,5 +1,19 @@
 //! One exchange.
-ghost use Rattle.std.specs.Prelude.{◌≡◌, [], IfErr, IfOk, IfSome, OnErr, OnOk, Ok, Err, is_err, if◌then◌else◌, true};
+ghost use Rattle.std.specs.Prelude.{
+  ◌≡◌,
+  [],
+  IfErr,
+  IfOk,
+  IfSome,
+  OnErr,
+  OnOk,
+  Ok,
+  Err,
+  is_err,
+  false,
+  if◌then◌else◌,
+  true,
+};
 ghost use Rattle.std.specs.Io.KnownBytes.{Appends};
 ghost use Rattle.opc_io.specs.Reads.{ReadsOnly, TakesAtMost};
 ghost use Rattle.opc_io.specs.Writes.{AppendsPrefix};
@@ -7,10 +21,10 @@ ghost use Rattle.opc_http_requests.specs.Asked.{MayRead, StopsAtEnd};
 ghost use Rattle.opc_http.specs.Exchange.{IsCutOff, IsFaulty, IsServed, IsReported, is_read, is_write};
 
 use opc_gate::gate::Gate;
-use opc_http_head::refusal::HttpRefusal;
-use opc_http_head::routes::Routes;
 use opc_http_requests::ask::read_request;
 use opc_http_requests::fault::ReadingFault;
+use opc_http_requests::refusal::HttpRefusal;
+use opc_http_requests::routes::Routes;
 use opc_http_responses::response::{Response, answered, refused};
 use opc_io::sink::{Sink, write_whole};
 use opc_io::source::Source;
@@ -91,7 +105,8 @@ pub(crate) fn send_refusal<K: Sink>(
 /// Reads one request of at most 73,728 bytes, lets the gate handle it, and writes its response, which is built whole
 /// before its first byte is written. What is not a request is refused, and the gate is not asked. It reads on only if
 /// the head or its body is not there yet, and a read that fails ends the exchange: that is reported, and nothing is
-/// answered.
+/// answered. No call of the reader or the writer may have failed before, so that a failure that is reported is one of
+/// this exchange.
 pub fn exchange<T: Tables, S: Source, K: Sink>(
     alloc: Global,
     routes: &Routes,
@@ -100,6 +115,8 @@ pub fn exchange<T: Tables, S: Source, K: Sink>(
     gate: &mut Gate<T>,
     moment: u64,
 ) -> Result<Served, LinkFault>
+    requires reader { S.has_failed source.old ≡ false }
+    requires writer { K.has_failed sink.old ≡ false }
     ensures served { IfOk result (IsServed routes.now T.meaning K.held (S.left source.old) sink.old sink.new gate.old
         gate.new moment) }
     ensures fault { IfErr result (IsFaulty routes.now T.meaning K.held (S.left source.old) sink.old sink.new
@@ -108,8 +125,8 @@ pub fn exchange<T: Tables, S: Source, K: Sink>(
     ensures stops { IfSome (S.left source.old) (λ all. StopsAtEnd routes.now all (S.left source.new)) }
     ensures most { TakesAtMost 73728 (S.left source.old) (S.left source.new) }
     ensures reads { ReadsOnly S.left S.gives (MayRead routes.now) source.old [] source.new }
-    ensures read { S.has_failed source.new ≡ (if is_read result then true else S.has_failed source.old) }
-    ensures write { K.has_failed sink.new ≡ (if is_write result then true else K.has_failed sink.old) }
+    ensures read { S.has_failed source.new ≡ is_read result }
+    ensures write { K.has_failed sink.new ≡ is_write result }
 {
     match read_request(alloc, routes, source) {
         Ok(request) => send_answer(alloc, sink, &gate.handle(alloc, moment, &request)),

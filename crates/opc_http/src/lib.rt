@@ -9,7 +9,7 @@ mod telling;
 
 pub use crate::exchanging::{LinkFault, Served, exchange};
 pub use crate::telling::{Exchanged, exchange_told};
-pub use opc_http_head::routes;
-pub use opc_http_head::routes::Routes;
+pub use opc_http_requests::routes;
+pub use opc_http_requests::routes::Routes;
 pub use opc_io::{sink, source, watched};
 pub use opc_io_failing::{reader, writer};

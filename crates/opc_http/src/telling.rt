@@ -1,5 +1,5 @@
 //! One exchange, with what a log tells of it.
-ghost use Rattle.std.specs.Prelude.{◌≡◌, [], IfErr, IfOk, IfSome, if◌then◌else◌, true};
+ghost use Rattle.std.specs.Prelude.{◌≡◌, [], IfErr, IfOk, IfSome, false};
 ghost use Rattle.opc_io.specs.Reads.{ReadsOnly, TakesAtMost};
 ghost use Rattle.opc_machine.specs.Inputs.{input_of};
 ghost use Rattle.opc_machine.specs.Machine.{user_acting};
@@ -11,11 +11,11 @@ ghost use Rattle.opc_state.specs.State.{State};
 
 use crate::exchanging::{LinkFault, Served, send_answer, send_refusal};
 use opc_gate::gate::Gate;
-use opc_http_head::refusal::HttpRefusal;
-use opc_http_head::routes::Routes;
 use opc_http_log::entry::LogEntry;
 use opc_http_requests::ask::read_request;
 use opc_http_requests::fault::ReadingFault;
+use opc_http_requests::refusal::HttpRefusal;
+use opc_http_requests::routes::Routes;
 use opc_io::sink::Sink;
 use opc_io::source::Source;
 use opc_machine::request::{Answer, Request};
@@ -71,6 +71,8 @@ pub fn exchange_told<T: Tables, S: Source, K: Sink>(
     gate: &mut Gate<T>,
     moment: u64,
 ) -> Exchanged
+    requires reader { S.has_failed source.old ≡ false }
+    requires writer { K.has_failed sink.old ≡ false }
     ensures served { IfOk result.served (IsServed routes.now T.meaning K.held (S.left source.old) sink.old sink.new
         gate.old gate.new moment) }
     ensures fault { IfErr result.served (IsFaulty routes.now T.meaning K.held (S.left source.old) sink.old sink.new
@@ -79,8 +81,8 @@ pub fn exchange_told<T: Tables, S: Source, K: Sink>(
     ensures stops { IfSome (S.left source.old) (λ all. StopsAtEnd routes.now all (S.left source.new)) }
     ensures most { TakesAtMost 73728 (S.left source.old) (S.left source.new) }
     ensures reads { ReadsOnly S.left S.gives (MayRead routes.now) source.old [] source.new }
-    ensures read { S.has_failed source.new ≡ (if is_read result.served then true else S.has_failed source.old) }
-    ensures write { K.has_failed sink.new ≡ (if is_write result.served then true else K.has_failed sink.old) }
+    ensures read { S.has_failed source.new ≡ is_read result.served }
+    ensures write { K.has_failed sink.new ≡ is_write result.served }
     ensures told { IsEntry routes.now T.meaning (S.left source.old) gate.old gate.new moment (K.held sink.old)
         (K.held sink.new) result.served result.entry }
 {

@@ -3,6 +3,7 @@ ghost use Rattle.std.specs.Prelude.{⊤};
 
 use crate::connection::Connection;
 use crate::listener::ClientListener;
+use crate::socket_file::FileId;
 use std::io;
 use std::io::{Read, Write};
 use std::net::{OpenStream, Shutdown};
@@ -65,10 +66,11 @@ impl Connection for UnixClient {
     }
 }
 
-/// A listener at the path of a Unix socket.
+/// A listener at the path of a Unix socket, and which file was made for it there, if that is known.
 #[derive(Drop)]
 pub struct SocketListener {
     pub listener: UnixListener,
+    pub file: Option<FileId>,
 }
 
 impl ClientListener for SocketListener {

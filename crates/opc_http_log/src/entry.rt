@@ -1,5 +1,5 @@
 //! What a log tells of an exchange.
-use opc_http_head::refusal::HttpRefusal;
+use opc_http_requests::refusal::HttpRefusal;
 use opc_machine::request::{Answer, Request};
 use opc_names::name::UserId;
 use opc_terms::store_fault::StoreFault;

@@ -20,7 +20,7 @@ ghost use Rattle.opc_http_log.specs.LogLines.{
 use crate::entry::LogEntry;
 use crate::escape::printable;
 use crate::words::shown_request;
-use opc_http_head::refusal::HttpRefusal;
+use opc_http_requests::refusal::HttpRefusal;
 use opc_machine::request::{Answer, Request};
 use opc_names::name::UserId;
 use opc_terms::rule::Rule;

@@ -35,7 +35,7 @@ use Rattle.std.proofs.lemmas.List.{append-nil, drop-append-le, length-drop, take
 use Rattle.opc_io.specs.Reads.{Reads, ReadsMore, ReadsOnce, TakesAtMost}
 use Rattle.opc_io.specs.declared.source.SourceFault.{SourceFault}
 use Rattle.opc_io.proofs.Reading.{consumes-more, consumes-none, one-read-more, takes-after}
-use Rattle.opc_http_head.specs.declared.refusal.HttpRefusal.TheVariants.{BadRequest}
+use Rattle.opc_http_requests.specs.declared.refusal.HttpRefusal.TheVariants.{BadRequest}
 use Rattle.opc_http_requests.specs.Bodies.{MayFill, ReadsTo}
 use Rattle.opc_http_requests.specs.Requests.{body_in}
 

@@ -3,8 +3,8 @@ use Rattle.std.proofs.Common.{◌≡◌, ◌≤◌, ℕ, List, [], ◌∷◌, co
 use Rattle.std.specs.Prelude.{Option, Result}
 use Rattle.std.proofs.lemmas.Bool.{cases_Bool}
 use Rattle.std.proofs.lemmas.Bool.Decides.{nat_tests}
-use Rattle.opc_http_head.specs.Framing.{FieldLine, body_length, body_limit, length_by, length_in, length_with, number_in, only, values_of}
-use Rattle.opc_http_head.specs.declared.refusal.HttpRefusal.{HttpRefusal}
+use Rattle.opc_http_requests.specs.Framing.{FieldLine, body_length, body_limit, length_by, length_in, length_with, number_in, only, values_of}
+use Rattle.opc_http_requests.specs.declared.refusal.HttpRefusal.{HttpRefusal}
 
 no-value : (why : HttpRefusal) (n : ℕ) → Path (Result ℕ HttpRefusal) (Err why) (Ok n) → ⊥
 no-value why n e = cc

@@ -1,3 +1,10 @@
+pub mod FramingLemmas
+pub mod HeadLemmas
+pub mod Numbers
+pub mod PartLemmas
+pub mod RefusalLemmas
+pub mod RouteLemmas
+pub mod Values
 pub mod Requester
 pub mod Strictness
 pub mod BodyReads

@@ -43,9 +43,9 @@ use Rattle.httparse.specs.declared.spans.RequestSpans.{RequestSpans}
 use Rattle.httparse.proofs.GrammarLemmas.{ReadsRequest-append}
 use Rattle.opc_io.specs.Reads.{AreReads, Reads, ReadsInto, ReadsOnly}
 use Rattle.opc_io.proofs.Reading.{begins, more-reads, no-reads}
-use Rattle.opc_http_head.specs.Head.{FoundHead, HasHead, MayLook, NoHead}
-use Rattle.opc_http_head.proofs.HeadLemmas.{first-bytes}
-use Rattle.opc_http_head.specs.declared.origins.Origins.{Origins}
+use Rattle.opc_http_requests.specs.Head.{FoundHead, HasHead, MayLook, NoHead}
+use Rattle.opc_http_requests.proofs.HeadLemmas.{first-bytes}
+use Rattle.opc_http_requests.specs.declared.origins.Origins.{Origins}
 use Rattle.opc_http_requests.specs.Asked.{MayRead, StopsAtEnd, looked_through, request_length}
 use Rattle.opc_http_requests.specs.Bodies.{MayFill}
 use Rattle.opc_http_requests.specs.declared.plan.Plan.{Plan}

@@ -5,7 +5,7 @@ use Rattle.std.specs.Option.{option_map}
 use Rattle.std.specs.List.{onto_first, slice_get, slice_split}
 use Rattle.std.proofs.lemmas.Bool.{cases_Bool}
 use denote.Ref.{Bor}
-use Rattle.opc_http_head.specs.Routes.{after_part, part, part_at}
+use Rattle.opc_http_requests.specs.Routes.{after_part, part, part_at}
 
 abbrev pub is_slash : ℕ → Bool
 is_slash b = b == 47

@@ -35,13 +35,13 @@ use Rattle.httparse.proofs.GrammarLemmas.{request_unique}
 use Rattle.opc_machine.specs.declared.request.Request.{Request}
 use Rattle.opc_io.specs.Reads.{TakesAtMost}
 use Rattle.opc_io.proofs.Reading.{consumes-more}
-use Rattle.opc_http_head.specs.Head.{FoundHead, HasHead, NoHead}
-use Rattle.opc_http_head.specs.Refusals.{Refuses}
-use Rattle.opc_http_head.specs.declared.refusal.AskFault.{AskFault}
-use Rattle.opc_http_head.specs.declared.refusal.AskFault.TheVariants as asking
-use Rattle.opc_http_head.specs.declared.origins.Origins.{Origins}
-use Rattle.opc_http_head.specs.declared.refusal.HttpRefusal.{HttpRefusal}
-use Rattle.opc_http_head.specs.declared.refusal.HttpRefusal.TheVariants.{BadRequest}
+use Rattle.opc_http_requests.specs.Head.{FoundHead, HasHead, NoHead}
+use Rattle.opc_http_requests.specs.Refusals.{Refuses}
+use Rattle.opc_http_requests.specs.declared.refusal.AskFault.{AskFault}
+use Rattle.opc_http_requests.specs.declared.refusal.AskFault.TheVariants as asking
+use Rattle.opc_http_requests.specs.declared.origins.Origins.{Origins}
+use Rattle.opc_http_requests.specs.declared.refusal.HttpRefusal.{HttpRefusal}
+use Rattle.opc_http_requests.specs.declared.refusal.HttpRefusal.TheVariants.{BadRequest}
 use Rattle.opc_http_requests.specs.Asked.{Asks, AsksOnly}
 use Rattle.opc_http_requests.specs.Faults.{IfRefused, by_asking}
 use Rattle.opc_http_requests.specs.Paths.{path_in}

@@ -5,10 +5,10 @@ use Rattle.std.proofs.lemmas.Bool.{cases_Bool}
 use Rattle.httparse.specs.Grammar.{RequestHead, print_request}
 use Rattle.httparse.specs.Spans.{name_and_value}
 use Rattle.opc_machine.specs.declared.request.Request.{Request}
-use Rattle.opc_http_head.specs.Origins.{is_local}
-use Rattle.opc_http_head.specs.declared.origins.Origins.TheVariants.{Any, Only}
-use Rattle.opc_http_head.specs.declared.refusal.HttpRefusal.{HttpRefusal}
-use Rattle.opc_http_head.specs.declared.refusal.HttpRefusal.TheVariants.{BadRequest, Forbidden}
+use Rattle.opc_http_requests.specs.Origins.{is_local}
+use Rattle.opc_http_requests.specs.declared.origins.Origins.TheVariants.{Any, Only}
+use Rattle.opc_http_requests.specs.declared.refusal.HttpRefusal.{HttpRefusal}
+use Rattle.opc_http_requests.specs.declared.refusal.HttpRefusal.TheVariants.{BadRequest, Forbidden}
 use Rattle.opc_http_requests.specs.Asked.{Asks, AsksOnly}
 use Rattle.opc_http_requests.specs.Laws.{AsksForTheSame, IsFromHere, WebPagesAreForbidden, WhatIsAskedIsFromHere}
 use Rattle.opc_http_requests.specs.Requests.{request_of}

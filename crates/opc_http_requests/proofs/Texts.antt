@@ -10,7 +10,7 @@ use Rattle.opc_names.specs.Names.{name_fault}
 use Rattle.opc_names.specs.declared.rule.NameRule.{NameRule}
 use Rattle.opc_names.proofs.Faults.{name_ascii}
 use Rattle.opc_import.specs.Fields.{name_of}
-use Rattle.opc_http_head.specs.declared.refusal.HttpRefusal.TheVariants.{NotFound}
+use Rattle.opc_http_requests.specs.declared.refusal.HttpRefusal.TheVariants.{NotFound}
 use Rattle.opc_http_requests.specs.Paths.{is_path_byte, path_in}
 
 path-byte : (c : ℕ) → is_path_byte c ≡ true → c < 128

@@ -4,10 +4,10 @@ use Rattle.httparse.specs.Grammar.{RequestHead, print_request}
 use Rattle.httparse.specs.Spans.{name_and_value}
 use Rattle.opc_machine.specs.declared.request.Request.{Request}
 use Rattle.opc_io.specs.Reads.{TakesAtMost}
-use Rattle.opc_http_head.specs.Head.{HasHead, MayLook, NoHead}
-use Rattle.opc_http_head.specs.declared.origins.Origins.{Origins}
-use Rattle.opc_http_head.specs.declared.refusal.HttpRefusal.{HttpRefusal}
-use Rattle.opc_http_head.specs.declared.refusal.HttpRefusal.TheVariants.{BadRequest}
+use Rattle.opc_http_requests.specs.Head.{HasHead, MayLook, NoHead}
+use Rattle.opc_http_requests.specs.declared.origins.Origins.{Origins}
+use Rattle.opc_http_requests.specs.declared.refusal.HttpRefusal.{HttpRefusal}
+use Rattle.opc_http_requests.specs.declared.refusal.HttpRefusal.TheVariants.{BadRequest}
 use Rattle.opc_http_requests.specs.Bodies.{MayFill}
 use Rattle.opc_http_requests.specs.Plans.{plan_of}
 use Rattle.opc_http_requests.specs.Requests.{request_of}

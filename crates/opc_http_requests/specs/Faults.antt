@@ -1,8 +1,8 @@
 -- Why no request was read, step by step and as a whole.
 use Rattle.std.specs.Prelude.{⊤, Bool, true, false, Result, Ok, Err}
-use Rattle.opc_http_head.specs.declared.refusal.AskFault.{AskFault}
-use Rattle.opc_http_head.specs.declared.refusal.AskFault.TheVariants as asking
-use Rattle.opc_http_head.specs.declared.refusal.HttpRefusal.{HttpRefusal}
+use Rattle.opc_http_requests.specs.declared.refusal.AskFault.{AskFault}
+use Rattle.opc_http_requests.specs.declared.refusal.AskFault.TheVariants as asking
+use Rattle.opc_http_requests.specs.declared.refusal.HttpRefusal.{HttpRefusal}
 use Rattle.opc_io.specs.declared.source.SourceFault.{SourceFault}
 use Rattle.opc_io.specs.declared.source.SourceFault.TheVariants as reading
 use Rattle.opc_http_requests.specs.declared.fault.ReadingFault.{ReadingFault}

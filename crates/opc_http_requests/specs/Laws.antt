@@ -3,11 +3,11 @@ use Rattle.std.specs.Prelude.{◌≡◌, ℕ, true, false, List, map, Result, Ok
 use Rattle.httparse.specs.Grammar.{RequestHead}
 use Rattle.httparse.specs.Spans.{name_and_value}
 use Rattle.opc_machine.specs.declared.request.Request.{Request}
-use Rattle.opc_http_head.specs.Head.{HasHead}
-use Rattle.opc_http_head.specs.Origins.{is_local}
-use Rattle.opc_http_head.specs.declared.origins.Origins.TheVariants.{Any, Only}
-use Rattle.opc_http_head.specs.declared.refusal.HttpRefusal.{HttpRefusal}
-use Rattle.opc_http_head.specs.declared.refusal.HttpRefusal.TheVariants.{Forbidden}
+use Rattle.opc_http_requests.specs.Head.{HasHead}
+use Rattle.opc_http_requests.specs.Origins.{is_local}
+use Rattle.opc_http_requests.specs.declared.origins.Origins.TheVariants.{Any, Only}
+use Rattle.opc_http_requests.specs.declared.refusal.HttpRefusal.{HttpRefusal}
+use Rattle.opc_http_requests.specs.declared.refusal.HttpRefusal.TheVariants.{Forbidden}
 use Rattle.opc_http_requests.specs.Asked.{AsksOnly}
 
 -- The bytes have a head that no web page sent, by its fields, and that is for what is served at the port; or a head

@@ -1,3 +1,11 @@
+pub mod Framing
+pub mod Head
+pub mod Origins
+pub mod Refusals
+pub mod Routes
+pub mod Keys
+pub mod Operations
+pub mod BodyValues
 pub mod Bodies
 pub mod Faults
 pub mod Laws

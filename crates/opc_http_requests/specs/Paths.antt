@@ -25,12 +25,12 @@ use Rattle.opc_names.specs.Names.{console_rule}
 use Rattle.opc_names.specs.Spellings.{classes, lookup}
 use Rattle.opc_names.specs.declared.class.Class.{Class}
 use Rattle.opc_import.specs.Fields.{name_of}
-use Rattle.opc_http_head.specs.Framing.{number_in}
-use Rattle.opc_http_head.specs.Refusals.{required}
-use Rattle.opc_http_head.specs.Routes.{part_at, route_of}
-use Rattle.opc_http_head.specs.declared.refusal.HttpRefusal.{HttpRefusal}
-use Rattle.opc_http_head.specs.declared.refusal.HttpRefusal.TheVariants.{NotFound}
-use Rattle.opc_http_head.specs.declared.routes.Route.{Route}
+use Rattle.opc_http_requests.specs.Framing.{number_in}
+use Rattle.opc_http_requests.specs.Refusals.{required}
+use Rattle.opc_http_requests.specs.Routes.{part_at, route_of}
+use Rattle.opc_http_requests.specs.declared.refusal.HttpRefusal.{HttpRefusal}
+use Rattle.opc_http_requests.specs.declared.refusal.HttpRefusal.TheVariants.{NotFound}
+use Rattle.opc_http_requests.specs.declared.routes.Route.{Route}
 
 -- a byte of a path: 63 is `?`, and 126 (7E) is the last one
 abbrev pub is_path_byte : ℕ → Bool

@@ -4,16 +4,16 @@ use Rattle.std.specs.Str.{bytes_eq}
 use Rattle.httparse.specs.Spans.{header_bytes, span_bytes}
 use Rattle.httparse.specs.declared.spans.HeaderSpan.{HeaderSpan}
 use Rattle.httparse.specs.declared.spans.RequestSpans.{RequestSpans}
-use Rattle.opc_http_head.specs.Framing.{FieldLine, body_length}
-use Rattle.opc_http_head.specs.Origins.{admitted}
-use Rattle.opc_http_head.specs.Refusals.{◌>>=◌}
-use Rattle.opc_http_head.specs.declared.origins.Origins.{Origins}
-use Rattle.opc_http_head.specs.declared.refusal.Method.{Method}
-use Rattle.opc_http_head.specs.declared.refusal.Method.TheVariants.{Get, Post}
-use Rattle.opc_http_head.specs.declared.refusal.HttpRefusal.{HttpRefusal}
-use Rattle.opc_http_head.specs.declared.refusal.HttpRefusal.TheVariants.{MethodNotAllowed}
-use Rattle.opc_http_head.specs.declared.routes.Route.{Route}
-use Rattle.opc_http_head.specs.declared.routes.Route.TheVariants.{Command, Admin, Import, ListProfiles, ListAccount}
+use Rattle.opc_http_requests.specs.Framing.{FieldLine, body_length}
+use Rattle.opc_http_requests.specs.Origins.{admitted}
+use Rattle.opc_http_requests.specs.Refusals.{◌>>=◌}
+use Rattle.opc_http_requests.specs.declared.origins.Origins.{Origins}
+use Rattle.opc_http_requests.specs.declared.refusal.Method.{Method}
+use Rattle.opc_http_requests.specs.declared.refusal.Method.TheVariants.{Get, Post}
+use Rattle.opc_http_requests.specs.declared.refusal.HttpRefusal.{HttpRefusal}
+use Rattle.opc_http_requests.specs.declared.refusal.HttpRefusal.TheVariants.{MethodNotAllowed}
+use Rattle.opc_http_requests.specs.declared.routes.Route.{Route}
+use Rattle.opc_http_requests.specs.declared.routes.Route.TheVariants.{Command, Admin, Import, ListProfiles, ListAccount}
 use Rattle.opc_http_requests.specs.Paths.{path_in, route_in}
 use Rattle.opc_http_requests.specs.declared.plan.Plan.{Plan}
 

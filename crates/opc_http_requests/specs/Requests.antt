@@ -4,13 +4,13 @@ use Rattle.httparse.specs.Grammar.{RequestHead}
 use Rattle.httparse.specs.Spans.{name_and_value}
 use Rattle.opc_machine.specs.declared.request.Request.{Request}
 use Rattle.opc_machine.specs.declared.request.Request.TheVariants as request
-use Rattle.opc_http_head.specs.Refusals.{◌>>=◌}
-use Rattle.opc_http_head.specs.declared.origins.Origins.{Origins}
-use Rattle.opc_http_head.specs.declared.refusal.HttpRefusal.{HttpRefusal}
-use Rattle.opc_http_head.specs.declared.refusal.HttpRefusal.TheVariants.{BadRequest}
-use Rattle.opc_http_head.specs.declared.routes.Route.{Route}
-use Rattle.opc_http_head.specs.declared.routes.Route.TheVariants.{Command, Admin, Import, ListProfiles, ListAccount}
-use Rattle.opc_http_bodies.specs.Bodies.{command_in, operation_in, rows_in}
+use Rattle.opc_http_requests.specs.Refusals.{◌>>=◌}
+use Rattle.opc_http_requests.specs.declared.origins.Origins.{Origins}
+use Rattle.opc_http_requests.specs.declared.refusal.HttpRefusal.{HttpRefusal}
+use Rattle.opc_http_requests.specs.declared.refusal.HttpRefusal.TheVariants.{BadRequest}
+use Rattle.opc_http_requests.specs.declared.routes.Route.{Route}
+use Rattle.opc_http_requests.specs.declared.routes.Route.TheVariants.{Command, Admin, Import, ListProfiles, ListAccount}
+use Rattle.opc_http_requests.specs.BodyValues.{command_in, operation_in, rows_in}
 use Rattle.opc_http_requests.specs.Paths.{batch_in, class_in, console_in, count_in, from_in, path_in}
 use Rattle.opc_http_requests.specs.Plans.{plan_of}
 use Rattle.opc_http_requests.specs.declared.plan.Plan.{Plan}

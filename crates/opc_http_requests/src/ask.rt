@@ -19,21 +19,21 @@ ghost use Rattle.std.specs.Prelude.{
 };
 ghost use Rattle.httparse.specs.Spans.{IsWithin, span_bytes};
 ghost use Rattle.opc_io.specs.Reads.{ReadsOnly, TakesAtMost};
-ghost use Rattle.opc_http_head.specs.Refusals.{Refuses};
+ghost use Rattle.opc_http_requests.specs.Refusals.{Refuses};
 ghost use Rattle.opc_http_requests.specs.Asked.{AsksOnly, MayRead, StopsAtEnd};
 ghost use Rattle.opc_http_requests.specs.Bodies.{MayFill};
 ghost use Rattle.opc_http_requests.specs.Faults.{IfRefused, is_read};
 ghost use Rattle.opc_http_requests.specs.Requests.{planned, request_at, request_by};
 
 use crate::body::read_to;
+use crate::body_values::{command_in, operation_in, rows_in};
 use crate::fault::ReadingFault;
+use crate::head::read_head;
 use crate::path::{batch_in, class_in, console_in, count_in, from_in, path_in};
 use crate::plan::{Plan, plan_in};
+use crate::refusal::{AskFault, HttpRefusal};
+use crate::routes::{Route, Routes};
 use httparse::spans::{EMPTY_HEADER_SPAN, RequestSpans};
-use opc_http_bodies::body::{command_in, operation_in, rows_in};
-use opc_http_head::head::read_head;
-use opc_http_head::refusal::{AskFault, HttpRefusal};
-use opc_http_head::routes::{Route, Routes};
 use opc_io::source::Source;
 use opc_machine::request::Request;
 use opc_names::name::ConsoleName;
@@ -66,11 +66,10 @@ fn request_by(
         Route::Import => {
             let batch = batch_in(path)?;
             let rows = rows_in(alloc, body)?;
-            let rows = Rows::from_slice(alloc, rows.as_slice())?;
             Ok(Request::Import {
                 console,
                 batch,
-                rows,
+                rows: Rows::of(rows),
             })
         }
         Route::ListProfiles => {

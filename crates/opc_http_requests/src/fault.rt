@@ -1,5 +1,5 @@
 //! Why no request was read.
-use opc_http_head::refusal::{AskFault, HttpRefusal};
+use crate::refusal::{AskFault, HttpRefusal};
 use opc_io::source::SourceFault;
 
 /// Why no request was read: what was read is refused, a read failed, or out of memory.

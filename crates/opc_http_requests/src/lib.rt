@@ -1,9 +1,18 @@
-//! Whole requests over HTTP, read from a source.
+//! Requests over HTTP, read from a source: the head, its route, the body, and what they ask for.
 #![tactic(auto)]
 
 pub mod ask;
 mod body;
+pub mod body_values;
 pub mod fault;
+pub mod framing;
+pub mod head;
+mod keys;
 pub mod laws;
+pub mod number;
+mod operation;
+pub mod origins;
 mod path;
 mod plan;
+pub mod refusal;
+pub mod routes;

@@ -16,8 +16,8 @@ ghost use Rattle.std.specs.Prelude.{
 ghost use Rattle.std.specs.List.{list_all};
 ghost use Rattle.opc_names.specs.Names.{console_rule};
 ghost use Rattle.opc_import.specs.Fields.{name_of};
-ghost use Rattle.opc_http_head.specs.Refusals.{Refuses, required};
-ghost use Rattle.opc_http_head.specs.Routes.{part_at};
+ghost use Rattle.opc_http_requests.specs.Refusals.{Refuses, required};
+ghost use Rattle.opc_http_requests.specs.Routes.{part_at};
 ghost use Rattle.opc_http_requests.specs.Paths.{
   batch_in,
   class_in,
@@ -31,9 +31,9 @@ ghost use Rattle.opc_http_requests.specs.Paths.{
   within,
 };
 
-use opc_http_head::number::number_in;
-use opc_http_head::refusal::{AskFault, BAD_REQUEST, HttpRefusal};
-use opc_http_head::routes::{Route, Routes};
+use crate::number::number_in;
+use crate::refusal::{AskFault, BAD_REQUEST, HttpRefusal};
+use crate::routes::{Route, Routes};
 use opc_import::field::read_name;
 use opc_names::class::Class;
 use opc_names::name::ConsoleName;

@@ -3,12 +3,12 @@ ghost use Rattle.std.specs.Prelude.{◌≡◌, ◌≤◌, All, IfOk, length, map
 ghost use Rattle.httparse.specs.Spans.{IsHeaderWithin, IsRequestWithin, header_bytes};
 ghost use Rattle.opc_http_requests.specs.Plans.{has_method, method_of, method_text, plan_in, plan_of};
 
+use crate::framing::body_length;
+use crate::origins::admitted;
 use crate::path::{path_in, route_in};
+use crate::refusal::{HttpRefusal, Method};
+use crate::routes::{Route, Routes};
 use httparse::spans::{HeaderSpan, RequestSpans};
-use opc_http_head::framing::body_length;
-use opc_http_head::origins::admitted;
-use opc_http_head::refusal::{HttpRefusal, Method};
-use opc_http_head::routes::{Route, Routes};
 
 /// The route of a request, and how many bytes its body has.
 #[derive(Clone, Copy)]

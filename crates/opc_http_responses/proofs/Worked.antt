@@ -11,8 +11,8 @@ use Rattle.opc_terms.specs.declared.fault.Why.TheVariants as why
 use Rattle.opc_terms.specs.declared.rule.Rule.TheVariants.{Profile}
 use Rattle.opc_machine.specs.declared.request.Answer.{Answer}
 use Rattle.opc_machine.specs.declared.request.Answer.TheVariants.{Done, Refused}
-use Rattle.opc_http_head.specs.declared.refusal.Method.TheVariants.{Post}
-use Rattle.opc_http_head.specs.declared.refusal.HttpRefusal.TheVariants.{Forbidden, MethodNotAllowed, BadRow}
+use Rattle.opc_http_requests.specs.declared.refusal.Method.TheVariants.{Post}
+use Rattle.opc_http_requests.specs.declared.refusal.HttpRefusal.TheVariants.{Forbidden, MethodNotAllowed, BadRow}
 use Rattle.opc_http_responses.specs.Bodies.{answer_body, refusal_body}
 use Rattle.opc_http_responses.specs.Responses.{refusal_response, response_of}
 use Rattle.opc_http_responses.specs.Statuses.{fault_status, phrase}

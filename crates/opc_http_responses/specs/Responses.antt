@@ -1,10 +1,10 @@
 -- Responses, byte for byte.
 use Rattle.std.specs.Prelude.{ℕ, List, [], ◌++◌, codes, decimal, length, Option, Some, None}
 use Rattle.opc_machine.specs.declared.request.Answer.{Answer}
-use Rattle.opc_http_head.specs.declared.refusal.Method.{Method}
-use Rattle.opc_http_head.specs.declared.refusal.Method.TheVariants.{Get, Post}
-use Rattle.opc_http_head.specs.declared.refusal.HttpRefusal.{HttpRefusal}
-use Rattle.opc_http_head.specs.declared.refusal.HttpRefusal.TheVariants.{
+use Rattle.opc_http_requests.specs.declared.refusal.Method.{Method}
+use Rattle.opc_http_requests.specs.declared.refusal.Method.TheVariants.{Get, Post}
+use Rattle.opc_http_requests.specs.declared.refusal.HttpRefusal.{HttpRefusal}
+use Rattle.opc_http_requests.specs.declared.refusal.HttpRefusal.TheVariants.{
   BadRequest,
   Forbidden,
   NotFound,

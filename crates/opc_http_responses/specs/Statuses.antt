@@ -7,8 +7,8 @@ use Rattle.opc_terms.specs.declared.fault.Fault.{Fault}
 use Rattle.opc_terms.specs.declared.fault.Fault.TheVariants.{RowFault}
 use Rattle.opc_machine.specs.declared.request.Answer.{Answer}
 use Rattle.opc_machine.specs.declared.request.Answer.TheVariants.{Done, Refused}
-use Rattle.opc_http_head.specs.declared.refusal.HttpRefusal.{HttpRefusal}
-use Rattle.opc_http_head.specs.declared.refusal.HttpRefusal.TheVariants.{
+use Rattle.opc_http_requests.specs.declared.refusal.HttpRefusal.{HttpRefusal}
+use Rattle.opc_http_requests.specs.declared.refusal.HttpRefusal.TheVariants.{
   BadRequest,
   Forbidden,
   NotFound,

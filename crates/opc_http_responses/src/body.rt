@@ -17,7 +17,7 @@ ghost use Rattle.opc_http_responses.specs.Bodies.{
 use crate::status::{phrase, refusal_status};
 use http::StatusCode;
 use opc_board::line::Line;
-use opc_http_head::refusal::HttpRefusal;
+use opc_http_requests::refusal::HttpRefusal;
 use opc_machine::request::Answer;
 use opc_terms::fault::Fault;
 use opc_terms::rule::Rule;

@@ -16,8 +16,8 @@ ghost use Rattle.opc_http_responses.specs.Statuses.{refusal_status, status_of};
 use crate::body::{answer_body, refusal_body};
 use crate::status::{phrase, refusal_status, status_of};
 use http::StatusCode;
-use opc_http_head::refusal::{HttpRefusal, Method};
-use opc_http_head::routes::NoMemory;
+use opc_http_requests::refusal::{HttpRefusal, Method};
+use opc_http_requests::routes::NoMemory;
 use opc_machine::request::Answer;
 use std::alloc::{AllocError, Global};
 

@@ -3,7 +3,7 @@ ghost use Rattle.std.specs.Prelude.{◌≡◌};
 ghost use Rattle.opc_http_responses.specs.Statuses.{fault_status, phrase, refusal_status, status_of};
 
 use http::StatusCode;
-use opc_http_head::refusal::HttpRefusal;
+use opc_http_requests::refusal::HttpRefusal;
 use opc_machine::request::Answer;
 use opc_terms::fault::Fault;
 

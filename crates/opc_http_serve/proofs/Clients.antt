@@ -43,7 +43,7 @@ use Rattle.opc_machine.specs.Inputs.{input_of}
 use Rattle.opc_gate.specs.Handling.{IsHandled, IsRun}
 use Rattle.opc_gate.proofs.Running.{run_more}
 use Rattle.opc_http_connections.specs.Links.{Link}
-use Rattle.opc_http_head.specs.declared.origins.Origins.{Origins}
+use Rattle.opc_http_requests.specs.declared.origins.Origins.{Origins}
 use Rattle.opc_http.specs.Exchange.{IsFaulty, IsServed as IsReplyServed, IsUnserved, Replies, Reply}
 use Rattle.opc_http.specs.declared.exchanging.LinkFault.{LinkFault}
 use Rattle.opc_http.specs.declared.exchanging.LinkFault.TheVariants as fault
@@ -107,6 +107,8 @@ module _ {C K G D : Type 0} (link : Link C K) (origins : Origins)
         both = client.arrival.both;
         read_by = client.arrival.read_by;
         written_by = client.arrival.written_by;
+        reader_fine = client.arrival.reader_fine;
+        writer_fine = client.arrival.writer_fine;
       };
       served = client.served;
     })

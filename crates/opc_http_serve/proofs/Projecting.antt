@@ -4,7 +4,7 @@ use Rattle.std.specs.Prelude.{Result, IfErr, OnOk, zero, suc}
 use Rattle.std.specs.declared.io.Error.{Error}
 use Rattle.std.specs.declared.time.Duration.{Duration}
 use Rattle.opc_http_connections.specs.Links.{Link}
-use Rattle.opc_http_head.specs.declared.origins.Origins.{Origins}
+use Rattle.opc_http_requests.specs.declared.origins.Origins.{Origins}
 use Rattle.opc_http.specs.declared.exchanging.LinkFault.{LinkFault}
 use Rattle.opc_http.specs.declared.exchanging.Served.{Served}
 use Rattle.opc_http_serve.specs.Serving.{AreServed, IsCutShort, IsTurn}

@@ -38,7 +38,8 @@ module _ {D C : Type 0} (accepts : D → Result (Option (C × C)) Error → D �
       pub failed : moment_of reading ≡ Err error
 
     module _ {K : Type 0} (shows : K → Result Duration Error → Type 0) (timer : K) (timeout : Option Duration) where
-      -- The client that was accepted, at the moment that the clock showed then, with the deadline of its exchange.
+      -- The client that was accepted, at the moment that the clock showed then, with the deadline of its exchange. No
+      -- call by either of its handles has failed.
       pub record IsArrival (before : D) (came : Arrival C K) (after : D) : Type 0 where
         pub reading : Result Duration Error
         pub dated : IsDated before came.reader.handle came.writer.handle reading after
@@ -47,6 +48,8 @@ module _ {D C : Type 0} (accepts : D → Result (Option (C × C)) Error → D �
         pub both : came.writer.deadline ≡ came.reader.deadline
         pub read_by : came.reader.timer.now ≡ timer
         pub written_by : came.writer.timer.now ≡ timer
+        pub reader_fine : came.reader.failed ≡ false
+        pub writer_fine : came.writer.failed ≡ false
 
       -- A client was accepted, and the end of its exchange could not be determined.
       pub record IsUnlimited (before : D) (error : Error) (after : D) : Type 0 where

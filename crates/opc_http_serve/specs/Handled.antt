@@ -9,7 +9,7 @@ use Rattle.opc_state.specs.State.{State}
 use Rattle.opc_machine.specs.declared.request.Request.{Request}
 use Rattle.opc_machine.specs.declared.request.Answer.{Answer}
 use Rattle.opc_gate.specs.Handling.{IsRun}
-use Rattle.opc_http_head.specs.declared.origins.Origins.{Origins}
+use Rattle.opc_http_requests.specs.declared.origins.Origins.{Origins}
 use Rattle.opc_http.specs.Exchange.{IsAsked, IsFaulty, IsServed, Reply}
 use Rattle.opc_http.specs.Told.{IsWritten}
 use Rattle.opc_http.specs.declared.exchanging.LinkFault.{LinkFault}

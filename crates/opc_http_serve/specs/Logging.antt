@@ -3,7 +3,7 @@ use Rattle.std.specs.Prelude.{◌≡◌, ◌⊎◌, ⊤, ℕ, Bool, false, List,
 use Rattle.std.specs.Io.KnownBytes.{Appends}
 use Rattle.opc_io.specs.Writes.{AppendsPrefix}
 use Rattle.opc_state.specs.Meaning.{Meaning}
-use Rattle.opc_http_head.specs.declared.origins.Origins.{Origins}
+use Rattle.opc_http_requests.specs.declared.origins.Origins.{Origins}
 use Rattle.opc_http_log.specs.LogLines.{IsLogLine}
 use Rattle.opc_http_log.specs.declared.entry.LogEntry.{LogEntry}
 use Rattle.opc_http.specs.Told.{IsEntry}

@@ -22,7 +22,7 @@ use Rattle.opc_io.specs.Reads.{ReadsOnly, TakesAtMost}
 use Rattle.opc_http_connections.specs.Links.{Link}
 use Rattle.opc_http_connections.specs.Timed.{IsReadInTime}
 use Rattle.opc_http_connections.specs.declared.timed.Timed.{Timed}
-use Rattle.opc_http_head.specs.declared.origins.Origins.{Origins}
+use Rattle.opc_http_requests.specs.declared.origins.Origins.{Origins}
 use Rattle.opc_http_requests.specs.Asked.{MayRead}
 use Rattle.opc_http.specs.declared.exchanging.LinkFault.{LinkFault}
 use Rattle.opc_http.specs.declared.exchanging.Served.{Served}

@@ -1,12 +1,12 @@
 //! What serves a client.
-ghost use Rattle.std.specs.Prelude.{[]};
+ghost use Rattle.std.specs.Prelude.{◌≡◌, [], false};
 ghost use Rattle.opc_io.specs.Reads.{ReadsOnly};
 ghost use Rattle.opc_http_requests.specs.Asked.{MayRead};
 ghost use Rattle.opc_http_serve.specs.Handled.{IsExchange};
 
 use opc_gate::gate::Gate;
 use opc_http::{LinkFault, Served, exchange};
-use opc_http_head::routes::Routes;
+use opc_http_requests::routes::Routes;
 use opc_io::sink::Sink;
 use opc_io::source::Source;
 use opc_state::tables::Tables;
@@ -15,7 +15,7 @@ use std::alloc::Global;
 /// What serves one client after another, each by one exchange.
 pub trait Exchanges {
     ghost use Rattle.std.specs.Prelude.{ℕ, List, Option, Result};
-    ghost use Rattle.opc_http_head.specs.declared.origins.Origins.{Origins};
+    ghost use Rattle.opc_http_requests.specs.declared.origins.Origins.{Origins};
     ghost use Rattle.opc_http.specs.declared.exchanging.LinkFault.{LinkFault};
     ghost use Rattle.opc_http.specs.declared.exchanging.Served.{Served};
 
@@ -25,6 +25,7 @@ pub trait Exchanges {
     ghost exchanged: { Origins → Self → Option (List ℕ) → ℕ → Option (List ℕ) → Option (List ℕ)
         → Result Served LinkFault → Self → Type 0 };
 
+    /// One exchange, over a reader and a writer of which no call has failed.
     fn serve_one<S: Source, K: Sink>(
         &mut self,
         alloc: Global,
@@ -33,6 +34,8 @@ pub trait Exchanges {
         sink: &mut K,
         moment: u64,
     ) -> Result<Served, LinkFault>
+        requires reader { S.has_failed source.old ≡ false }
+        requires writer { K.has_failed sink.old ≡ false }
         ensures exchanged { exchanged routes.now self.old (S.left source.old) moment (K.held sink.old)
             (K.held sink.new) result self.new }
         ensures reads { ReadsOnly S.left S.gives (MayRead routes.now) source.old [] source.new };

@@ -11,9 +11,9 @@ ghost use Rattle.opc_http_serve.specs.Logging.{IsLineWritten, IsLogged, IsServic
 use crate::exchanges::Exchanges;
 use opc_gate::gate::Gate;
 use opc_http::{LinkFault, Served, exchange, exchange_told};
-use opc_http_head::routes::Routes;
 use opc_http_log::entry::LogEntry;
 use opc_http_log::line::log_line;
+use opc_http_requests::routes::Routes;
 use opc_io::sink::{Sink, write_whole};
 use opc_io::source::Source;
 use opc_state::tables::Tables;
@@ -54,6 +54,8 @@ fn exchange_logged<T: Tables, S: Source, K: Sink, L: Sink>(
     log: &mut L,
     moment: u64,
 ) -> Result<Served, LinkFault>
+    requires reader { S.has_failed source.old ≡ false }
+    requires writer { K.has_failed sink.old ≡ false }
     ensures exchanged { IsExchange routes.now T.meaning gate.old (S.left source.old) moment (K.held sink.old)
         (K.held sink.new) result gate.new }
     ensures logged { IsLogged L.held L.has_failed (IsEntry routes.now T.meaning (S.left source.old) gate.old gate.new

@@ -1,5 +1,5 @@
 //! Clients served one after another.
-ghost use Rattle.std.specs.Prelude.{◌≡◌, Err, IfErr, OnErr, OnOk};
+ghost use Rattle.std.specs.Prelude.{◌≡◌, Err, IfErr, OnErr, OnOk, false};
 ghost use Rattle.opc_http_connections.specs.Links.{Comes, link_of};
 ghost use Rattle.opc_http_serve.specs.Arriving.{Arrives};
 ghost use Rattle.opc_http_serve.specs.Handled.{AreHandled, IsExchange};
@@ -16,7 +16,7 @@ use opc_http_connections::connection::Connection;
 use opc_http_connections::drain::drain;
 use opc_http_connections::listener::ClientListener;
 use opc_http_connections::timer::Timer;
-use opc_http_head::routes::Routes;
+use opc_http_requests::routes::Routes;
 use opc_io::sink::Sink;
 use opc_state::tables::Tables;
 use std::alloc::Global;
@@ -30,6 +30,8 @@ fn serve_client<C: Connection, K: Timer, X: Exchanges>(
     routes: &Routes,
     gate: &mut X,
 )
+    requires reader { client.old.reader.failed ≡ false }
+    requires writer { client.old.writer.failed ≡ false }
     ensures { IsServed (link_of C.limits K.shows C.reads C.remaining C.contents) routes.now (X.exchanged routes.now)
         client.old client.new gate.old gate.new }
 {

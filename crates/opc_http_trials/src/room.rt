@@ -5,7 +5,7 @@ use opc_cli_failures::status::Status;
 use opc_cli_script::run::run_script;
 use opc_gate::gate::Gate;
 use opc_http::{LinkFault, Served, exchange};
-use opc_http_head::routes::Routes;
+use opc_http_requests::routes::Routes;
 use opc_import::fault::ImportFault;
 use opc_import::read::read_policy;
 use opc_io::watched::Watched;

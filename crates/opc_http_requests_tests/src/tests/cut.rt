@@ -1,9 +1,9 @@
 //! Requests that are cut off, readers that fail, and lengths at their limits.
 use super::reading::asked;
-use opc_http_head::refusal::HttpRefusal;
-use opc_http_head::routes::Routes;
 use opc_http_requests::ask::read_request;
 use opc_http_requests::fault::ReadingFault;
+use opc_http_requests::refusal::HttpRefusal;
+use opc_http_requests::routes::Routes;
 use opc_io::watched::Watched;
 use opc_io_failing::reader::FailingReader;
 use std::alloc::{AllocError, Global};

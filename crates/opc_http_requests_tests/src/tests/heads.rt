@@ -1,7 +1,7 @@
 //! Heads at their limits.
 use super::reading::asked;
-use opc_http_head::refusal::HttpRefusal;
 use opc_http_requests::fault::ReadingFault;
+use opc_http_requests::refusal::HttpRefusal;
 use std::alloc::{AllocError, Global};
 use std::process::Abort;
 use std::test::Fail;

@@ -1,7 +1,7 @@
 //! What some bytes ask for, as a line.
-use opc_http_head::routes::Routes;
 use opc_http_requests::ask::read_request;
 use opc_http_requests::fault::ReadingFault;
+use opc_http_requests::routes::Routes;
 use opc_io::watched::Watched;
 use opc_machine::request::Request;
 use std::alloc::{AllocError, Global};

@@ -1,7 +1,7 @@
 //! What is refused, and by which refusal first.
 use super::reading::{asked, get, post};
-use opc_http_head::refusal::{HttpRefusal, Method};
 use opc_http_requests::fault::ReadingFault;
+use opc_http_requests::refusal::{HttpRefusal, Method};
 use opc_io_failing::reader::FailingReader;
 use opc_terms::fault::Why;
 use std::process::Abort;

@@ -1,7 +1,7 @@
 //! What a strict service accepts, and that what a web page can send is refused.
 use super::reading::{asked, asked_strictly};
-use opc_http_head::refusal::HttpRefusal;
 use opc_http_requests::fault::ReadingFault;
+use opc_http_requests::refusal::HttpRefusal;
 use std::alloc::{AllocError, Global};
 use std::process::Abort;
 use std::test::Fail;

@@ -1,7 +1,7 @@
-use Rattle.std.proofs.Common.{Ok, Err, Some, None, refl, subst, sym}
+use Rattle.std.proofs.Common.{Ok, Err, Some, None, refl, subst, sym, ◌∙◌}
 use Rattle.opc_http_requests.specs.Faults.{IfRefused}
 use Rattle.opc_http.specs.Exchange.{IsAsked}
-use Rattle.opc_http.proofs.Replies.{faulty, not_read, refused_read, served, written}
+use Rattle.opc_http.proofs.Replies.{faulty, not_read, only_failed, refused_read, served, written}
 use Rattle.opc_http.proofs.telling.exchange_told.Goals as goal
 
 pub returns-in-Ok-clause-served : goal.returns-in-Ok-clause-served
@@ -25,7 +25,11 @@ returns-in-Ok-clause-fault g c =
 pub returns-in-Ok-clause-read : goal.returns-in-Ok-clause-read
 returns-in-Ok-clause-read g c =
     rw (c.told.ensures.served, not_read g.K.Sink.held (Ok c.answer-handled.result.answer) _ _ c.send_answer-served.result c.send_answer-served.ensures.cut_off)
-    c.in-Ok.ensures.failed
+    (c.in-Ok.ensures.failed ∙ c.requires.reader)
+
+pub returns-in-Ok-clause-write : goal.returns-in-Ok-clause-write
+returns-in-Ok-clause-write g c =
+    rw c.told.ensures.served (only_failed _ _ _ c.requires.writer c.send_answer-served.ensures.write)
 
 pub returns-in-Ok-clause-told : goal.returns-in-Ok-clause-told
 returns-in-Ok-clause-told g c = record {
@@ -68,7 +72,12 @@ returns-in-Err-Refused-clause-read g c =
       not_read g.K.Sink.held (Err c.in-Err-Refused.refusal) _ _
           c.send_refusal-served.result c.send_refusal-served.ensures.cut_off,
     )
-    (refused_read c.in-Err-Refused.field-0 c.in-Err-Refused.refusal c.in-Err-Refused.field-0-is _ _ c.in-Err-Refused.ensures.failed)
+    (refused_read c.in-Err-Refused.field-0 c.in-Err-Refused.refusal c.in-Err-Refused.field-0-is _ _ c.in-Err-Refused.ensures.failed
+    ∙ c.requires.reader)
+
+pub returns-in-Err-Refused-clause-write : goal.returns-in-Err-Refused-clause-write
+returns-in-Err-Refused-clause-write g c =
+    rw c.told-in-Err-Refused.ensures.served (only_failed _ _ _ c.requires.writer c.send_refusal-served.ensures.write)
 
 pub returns-in-Err-Refused-clause-told : goal.returns-in-Err-Refused-clause-told
 returns-in-Err-Refused-clause-told g c = record {

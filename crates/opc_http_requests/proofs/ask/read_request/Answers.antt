@@ -2,7 +2,7 @@ use Rattle.std.proofs.Common.{◌≡◌, ◌≤◌, ◌++◌, ℕ, List, Ok, Err
 use Rattle.std.specs.Prelude.{IfSome}
 use Rattle.std.proofs.lemmas.Result.{IfOk-weaker, err_from_is_err_and}
 use Rattle.httparse.specs.Spans.{span_bytes}
-use Rattle.opc_http_head.specs.Head.{FoundHead, NoHead}
+use Rattle.opc_http_requests.specs.Head.{FoundHead, NoHead}
 use Rattle.opc_http_requests.specs.Asked.{AsksOnly}
 use Rattle.opc_http_requests.specs.Plans.{plan_in}
 use Rattle.opc_http_requests.specs.Requests.{planned}

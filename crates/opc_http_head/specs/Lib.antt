@@ -1,5 +1,0 @@
-pub mod Framing
-pub mod Head
-pub mod Origins
-pub mod Refusals
-pub mod Routes

@@ -1,5 +1,5 @@
 -- What was done for a task, and its status.
-use Rattle.std.proofs.Common.{◌≡◌, ◌≤◌, ◌∙◌, ℕ, Bool, List, Option, Result, Ok, Err, ap, arith, inl, refl, subst, false}
+use Rattle.std.proofs.Common.{◌≡◌, ◌≤◌, ℕ, Bool, List, Option, Ok, arith, inl, refl, subst}
 use Rattle.sqlite_disk.specs.declared.Disk as disk
 use Rattle.sqlite.specs.Recovery.{Image}
 use Rattle.opc_terms.specs.declared.fault.Fault.{Fault}
@@ -31,15 +31,15 @@ pub same_fault : {E : Type 0} (shown : E → Option (List ℕ)) (quiet reported 
 same_fault shown quiet reported one other is h = subst (IsFaultReported shown quiet reported) is h
 
 -- if the words ask for a task, and that was done
-module _ {D : Type 0} (g : disk.Ghosts D) (is_fresh : Bool → D → Type 0) (image : Image) {W E : Type 0}
-    (contents : W → Option (List ℕ)) (shown : E → Option (List ℕ)) (left : Option (List ℕ)) where
+module _ {D C : Type 0} (g : disk.Ghosts D) (is_fresh : Bool → D → Type 0) (copies : disk.Ghosts C) (is_as_read : Bool → C → Type 0) (image : Image)
+    {W E : Type 0} (contents : W → Option (List ℕ)) (shown : E → Option (List ℕ)) (left : Option (List ℕ)) where
   pub task_done : (words : List (List ℕ)) (before first written : Watched W) (quiet heard reported : Watched E) (status : Status) (task : Task)
       → AreRead words (λ (w : Watched W). contents w.inner) shown before first quiet heard (Ok task)
-      → IsTaskDone g is_fresh image contents shown left first written heard reported status task
-      → AreDone g is_fresh image contents shown left before written quiet reported status words
+      → IsTaskDone g is_fresh copies is_as_read image contents shown left first written heard reported status task
+      → AreDone g is_fresh copies is_as_read image contents shown left before written quiet reported status words
   task_done words before first written quiet heard reported status task (ask, same, silent) done = inl (
     task,
     ask,
-    subst (λ w. IsTaskDone g is_fresh image contents shown left w written quiet reported status task) same
-        (subst (λ e. IsTaskDone g is_fresh image contents shown left first written e reported status task) silent done),
+    subst (λ w. IsTaskDone g is_fresh copies is_as_read image contents shown left w written quiet reported status task) same
+        (subst (λ e. IsTaskDone g is_fresh copies is_as_read image contents shown left first written e reported status task) silent done),
   )

@@ -1,3 +1,7 @@
+mod Apart
+mod Keeping
+mod Shutting
+mod Readings
 mod Answered
 pub mod Done
 mod Pieces

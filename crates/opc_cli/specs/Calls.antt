@@ -9,7 +9,7 @@ use Rattle.opc_cli_script.specs.declared.script.ScriptFault.TheVariants.{BadLine
 use Rattle.opc_cli_script.specs.Refusals.{is_cut_by_output}
 use Rattle.opc_cli_script.specs.Running.{IsAnswered}
 use Rattle.opc_http_connections.specs.Links.{ClientSource}
-use Rattle.opc_http_head.specs.declared.origins.Origins.{Origins}
+use Rattle.opc_http_requests.specs.declared.origins.Origins.{Origins}
 use Rattle.opc_http_serve.specs.declared.arrival.ServeFault.{ServeFault}
 use Rattle.opc_http_serve.specs.Handled.{AreHandled}
 

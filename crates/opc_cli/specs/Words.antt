@@ -20,23 +20,22 @@ use Rattle.opc_cli_failures.specs.declared.status.Status.{Status}
 use Rattle.opc_cli_failures.specs.declared.status.Status.TheVariants.{Failed}
 use Rattle.opc_cli_failures.specs.Printing.{IsReported}
 use Rattle.opc_cli_failures.specs.Statuses.{status_of_end}
-use Rattle.opc_cli_options.specs.declared.run.Lines.{Lines}
-use Rattle.opc_cli_options.specs.declared.run.Lines.TheVariants.{Script, Now}
-use Rattle.opc_cli_options.specs.declared.source.Source.{Source}
-use Rattle.opc_cli_options.specs.declared.source.Source.TheVariants.{PolicyFile, Database}
+use Rattle.opc_cli_words.specs.declared.run.Lines.{Lines}
+use Rattle.opc_cli_words.specs.declared.run.Lines.TheVariants.{Script, Now}
+use Rattle.opc_cli_words.specs.declared.source.Source.{Source}
+use Rattle.opc_cli_words.specs.declared.source.Source.TheVariants.{PolicyFile, Database}
 use Rattle.opc_cli_words.specs.declared.words.Task.{Task}
 use Rattle.opc_cli_words.specs.declared.words.Task.TheVariants as task
 use Rattle.opc_cli_words.specs.Reading.{Ask, AskForNone}
-use Rattle.opc_cli_check.specs.Answers.{IsReportedCheck, form_of}
-use Rattle.opc_cli_policy_files.specs.Answers.{IsReportedBy, left_in}
-use Rattle.opc_cli_policy_files.specs.Enquiries.{enquiry_answer}
-use Rattle.opc_cli_policy_files.specs.Questions.{command_answer, question_answer}
+use Rattle.opc_cli_questions.specs.Checks.{IsReportedCheck, form_of}
+use Rattle.opc_cli_questions.specs.Printed.{IsReportedBy, left_in}
+use Rattle.opc_cli_questions.specs.Questions.{of_access, of_command, of_enquiry, question_answer}
 use Rattle.opc_cli_program.specs.declared.work.Work.{Work}
 use Rattle.opc_cli_program.specs.declared.work.Work.TheVariants as work
-use Rattle.opc_cli_readings.specs.declared.question.PolicyQuestion.{PolicyQuestion}
-use Rattle.opc_cli_readings.specs.declared.question.PolicyQuestion.TheVariants as question
-use Rattle.opc_cli_works.specs.Reads.{AccountOf, AnswerTo, IsReadAt, Reading}
-use Rattle.opc_cli_works.specs.Works.{AreLinesInMemory, IsRunInMemory, IsWorkAt}
+use Rattle.opc_cli_questions.specs.declared.question.PolicyQuestion.{PolicyQuestion}
+use Rattle.opc_cli_questions.specs.declared.question.PolicyQuestion.TheVariants as question
+use Rattle.opc_cli.specs.Reads.{AccountOf, AnswerTo, IsReadAt, Reading}
+use Rattle.opc_cli.specs.Works.{AreLinesInMemory, IsRunInMemory, IsWorkAt}
 use Rattle.opc_cli.specs.Made.{made_line}
 
 -- the status of a work over a file: that of its end, or a failure if the file was not closed
@@ -93,13 +92,12 @@ pub record AreLinesDoneInMemory {W E : Type 0} (contents : W → Option (List �
 module _ {D : Type 0} (g : disk.Ghosts D) (is_fresh : Bool → D → Type 0) (image : Image) {W E : Type 0}
     (contents : W → Option (List ℕ)) (shown : E → Option (List ℕ)) (before written : Watched W)
     (quiet reported : Watched E) (status : Status) where
-  -- The file was opened to be read, what is asked for was read of it and written, and it was closed, or not.
+  -- The file was opened to be read, and what is asked for was read of it and written.
   pub record IsReadDone (asked : Reading) : Type 0 where
     pub end : Result Status Failure
-    pub closed : Result (Files D) (Error × FileStore D g)
-    pub done : IsReadAt {g = g} contents image asked before.inner written.inner end closed
-    pub status_is : status ≡ status_of_work end closed
-    pub end_reported : IsWorkReported shown quiet reported end closed
+    pub done : IsReadAt g contents image asked before.inner written.inner end
+    pub status_is : status ≡ status_of_end end
+    pub end_reported : IsEndReported shown quiet reported end
 
   -- It was not, and nothing was written.
   pub record IsUnread : Type 0 where
@@ -116,18 +114,24 @@ module _ {D : Type 0} (g : disk.Ghosts D) (is_fresh : Bool → D → Type 0) (im
 module _ {W E : Type 0} (contents : W → Option (List ℕ)) (shown : E → Option (List ℕ)) (before written : Watched W)
     (quiet reported : Watched E) (status : Status) where
   abbrev pub IsAnsweredByFile : PolicyQuestion → (left : Option (List ℕ)) → Type 0
-  IsAnsweredByFile (question.Explain q) left =
+  IsAnsweredByFile (question.Ask ask) left =
       IsReportedBy contents (λ (e : Watched E). shown e.inner) (λ (e : Watched E). e.failed) before.inner
-      written.inner quiet reported (question_answer q) left status
-  IsAnsweredByFile (question.ExplainCommand q) left =
-      IsReportedBy contents (λ (e : Watched E). shown e.inner) (λ (e : Watched E). e.failed) before.inner
-      written.inner quiet reported (command_answer q) left status
-  IsAnsweredByFile (question.Who q) left =
-      IsReportedBy contents (λ (e : Watched E). shown e.inner) (λ (e : Watched E). e.failed) before.inner
-      written.inner quiet reported (enquiry_answer q) left status
+      written.inner quiet reported (question_answer ask) left status
   IsAnsweredByFile (question.Check q) left =
       IsReportedCheck contents (λ (e : Watched E). shown e.inner) (λ (e : Watched E). e.failed) before.inner
       written.inner quiet reported (form_of q.json) (option_copied q.allowed) left status
+
+-- `image` is what a database file holds.
+module _ {D : Type 0} (g : disk.Ghosts D) (is_fresh : Bool → D → Type 0) (image : Image) {W E : Type 0}
+    (contents : W → Option (List ℕ)) (shown : E → Option (List ℕ)) (left : Option (List ℕ)) (before written : Watched W)
+    (quiet reported : Watched E) (status : Status) where
+  -- A question about a policy was answered from its source: by the policy file at a path, by that on the input, or by
+  -- the database.
+  abbrev pub IsAnsweredFrom : Source → PolicyQuestion → Type 0
+  IsAnsweredFrom (PolicyFile policy) asked =
+      IsAnsweredByFile contents shown before written quiet reported status asked (left_in (λ path. None) left policy)
+  IsAnsweredFrom (Database path) asked =
+      IsReadInFile g is_fresh image contents shown before written quiet reported status (AnswerTo asked)
 
 -- Of a database file: `image` is what it holds at first.
 module _ {D : Type 0} (g : disk.Ghosts D) (is_fresh : Bool → D → Type 0) (image : Image) {W E : Type 0}
@@ -170,28 +174,32 @@ module _ {D : Type 0} (g : disk.Ghosts D) (is_fresh : Bool → D → Type 0) (im
   IsRun None policy (Now console) =
       AreLinesDoneInMemory contents shown left before written quiet reported status console policy
 
-  -- A question about a policy was answered from its source: by the policy file at a path, by that on the input, or by
-  -- the database.
-  abbrev pub IsAnsweredFrom : Source → PolicyQuestion → Type 0
-  IsAnsweredFrom (PolicyFile policy) asked =
-      IsAnsweredByFile contents shown before written quiet reported status asked (left_in (λ path. None) left policy)
-  IsAnsweredFrom (Database path) asked =
-      IsReadInFile g is_fresh image contents shown before written quiet reported status (AnswerTo asked)
+-- What the program does for its words: its works open the database file, and what is only asked is read of a copy.
+module _ {D C : Type 0} (g : disk.Ghosts D) (is_fresh : Bool → D → Type 0) (copies : disk.Ghosts C)
+    (is_as_read : Bool → C → Type 0) (image : Image) {W E : Type 0} (contents : W → Option (List ℕ))
+    (shown : E → Option (List ℕ)) (left : Option (List ℕ)) (before written : Watched W) (quiet reported : Watched E)
+    (status : Status) where
+  abbrev pub IsAnswered : Source → PolicyQuestion → Type 0
+  IsAnswered = IsAnsweredFrom copies is_as_read image contents shown left before written quiet reported status
+
+  abbrev pub IsWorked : (path : List ℕ) → Work → Type 0
+  IsWorked = IsWorkInFile g is_fresh image contents shown left before written quiet reported status
 
   -- What a task asks for was done.
   abbrev pub IsTaskDone : Task → Type 0
-  IsTaskDone (task.Explain asked) = IsAnsweredFrom asked.source (question.Explain asked)
-  IsTaskDone (task.ExplainCommand asked) = IsAnsweredFrom asked.source (question.ExplainCommand asked)
-  IsTaskDone (task.Who enquiry) = IsAnsweredFrom enquiry.source (question.Who enquiry)
-  IsTaskDone (task.Check check) = IsAnsweredFrom check.source (question.Check check)
+  IsTaskDone (task.Explain asked) = IsAnswered asked.source (question.Ask (of_access asked))
+  IsTaskDone (task.ExplainCommand asked) = IsAnswered asked.source (question.Ask (of_command asked))
+  IsTaskDone (task.Who enquiry) = IsAnswered enquiry.source (question.Ask (of_enquiry enquiry))
+  IsTaskDone (task.Check check) = IsAnswered check.source (question.Check check)
   IsTaskDone (task.Account account) =
-      IsReadInFile g is_fresh image contents shown before written quiet reported status
+      IsReadInFile copies is_as_read image contents shown before written quiet reported status
       (AccountOf account.query)
-  IsTaskDone task.Digest = IsDigestAnswered
-  IsTaskDone (task.Run run) = IsRun run.database run.policy run.lines
-  IsTaskDone (task.Import import) = IsWorkInFile import.path.now (work.Import import)
-  IsTaskDone (task.Export path) = IsWorkInFile path.now work.Export
-  IsTaskDone (task.Serve serve) = IsWorkInFile serve.path.now (work.Serve serve)
+  IsTaskDone task.Digest = IsDigestAnswered g is_fresh image contents shown left before written quiet reported status
+  IsTaskDone (task.Run run) =
+      IsRun g is_fresh image contents shown left before written quiet reported status run.database run.policy run.lines
+  IsTaskDone (task.Import import) = IsWorked import.path.now (work.Import import)
+  IsTaskDone (task.Export path) = IsWorked path.now work.Export
+  IsTaskDone (task.Serve serve) = IsWorked serve.path.now (work.Serve serve)
 
   -- What the words ask for was done; or they ask for nothing that is done, and that was reported.
   abbrev pub AreDone : (words : List (List ℕ)) → Type 0

@@ -1,11 +1,12 @@
 //! Why a database file is not opened, as the system reports it if it is asked for the file again.
 use opc_cli_failures::reason::Reason;
-use opc_store_file::site::{look, prepare};
+use opc_store_file::copying::{NotCopied, copy_files};
+use opc_store_file::site::prepare;
 use sqlite::Wary;
 use sqlite_std_file::OpenError;
 use std::fs::{File, OpenOptions};
-use std::io;
 use std::io::{ErrorKind, Read};
+use std::{fs, io};
 
 /// What the first bytes of a database file are.
 const MAGIC: [u8; 16] = *b"SQLite format 3\0";
@@ -33,11 +34,28 @@ pub fn reason_at(rt: &HostRuntime, path: &str) -> Reason {
     }
 }
 
-/// Why it was not opened to be read: the same, but a file that is missing is not made.
+/// Why it was not opened to be read. Nothing is made or changed.
 pub fn reason_to_read(rt: &HostRuntime, path: &str) -> Reason {
-    match look(rt, path) {
-        Ok(_) => reason_at(rt, path),
-        Err(error) => Reason::System(error),
+    match copy_files(rt, path, Wary) {
+        Ok(_) => reason_in(rt, path),
+        Err(NotCopied::System(error)) => Reason::System(error),
+        Err(NotCopied::NoMemory) => Reason::Unreadable,
+        Err(NotCopied::NoPath) => Reason::NoPath,
+        Err(NotCopied::NoPlainFile) => irregular(rt, path),
+        Err(NotCopied::InUse) => Reason::InUse,
+        Err(NotCopied::Journal) => Reason::Journal,
+    }
+}
+
+/// Why a file that was read has no tables of ours: it is empty, or has tables of this version.
+pub fn reason_for_tables(rt: &HostRuntime, path: &str, version: u64) -> Reason {
+    match fs::metadata(rt, path) {
+        Ok(found) if found.len() <= 1 => {
+            let words = "an empty database";
+            Reason::System(io::Error::new(ErrorKind::Unsupported, words))
+        }
+        // Any other file was read whole, and what it holds is not of ours, or not of this version.
+        _ => Reason::Tables(version),
     }
 }
 

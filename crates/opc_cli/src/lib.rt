@@ -1,9 +1,22 @@
-//! The command line: it does what the words ask for.
+//! The command line: it does what the words ask for, over the tables of a database file or in memory.
 #![tactic(auto)]
+
+mod database;
+pub mod file;
+pub mod laws;
+mod made;
+pub mod memory;
+mod questions;
+pub mod read_work;
+mod reading;
+mod run;
+pub mod script;
+pub mod service;
 
 ghost use Rattle.std.specs.Prelude.{◌≡◌, ◌≤◌, false};
 ghost use Rattle.sqlite.specs.WalFiles.{image_at};
 ghost use Rattle.sqlite_std_file.specs.File.{IsFresh};
+ghost use Rattle.opc_store_file.specs.Copies.{IsAsRead};
 ghost use Rattle.opc_store.specs.Opening.{opening_fault};
 ghost use Rattle.opc_cli_failures.specs.Statuses.{number_of};
 ghost use Rattle.opc_cli_words.specs.Reading.{words_after};
@@ -15,15 +28,8 @@ ghost use Rattle.opc_cli.specs.Words.{
   status_of_work,
 };
 
-mod database;
-mod made;
-mod questions;
-mod reading;
-mod run;
-pub mod script;
-pub mod service;
-
 use crate::database::reason_at;
+use crate::file::{Closed, EndedWork, work_at};
 use crate::made::report_made;
 use crate::questions::answer_from;
 use crate::reading::account_in_file;
@@ -34,18 +40,17 @@ use opc_cli_digest::answering::answer_password;
 use opc_cli_failures::failure::{Failure, Paths, Place, reported};
 use opc_cli_failures::reason::Reason;
 use opc_cli_failures::status::Status;
-use opc_cli_options::serve::Address;
 use opc_cli_program::work::Work;
-use opc_cli_readings::question::PolicyQuestion;
+use opc_cli_questions::question::{Ask, PolicyQuestion};
+use opc_cli_words::serve::Address;
 use opc_cli_words::words::{Task, read_words};
-use opc_cli_works::file::{Closed, EndedWork, work_at};
 use opc_io::watched::Watched;
 use opc_store::opening::{NotOpened, OpenFault};
+use opc_store_file::copy::CopyFrom;
 use opc_terms::fault::Fault;
 use sqlite::{Error, ErrorCode, FileFrom, Start, Wary};
 use sqlite_disk::Disk;
 use std::io::{IsTerminal, Read, Write};
-
 /// Does what the words of a command line ask for, the first of which is the program's own name, and returns the status:
 /// 0 done, 1 refused, 2 bad words or bad input, 3 failed.
 pub fn run_words<R: Read, W: Write, E: Write>(
@@ -57,12 +62,12 @@ pub fn run_words<R: Read, W: Write, E: Write>(
 ) -> u8
     ensures most { result ≤ 3 }
     ensures done { (status : _) × (result ≡ number_of status)
-        × AreDone ⟦<FileFrom<Wary> as Disk>⟧ IsFresh (image_at ⟦<Wary as Start>⟧) W.contents E.contents
+        × AreDone ⟦<FileFrom<Wary> as Disk>⟧ IsFresh ⟦<CopyFrom<Wary> as Disk>⟧ IsAsRead
+        (image_at ⟦<Wary as Start>⟧) W.contents E.contents
         (R.remaining input.old) output.old output.new errors.old errors.new status (words_after words.now) }
 {
     run_words_from(rt, Wary, words, input, output, errors)
 }
-
 /// The same, whatever the database file that the words name holds: `start` stands for that, and states what a torn
 /// write may leave.
 pub fn run_words_from<S: Start, R: Read, W: Write, E: Write>(
@@ -75,8 +80,8 @@ pub fn run_words_from<S: Start, R: Read, W: Write, E: Write>(
 ) -> u8
     ensures most { result ≤ 3 }
     ensures done { (status : _) × (result ≡ number_of status)
-        × AreDone ⟦<FileFrom<S> as Disk>⟧ IsFresh (image_at S.Start) W.contents E.contents (R.remaining input.old)
-        output.old output.new errors.old errors.new status (words_after words.now) }
+        × AreDone ⟦<FileFrom<S> as Disk>⟧ IsFresh ⟦<CopyFrom<S> as Disk>⟧ IsAsRead (image_at S.Start) W.contents
+        E.contents (R.remaining input.old) output.old output.new errors.old errors.new status (words_after words.now) }
 {
     do_words(rt, start, words, input, output, errors).number()
 }
@@ -89,20 +94,23 @@ fn do_words<S: Start, R: Read, W: Write, E: Write>(
     output: &mut Watched<W>,
     errors: &mut Watched<E>,
 ) -> Status
-    ensures { AreDone ⟦<FileFrom<S> as Disk>⟧ IsFresh (image_at S.Start) W.contents E.contents (R.remaining input.old)
-        output.old output.new errors.old errors.new result (words_after words.now) }
+    ensures { AreDone ⟦<FileFrom<S> as Disk>⟧ IsFresh ⟦<CopyFrom<S> as Disk>⟧ IsAsRead (image_at S.Start) W.contents
+        E.contents (R.remaining input.old) output.old output.new errors.old errors.new result (words_after words.now) }
 {
     match read_words(rt.alloc(), words, output, errors) {
         Ok(Task::Explain(question)) => {
-            let (source, question) = (question.source, PolicyQuestion::Explain(question));
+            let (source, ask) = (question.source, Ask::of_access(&question));
+            let question = PolicyQuestion::Ask(ask);
             answer_from(rt, start, source, &question, input, output, errors)
         }
         Ok(Task::ExplainCommand(question)) => {
-            let (source, question) = (question.source, PolicyQuestion::ExplainCommand(question));
+            let (source, ask) = (question.source, Ask::of_command(&question));
+            let question = PolicyQuestion::Ask(ask);
             answer_from(rt, start, source, &question, input, output, errors)
         }
         Ok(Task::Who(enquiry)) => {
-            let (source, question) = (enquiry.source, PolicyQuestion::Who(enquiry));
+            let (source, ask) = (enquiry.source, Ask::of_enquiry(&enquiry));
+            let question = PolicyQuestion::Ask(ask);
             answer_from(rt, start, source, &question, input, output, errors)
         }
         Ok(Task::Check(check)) => {
@@ -131,12 +139,10 @@ fn do_words<S: Start, R: Read, W: Write, E: Write>(
         Err(status) => status,
     }
 }
-
 /// Whether somebody types at a terminal and reads the messages there. No clause can state that.
 fn is_typed(rt: &HostRuntime) -> bool {
     rt.stdin().is_terminal() && rt.stderr().is_terminal()
 }
-
 /// The Unix socket at which a work listens.
 fn socket_of<'a>(work: &Work<'a>) -> Option<&'a str> {
     match work {
@@ -148,7 +154,6 @@ fn socket_of<'a>(work: &Work<'a>) -> Option<&'a str> {
         _ => None,
     }
 }
-
 /// The files that are named, if a work is done over the database file at a path.
 fn paths_of<'a>(path: &'a str, work: &Work<'a>) -> Paths<'a> {
     let policy = match work {
@@ -162,7 +167,6 @@ fn paths_of<'a>(path: &'a str, work: &Work<'a>) -> Paths<'a> {
         socket: socket_of(work),
     }
 }
-
 /// Does a work over the tables of the database file at a path, which is made if it is not there. An export that made
 /// the tables reports that.
 pub(crate) fn work_in_file<S: Start, R: Read, W: Write, E: Write>(
@@ -193,7 +197,6 @@ pub(crate) fn work_in_file<S: Start, R: Read, W: Write, E: Write>(
         }
     }
 }
-
 /// Reports that an export made the tables: the policy that it writes is that of a new database, so the path may be
 /// mistyped.
 fn note_made<E: Write>(path: &str, work: &Work<'_>, are_made: bool, errors: &mut Watched<E>)
@@ -209,7 +212,6 @@ fn note_made<E: Write>(path: &str, work: &Work<'_>, are_made: bool, errors: &mut
         Work::Run(_) | Work::Lines(..) | Work::Import(_) | Work::Serve(_) => {}
     }
 }
-
 /// Reports what a work over a file came to, and then why the file was not closed, if it was not.
 fn ended<S: Start, E: Write>(
     end: Result<Status, Failure>,
@@ -233,7 +235,6 @@ fn of_database(fault: Fault, reason: Reason) -> Failure
 {
     Failure::of(fault, Place::Database, reason)
 }
-
 /// The last commit was not put into the database file. What was acknowledged is safe there, too.
 fn not_closed(error: Error) -> Failure
     ensures { result.fault ≡ Fault.Store }

@@ -3,13 +3,13 @@ ghost use Rattle.sqlite.specs.WalFiles.{image_at};
 ghost use Rattle.sqlite_std_file.specs.File.{IsFresh};
 ghost use Rattle.opc_cli.specs.Words.{AreLinesDoneInMemory, IsDoneInMemory, IsRun};
 
+use crate::memory::{answer_lines_in_memory, run_in_memory};
 use crate::work_in_file;
 use opc_cli_failures::failure::reported;
 use opc_cli_failures::status::Status;
-use opc_cli_options::run::{Lines, Run};
-use opc_cli_policy_files::policy_file::paths_of;
 use opc_cli_program::work::Work;
-use opc_cli_works::memory::{answer_lines_in_memory, run_in_memory};
+use opc_cli_questions::policy_file::paths_of;
+use opc_cli_words::run::{Lines, Run};
 use opc_io::watched::Watched;
 use opc_names::name::ConsoleName;
 use sqlite::{FileFrom, Start};

@@ -9,7 +9,7 @@ use opc_gate::gate::Gate;
 use opc_http_connections::connection::Connection;
 use opc_http_connections::listener::ClientListener;
 use opc_http_connections::timer::Timer;
-use opc_http_head::routes::Routes;
+use opc_http_requests::routes::Routes;
 use opc_http_serve::arrival::ServeFault;
 use opc_http_serve::serving;
 use opc_state::tables::Tables;

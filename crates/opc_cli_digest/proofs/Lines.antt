@@ -33,7 +33,7 @@ use Rattle.std.specs.Io.KnownBytes.{Consumes, IsAtEnd, Keeps}
 use Rattle.std.specs.List.{list_all}
 use Rattle.std.specs.Str.{IsNotAscii}
 use Rattle.std.proofs.lemmas.List.{append-nil, append_assoc, take_all, take_at}
-use Rattle.opc_cli_digest.specs.Passwords.{IsPassword, IsTyped, before_feed, most}
+use Rattle.opc_cli_digest.specs.Passwords.{IsPassword, IsTyped, most, through_feed}
 
 pub no_password : (line : List ℕ) → IsNotAscii line → IsPassword line → ⊥
 no_password line other is = omega (arith, other.1, is.0 other.0)
@@ -42,25 +42,25 @@ abbrev pub is_plain : List ℕ → Bool
 is_plain typed = list_all (λ c. not (c == 10)) typed
 
 -- without a line feed, all of it is the line
-plain_before : (typed : List ℕ) → is_plain typed ≡ true → before_feed typed ≡ typed
-plain_before [] plain = refl
-plain_before (c ∷ typed) plain = go (c == 10) refl plain (plain_before typed)
+plain_through : (typed : List ℕ) → is_plain typed ≡ true → through_feed typed ≡ typed
+plain_through [] plain = refl
+plain_through (c ∷ typed) plain = go (c == 10) refl plain (plain_through typed)
   where
-    go : (b : Bool) → (c == 10) ≡ b → (not b && is_plain typed) ≡ true → (is_plain typed ≡ true → before_feed typed ≡ typed)
-        → before_feed (c ∷ typed) ≡ c ∷ typed
+    go : (b : Bool) → (c == 10) ≡ b → (not b && is_plain typed) ≡ true → (is_plain typed ≡ true → through_feed typed ≡ typed)
+        → through_feed (c ∷ typed) ≡ c ∷ typed
     go true e h more = absurd (search (rules, h))
     go false e h more = rw e (ap (λ t. c ∷ t) (more h))
 
 -- up to a line feed
-feed_before : (n : ℕ) (typed rest : List ℕ) → is_plain typed ≡ true → length typed < n
-    → before_feed (take n (typed ++ 10 ∷ rest)) ≡ typed
-feed_before zero typed rest plain few = absurd (omega (arith, few))
-feed_before (suc n) [] rest plain few = refl
-feed_before (suc n) (c ∷ typed) rest plain few = go (c == 10) refl plain (feed_before n typed rest)
+through_plain : (n : ℕ) (typed rest : List ℕ) → is_plain typed ≡ true → length typed < n
+    → through_feed (take n (typed ++ 10 ∷ rest)) ≡ typed ++ 10 ∷ []
+through_plain zero typed rest plain few = absurd (omega (arith, few))
+through_plain (suc n) [] rest plain few = refl
+through_plain (suc n) (c ∷ typed) rest plain few = go (c == 10) refl plain (through_plain n typed rest)
   where
     go : (b : Bool) → (c == 10) ≡ b → (not b && is_plain typed) ≡ true
-        → (is_plain typed ≡ true → length typed < n → before_feed (take n (typed ++ 10 ∷ rest)) ≡ typed)
-        → before_feed (take (suc n) ((c ∷ typed) ++ 10 ∷ rest)) ≡ c ∷ typed
+        → (is_plain typed ≡ true → length typed < n → through_feed (take n (typed ++ 10 ∷ rest)) ≡ typed ++ 10 ∷ [])
+        → through_feed (take (suc n) ((c ∷ typed) ++ 10 ∷ rest)) ≡ (c ∷ typed) ++ 10 ∷ []
     go true e h more = absurd (search (rules, h))
     go false e h more = rw e (ap (λ t. c ∷ t) (more h (omega (arith, few))))
 
@@ -71,7 +71,7 @@ typed_to_end None b typed read end plain few = tt
 typed_to_end (Some all) None typed read end plain few = absurd read
 typed_to_end (Some all) (Some rest) typed read end plain few =
     let is : all ≡ typed = read ∙ ap (λ (t : List ℕ). typed ++ t) end ∙ append-nil typed in
-    sym (ap (λ (t : List ℕ). before_feed (take most t)) is ∙ ap before_feed (take_all most typed few) ∙ plain_before typed plain)
+    sym (ap (λ (t : List ℕ). through_feed (take most t)) is ∙ ap through_feed (take_all most typed few) ∙ plain_through typed plain)
 
 -- or there were as many bytes as are read,
 pub typed_in_full : (a b : Option (List ℕ)) (typed : List ℕ) → Consumes a b typed → is_plain typed ≡ true
@@ -79,16 +79,16 @@ pub typed_in_full : (a b : Option (List ℕ)) (typed : List ℕ) → Consumes a 
 typed_in_full None b typed read plain full = tt
 typed_in_full (Some all) None typed read plain full = absurd read
 typed_in_full (Some all) (Some rest) typed read plain full =
-    sym (ap before_feed (ap (take most) read ∙ take_at typed rest most full) ∙ plain_before typed plain)
+    sym (ap through_feed (ap (take most) read ∙ take_at typed rest most full) ∙ plain_through typed plain)
 
 -- or a line feed was read.
 pub typed_to_feed : (a b : Option (List ℕ)) (typed : List ℕ) → Consumes a b (typed ++ 10 ∷ []) → is_plain typed ≡ true
-    → length typed < most → IsTyped a typed
+    → length typed < most → IsTyped a (typed ++ 10 ∷ [])
 typed_to_feed None b typed read plain few = tt
 typed_to_feed (Some all) None typed read plain few = absurd read
 typed_to_feed (Some all) (Some rest) typed read plain few =
     let is : all ≡ typed ++ 10 ∷ rest = read ∙ append_assoc typed (10 ∷ []) rest in
-    sym (ap (λ (t : List ℕ). before_feed (take most t)) is ∙ feed_before most typed rest plain few)
+    sym (ap (λ (t : List ℕ). through_feed (take most t)) is ∙ through_plain most typed rest plain few)
 
 -- one byte more
 pub plain_more : (typed : List ℕ) (c : ℕ) → is_plain typed ≡ true → (c == 10) ≡ false → is_plain (typed ++ c ∷ []) ≡ true

@@ -1,5 +1,22 @@
 -- The password on the input, and its digest.
-use Rattle.std.specs.Prelude.{◌≡◌, ◌==◌, ℕ, List, [], ◌∷◌, ◌++◌, Option, None, IfSome, codes, if◌then◌else◌, take}
+use Rattle.std.specs.Prelude.{
+  ◌≡◌,
+  ◌-◌,
+  ◌==◌,
+  ℕ,
+  List,
+  [],
+  ◌∷◌,
+  ◌++◌,
+  Option,
+  None,
+  IfSome,
+  codes,
+  if◌then◌else◌,
+  length,
+  slice_index,
+  take,
+}
 use Rattle.std.specs.Str.{IsAscii}
 use Rattle.std.specs.Str.Lines.{strip_carriage_return}
 use Rattle.hex.specs.Hex.{encode_lower}
@@ -11,18 +28,19 @@ use Rattle.opc_reader_commands.specs.Stretches.{folded}
 abbrev pub most : ℕ
 most = 10
 
--- what stands before the first line feed
-abbrev pub before_feed : List ℕ → List ℕ
-before_feed [] = []
-before_feed (c ∷ rest) = if c == 10 then [] else c ∷ before_feed rest
+-- what stands up to the first line feed, and that
+abbrev pub through_feed : List ℕ → List ℕ
+through_feed [] = []
+through_feed (c ∷ rest) = if c == 10 then c ∷ [] else c ∷ through_feed rest
 
--- the first line of what the input has left, if that is known, with a carriage return at its end
+-- the first line of what the input has left, if that is known, with its end
 abbrev pub IsTyped : (left : Option (List ℕ)) → (typed : List ℕ) → Type 0
-IsTyped left typed = IfSome left (λ all. typed ≡ before_feed (take most all))
+IsTyped left typed = IfSome left (λ all. typed ≡ through_feed (take most all))
 
--- the line without its end
+-- The line without its end: a line feed (10), or a carriage return and a line feed. Nothing else ends a line.
 abbrev pub line_of : (typed : List ℕ) → List ℕ
-line_of typed = strip_carriage_return typed
+line_of typed =
+    if slice_index typed (length typed - 1) == 10 then strip_carriage_return (take (length typed - 1) typed) else typed
 
 -- A line is a password of the rules once it is folded to capitals, as at LOGON.
 abbrev pub IsPassword : (line : List ℕ) → Type 0

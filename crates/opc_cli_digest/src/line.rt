@@ -1,5 +1,6 @@
 //! The line that is typed.
 ghost use Rattle.std.specs.Prelude.{◌≡◌, ◌≤◌, IfOk, length};
+ghost use Rattle.std.specs.Str.Lines.{strip_carriage_return};
 ghost use Rattle.opc_cli_digest.specs.Passwords.{IsTyped, line_of, most};
 
 use std::alloc::Global;
@@ -12,7 +13,7 @@ const MOST: usize = 10;
 /// How many reads are tried, those among them that a signal cut short.
 const TRIES: u32 = 1_000_000;
 
-/// What is typed before the first line feed. That is read too, and nothing after it.
+/// What is typed up to the first line feed, which is read too, and nothing after it.
 pub(crate) fn read_line<R: Read>(alloc: Global, input: &mut R) -> io::Result<Vec<u8>>
     ensures typed { IfOk result (λ typed. IsTyped (R.remaining input.old) typed.items) }
     ensures short { IfOk result (λ typed. length typed.items ≤ most) }
@@ -25,10 +26,10 @@ pub(crate) fn read_line<R: Read>(alloc: Global, input: &mut R) -> io::Result<Vec
             Err(error) => return Err(error),
             Ok(0) => return Ok(typed),
             Ok(_) => {
+                typed.push(byte[0])?;
                 if byte[0] == b'\n' {
                     return Ok(typed);
                 }
-                typed.push(byte[0])?;
                 if typed.len() == MOST {
                     return Ok(typed);
                 }
@@ -38,14 +39,26 @@ pub(crate) fn read_line<R: Read>(alloc: Global, input: &mut R) -> io::Result<Vec
     Err(io::Error::from(ErrorKind::Interrupted))
 }
 
-/// The line without a carriage return at its end.
+/// What stands before a line feed, without a carriage return at its end.
+fn without_return(line: &[u8]) -> &[u8]
+    ensures line { result.now ≡ strip_carriage_return line.now }
+    ensures short { length result.now ≤ length line.now }
+{
+    match line.split_last() {
+        Some((b'\r', start)) => start,
+        // The line ends with its last character.
+        _ => line,
+    }
+}
+
+/// The line without its end. A carriage return with no line feed after it is a character of the line.
 pub(crate) fn line_of(typed: &[u8]) -> &[u8]
     ensures line { result.now ≡ line_of typed.now }
     ensures short { length result.now ≤ length typed.now }
 {
     match typed.split_last() {
-        Some((b'\r', line)) => line,
-        // The line ends with its last character.
+        Some((b'\n', line)) => without_return(line),
+        // The input ended, or more bytes than a password has were typed.
         _ => typed,
     }
 }

@@ -1,2 +1,4 @@
+pub mod Escaped
+pub mod Shown
 pub mod Statuses
 pub mod Printing

@@ -39,14 +39,14 @@ pub enum LineForm {
 }
 
 impl BadLine {
-    /// A bad line. What is shown of it is a note, of which no clause speaks; the tables of `tools/program` have the
-    /// words.
-    pub fn of(number: u64, line: &str, slip: Slip, form: LineForm) -> Self {
+    /// A bad line, of which this start is shown; it may be all of it. What is shown is a note, of which no clause
+    /// speaks; the tables of `tools/program` have the words.
+    pub fn of(number: u64, start: &str, is_whole: bool, slip: Slip, form: LineForm) -> Self {
         BadLine {
             number,
             slip,
             form,
-            shown: TextStart::of(line),
+            shown: TextStart::of_start(start, is_whole),
         }
     }
 }

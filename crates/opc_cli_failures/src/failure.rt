@@ -48,7 +48,7 @@ pub enum Place {
 }
 
 /// A fault, and what failed and why, if that is known.
-#[derive(Clone, Copy)]
+#[derive(Drop)]
 pub struct Failure {
     pub fault: Fault,
     pub cause: Option<(Place, Reason)>,

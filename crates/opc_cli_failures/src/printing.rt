@@ -134,7 +134,7 @@ fn digits_of(place: Place) -> ArrayString<PORT_DIGITS> {
 
 fn separator_of(reason: &Reason) -> &'static str {
     match reason {
-        Reason::Row(_) | Reason::Refused(_) | Reason::Line(_) => ", ",
+        Reason::Row(_) | Reason::Line(_) => ", ",
         // The number of a row or a line belongs to the place; every other reason begins a sentence.
         _ => ": ",
     }

@@ -1,9 +1,8 @@
 //! Why the program failed, in words.
 use crate::bad_line::BadLine;
-use crate::bad_row::BadRow;
 use crate::first_row::FirstRow;
-use crate::refused_row::RefusedRow;
 use arrayvec::ArrayString;
+use opc_check::problem::RowProblem;
 use opc_terms::fault::Subject;
 use std::fmt::{Display, Formatter, Write as _};
 use std::{fmt, io};
@@ -12,7 +11,7 @@ use std::{fmt, io};
 const SYSTEM_WORDS: usize = 320;
 
 /// What the program can report of a fault besides its line.
-#[derive(Clone, Copy)]
+#[derive(Drop)]
 pub enum Reason {
     System(io::Error),
     /// A policy file of more bytes than one may have.
@@ -23,10 +22,8 @@ pub enum Reason {
     Utf16,
     /// A policy file whose first row is not the header, or that has no row.
     NoHeader(Option<FirstRow>),
-    /// Another row of a policy file, which does not read.
-    Row(BadRow),
-    /// A row that reads and is refused.
-    Refused(RefusedRow),
+    /// Another row of a policy file, which does not read or is refused.
+    Row(RowProblem),
     /// A line that is no request.
     Line(BadLine),
     /// An import without a console, over tables in which users are stored.
@@ -71,8 +68,9 @@ impl Display for Reason {
             Reason::Utf16 => f.write_str("UTF-16 and not UTF-8; save it as \"CSV UTF-8\""),
             Reason::NoHeader(Some(row)) => write!(f, "the first row is not the header: {row}"),
             Reason::NoHeader(None) => f.write_str("no rows; the first has to be the header"),
-            Reason::Row(bad) => write!(f, "{bad}"),
-            Reason::Refused(row) => write!(f, "{row}"),
+            Reason::Row(problem) => {
+                write!(f, "row {}: {}", problem.number, problem.text.as_str())
+            }
             Reason::Line(bad) => write!(f, "{bad}"),
             Reason::UsersImported => f.write_str("users are stored; use --console"),
             Reason::UsersRun => f.write_str("users are stored; leave out --policy"),

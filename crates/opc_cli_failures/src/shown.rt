@@ -35,6 +35,20 @@ impl TextStart {
     }
 }
 
+impl TextStart {
+    /// What is shown of a text that begins so, and may go on.
+    pub fn of_start(start: &str, is_whole: bool) -> Self {
+        let TextStart {
+            text,
+            is_whole: is_all,
+        } = TextStart::of(start);
+        TextStart {
+            text,
+            is_whole: is_all && is_whole,
+        }
+    }
+}
+
 impl Display for TextStart {
     fn fmt<W: fmt::Write>(&self, f: &mut Formatter<W>) -> fmt::Result {
         let rest = if self.is_whole { "" } else { ".." };

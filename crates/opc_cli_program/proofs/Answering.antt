@@ -5,9 +5,9 @@ use Rattle.std.proofs.lemmas.List.{take_all}
 use Rattle.opc_cli_script.specs.Running.{AppendsPrefix}
 use Rattle.opc_state.specs.Meaning.{Meaning}
 use Rattle.opc_cli_failures.specs.declared.status.Status.{Status}
-use Rattle.opc_cli_now.specs.declared.fault.NowFault.{NowFault}
-use Rattle.opc_cli_now.specs.Sessions.{IsCutSession, IsSession}
-use Rattle.opc_cli_now.proofs.Viewing.{cut_viewed, dates_there, held_there, reads_there, says_there, session_viewed}
+use Rattle.opc_cli_script.specs.declared.fault.NowFault.{NowFault}
+use Rattle.opc_cli_script.specs.Sessions.{IsCutSession, IsSession}
+use Rattle.opc_cli_script.proofs.Viewing.{cut_viewed, dates_there, held_there, reads_there, says_there, session_viewed}
 use Rattle.opc_cli_program.specs.Lines.{IsDated, IsLineRead, IsSaid, Streams, output_of}
 
 module _ {D : Type 0} (view : D → Streams) {T : Type 0} (m : Meaning T) (console : Option (List ℕ)) (old new : T) (first last : D) where

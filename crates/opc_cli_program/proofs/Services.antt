@@ -6,13 +6,13 @@ use Rattle.opc_state_cache.specs.Cache.{IsCached}
 use Rattle.opc_state_cache.specs.Meaning.{cached_meaning}
 use Rattle.opc_state_cache.specs.declared.cached.Cached.{Cached}
 use Rattle.opc_http_connections.specs.Links.{ClientSource}
-use Rattle.opc_http_head.specs.declared.origins.Origins.{Origins}
+use Rattle.opc_http_requests.specs.declared.origins.Origins.{Origins}
 use Rattle.opc_http_serve.specs.Handled.{Handled, IsRunOf}
 use Rattle.opc_cli_failures.specs.declared.failure.Failure.{Failure}
 use Rattle.opc_cli_failures.specs.declared.status.Status.{Status}
-use Rattle.opc_cli_options.specs.declared.serve.Address.{Address}
-use Rattle.opc_cli_options.specs.declared.serve.Address.TheVariants.{Port, Socket}
-use Rattle.opc_cli_options.specs.declared.serve.Serve.{Serve}
+use Rattle.opc_cli_words.specs.declared.serve.Address.{Address}
+use Rattle.opc_cli_words.specs.declared.serve.Address.TheVariants.{Port, Socket}
+use Rattle.opc_cli_words.specs.declared.serve.Serve.{Serve}
 use Rattle.opc_cli_program.specs.Services.{AreClients, IsNotBegun, IsPortService, IsServiceAt, IsSocketService}
 use Rattle.opc_cli_program.proofs.Uncached.{run}
 

@@ -42,8 +42,8 @@ use Rattle.opc_cli_failures.specs.declared.status.Status.{Status}
 use Rattle.opc_cli_failures.specs.declared.status.Status.TheVariants.{Done}
 use Rattle.opc_cli_failures.specs.declared.failure.Failure.{Failure}
 use Rattle.opc_cli_failures.specs.Statuses.{IsFailure}
-use Rattle.opc_cli_options.specs.declared.import.Import.{Import}
-use Rattle.opc_cli_policy_files.specs.PolicyFiles.{AreRead, IsUnread}
+use Rattle.opc_cli_words.specs.declared.import.Import.{Import}
+use Rattle.opc_cli_questions.specs.PolicyFiles.{AreRead, IsUnread}
 use Rattle.opc_cli_script.specs.Running.{AppendsPrefix}
 use Rattle.opc_cli_script.specs.Transcripts.{ended}
 

@@ -23,12 +23,12 @@ use Rattle.opc_cli_failures.specs.declared.failure.Place.TheVariants as place
 use Rattle.opc_cli_failures.specs.declared.status.Status.{Status}
 use Rattle.opc_cli_failures.specs.Statuses.{IsErrorAt}
 use Rattle.opc_http_serve.specs.declared.clock.TheConstants.{LAST_MOMENT}
-use Rattle.opc_cli_now.specs.declared.fault.NowFault.{NowFault}
-use Rattle.opc_cli_now.specs.declared.fault.NowFault.TheVariants.{Input, Clock, Output, NoMemory}
-use Rattle.opc_cli_now.specs.declared.reading.Typed.{Typed}
-use Rattle.opc_cli_now.specs.Faults.{is_cut_by_output}
-use Rattle.opc_cli_now.specs.Reading.{IsTyped}
-use Rattle.opc_cli_now.specs.Sessions.{IsCutSession, IsSession}
+use Rattle.opc_cli_script.specs.declared.fault.NowFault.{NowFault}
+use Rattle.opc_cli_script.specs.declared.fault.NowFault.TheVariants.{Input, Clock, Output, NoMemory}
+use Rattle.opc_cli_script.specs.declared.reading_now.Typed.{Typed}
+use Rattle.opc_cli_script.specs.Faults.{is_cut_by_output}
+use Rattle.opc_cli_script.specs.ReadingNow.{IsTyped}
+use Rattle.opc_cli_script.specs.Sessions.{IsCutSession, IsSession}
 use Rattle.opc_cli_program.specs.Runs.{IsNamedPolicyTaken}
 
 -- what is known of an input, by the bytes that it has left, and of an output, by those that it holds

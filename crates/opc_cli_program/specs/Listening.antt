@@ -42,7 +42,9 @@ module _ {P B S : Type 0} (names : P → List ℕ → B → Type 0) (permits : P
     pub permitted : permits ports path mode
     pub listening : listens ports bound socket
 
-  -- And the output states at which path.
-  abbrev pub ListensBy : (before after : Option (List ℕ)) → (path : List ℕ) → (mode : ℕ) → Type 0
-  ListensBy before after path mode = ((socket : S) × IsSocketAt path mode socket)
+  -- And the output states at which path; when nobody is served any more, what is at the path is removed if it is the
+  -- file of this socket.
+  abbrev pub ListensBy : (removes : P → List ℕ → S → Type 0) → (before after : Option (List ℕ)) → (path : List ℕ)
+      → (mode : ℕ) → Type 0
+  ListensBy removes before after path mode = ((socket : S) × IsSocketAt path mode socket × removes ports path socket)
       × Appends before after (socket_line path)

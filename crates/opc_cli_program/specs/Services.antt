@@ -3,8 +3,8 @@ use Rattle.std.specs.Prelude.{◌≡◌, ◌⊎◌, ℕ, Bool, List, Option, Res
 use Rattle.std.specs.Io.KnownBytes.{Appends}
 use Rattle.opc_state.specs.Meaning.{Meaning}
 use Rattle.opc_http_connections.specs.Links.{ClientSource}
-use Rattle.opc_http_head.specs.declared.origins.Origins.{Origins}
-use Rattle.opc_http_head.specs.declared.origins.Origins.TheVariants.{Any, Only}
+use Rattle.opc_http_requests.specs.declared.origins.Origins.{Origins}
+use Rattle.opc_http_requests.specs.declared.origins.Origins.TheVariants.{Any, Only}
 use Rattle.opc_http_serve.specs.declared.arrival.ServeFault.{ServeFault}
 use Rattle.opc_http_serve.specs.declared.arrival.ServeFault.TheVariants.{Accept, Clock}
 use Rattle.opc_http_serve.specs.Handled.{AreHandled}
@@ -13,9 +13,9 @@ use Rattle.opc_cli_failures.specs.declared.failure.Place.TheVariants as place
 use Rattle.opc_cli_failures.specs.declared.status.Status.{Status}
 use Rattle.opc_cli_failures.specs.declared.status.Status.TheVariants.{Done, Failed}
 use Rattle.opc_cli_failures.specs.Statuses.{IsErrorAt, status_of_end}
-use Rattle.opc_cli_options.specs.declared.serve.Address.{Address}
-use Rattle.opc_cli_options.specs.declared.serve.Address.TheVariants.{Port, Socket}
-use Rattle.opc_cli_options.specs.declared.serve.Serve.{Serve}
+use Rattle.opc_cli_words.specs.declared.serve.Address.{Address}
+use Rattle.opc_cli_words.specs.declared.serve.Address.TheVariants.{Port, Socket}
+use Rattle.opc_cli_words.specs.declared.serve.Serve.{Serve}
 use Rattle.opc_cli_program.specs.Listening.{listening_line, socket_line}
 
 -- How the program ends if serving came to this: well, or with the error of the call that failed.

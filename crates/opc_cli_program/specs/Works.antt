@@ -8,7 +8,7 @@ use Rattle.opc_cli_failures.specs.Statuses.{IsFailure}
 use Rattle.opc_io.specs.declared.watched.Watched.{Watched}
 use Rattle.opc_http_connections.specs.Links.{ClientSource}
 use Rattle.opc_http_serve.specs.declared.clock.TheConstants.{LAST_MOMENT}
-use Rattle.opc_cli_options.specs.declared.import.Import.{Import}
+use Rattle.opc_cli_words.specs.declared.import.Import.{Import}
 use Rattle.opc_cli_program.specs.Imports.{IsExport, IsImport}
 use Rattle.opc_cli_program.specs.Lines.{AreProgramLines}
 use Rattle.opc_cli_program.specs.Runs.{IsProgramRun}

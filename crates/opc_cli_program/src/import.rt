@@ -1,5 +1,4 @@
 //! `opcmds import` and `opcmds export`: a written policy into the tables of a file, and out of them.
-ghost use Rattle.std.specs.Prelude.{◌≡◌, IfErr, IfOk};
 ghost use Rattle.opc_state.specs.Changes.{IsKept};
 ghost use Rattle.opc_machine.specs.Inputs.{input_of};
 ghost use Rattle.opc_cli_program.specs.Imports.{IsExport, IsFirstPolicy, IsImport, IsOneStep};
@@ -8,8 +7,8 @@ use crate::printing::{print_answer, print_text};
 use crate::refusals::{not_imported, not_taken};
 use opc_cli_failures::failure::{Failure, Place};
 use opc_cli_failures::status::Status;
-use opc_cli_options::import::Import;
-use opc_cli_policy_files::policy_file::read_rows;
+use opc_cli_questions::policy_file::read_rows;
+use opc_cli_words::import::Import;
 use opc_gate::gate::Gate;
 use opc_gate::request::{Answer, Request};
 use opc_import::write::write_policy;
@@ -58,7 +57,7 @@ fn import_over<T: Tables, R: Read, K: Sink>(
     let request = Request::Import {
         console,
         batch: import.batch,
-        rows: listed(alloc, &rows)?,
+        rows: Rows::of(rows),
     };
     handle_alone(alloc, gate, moment, &request, output)
 }
@@ -96,13 +95,6 @@ fn handle_alone<T: Tables, K: Sink>(
         Answer::Refused { fault, .. } => Err(not_imported(alloc, gate, request, *fault)),
         Answer::Done { .. } => print_answer(&answer, output),
     }
-}
-
-fn listed(alloc: Global, rows: &[Row]) -> Result<Rows<Row>, Failure>
-    ensures rows { IfOk result (λ copy. copy ≡ rows.now) }
-    ensures fault { IfErr result (λ failure. failure.fault ≡ Fault.NoMemory) }
-{
-    Rows::from_slice(alloc, rows).map_err(|_| Failure::from(Fault::NoMemory))
 }
 
 /// Writes the policy of these tables as a policy file, and returns them.

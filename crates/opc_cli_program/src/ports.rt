@@ -4,11 +4,11 @@ ghost use Rattle.std.specs.Prelude.{IfOk, OnOk};
 use opc_http_connections::connection::Connection;
 use opc_http_connections::listener::ClientListener;
 use opc_http_connections::socket_file;
+use opc_http_connections::socket_file::BoundSocket;
 use opc_http_connections::unix::SocketListener;
 use std::fs::Files;
+use std::io;
 use std::net::{Net, OpenListener, SocketAddr};
-use std::os::fd::OwnedFd;
-use std::{fs, io};
 
 /// Where the program may listen.
 pub trait Ports {
@@ -40,6 +40,9 @@ pub trait Ports {
     /// That a socket began to listen.
     ghost listens: { Self → Self.Bound → Self.Socket → Type 0 };
 
+    /// That the file at this path was removed, if it was the one that was made for this socket, and nothing else was.
+    ghost removes: { Self → List ℕ → Self.Socket → Type 0 };
+
     fn bind(&self, address: SocketAddr) -> io::Result<Self::Listener>
         ensures { IfOk result (λ listener. binds self.now address listener) };
 
@@ -59,8 +62,9 @@ pub trait Ports {
     /// Removes the file of a socket at which nobody listens, if that is what is at this path; returns whether it did.
     fn clear(&self, path: &str) -> bool;
 
-    /// Removes the file of a socket that is no longer used.
-    fn remove(&self, path: &str);
+    /// Removes the file of a socket that is no longer used, if what is at this path is the file that was made for it.
+    fn remove(&self, path: &str, socket: &Self::Socket)
+        ensures { removes self.now path.now socket.now };
 }
 
 /// The system's ports and files.
@@ -77,7 +81,7 @@ where
 
     type Listener = H::Listener;
 
-    type Bound = OwnedFd;
+    type Bound = BoundSocket;
 
     type Socket = SocketListener;
 
@@ -91,6 +95,8 @@ where
 
     ghost listens = { λ _ _ _. ⊤ };
 
+    ghost removes = { λ _ _ _. ⊤ };
+
     fn bind(&self, address: SocketAddr) -> io::Result<H::Listener> {
         self.net.bind(address)
     }
@@ -99,7 +105,7 @@ where
         listener.local_addr()
     }
 
-    fn make_file(&self, path: &str) -> io::Result<OwnedFd> {
+    fn make_file(&self, path: &str) -> io::Result<BoundSocket> {
         socket_file::make(self.net, path)
     }
 
@@ -107,7 +113,7 @@ where
         socket_file::permit(self.net, path, mode)
     }
 
-    fn listen(&self, bound: OwnedFd) -> io::Result<SocketListener> {
+    fn listen(&self, bound: BoundSocket) -> io::Result<SocketListener> {
         socket_file::listen(bound)
     }
 
@@ -115,8 +121,7 @@ where
         socket_file::clear(self.net, path)
     }
 
-    fn remove(&self, path: &str) {
-        // (one that is left is replaced by the next service)
-        let _ = fs::remove_file(self.net, path);
+    fn remove(&self, path: &str, socket: &SocketListener) {
+        socket_file::remove(self.net, path, socket);
     }
 }

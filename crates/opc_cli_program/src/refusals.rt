@@ -3,11 +3,11 @@ ghost use Rattle.std.specs.Prelude.{◌≡◌};
 ghost use Rattle.opc_state.specs.Changes.{IsKept};
 ghost use Rattle.opc_state.specs.PolicyFile.{rows_of};
 ghost use Rattle.opc_state.specs.State.{State};
-ghost use Rattle.opc_cli_policy_files.specs.Refusals.{TellsOf};
+ghost use Rattle.opc_cli_questions.specs.Refusals.{TellsOf};
 
 use opc_cli_failures::failure::{Failure, Place};
 use opc_cli_failures::reason::Reason;
-use opc_cli_policy_files::refusals::refused;
+use opc_cli_questions::refusals::refused;
 use opc_gate::gate::Gate;
 use opc_gate::request::Request;
 use opc_names::name::{ConsoleName, UserId};

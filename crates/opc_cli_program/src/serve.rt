@@ -4,7 +4,7 @@ ghost use Rattle.std.specs.Io.KnownBytes.{Appends};
 ghost use Rattle.opc_http_connections.specs.Links.{Comes, source_of, link_of};
 ghost use Rattle.opc_cli_failures.specs.Statuses.{status_of};
 ghost use Rattle.opc_cli_program.specs.Listening.{ListensAt, ListensBy, socket_line};
-ghost use Rattle.opc_http_head.specs.declared.origins.Origins.{Origins};
+ghost use Rattle.opc_http_requests.specs.declared.origins.Origins.{Origins};
 ghost use Rattle.opc_cli_program.specs.Services.{
   AreClients,
   IsEndOfService,
@@ -20,11 +20,11 @@ use crate::log_stream::LogStream;
 use crate::ports::Ports;
 use opc_cli_failures::failure::{Failure, Place};
 use opc_cli_failures::status::Status;
-use opc_cli_options::serve::{Address, Serve};
+use opc_cli_words::serve::{Address, Serve};
 use opc_gate::gate::Gate;
 use opc_http_connections::listener::ClientListener;
 use opc_http_connections::timer::Timer;
-use opc_http_head::routes::Routes;
+use opc_http_requests::routes::Routes;
 use opc_http_serve::arrival::ServeFault;
 use opc_http_serve::service::Service;
 use opc_http_serve::serving::serve_logged_on;
@@ -128,7 +128,7 @@ where
         (source_of (link_of S.Client.limits ⟦<H as Timer>⟧.shows S.Client.reads S.Client.remaining S.Client.contents)
         (Comes S.accepts S.Client.clones)) service.old.gate service.new.gate serve.now result
         (ListensAt P.binds P.is_at ports.now (W.contents output.old) (W.contents output.new))
-        (ListensBy P.names P.permits P.listens ports.now (W.contents output.old) (W.contents output.new))
+        (ListensBy P.names P.permits P.listens ports.now P.removes (W.contents output.old) (W.contents output.new))
         serve.now.address }
 {
     match serve.address {
@@ -186,7 +186,7 @@ where
     serve_by(rt, &listener, service, serve, &routes)
 }
 
-/// Serves clients at a Unix socket, whose file is there as long as that takes.
+/// Serves clients at a Unix socket. Its file is removed after that, if it is still the one at the path.
 fn serve_at_socket<
     H: AllocGlobal + Clock,
     P: Ports<Socket = S>,
@@ -209,12 +209,12 @@ where
     ensures serves { IsSocketService T.meaning
         (source_of (link_of S.Client.limits ⟦<H as Timer>⟧.shows S.Client.reads S.Client.remaining S.Client.contents)
         (Comes S.accepts S.Client.clones)) service.old.gate service.new.gate serve.now result
-        (ListensBy P.names P.permits P.listens ports.now (W.contents output.old) (W.contents output.new)
+        (ListensBy P.names P.permits P.listens ports.now P.removes (W.contents output.old) (W.contents output.new)
         path.now mode) }
 {
     let socket = listen_at_socket(ports, path, mode)?;
     let end = serve_socket(rt, &socket, service, path, serve, output);
-    ports.remove(path);
+    ports.remove(path, &socket);
     end
 }
 

@@ -1,8 +1,8 @@
 //! The standard streams and the clock, as lines are answered there.
 ghost use Rattle.std.specs.Prelude.{◌≡◌, MatchResult, OnErr, OnOk, true, if◌then◌else◌, is_err};
 ghost use Rattle.std.specs.Io.KnownBytes.{Appends};
-ghost use Rattle.opc_cli_now.specs.Faults.{is_cut_by_output};
-ghost use Rattle.opc_cli_now.specs.Sessions.{IsCutSession, IsSession};
+ghost use Rattle.opc_cli_script.specs.Faults.{is_cut_by_output};
+ghost use Rattle.opc_cli_script.specs.Sessions.{IsCutSession, IsSession};
 ghost use Rattle.opc_cli_program.specs.Lines.{IsDated, IsLineRead, IsSaid, output_of};
 ghost use Rattle.opc_cli_script.specs.Running.{AppendsPrefix};
 
@@ -10,11 +10,11 @@ use crate::log_stream::LogStream;
 use opc_cli_failures::failure::{Place, note};
 use opc_cli_failures::reason::Reason;
 use opc_cli_failures::status::Status;
-use opc_cli_now::fault::NowFault;
-use opc_cli_now::reading::{Typed, read_line};
-use opc_cli_now::session::answer_lines;
-use opc_cli_now::terminal::Terminal;
+use opc_cli_script::fault::NowFault;
 use opc_cli_script::printer::write_text;
+use opc_cli_script::reading_now::{Typed, read_line};
+use opc_cli_script::session::answer_lines;
+use opc_cli_script::terminal::Terminal;
 use opc_gate::gate::Gate;
 use opc_http_serve::clock::moment;
 use opc_io::watched::Watched;

@@ -6,3 +6,9 @@ pub mod Written
 pub mod Printing
 pub mod Lines
 pub mod Moments
+pub mod Shown
+pub mod Typing
+pub mod Running
+pub mod Turning
+pub mod Taking
+pub mod Viewing

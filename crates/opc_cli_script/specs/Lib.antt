@@ -7,3 +7,7 @@ pub mod Statuses
 pub mod Running
 pub mod Laws
 pub mod Slips
+pub mod ReadingNow
+pub mod Faults
+pub mod Turns
+pub mod Sessions

@@ -1,5 +1,5 @@
 //! What reading a script means, each law as what a call without a body ensures.
-ghost use Rattle.opc_cli_script.specs.Laws.{EventsAreSpelled, EventsReadBack};
+ghost use Rattle.opc_cli_script.specs.Laws.{EventsAreSpelled, EventsReadBack, SlipsShowNoPassword};
 
 /// An event reads back from its text.
 pub fn events_read_back()
@@ -9,4 +9,9 @@ pub fn events_read_back()
 /// A text is read as an event only if it is that event's text.
 pub fn events_are_spelled()
     ensures { EventsAreSpelled }
+{}
+
+/// Whatever stands behind the word that is wrong, the same is shown of a bad line: no password of a LOGON.
+pub fn slips_show_no_password()
+    ensures { SlipsShowNoPassword }
 {}

@@ -1,4 +1,5 @@
-//! Tests of `opc_cli` by the calls that end with a number, over tables of a small room.
+//! Tests of scripts, lists of requests, listings and services by their public calls, over tables of a small room and
+//! tables that fail, and to writers that fail.
 #![tactic(auto)]
 
 #[cfg(test)]

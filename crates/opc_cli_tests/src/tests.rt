@@ -1,6 +1,11 @@
-//! Scripts to writers that fail, services over loopback, and the faults of an opening.
+//! Scripts and lists over tables that fail, and to writers that fail; listings, services over loopback, and the faults
+//! of an opening.
+mod answered;
+mod listings;
+mod lists;
 mod openings;
-mod pay_room;
+mod room;
+mod runs;
 mod scripts;
 mod services;
 

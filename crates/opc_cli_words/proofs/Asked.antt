@@ -13,18 +13,18 @@ use Rattle.clap.proofs.WalkLemmas.{first_value-rows}
 use Rattle.opc_names.specs.Spellings.{classes, levels, lookup}
 use Rattle.opc_account.specs.declared.filter.Filter.{Filter}
 use Rattle.opc_account.specs.declared.query.First.{First}
-use Rattle.opc_cli_options.specs.declared.account.Account.{Account}
-use Rattle.opc_cli_options.specs.declared.check.PolicyCheck.{PolicyCheck}
-use Rattle.opc_cli_options.specs.declared.command_question.CommandQuestion.{CommandQuestion}
-use Rattle.opc_cli_options.specs.declared.import.Import.{Import}
-use Rattle.opc_cli_options.specs.declared.question.Question.{Question}
-use Rattle.opc_cli_options.specs.declared.serve.Address.{Address}
-use Rattle.opc_cli_options.specs.declared.serve.Serve.{Serve}
-use Rattle.opc_cli_options.specs.declared.source.Source.{Source}
-use Rattle.opc_cli_options.specs.declared.who.Enquiry.{Enquiry}
+use Rattle.opc_cli_words.specs.declared.account.Account.{Account}
+use Rattle.opc_cli_words.specs.declared.check.PolicyCheck.{PolicyCheck}
+use Rattle.opc_cli_words.specs.declared.command_question.CommandQuestion.{CommandQuestion}
+use Rattle.opc_cli_words.specs.declared.import.Import.{Import}
+use Rattle.opc_cli_words.specs.declared.question.Question.{Question}
+use Rattle.opc_cli_words.specs.declared.serve.Address.{Address}
+use Rattle.opc_cli_words.specs.declared.serve.Serve.{Serve}
+use Rattle.opc_cli_words.specs.declared.source.Source.{Source}
+use Rattle.opc_cli_words.specs.declared.who.Enquiry.{Enquiry}
 use Rattle.opc_cli_words.specs.declared.words.Task.{Task}
 use Rattle.opc_cli_words.specs.declared.words.Task.TheVariants as task
-use Rattle.opc_cli_options.specs.Accounts.{
+use Rattle.opc_cli_words.specs.Accounts.{
   AreCodes,
   IsAccount,
   IsFilter,
@@ -34,13 +34,13 @@ use Rattle.opc_cli_options.specs.Accounts.{
   moment_of,
   rows_of as number_of_rows,
 }
-use Rattle.opc_cli_options.specs.Numbers.{number_between}
-use Rattle.opc_cli_options.specs.Checks.{Check, first_mistake}
-use Rattle.opc_cli_options.specs.Mistakes.{unread}
-use Rattle.opc_cli_options.specs.Services.{IsAddress}
-use Rattle.opc_cli_options.specs.Sources.{IsSource}
-use Rattle.opc_cli_options.specs.Enquiries.{kind_given}
-use Rattle.opc_cli_options.specs.Options.{
+use Rattle.opc_cli_words.specs.Numbers.{number_between}
+use Rattle.opc_cli_words.specs.Checks.{Check, first_mistake}
+use Rattle.opc_cli_words.specs.Mistakes.{unread}
+use Rattle.opc_cli_words.specs.Services.{IsAddress}
+use Rattle.opc_cli_words.specs.Sources.{IsSource}
+use Rattle.opc_cli_words.specs.Enquiries.{kind_given}
+use Rattle.opc_cli_words.specs.Options.{
   IsCommandQuestion,
   IsEnquiry,
   IsImport,
@@ -56,10 +56,10 @@ use Rattle.opc_cli_options.specs.Options.{
   service_checks,
   who_checks,
 }
-use Rattle.opc_cli_options.specs.Runs.{IsLines, IsRun, run_checks}
-use Rattle.opc_cli_options.specs.declared.run.Lines.{Lines}
-use Rattle.opc_cli_options.specs.declared.run.Lines.TheVariants.{Script, Now}
-use Rattle.opc_cli_options.specs.declared.run.Run.{Run}
+use Rattle.opc_cli_words.specs.Runs.{IsLines, IsRun, run_checks}
+use Rattle.opc_cli_words.specs.declared.run.Lines.{Lines}
+use Rattle.opc_cli_words.specs.declared.run.Lines.TheVariants.{Script, Now}
+use Rattle.opc_cli_words.specs.declared.run.Run.{Run}
 use Rattle.opc_cli_words.specs.Tasks.{FailsAt, IsTask, IsTaskOf, options_of}
 
 -- an address, by values that are the same

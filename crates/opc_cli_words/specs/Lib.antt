@@ -1,3 +1,13 @@
+pub mod Accounts
+pub mod Checks
+pub mod Codes
+pub mod Enquiries
+pub mod Mistakes
+pub mod Numbers
+pub mod Options
+pub mod Runs
+pub mod Services
+pub mod Sources
 pub mod CommandLine
 pub mod Reading
 pub mod Tasks

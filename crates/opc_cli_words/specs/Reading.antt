@@ -34,7 +34,7 @@ use Rattle.opc_cli_failures.specs.Printing.{IsReported}
 use Rattle.opc_cli_failures.specs.Statuses.{IsFailure}
 use Rattle.opc_cli_words.specs.declared.words.Task.{Task}
 use Rattle.opc_cli_words.specs.CommandLine.{command_line}
-use Rattle.opc_cli_options.specs.Mistakes.{mistake_line}
+use Rattle.opc_cli_words.specs.Mistakes.{mistake_line}
 use Rattle.opc_cli_words.specs.Tasks.{AsksFor, FailsAt}
 use Rattle.opc_cli_words.specs.Version.{version_line}
 

@@ -16,10 +16,10 @@ use Rattle.std.specs.Str.{bytes_eq}
 use Rattle.clap.specs.Simple.{subcommand_rows_of}
 use Rattle.clap.specs.Walk.{Row, first_of}
 use Rattle.clap.specs.declared.parser.matches.ArgMatches.{ArgMatches}
-use Rattle.opc_cli_options.specs.Accounts.{IsAccount, account_checks}
-use Rattle.opc_cli_options.specs.Checks.{Check, first_mistake}
-use Rattle.opc_cli_options.specs.Mistakes.{unread}
-use Rattle.opc_cli_options.specs.Options.{
+use Rattle.opc_cli_words.specs.Accounts.{IsAccount, account_checks}
+use Rattle.opc_cli_words.specs.Checks.{Check, first_mistake}
+use Rattle.opc_cli_words.specs.Mistakes.{unread}
+use Rattle.opc_cli_words.specs.Options.{
   IsCommandQuestion,
   IsEnquiry,
   IsImport,
@@ -33,7 +33,7 @@ use Rattle.opc_cli_options.specs.Options.{
   service_checks,
   who_checks,
 }
-use Rattle.opc_cli_options.specs.Runs.{IsRun, run_checks}
+use Rattle.opc_cli_words.specs.Runs.{IsRun, run_checks}
 use Rattle.opc_cli_words.specs.declared.words.Task.{Task}
 use Rattle.opc_cli_words.specs.declared.words.Task.TheVariants as task
 

@@ -14,7 +14,7 @@ fn account_alone<'a>(alloc: Global) -> Command<'a>
         alloc,
         "account",
         "Shows the account of a database file: each refusal, and each command that only a warning let pass",
-        "The file is not made, and not brought from an older version to this one.\n\
+        "Neither the file nor its log is made or changed, and no older version is brought to this one.\n\
          A moment T is a time with its offset from UTC, as 2026-11-27T08:00:00Z, or @ and its seconds since 1970.\n\
          Example: opcmds account --db gate.db --last 1000 --user ANNA --code 'E2*'\n\
          Status: 0 done, 2 bad words, 3 out of memory or a failed device",

@@ -31,7 +31,7 @@ pub(crate) const POLICY_FILE: &str =
 /// What the help says of `--db` there.
 pub(crate) const DATABASE_FILE: &str =
     "A database file, whose policy and consoles are asked, in place of a policy file; \
-     it is not made or changed";
+     neither it nor its log is made or changed";
 
 /// An option that takes a value.
 pub(crate) fn value<'a>(alloc: Global, name: &'a str, shown: &'a str, help: &'a str) -> Arg<'a>

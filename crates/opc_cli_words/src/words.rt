@@ -17,25 +17,25 @@ ghost use Rattle.opc_cli_words.specs.Reading.{
   IsVersionReported,
   words_after,
 };
-ghost use Rattle.opc_cli_options.specs.Checks.{AreReadAs};
+ghost use Rattle.opc_cli_words.specs.Checks.{AreReadAs};
 ghost use Rattle.opc_cli_words.specs.Tasks.{IsTaskOf, options_of};
 
+use crate::account::Account;
+use crate::check::PolicyCheck;
 use crate::command_line::command_line;
+use crate::command_question::CommandQuestion;
+use crate::import::Import;
+use crate::mistake::print_mistake;
+use crate::question::Question;
+use crate::run::Run;
+use crate::serve::Serve;
 use crate::value::note_value;
 use crate::version::write_version;
+use crate::who::Enquiry;
 use clap::error::ErrorKind;
 use clap::{ArgMatches, Error};
 use opc_cli_failures::failure::{Failure, NO_PATHS, Place};
 use opc_cli_failures::status::Status;
-use opc_cli_options::account::Account;
-use opc_cli_options::check::PolicyCheck;
-use opc_cli_options::command_question::CommandQuestion;
-use opc_cli_options::import::Import;
-use opc_cli_options::mistake::print_mistake;
-use opc_cli_options::question::Question;
-use opc_cli_options::run::Run;
-use opc_cli_options::serve::Serve;
-use opc_cli_options::who::Enquiry;
 use opc_io::sink::Sink;
 use opc_io::watched::Watched;
 use opc_terms::fault::Fault;

@@ -1,11 +1,13 @@
 //! The program `opcmds`.
 #![tactic(auto)]
 
+mod streams;
+
 use opc_cli::run_words;
+use opc_cli_failures::announced::Announced;
 use opc_cli_failures::failure::{Failure, NO_PATHS};
+use opc_cli_failures::screen::Screen;
 use opc_cli_failures::status::Status;
-use opc_cli_screen::announced::Announced;
-use opc_cli_screen::screen::Screen;
 use opc_io::watched::Watched;
 use opc_terms::fault::Fault;
 use std::io::{ErrorKind, IsTerminal, Write};
@@ -14,6 +16,7 @@ use std::rt::{Stderr, Stdin};
 use std::{env, io};
 
 fn main(rt: HostRuntime) -> ExitCode {
+    streams::hold_closed();
     ExitCode::from(status(&rt))
 }
 

@@ -1,9 +1,9 @@
 //! The number that a service ends with, and what its clients read.
-use super::pay_room::{PayRoom, RULE};
 use super::refused_memory;
+use super::room::{RULE, Room};
 use opc_cli::serve_on;
 use opc_gate::gate::Gate;
-use opc_http_head::routes::Routes;
+use opc_http_requests::routes::Routes;
 use std::alloc::Global;
 use std::io;
 use std::io::{ErrorKind, Read, Write};
@@ -106,7 +106,7 @@ fn a_client_over_loopback_reads_its_response(rt: HostRuntime) -> Result<(), Fail
         (Reading::Seconds(u64::MAX), "9999999999999"),
     ] {
         let mut client = waiting_client(&rt, listener.local_addr()?)?;
-        let mut gate = Gate::over(PayRoom::new(rt.alloc()));
+        let mut gate = Gate::over(Room::of_anna(rt.alloc())?);
         let host = (reading, rt.alloc());
         let number = serve_on(&host, &listener, 1, &routes, &mut gate);
         assert_eq!(rt; number, 0, "at {moment}");
@@ -119,7 +119,7 @@ fn a_client_over_loopback_reads_its_response(rt: HostRuntime) -> Result<(), Fail
 
 #[test]
 fn nobody_is_served_if_none_is_asked_for(rt: HostRuntime) -> Result<(), Fail> {
-    let mut gate = Gate::over(PayRoom::new(rt.alloc()));
+    let mut gate = Gate::over(Room::of_anna(rt.alloc())?);
     assert_eq!(rt;
         serve_on(&rt, &Deaf, 0, &all_routes(rt.alloc())?, &mut gate),
         0
@@ -129,7 +129,7 @@ fn nobody_is_served_if_none_is_asked_for(rt: HostRuntime) -> Result<(), Fail> {
 
 #[test]
 fn a_service_ends_if_no_client_can_be_accepted(rt: HostRuntime) -> Result<(), Fail> {
-    let mut gate = Gate::over(PayRoom::new(rt.alloc()));
+    let mut gate = Gate::over(Room::of_anna(rt.alloc())?);
     let routes = all_routes(rt.alloc())?;
     assert_eq!(rt; serve_on(&rt, &Deaf, 1, &routes, &mut gate), 3);
     let listener = TcpListener::bind(&rt, "127.0.0.1:0")?;
@@ -142,7 +142,7 @@ fn a_service_ends_if_no_client_can_be_accepted(rt: HostRuntime) -> Result<(), Fa
 
 #[test]
 fn clients_before_the_fault_are_served(rt: HostRuntime) -> Result<(), Fail> {
-    let mut gate = Gate::over(PayRoom::new(rt.alloc()));
+    let mut gate = Gate::over(Room::of_anna(rt.alloc())?);
     let routes = all_routes(rt.alloc())?;
     let listener = TcpListener::bind(&rt, "127.0.0.1:0")?;
     let mut client = waiting_client(&rt, listener.local_addr()?)?;

@@ -11,10 +11,11 @@ returns-then-byte-eq10-clause-typed g c =
     let sized : length c.read.new.buf ≡ 1 = search (rules, arith) in
     let one = one_byte c.read.new.buf c.in-Ok.field-0 sized some in
     let feed : slice_index c.read.new.buf 0 ≡ 10 = grind (arith, nat_tests) in
+    let items : c.push.new.self.items ≡ c.loop.typed.items ++ slice_index c.read.new.buf 0 ∷ [] = search rules in
     let more = read_more _ _ _ c.loop.typed.items _ inv.0 c.in-Ok.ensures.bytes.0 in
-    typed_to_feed _ _ c.loop.typed.items
-    (subst (λ (t : List ℕ). Consumes (g.R.Read.remaining c.args.input.now) (g.R.Read.remaining c.read.new.self) (c.loop.typed.items ++ t))
-    (one ∙ ap (λ (b : ℕ). b ∷ []) feed) more) inv.1 inv.2
+    let all = subst (λ (t : List ℕ). Consumes (g.R.Read.remaining c.args.input.now) (g.R.Read.remaining c.read.new.self) (c.loop.typed.items ++ t))
+    (one ∙ ap (λ (b : ℕ). b ∷ []) feed) more in
+    rw (items, feed) (typed_to_feed _ _ c.loop.typed.items all inv.1 inv.2)
 
 pub returns-then-len-eq-MOST-clause-typed : goal.returns-then-len-eq-MOST-clause-typed
 returns-then-len-eq-MOST-clause-typed g c =

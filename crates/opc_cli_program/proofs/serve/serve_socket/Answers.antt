@@ -1,5 +1,5 @@
 use Rattle.std.proofs.Common.{inr}
-use Rattle.opc_http_head.specs.declared.origins.Origins.TheVariants.{Any}
+use Rattle.opc_http_requests.specs.declared.origins.Origins.TheVariants.{Any}
 use Rattle.opc_cli_program.proofs.serve.serve_socket.Goals as goal
 
 pub returns-clause-serves : goal.returns-clause-serves

@@ -1,6 +1,6 @@
 use Rattle.opc_io.proofs.Writing.{appends-more}
 use Rattle.opc_cli_failures.proofs.Printed.{not_failed}
-use Rattle.opc_cli_options.specs.Mistakes.{mistake_line}
+use Rattle.opc_cli_words.specs.Mistakes.{mistake_line}
 use Rattle.opc_cli_words.proofs.words.report_mistake.Goals as goal
 
 pub returns : goal.returns

@@ -1,4 +1,0 @@
-//! `opcmds account`: the rows of the account, printed as they are read.
-#![tactic(auto)]
-
-pub mod printing;

@@ -1,4 +1,0 @@
-//! What `digest` prints, as a law on its definition.
-#![tactic(auto)]
-
-pub mod laws;

@@ -1,0 +1,7 @@
+use Rattle.std.proofs.Common.{◌≡◌, ◌++◌, IsUtf8, string_bytes}
+use Rattle.std.specs.Str.Iter.{chars_rest}
+use Rattle.opc_cli_failures.specs.Shown.{shown}
+use Rattle.opc_cli_failures.proofs.shown_text.shown_text.Given as goal
+
+abbrev pub invariant-loop-character : goal.invariant-loop-character
+invariant-loop-character l = IsUtf8 (chars_rest l.character-iterator) × (string_bytes l.made ++ shown (chars_rest l.character-iterator) ≡ shown l.fn.text)

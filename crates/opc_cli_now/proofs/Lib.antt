@@ -1,5 +1,0 @@
-pub mod Typing
-pub mod Running
-pub mod Turning
-pub mod Taking
-pub mod Viewing

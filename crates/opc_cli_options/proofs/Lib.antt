@@ -1,4 +1,0 @@
-pub mod Mistakes
-pub mod Numbers
-pub mod Printed
-pub mod Stars

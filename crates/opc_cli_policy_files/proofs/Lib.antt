@@ -1,3 +1,0 @@
-pub mod Files
-mod Refusing
-pub mod Taking

@@ -1,0 +1,4 @@
+pub mod Files
+pub mod Taking
+mod Bytes
+pub mod Parts

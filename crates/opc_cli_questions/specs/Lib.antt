@@ -1,0 +1,10 @@
+pub mod Printed
+pub mod PolicyFiles
+pub mod Questions
+pub mod Refusals
+pub mod Checks
+pub mod Noted
+pub mod Answers
+pub mod Kinds
+pub mod Laws
+pub mod WhoPrinted

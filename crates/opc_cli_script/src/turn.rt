@@ -1,0 +1,164 @@
+//! One line, and what it comes to.
+ghost use Rattle.std.specs.Prelude.{◌≡◌, IfErr, IfOk, MatchOption, OnErr, OnOk, Some, true, if◌then◌else◌};
+ghost use Rattle.std.specs.Io.KnownBytes.{Appends};
+ghost use Rattle.opc_cli_script.specs.Running.{AppendsPrefix};
+ghost use Rattle.opc_cli_script.specs.Transcripts.{bad_line_text};
+ghost use Rattle.opc_cli_script.specs.declared.turn.Turn.TheVariants as the_turn;
+ghost use Rattle.opc_cli_script.specs.Faults.{IsFaultOf, is_cut_by_output};
+ghost use Rattle.opc_cli_script.specs.Sessions.{IsCutTurn, IsOver, IsReadAs, IsShownTurn, IsTakenTurn};
+ghost use Rattle.opc_cli_script.specs.Turns.{IsAnswerOf, IsTurnOfLine, request_on};
+
+use crate::bad_line::{bad_line, slip_after};
+use crate::fault::NowFault;
+use crate::line::{is_blank, untimed_request_in};
+use crate::reading_now::Typed;
+use crate::terminal::Terminal;
+use crate::transcript::{answer_text, bad_line_text};
+use opc_board::text::KeptText;
+use opc_cli_failures::bad_line::LineForm;
+use opc_cli_failures::reason::Reason;
+use opc_gate::gate::Gate;
+use opc_machine::request::{Answer, Request};
+use opc_names::name::ConsoleName;
+use opc_state::tables::Tables;
+use std::alloc::{AllocError, Global};
+
+/// What a line comes to.
+#[derive(Drop)]
+pub enum Turn {
+    /// It asks for nothing.
+    Blank,
+    /// It is no request.
+    Bad,
+    /// Its request was handled.
+    Answered {
+        moment: u64,
+        request: Request,
+        answer: Answer,
+    },
+}
+
+/// The request of a line that is typed at a console, or that names one.
+fn request_on(
+    alloc: Global,
+    console: &Option<ConsoleName>,
+    line: &str,
+) -> Result<Option<Request>, AllocError>
+    ensures { IfOk result (λ request. request ≡ request_on console.now line.now) }
+{
+    match console {
+        Some(console) => Ok(Some(Request::Command {
+            console: *console,
+            text: KeptText::new(alloc, line)?,
+        })),
+        None => untimed_request_in(alloc, line),
+    }
+}
+
+/// Handles a request at the clock's moment, and shows its answer.
+fn answer<D: Terminal, T: Tables>(
+    gate: &mut Gate<T>,
+    alloc: Global,
+    request: Request,
+    number: usize,
+    terminal: &mut D,
+) -> Result<Turn, NowFault>
+    ensures sure { T.meaning.is_sure gate.new → T.meaning.is_sure gate.old }
+    ensures turn { IfOk result (IsShownTurn D.reads D.dates D.says D.held T.meaning (IsAnswerOf request) number gate.old
+        gate.new terminal.old terminal.new) }
+    ensures cut { IfErr result (IsCutTurn D.reads D.dates D.says D.held T.meaning (IsAnswerOf request) number gate.old
+        gate.new terminal.old terminal.new) }
+    ensures same { D.identity terminal.new ≡ D.identity terminal.old }
+    ensures failed { D.has_failed terminal.new ≡ (if is_cut_by_output result then true else D.has_failed terminal.old) }
+{
+    let moment = terminal.moment()?;
+    let answer = gate.handle(alloc, moment, &request);
+    let text = answer_text(alloc, moment, &answer)?;
+    terminal.say(text.as_str())?;
+    Ok(Turn::Answered {
+        moment,
+        request,
+        answer,
+    })
+}
+
+/// Shows that the line with this number is bad, and tells why.
+fn refuse<D: Terminal>(
+    alloc: Global,
+    number: usize,
+    reason: &Reason,
+    terminal: &mut D,
+) -> Result<Turn, NowFault>
+    ensures turn { IfOk result (λ turn. turn ≡ the_turn.Bad) }
+    ensures said { OnOk result (D.says terminal.old (bad_line_text number) terminal.new) }
+    ensures text { OnOk result (Appends (D.held terminal.old) (D.held terminal.new) (bad_line_text number)) }
+    ensures cut { OnErr result (AppendsPrefix (D.held terminal.old) (D.held terminal.new) (bad_line_text number)) }
+    ensures fault { IfErr result (λ fault. IsFaultOf fault (Some the_turn.Bad)) }
+    ensures same { D.identity terminal.new ≡ D.identity terminal.old }
+    ensures failed { D.has_failed terminal.new ≡ (if is_cut_by_output result then true else D.has_failed terminal.old) }
+{
+    let text = bad_line_text(alloc, number)?;
+    terminal.say(text.as_str())?;
+    terminal.note(reason);
+    Ok(Turn::Bad)
+}
+
+/// Why a line is bad that has this number and is no request.
+fn reason_of(number: usize, line: &str) -> Reason {
+    let bad = bad_line(number as u64, line, slip_after(line), LineForm::Now);
+    Reason::Line(bad)
+}
+
+/// Answers a line that is a text.
+fn take_line<D: Terminal, T: Tables>(
+    gate: &mut Gate<T>,
+    alloc: Global,
+    console: &Option<ConsoleName>,
+    number: usize,
+    line: &str,
+    terminal: &mut D,
+) -> Result<Turn, NowFault>
+    ensures sure { T.meaning.is_sure gate.new → T.meaning.is_sure gate.old }
+    ensures turn { IfOk result (IsShownTurn D.reads D.dates D.says D.held T.meaning
+        (IsTurnOfLine console.now line.now) number gate.old gate.new terminal.old terminal.new) }
+    ensures cut { IfErr result (IsCutTurn D.reads D.dates D.says D.held T.meaning
+        (IsTurnOfLine console.now line.now) number gate.old gate.new terminal.old terminal.new) }
+    ensures same { D.identity terminal.new ≡ D.identity terminal.old }
+    ensures failed { D.has_failed terminal.new ≡ (if is_cut_by_output result then true else D.has_failed terminal.old) }
+{
+    if is_blank(line) {
+        return Ok(Turn::Blank);
+    }
+    match request_on(alloc, console, line)? {
+        Some(request) => answer(gate, alloc, request, number, terminal),
+        None => refuse(alloc, number, &reason_of(number, line), terminal),
+    }
+}
+
+/// Reads a line and answers it; or the input has ended.
+pub(crate) fn take_turn<D: Terminal, T: Tables>(
+    gate: &mut Gate<T>,
+    alloc: Global,
+    console: &Option<ConsoleName>,
+    number: usize,
+    terminal: &mut D,
+) -> Result<Option<Turn>, NowFault>
+    ensures sure { T.meaning.is_sure gate.new → T.meaning.is_sure gate.old }
+    ensures turn { IfOk result (λ turn. MatchOption turn
+        (IsOver D.reads D.dates D.says D.held T.meaning console.now gate.old gate.new terminal.old terminal.new)
+        (IsTakenTurn D.reads D.dates D.says D.held T.meaning console.now number gate.old gate.new terminal.old
+        terminal.new)) }
+    ensures cut { IfErr result (IsCutTurn D.reads D.dates D.says D.held T.meaning
+        (IsReadAs D.reads D.dates D.says D.held T.meaning console.now terminal.old) number gate.old gate.new
+        terminal.old terminal.new) }
+    ensures same { D.identity terminal.new ≡ D.identity terminal.old }
+    ensures failed { D.has_failed terminal.new ≡ (if is_cut_by_output result then true else D.has_failed terminal.old) }
+{
+    let turn = match terminal.read_line(alloc)? {
+        Typed::End => return Ok(None),
+        Typed::Line(line) => take_line(gate, alloc, console, number, line.as_str(), terminal)?,
+        Typed::NotUtf8 => refuse(alloc, number, &Reason::NotUtf8, terminal)?,
+        Typed::LongLine => refuse(alloc, number, &Reason::LongScript, terminal)?,
+    };
+    Ok(Some(turn))
+}

@@ -1,0 +1,93 @@
+-- What `opcmds explain` and `opcmds who` are asked about, by the values of their options.
+use Rattle.std.specs.Prelude.{
+  ◌≡◌,
+  ◌&&◌,
+  ℕ,
+  Bool,
+  List,
+  [],
+  ◌∷◌,
+  ◌++◌,
+  Option,
+  Some,
+  None,
+  codes,
+  drop,
+  if◌then◌else◌,
+  is_none,
+  is_some,
+  nat_eq,
+  unwrap_or,
+}
+use Rattle.std.specs.List.{starts_with}
+use Rattle.std.specs.Option.{option_map_or}
+use Rattle.std.specs.Str.{bytes_eq}
+use Rattle.opc_names.specs.Names.{name_fault, resource_rule, unit_rule}
+use Rattle.opc_names.specs.Spellings.{classes, levels, lookup}
+use Rattle.opc_names.specs.declared.rule.NameRule.{NameRule}
+use Rattle.opc_terms.specs.declared.unit_kind.UnitKindAt.{UnitKindAt}
+use Rattle.opc_terms.specs.declared.unit_kind.UnitKindAt.TheVariants.{Absent, Stc, Tsu}
+use Rattle.opc_cli_words.specs.Checks.{Check}
+use Rattle.opc_cli_words.specs.Mistakes.{lacking, unread}
+use Rattle.opc_cli_words.specs.declared.who.Asked.{Asked}
+use Rattle.opc_cli_words.specs.declared.who.Asked.TheVariants.{Command, Access}
+
+abbrev pub is_a : NameRule → List ℕ → Bool
+is_a rule text = is_none (name_fault rule text)
+
+-- a kind of unit, as it is written: TSU, or STC: and a member
+abbrev pub task_of : List ℕ → Option UnitKindAt
+task_of text = if starts_with nat_eq text (codes "STC:") && is_a unit_rule (drop 4 text) then Some (Stc (drop 4 text))
+    else None
+
+abbrev pub kind_of : List ℕ → Option UnitKindAt
+kind_of text = if bytes_eq text (codes "TSU") then Some Tsu else task_of text
+
+-- no unit is on the board if none is written
+abbrev pub kind_given : (kind : Option (List ℕ)) → Option UnitKindAt
+kind_given kind = option_map_or kind_of kind (Some Absent)
+
+abbrev pub kind_check : (kind : Option (List ℕ)) → Check
+kind_check kind = (unread (codes "--as"), is_some (kind_given kind))
+
+abbrev pub class_check : (class : List ℕ) → Check
+class_check class = (unread (codes "--class"), is_some (lookup classes class))
+
+abbrev pub resource_check : (resource : Option (List ℕ)) → Check
+resource_check resource = (unread (codes "--resource"), is_a resource_rule (unwrap_or resource []))
+
+abbrev pub level_check : (level : Option (List ℕ)) → Check
+level_check level = (unread (codes "--level"), is_some (lookup levels (unwrap_or level [])))
+
+-- exactly one of a command and a resource is given,
+abbrev pub one_question : Bool → Check
+one_question is_one = (lacking (codes "a question") (codes "exactly one of --command and --resource"), is_one)
+
+-- with a command a kind of unit, if any, and no level,
+abbrev pub command_checks : (kind resource level : Option (List ℕ)) → List Check
+command_checks kind resource level =
+    one_question (is_none resource)
+    ∷ (lacking (codes "--level") (codes "--resource"), is_none level)
+    ∷ kind_check kind
+    ∷ []
+
+-- and with a resource a level, and no kind of unit
+abbrev pub access_checks : (kind resource level : Option (List ℕ)) → List Check
+access_checks kind resource level =
+    one_question (is_some resource)
+    ∷ (lacking (codes "--as") (codes "--command"), is_none kind)
+    ∷ (lacking (codes "--resource") (codes "--level"), is_some level)
+    ∷ []
+
+abbrev pub enquiry_checks : (command kind resource level : Option (List ℕ)) → (class : List ℕ) → List Check
+enquiry_checks (Some text) kind resource level class = command_checks kind resource level
+enquiry_checks None kind resource level class =
+    access_checks kind resource level ++ class_check class ∷ resource_check resource ∷ level_check level ∷ []
+
+-- It is asked about the command that is given, or about the level of access.
+abbrev pub IsAsked : (command kind resource level : Option (List ℕ)) → (class : List ℕ) → Asked → Type 0
+IsAsked command kind resource level class (Command text unit) =
+    (command ≡ Some text.now) × (kind_given kind ≡ Some unit)
+IsAsked command kind resource level class (Access of name needed) =
+    (command ≡ None) × (lookup classes class ≡ Some of) × (unwrap_or resource [] ≡ name)
+    × (lookup levels (unwrap_or level []) ≡ Some needed)

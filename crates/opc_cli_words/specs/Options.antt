@@ -1,0 +1,205 @@
+-- What the options of each command say, by the values that the words give them, and how they are checked.
+use Rattle.std.specs.Prelude.{
+  ◌≡◌,
+  ◌==◌,
+  ◌||◌,
+  ◌++◌,
+  ◌*◌,
+  ℕ,
+  Bool,
+  true,
+  false,
+  List,
+  [],
+  ◌∷◌,
+  Option,
+  Some,
+  None,
+  codes,
+  if◌then◌else◌,
+  is_some,
+  not,
+  option_map,
+  unwrap_or,
+}
+use Rattle.std.specs.Duration.{as_nanos}
+use Rattle.std.specs.Option.{option_copied, option_map_or}
+use Rattle.std.specs.Str.{bytes_eq}
+use Rattle.std.specs.declared.time.Duration.{Duration}
+use Rattle.opc_names.specs.Names.{console_rule, user_rule}
+use Rattle.opc_names.specs.Spellings.{classes, levels, lookup}
+use Rattle.opc_cli_words.specs.declared.check.PolicyCheck.{PolicyCheck}
+use Rattle.opc_cli_words.specs.declared.command_question.CommandQuestion.{CommandQuestion}
+use Rattle.opc_cli_words.specs.declared.import.Import.{Import}
+use Rattle.opc_cli_words.specs.declared.question.Question.{Question}
+use Rattle.opc_cli_words.specs.declared.serve.Serve.{Serve}
+use Rattle.opc_cli_words.specs.declared.who.Enquiry.{Enquiry}
+use Rattle.opc_cli_words.specs.Checks.{Check}
+use Rattle.opc_cli_words.specs.Codes.{allow_check}
+use Rattle.opc_cli_words.specs.Enquiries.{
+  IsAsked,
+  access_checks,
+  class_check,
+  command_checks,
+  enquiry_checks,
+  is_a,
+  kind_given,
+  level_check,
+  resource_check,
+}
+use Rattle.opc_cli_words.specs.Mistakes.{lacking, unread}
+use Rattle.opc_cli_words.specs.Numbers.{number_between}
+use Rattle.opc_cli_words.specs.Services.{IsAddress, address_checks}
+use Rattle.opc_cli_words.specs.Sources.{IsSource, source_check}
+
+-- in nanoseconds, where 0 seconds are as long as it takes
+abbrev pub longest : ℕ → Option ℕ
+longest seconds = if seconds == 0 then None else Some (seconds * 1_000_000_000)
+
+-- The user may be nobody, written `-`, where a command is asked about, at a console.
+abbrev pub actor_of : List ℕ → Option (List ℕ)
+actor_of text = if bytes_eq text (codes "-") then None else Some text
+
+-- In these, `value` is what the words give an option, by its name.
+module _ (value : List ℕ → Option (List ℕ)) where
+  -- the value of an option that has one, and else nothing
+  abbrev pub given : List ℕ → List ℕ
+  given name = unwrap_or (value name) []
+
+  abbrev pub user_option : Check
+  user_option = (unread (codes "--user"), is_a user_rule (given (codes "user")))
+
+  abbrev pub class_option : Check
+  class_option = class_check (given (codes "class"))
+
+  abbrev pub resource_option : Check
+  resource_option = resource_check (value (codes "resource"))
+
+  abbrev pub console_option : Check
+  console_option = (unread (codes "--console"), option_map_or (is_a console_rule) (value (codes "console")) true)
+
+  abbrev pub level_option : Check
+  level_option = level_check (value (codes "level"))
+
+  abbrev pub batch_of : Option ℕ
+  batch_of = number_between 1 999_999_999 (given (codes "batch"))
+
+  abbrev pub batch_option : Check
+  batch_option = (unread (codes "--batch"), is_some batch_of)
+
+  abbrev pub count_of : Option ℕ
+  count_of = number_between 1 1_000_000 (given (codes "count"))
+
+  abbrev pub count_option : Check
+  count_option = (unread (codes "--count"), is_some count_of)
+
+  abbrev pub timeout_of : Option ℕ
+  timeout_of = number_between 0 3_600 (given (codes "timeout"))
+
+  abbrev pub timeout_option : Check
+  timeout_option = (unread (codes "--timeout"), is_some timeout_of)
+
+  -- An exchange may take this long: for the seconds that are given, or without end if they are 0.
+  abbrev pub IsWait : Option Duration → Type 0
+  IsWait wait = option_map longest timeout_of ≡ Some (option_map as_nanos wait)
+
+  -- a flag is given
+  abbrev pub is_set : List ℕ → Bool
+  is_set name = option_map_or (λ text. bytes_eq text (codes "true")) (value name) false
+
+  -- only with a port, since no web page reaches a Unix socket
+  abbrev pub strict_option : Check
+  strict_option = (
+    lacking (codes "--strict") (codes "--port"),
+    not (is_set (codes "strict")) || is_some (value (codes "port")),
+  )
+
+  abbrev pub actor_option : Check
+  actor_option = (unread (codes "--user"), option_map_or (is_a user_rule) (actor_of (given (codes "user"))) true)
+
+  abbrev pub nobody_option : Check
+  nobody_option = (
+    lacking (codes "--user -") (codes "--console"),
+    is_some (actor_of (given (codes "user"))) || is_some (value (codes "console")),
+  )
+
+  abbrev pub source_option : Check
+  source_option = source_check (value (codes "policy")) (value (codes "db"))
+
+  -- the checks of `explain`, about a command or about a level of access
+  abbrev pub question_checks : (command : Option (List ℕ)) → List Check
+  question_checks (Some text) = actor_option ∷ command_checks (value (codes "as"))
+      (value (codes "resource")) (value (codes "level")) ++ console_option ∷ nobody_option ∷ source_option ∷ []
+  question_checks None = user_option ∷ access_checks (value (codes "as"))
+      (value (codes "resource")) (value (codes "level"))
+      ++ class_option ∷ resource_option ∷ console_option ∷ level_option ∷ source_option ∷ []
+
+  -- the checks of `import`,
+  abbrev pub import_checks : List Check
+  import_checks = batch_option ∷ console_option ∷ []
+
+  -- of `serve`,
+  abbrev pub service_checks : List Check
+  service_checks = address_checks (value (codes "port")) (value (codes "socket")) (value (codes "socket-mode"))
+      ++ strict_option ∷ count_option ∷ timeout_option ∷ []
+
+  -- of `who`,
+  abbrev pub who_checks : List Check
+  who_checks = enquiry_checks (value (codes "command")) (value (codes "as")) (value (codes "resource"))
+      (value (codes "level")) (given (codes "class")) ++ console_option ∷ source_option ∷ []
+
+  -- and of `check`
+  abbrev pub policy_checks : List Check
+  policy_checks = allow_check (value (codes "allow")) ∷ source_option ∷ []
+
+  -- the words of `explain`, about a level of access
+  pub record IsQuestion (question : Question) : Type 0 where
+    pub user : question.user ≡ given (codes "user")
+    pub class : lookup classes (given (codes "class")) ≡ Some question.class
+    pub resource : question.resource ≡ given (codes "resource")
+    pub console : question.console ≡ value (codes "console")
+    pub level : lookup levels (given (codes "level")) ≡ Some question.level
+    pub why : question.why ≡ is_set (codes "why")
+    pub json : question.json ≡ is_set (codes "json")
+    pub source : IsSource (value (codes "policy")) (value (codes "db")) question.source
+
+  -- and about a command
+  pub record IsCommandQuestion (question : CommandQuestion) : Type 0 where
+    pub user : question.user ≡ actor_of (given (codes "user"))
+    pub text : value (codes "command") ≡ Some question.text.now
+    pub kind : kind_given (value (codes "as")) ≡ Some question.kind
+    pub console : question.console ≡ value (codes "console")
+    pub why : question.why ≡ is_set (codes "why")
+    pub json : question.json ≡ is_set (codes "json")
+    pub source : IsSource (value (codes "policy")) (value (codes "db")) question.source
+
+  -- of `import`
+  pub record IsImport (import : Import) : Type 0 where
+    pub path : import.path.now ≡ given (codes "db")
+    pub batch : batch_of ≡ Some import.batch
+    pub console : import.console ≡ value (codes "console")
+
+  -- of `serve`
+  pub record IsService (serve : Serve) : Type 0 where
+    pub path : serve.path.now ≡ given (codes "db")
+    pub address : IsAddress (value (codes "port")) (value (codes "socket")) (value (codes "socket-mode"))
+        serve.address
+    pub count : count_of ≡ Some serve.count
+    pub waits : IsWait serve.timeout
+    pub strict : serve.strict ≡ is_set (codes "strict")
+    pub log : serve.log ≡ is_set (codes "log")
+
+  -- of `who`
+  pub record IsEnquiry (enquiry : Enquiry) : Type 0 where
+    pub asked : IsAsked (value (codes "command")) (value (codes "as")) (value (codes "resource"))
+        (value (codes "level")) (given (codes "class")) enquiry.asked
+    pub console : enquiry.console ≡ value (codes "console")
+    pub allowed : enquiry.allowed ≡ is_set (codes "allowed")
+    pub json : enquiry.json ≡ is_set (codes "json")
+    pub source : IsSource (value (codes "policy")) (value (codes "db")) enquiry.source
+
+  -- and of `check`
+  pub record IsPolicyCheck (check : PolicyCheck) : Type 0 where
+    pub source : IsSource (value (codes "policy")) (value (codes "db")) check.source
+    pub allowed : option_copied check.allowed ≡ value (codes "allow")
+    pub json : check.json ≡ is_set (codes "json")

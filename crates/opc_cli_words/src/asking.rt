@@ -1,0 +1,91 @@
+//! What `opcmds explain` and `opcmds who` are asked about: a command, or a level of access.
+ghost use Rattle.std.specs.Prelude.{◌≡◌, Some, is_some, true};
+ghost use Rattle.std.specs.Option.{option_copied};
+ghost use Rattle.opc_cli_words.specs.Checks.{AreReadAs, IsReadAs};
+ghost use Rattle.opc_cli_words.specs.Enquiries.{
+  access_checks,
+  command_checks,
+  kind_check,
+  kind_given,
+  kind_of,
+  task_of,
+};
+
+use crate::mistake::{
+    LEVEL_WITHOUT_RESOURCE, ONE_QUESTION, RESOURCE_WITHOUT_LEVEL, UNIT_WITHOUT_COMMAND, unread,
+};
+use opc_names::name::UnitName;
+use opc_terms::unit_kind::UnitKindAt;
+
+/// A started task, written `STC:` and its member.
+fn task_of(text: &str) -> Option<UnitKindAt>
+    ensures { result ≡ task_of text.now }
+{
+    let member = text.strip_prefix("STC:")?;
+    match UnitName::read(member) {
+        Ok(member) => Some(UnitKindAt::Stc { member }),
+        Err(_) => None,
+    }
+}
+
+fn kind_of(text: &str) -> Option<UnitKindAt>
+    ensures { result ≡ kind_of text.now }
+{
+    match text {
+        "TSU" => Some(UnitKindAt::Tsu),
+        _ => task_of(text),
+    }
+}
+
+/// What the unit is that the command names.
+fn kind_in(given: Option<&str>) -> Result<UnitKindAt, &'static str>
+    ensures { IsReadAs (λ kind. kind_given (option_copied given.entry) ≡ Some kind)
+        (kind_check (option_copied given.entry)) result }
+{
+    let Some(text) = given else {
+        return Ok(UnitKindAt::Absent);
+    };
+    match kind_of(text) {
+        Some(kind) => Ok(kind),
+        None => Err(unread!("--as")),
+    }
+}
+
+/// What the unit is that a command names, which is given without a resource and a level.
+pub(crate) fn kind_beside(
+    kind: Option<&str>,
+    resource: Option<&str>,
+    level: Option<&str>,
+) -> Result<UnitKindAt, &'static str>
+    ensures { AreReadAs (λ read. kind_given (option_copied kind.entry) ≡ Some read)
+        (command_checks (option_copied kind.entry) (option_copied resource.entry) (option_copied level.entry)) result }
+{
+    if resource.is_some() {
+        return Err(ONE_QUESTION);
+    }
+    if level.is_some() {
+        return Err(LEVEL_WITHOUT_RESOURCE);
+    }
+    kind_in(kind)
+}
+
+/// A resource and a level are given without a unit.
+pub(crate) fn need_access(
+    kind: Option<&str>,
+    resource: Option<&str>,
+    level: Option<&str>,
+) -> Result<(), &'static str>
+    ensures { AreReadAs (λ _. is_some (option_copied resource.entry) ≡ true)
+        (access_checks (option_copied kind.entry) (option_copied resource.entry) (option_copied level.entry)) result }
+{
+    if resource.is_none() {
+        return Err(ONE_QUESTION);
+    }
+    if kind.is_some() {
+        return Err(UNIT_WITHOUT_COMMAND);
+    }
+    if level.is_none() {
+        return Err(RESOURCE_WITHOUT_LEVEL);
+    }
+    Ok(())
+}

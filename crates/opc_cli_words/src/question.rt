@@ -1,0 +1,122 @@
+//! The words of `opcmds explain` about a level of access.
+ghost use Rattle.std.specs.Prelude.{◌≡◌, None, Some, codes};
+ghost use Rattle.clap.specs.Matches.{first_value, found_of};
+ghost use Rattle.opc_names.specs.Spellings.{classes, levels, lookup};
+ghost use Rattle.opc_cli_words.specs.Checks.{AreReadAs, IsReadAs};
+ghost use Rattle.opc_cli_words.specs.Options.{
+  IsQuestion,
+  class_option,
+  console_option,
+  given,
+  level_option,
+  question_checks,
+  resource_option,
+  user_option,
+};
+
+use crate::asking::need_access;
+use crate::flag::is_set;
+use crate::mistake::unread;
+use crate::source::{Source, source_in};
+use clap::ArgMatches;
+use opc_names::class::Class;
+use opc_names::level::Level;
+use opc_names::name::{ConsoleName, Resource, UserId};
+
+/// What is asked: whether a user holds a level on a resource, whether with the level held behind each pattern, whether
+/// the answer is JSON, and by which policy.
+#[derive(Clone, Copy)]
+pub struct Question<'a> {
+    pub user: UserId,
+    pub class: Class,
+    pub resource: Resource,
+    pub console: Option<ConsoleName>,
+    pub level: Level,
+    pub why: bool,
+    pub json: bool,
+    pub source: Source<'a>,
+}
+
+fn user_in(chosen: &ArgMatches<'_>) -> Result<UserId, &'static str>
+    ensures { IsReadAs (λ user. user ≡ given (first_value (found_of chosen.now)) (codes "user"))
+        (user_option (first_value (found_of chosen.now))) result }
+{
+    match UserId::read(chosen.get_str("user").unwrap_or("")) {
+        Ok(user) => Ok(user),
+        Err(_) => Err(unread!("--user")),
+    }
+}
+
+/// The class that is given.
+pub(crate) fn class_in(chosen: &ArgMatches<'_>) -> Result<Class, &'static str>
+    ensures { IsReadAs (λ class. lookup classes (given (first_value (found_of chosen.now)) (codes "class")) ≡ Some
+        class) (class_option (first_value (found_of chosen.now))) result }
+{
+    match Class::read(chosen.get_str("class").unwrap_or("")) {
+        Some(class) => Ok(class),
+        None => Err(unread!("--class")),
+    }
+}
+
+/// The resource that is given.
+pub(crate) fn resource_in(chosen: &ArgMatches<'_>) -> Result<Resource, &'static str>
+    ensures { IsReadAs (λ resource. resource ≡ given (first_value (found_of chosen.now)) (codes "resource"))
+        (resource_option (first_value (found_of chosen.now))) result }
+{
+    match Resource::read(chosen.get_str("resource").unwrap_or("")) {
+        Ok(resource) => Ok(resource),
+        Err(_) => Err(unread!("--resource")),
+    }
+}
+
+/// The console that is named, if one is.
+pub(crate) fn console_in(chosen: &ArgMatches<'_>) -> Result<Option<ConsoleName>, &'static str>
+    ensures { IsReadAs (λ console. console ≡ first_value (found_of chosen.now) (codes "console"))
+        (console_option (first_value (found_of chosen.now))) result }
+{
+    let Some(text) = chosen.get_str("console") else {
+        return Ok(None);
+    };
+    match ConsoleName::read(text) {
+        Ok(console) => Ok(Some(console)),
+        Err(_) => Err(unread!("--console")),
+    }
+}
+
+/// The level that is given.
+pub(crate) fn level_in(chosen: &ArgMatches<'_>) -> Result<Level, &'static str>
+    ensures { IsReadAs (λ level. lookup levels (given (first_value (found_of chosen.now)) (codes "level")) ≡ Some level)
+        (level_option (first_value (found_of chosen.now))) result }
+{
+    match Level::read(chosen.get_str("level").unwrap_or("")) {
+        Some(level) => Ok(level),
+        None => Err(unread!("--level")),
+    }
+}
+
+impl<'a> Question<'a> {
+    /// The question of these words, or the first mistake in their options.
+    pub fn read(chosen: &ArgMatches<'a>) -> Result<Self, &'static str>
+        ensures { AreReadAs (IsQuestion (first_value (found_of chosen.now)))
+            (question_checks (first_value (found_of chosen.now)) None) result }
+    {
+        let user = user_in(chosen)?;
+        let kind = chosen.get_str("as");
+        need_access(kind, chosen.get_str("resource"), chosen.get_str("level"))?;
+        let class = class_in(chosen)?;
+        let resource = resource_in(chosen)?;
+        let console = console_in(chosen)?;
+        let level = level_in(chosen)?;
+        let source = source_in(chosen)?;
+        Ok(Question {
+            user,
+            class,
+            resource,
+            console,
+            level,
+            why: is_set(chosen, "why"),
+            json: is_set(chosen, "json"),
+            source,
+        })
+    }
+}

@@ -1,4 +1,0 @@
-mod Apart
-mod Keeping
-mod Shutting
-mod Readings

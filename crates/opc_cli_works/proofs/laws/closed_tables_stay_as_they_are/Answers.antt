@@ -1,5 +1,0 @@
-use Rattle.opc_cli_works.proofs.Shutting as shutting
-use Rattle.opc_cli_works.proofs.laws.closed_tables_stay_as_they_are.Goals as goal
-
-pub returns : goal.returns
-returns g c = record { stay = shutting.stay g.S.Store; give_up = shutting.give_up g.S.Store }

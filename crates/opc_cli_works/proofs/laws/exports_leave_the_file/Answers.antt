@@ -1,5 +1,0 @@
-use Rattle.opc_cli_works.proofs.Keeping as keeping
-use Rattle.opc_cli_works.proofs.laws.exports_leave_the_file.Goals as goal
-
-pub returns : goal.returns
-returns g c = keeping.exports_leave g.D.Disk g.W.Write.contents

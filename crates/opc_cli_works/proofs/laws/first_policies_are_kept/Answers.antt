@@ -1,8 +1,0 @@
-use Rattle.opc_cli_works.proofs.Keeping as keeping
-use Rattle.opc_cli_works.proofs.laws.first_policies_are_kept.Goals as goal
-
-pub returns : goal.returns
-returns g c = record {
-  taken = keeping.first_policies_are_kept g.D.Disk g.W.Write.contents;
-  refused = keeping.refused_change_nothing g.D.Disk g.W.Write.contents;
-}

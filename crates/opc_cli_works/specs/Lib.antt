@@ -1,4 +1,0 @@
-pub mod Works
-pub mod Kept
-pub mod Reads
-pub mod Shut

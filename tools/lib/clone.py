@@ -8,12 +8,36 @@ from typing import Iterable, Iterator
 
 # by crates their lines of crates.txt, and the repository's crates that each uses
 Lines = dict[str, tuple[str, list[str]]]
+# how the names of crates end that have only tests: of those that are run, and of what these share
+RUN, SHARED = ("_cases", "_tests"), ("_trials", "_failing")
+
+
+def is_run(name: str) -> bool:
+    """Whether a crate has programs of cases or tests to run."""
+    return name.endswith(RUN)
+
+
+def crates_of_tests(below: dict[str, list[str]]) -> set[str]:
+    """Of these crates, each with those that it uses, those that have only tests. One that the product stands on, if
+    only to hand on its types, is not among them: it is proved with the product."""
+    named = {name for name in below if name.endswith(RUN + SHARED)}
+    known = {name: ("", [it for it in used if it in below]) for name, used in below.items()}
+    return named - standing_on(known, below.keys() - named)
+
+
+def below_in(known: Lines) -> dict[str, list[str]]:
+    return {name: used for name, (_, used) in known.items()}
 
 
 def lines_of(top: str) -> Lines:
     """The lines of crates.txt by the crates that they name, with the repository's crates that each uses."""
     with open(f"{top}/crates.txt", encoding="utf-8") as file:
-        rows = [row for row in file.read().splitlines() if row.partition("#")[0].strip()]
+        return lines_in(file.read())
+
+
+def lines_in(text: str) -> Lines:
+    """The same of a text of crates.txt."""
+    rows = [row for row in text.splitlines() if row.partition("#")[0].strip()]
     named = {re.match(r"\s*([\w-]+)", row)[1]: row for row in rows}
     return {
         name: (row, [used for used in row.partition(":")[2].partition("#")[0].split() if used in named])
@@ -43,6 +67,7 @@ class Clone:
         )
         known = lines_of(top)
         self.crates = standing_on(known, names) if names else {*known}
+        self.of_tests = crates_of_tests(below_in(known)) & self.crates
         for path in listed.stdout.decode().split("\0"):
             parts = path.split("/")
             is_wanted = parts[0] != "crates" or not names or parts[1] in self.crates
@@ -56,14 +81,31 @@ class Clone:
         subprocess.run(["git", "init", "-q", self.root], check=True)
 
     @contextlib.contextmanager
-    def without_edits(self) -> Iterator[None]:
-        """While this holds the clone has no must-fail edits, so that rt ci does not try them one after another."""
-        folders = [name for name in self.crates if os.path.isdir(f"{self.root}/crates/{name}/must-fail")]
-        os.makedirs(self.aside)
-        for name in folders:
-            os.rename(f"{self.root}/crates/{name}/must-fail", f"{self.aside}/{name}")
+    def to_prove(self) -> Iterator[None]:
+        """While this holds the clone has only what rt ci is to prove: neither must-fail edits, which it would try one
+        after another, nor crates of tests, which are run without a proof."""
+        with self.without_tests():
+            parts = [f"{name}/must-fail" for name in self.crates]
+            parts += sorted(self.of_tests)
+            moved = [part for part in parts if os.path.isdir(f"{self.root}/crates/{part}")]
+            for part in moved:
+                os.renames(f"{self.root}/crates/{part}", f"{self.aside}/{part}")
+            try:
+                yield
+            finally:
+                for part in moved:
+                    os.renames(f"{self.aside}/{part}", f"{self.root}/crates/{part}")
+
+    @contextlib.contextmanager
+    def without_tests(self) -> Iterator[None]:
+        """While this holds crates.txt names no crate of tests."""
+        path = f"{self.root}/crates.txt"
+        with open(path, encoding="utf-8") as file:
+            rows = file.read().splitlines(keepends=True)
+        with open(path, "w", encoding="utf-8") as file:
+            file.writelines(row for row in rows if row.partition(":")[0].strip() not in self.of_tests)
         try:
             yield
         finally:
-            for name in folders:
-                os.rename(f"{self.aside}/{name}", f"{self.root}/crates/{name}/must-fail")
+            with open(path, "w", encoding="utf-8") as file:
+                file.writelines(rows)

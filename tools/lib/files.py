@@ -25,8 +25,12 @@ def run(words: list[str], data: str, faults: dict[str, str] | None = None) -> Ra
     return ran.returncode, ran.stdout.decode(), ran.stderr.decode()
 
 
+def script_words(file: str, policy: bool) -> list[str]:
+    return ["run", "--db", file, *(["--policy", POLICY] if policy else [])]
+
+
 def script(lines: Iterable[str], file: str, faults: dict[str, str] | None = None, policy: bool = True) -> Ran:
-    return run(["run", "--db", file, *(["--policy", POLICY] if policy else [])], "".join(lines), faults)
+    return run(script_words(file, policy), "".join(lines), faults)
 
 
 def made(file: str) -> str:

@@ -1,4 +1,5 @@
 """How far a build is, on standard error: one line that is rewritten on a terminal, else a line now and then."""
+import os
 import re
 import shutil
 import sys
@@ -18,10 +19,11 @@ EVERY = 30
 
 
 class Said:
-    """What the check of one crate prints, as rtlib writes it; follows the number of its functions."""
+    """What the check of one crate prints, as rtlib writes it; follows the number of its functions. A build says none,
+    but keeps what it proves in a folder as it goes."""
 
-    def __init__(self) -> None:
-        self.lines, self.part, self.done, self.all = [], "", 0, 0
+    def __init__(self, kept: str | None = None) -> None:
+        self.lines, self.part, self.done, self.all, self.kept = [], "", 0, 0, kept
 
     def write(self, text: str) -> None:
         *whole, self.part = (self.part + text).split("\n")
@@ -34,6 +36,14 @@ class Said:
 
     def flush(self) -> None:
         pass
+
+    def so_far(self) -> str:
+        """How many functions are proved, as far as that is known."""
+        if self.all:
+            return f"{self.done} of {self.all} functions"
+        kept = (name for _, _, names in os.walk(self.kept or "") for name in names)
+        proved = sum(name.endswith(".Met.oantt") for name in kept)
+        return f"{proved} functions" if proved else ""
 
     def last(self, number: int) -> list[str]:
         """The last lines that name something wrong, or else the last ones."""
@@ -106,9 +116,6 @@ class Progress(Clock):
 
     def line(self) -> str:
         with self.turn:
-            running = [
-                f"{name} {said.done} of {said.all} functions" if said.all else name
-                for name, said in self.running.items()
-            ]
+            running = [f"{name} {said.so_far()}".strip() for name, said in self.running.items()]
         proved = f"{len(self.ready)} of {len(self.names)} crates proved"
         return f"{self.what}: {proved}, {self.minutes()}; now {', '.join(running) or 'compiling and linking'}"

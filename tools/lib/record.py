@@ -10,6 +10,8 @@ from typing import Iterable
 
 # What a proof is of, and what a program without one is compiled from.
 PROVED, COMPILED = ("src", "specs", "proofs"), ("src",)
+# what the line for people says of a program without a proof
+WHOLE, PATCHED = "compiled without a proof", "compiled without a proof, as a patch"
 
 
 def digest(top: str, name: str, parts: Iterable[str]) -> str:
@@ -38,6 +40,13 @@ def is_of(program: str, sources: str) -> bool:
     with contextlib.suppress(OSError), open(f"{program}.sources", encoding="utf-8") as file:
         return file.read().split("\n")[:2] == [f"sources {sources}", f"program {of_program(program)}"]
     return False
+
+
+def note_of(program: str) -> str:
+    """What the record of a program says for people."""
+    with contextlib.suppress(OSError, IndexError), open(f"{program}.sources", encoding="utf-8") as file:
+        return file.read().split("\n")[2]
+    return ""
 
 
 def commit(top: str) -> str:

@@ -4,11 +4,14 @@ import re
 import select
 import subprocess
 import time
-from typing import Any, Callable
+from typing import Any, BinaryIO, Callable
 
 from lib.places import built
 
 FIRST = re.compile(r"LISTENING 127\.0\.0\.1:([1-9]\d{0,4})\n")
+
+
+Errors = int | BinaryIO  # where what is said goes
 
 
 class Service:
@@ -16,12 +19,13 @@ class Service:
     patience = 20  # seconds until it listens
 
     def __init__(
-        self, file: str, *words: str, port: int = 0, socket: str | None = None, **environment: str
+        self, file: str, *words: str, port: int = 0, socket: str | None = None, errors: Errors = subprocess.PIPE,
+        **environment: str
     ) -> None:
         self.file = file
         where = ("--port", str(port)) if socket is None else ("--socket", socket)
         words = self.words(file, *where, *words)
-        streams = {"stdin": subprocess.DEVNULL, "stdout": subprocess.PIPE, "stderr": subprocess.PIPE}
+        streams = {"stdin": subprocess.DEVNULL, "stdout": subprocess.PIPE, "stderr": errors}
         self.process = subprocess.Popen(words, env={**os.environ, **environment}, **streams)
         self.socket = socket
         self.port = self.listening()
@@ -48,8 +52,8 @@ class Service:
     def __exit__(self, *_: object) -> None:
         self.process.kill()
         self.process.wait()
-        self.process.stdout.close()
-        self.process.stderr.close()
+        for stream in filter(None, (self.process.stdout, self.process.stderr)):
+            stream.close()
 
     def ended(self, seconds: float = 20) -> tuple[int | None, str, str]:
         """Its status, with what else it printed and said, if it ends by itself."""
@@ -57,7 +61,7 @@ class Service:
             output, errors = self.process.communicate(timeout=seconds)
         except subprocess.TimeoutExpired:
             return None, "", ""
-        return self.process.returncode, output.decode(), errors.decode()
+        return self.process.returncode, output.decode(), (errors or b"").decode()
 
     def is_running(self) -> bool:
         return self.process.poll() is None

@@ -1,12 +1,11 @@
 #!/usr/bin/env python3
-"""What a command needs of the computer: looked for before any work, and installed if that is possible without
-asking.
+"""What a command needs of the computer: looked for before any work.
 
   setup.py NEED..     for commands that are not written in Python; a NEED is a word of PACKAGES, or kit
 
-As root on Debian `apt-get` installs what is missing, and one line on standard error says so. Otherwise the command
-stops, and prints the one command to type. The Rattle kit is never installed: the command says where it looked for
-it."""
+If something is missing, the command stops, and prints the one command to type. With OPCMDS_INSTALL=1 in the
+environment, `apt-get` installs it as root on Debian, and one line on standard error says so: .ci/run sets the variable,
+since its computer is made for that. The Rattle kit is never installed: the command says where it looked for it."""
 import os
 import shutil
 import subprocess
@@ -27,6 +26,7 @@ PACKAGES = {
     "mandoc": "mandoc",
     "make": "make",
     "dpkg-shlibdeps": "dpkg-dev",
+    "deb-systemd-invoke": "init-system-helpers",
     "lintian": "lintian",
     "systemd-analyze": "systemd",
     "strace": "strace",
@@ -34,6 +34,8 @@ PACKAGES = {
     "openssl": "openssl",
     "ansible-playbook": "ansible-core",
 }
+# If this variable is 1, what is missing is installed. tools/lib/setup.sh names it, too.
+VARIABLE = "OPCMDS_INSTALL"
 # Where the kit is looked for, if `rt` is not on the path.
 KIT = "/opt/rattle/bin"
 
@@ -74,16 +76,21 @@ def installed(packages: list[str]) -> str | None:
     return ran.stdout.strip().rpartition("\n")[2]
 
 
+def may_install() -> bool:
+    return os.environ.get(VARIABLE) == "1" and os.geteuid() == 0 and bool(shutil.which("apt-get"))
+
+
 def lacking(*wanted: str) -> list[str]:
-    """Installs what of this is missing, if that is possible without asking; returns what is missing then."""
+    """What of this is missing, after the command to type, or after it was installed, if that is allowed."""
     missing = [need for need in wanted if not is_here(need)]
     if not missing:
         return []
     packages = list(dict.fromkeys(package for need in missing for package in PACKAGES[need].split()))
     command = f"apt-get install -y {' '.join(packages)}"
-    if os.geteuid() != 0 or not shutil.which("apt-get"):
+    if not may_install():
         sudo = "" if os.geteuid() == 0 else "sudo "
-        said(f"not found: {', '.join(missing)}. On Debian: {sudo}{command}")
+        typed = f"On Debian: {sudo}{command} (with {VARIABLE}=1, the tools install by themselves as root)"
+        said(f"not found: {', '.join(missing)}. {typed}")
         return missing
     said(f"not found: {', '.join(missing)}; installing by: {command}")
     why = installed(packages)

@@ -9,8 +9,8 @@ from .places import TOP
 # the crate whose sources have it, and where
 CRATE = "opc_cli_words"
 SOURCE, DEFINITION = f"{TOP}/crates/{CRATE}/src/version.rt", f"{TOP}/crates/{CRATE}/specs/Version.antt"
-# what the program says of itself, and what it has to say if it is compiled without a proof
-PROVED, UNPROVED = ", proved)", ", not proved)"
+# what the program says of itself, and what it has to say if it is compiled without a proof, whole or as a patch
+PROVED, UNPROVED, PATCHED = ", proved)", ", not proved)", ", not proved, patched)"
 
 
 class NoWord(Exception):
@@ -26,9 +26,9 @@ def version() -> str:
     return first_line_of(f"{TOP}/VERSION")
 
 
-def line(is_proved: bool = True) -> str:
+def line(word: str = PROVED) -> str:
     """What `--version` prints of the sources as they are."""
-    return f"opcmds {version()} ({first_line_of(LINE)}{PROVED if is_proved else UNPROVED}"
+    return f"opcmds {version()} ({first_line_of(LINE)}{word}"
 
 
 def lines_in(path: str) -> list[str]:
@@ -37,7 +37,7 @@ def lines_in(path: str) -> list[str]:
         return re.findall(r'"(opcmds [^"]*)\\n"', file.read())
 
 
-def unproved_copy(sources: str, to: str) -> str:
+def unproved_copy(sources: str, to: str, word: str = UNPROVED) -> str:
     """Copies the sources of the crate into a folder, where they say that the program is not proved; returns it."""
     shutil.copytree(sources, to)
     path = os.path.join(to, os.path.basename(SOURCE))
@@ -46,5 +46,5 @@ def unproved_copy(sources: str, to: str) -> str:
     if text.count(PROVED) != 1:
         raise NoWord(f"{path} has {PROVED!r} {text.count(PROVED)} times, and not once")
     with open(path, "w", encoding="utf-8") as file:
-        file.write(text.replace(PROVED, UNPROVED))
+        file.write(text.replace(PROVED, word))
     return to

@@ -6,11 +6,13 @@ import re
 import subprocess
 import unittest
 
+from lib.links import anchors_of, dead_in
 from lib.model import account
+from lib.sessions.pages import files_in
 
 TOP = os.path.dirname(os.path.dirname(os.path.dirname(os.path.abspath(__file__))))
-LINK = re.compile(r"\]\(([^)\s]+)\)")
 BLOCK = re.compile(r"(?ms)^```.*?^```")
+PART = re.compile(r"(?ms)^```\n(.*?)^```$")
 QUOTED = re.compile(r"`([^`\n]+)`")
 NAME = re.compile(r"\b(?:[a-z]+_[a-z_]+|[A-Z][a-z]+(?:[A-Z][a-z]*)+)\b")
 LONGEST_REASON = 60
@@ -26,30 +28,6 @@ def documents() -> list[str]:
     for folder, below, _ in os.walk(f"{TOP}/docs"):
         folders += [os.path.join(folder, it) for it in below]
     return [f"{folder}/{name}" for folder in folders for name in sorted(os.listdir(folder)) if name.endswith(".md")]
-
-
-def anchors_of(path: str) -> set[str]:
-    """The anchors that a page has, as they are made of its headings."""
-    found: dict[str, int] = {}
-    anchors = set()
-    for heading in re.findall(r"(?m)^#+ +(.*?)\s*$", BLOCK.sub("", text_of(path))):
-        plain = re.sub(r"\[([^]]*)\]\([^)]*\)", r"\1", heading).lower()
-        name = re.sub(r"[^\w\- ]", "", plain).replace(" ", "-")
-        anchors.add(f"{name}-{found[name]}" if name in found else name)
-        found[name] = found.get(name, 0) + 1
-    return anchors
-
-
-def broken_in(path: str) -> list[str]:
-    broken = []
-    for link in LINK.findall(BLOCK.sub("", text_of(path))):
-        if "://" in link:
-            continue
-        file, _, anchor = link.partition("#")
-        there = os.path.normpath(os.path.join(os.path.dirname(path), file)) if file else path
-        if not os.path.exists(there) or anchor and anchor not in anchors_of(there):
-            broken.append(f"{os.path.relpath(path, TOP)}: {link}")
-    return broken
 
 
 def names_of_the_code() -> set[str]:
@@ -87,7 +65,7 @@ class Documents(unittest.TestCase):
     maxDiff = None
 
     def test_links_hold(self) -> None:
-        self.assertEqual([it for path in documents() for it in broken_in(path)], [])
+        self.assertEqual([it for path in documents() for it in dead_in(path, TOP)], [])
 
     def test_names_are_those_of_the_code(self) -> None:
         known = names_of_the_code()
@@ -95,6 +73,27 @@ class Documents(unittest.TestCase):
 
     def test_anchors_are_those_of_headings(self) -> None:
         self.assertIn("where-is-it-decided", anchors_of(f"{TOP}/docs/ARCHITECTURE.md"))
+
+    def test_kept_exports_are_for_nobody_else(self) -> None:
+        """What the pages for operation keep of a policy has digests."""
+        text = text_of(f"{TOP}/docs/OPERATING.md") + text_of(f"{TOP}/docs/GUIDE.md")
+        found = re.findall(r"(?m)^ *(?:\$ )?(.*opcmds export .*> .*)$", text)
+        self.assertGreater(len(found), 2)
+        self.assertEqual([line for line in found if not line.startswith("(umask 077; ")], [])
+
+    def test_the_group_of_the_socket_is_emptied_before_logins(self) -> None:
+        text = text_of(f"{TOP}/docs/OPERATING.md")
+        _, _, section = text.partition("\n## Behind TLS")
+        emptied, made = section.find("sudo deluser anna opcmds"), section.find("/etc/opcmds/logins")
+        self.assertTrue("sudo adduser anna opcmds" in text and 0 <= emptied < made and "N18" in section[:made])
+
+    def test_the_guide_says_what_is_not_run(self) -> None:
+        """Blocks of commands are sessions, but for those of the chapter that the page names."""
+        text = text_of(f"{TOP}/docs/GUIDE.md")
+        files = files_in(text).values()
+        blocks = [block for block in PART.finditer(text) if not block[1].startswith("$ ") and block[1] not in files]
+        chapters = {text[: block.start()].rpartition("\n## ")[2].split("\n")[0] for block in blocks}
+        self.assertEqual(chapters, {"Many gates"})
 
     def test_layers_are_drawn(self) -> None:
         self.assertEqual(subprocess.run([f"{TOP}/tools/layers", "--check"], stdout=subprocess.DEVNULL).returncode, 0)
@@ -107,6 +106,16 @@ class Documents(unittest.TestCase):
     def test_each_script_is_in_the_index(self) -> None:
         index = text_of(f"{TOP}/examples/README.md")
         self.assertEqual(is_index_complete(f"{TOP}/examples/scripts", ".script", index), [])
+
+    def test_ports_are_opened_with_nobody_on(self) -> None:
+        for path in ("README.md", "packaging/opcmds.1"):
+            with self.subTest(path):
+                before = text_of(f"{TOP}/{path}").rpartition("opcmds serve --db")[0]
+                on: dict[str, str] = {}
+                for console, verb in re.findall(r"\b\d+ (\w+) (LOGON|LOGOFF)\b", before):
+                    on[console] = verb
+                self.assertIn("LOGON SECADM", before)
+                self.assertEqual({*on.values()}, {"LOGOFF"})
 
     def test_readme_shows_stored_runs(self) -> None:
         readme, tour = text_of(f"{TOP}/README.md"), f"{TOP}/examples/scripts/tour"

@@ -23,7 +23,13 @@ OPC = f"{TOP}/examples/opc"
 SECONDS = 20  # of patience
 DONE = {"lines": ["0A80 ONLINE"], "rule": "NOPROFILE", "status": "done"}
 REFUSED = {"code": "E20", "rule": "PROFILE OPERCMDS MVS.**", "status": "refused", "text": "DeniedProfile"}
+QUIET = {"lines": [], "rule": "-", "status": "done"}
+NOBODY = "http://127.0.0.1:9/consoles/C1"  # where nothing listens
 PAGE = "<html>\r\n\r\n<title>no</title></html>"
+
+
+def refused(code: str, text: str) -> bytes:
+    return response({"code": code, "rule": "-", "status": "refused", "text": text}, "400 Bad Request")
 
 
 def response(body: object, status: str = "200 OK") -> bytes:
@@ -35,7 +41,7 @@ class Listener:
     """Answers a connection after another by these bytes, and keeps what it is sent."""
 
     def __init__(self, *answers: bytes, path: str = "") -> None:
-        self.answers, self.heads, self.texts = answers, [], []
+        self.answers, self.heads, self.bodies = answers, [], []
         self.socket = socket.socket(socket.AF_UNIX if path else socket.AF_INET)
         self.socket.bind(path or ("127.0.0.1", 0))
         self.socket.listen()
@@ -57,17 +63,27 @@ class Listener:
             with link, link.makefile("rb") as sent:
                 head = "".join(iter(lambda: sent.readline().decode(), "\r\n"))
                 self.heads.append(head)
-                self.texts.append(json.loads(sent.read(int(re.search(r"Content-Length: (\d+)", head)[1]))))
+                length = re.search(r"Content-Length: (\d+)", head)
+                self.bodies.append(sent.read(int(length[1])) if length else b"")
                 link.sendall(answer)
+
+    @property
+    def texts(self) -> list[object]:
+        return [json.loads(body) for body in self.bodies]
+
+    @property
+    def lines(self) -> list[str]:
+        """The methods and paths."""
+        return [head.split(" HTTP")[0] for head in self.heads]
 
     def url(self, console: str) -> str:
         return f"http://{self.at}/consoles/{console}"
 
 
-def ran(typed: str, *words: str, **environment: str) -> tuple[int, str, str]:
+def ran(typed: str, *words: str, cwd: str = TOP, **environment: str) -> tuple[int, str, str]:
     """How it ends by this input, with no terminal, and what it prints."""
     how = {"input": typed.encode(), "capture_output": True, "start_new_session": True, "timeout": SECONDS}
-    done = subprocess.run([OPC, *words], env={**os.environ, **environment}, **how)
+    done = subprocess.run([OPC, *words], env={**os.environ, **environment}, cwd=cwd, **how)
     return done.returncode, done.stdout.decode(), done.stderr.decode()
 
 
@@ -78,6 +94,8 @@ class Terminal:
         self.shown = ""
         self.pid, self.file = pty.fork()
         if self.pid == 0:
+            # as at a terminal: what starts tests in the background ignores it, and so would the shell
+            signal.signal(signal.SIGINT, signal.SIG_DFL)
             os.execv(OPC, [OPC, *words])
 
     def until(self, text: str) -> None:
@@ -105,6 +123,23 @@ class Terminal:
 def setUpModule() -> None:
     if lacking := setup.lacking("curl", "jq"):
         raise unittest.SkipTest(f"not found: {', '.join(lacking)}")
+
+
+def rows_of(page: str, heading: str) -> list[list[str]]:
+    """The cells of a table of the rules, row by row."""
+    with open(f"{TOP}/docs/rules/{page}", encoding="utf-8") as file:
+        rows = file.read().partition(heading)[2].partition("\n\n")[0].splitlines()[2:]
+    return [[cell.strip() for cell in row[1:-1].split("|")] for row in rows]
+
+
+def operands() -> list[tuple[str, str]]:
+    """The verbs in capitals, each with one form of its operands."""
+    found, verb = [], ""
+    for first, second, _ in rows_of("commands.md", "| Verb | Operands | What the command does |"):
+        verb = first or verb
+        forms = re.findall(r"`([^`]+)`", second) or [""]
+        found += [(it, form.upper()) for it in re.findall(r"`([^`]+)`", verb) for form in forms]
+    return found
 
 
 class Prompt(unittest.TestCase):
@@ -161,21 +196,26 @@ class Prompt(unittest.TestCase):
         self.assertRegex(ran("D U\n", gate.url("C1"))[1], r"^no answer: \(7\) .*\n$")
 
     def test_no_secret_is_a_word_of_a_program(self) -> None:
-        with tempfile.TemporaryDirectory() as room, Listener(response(DONE), response(DONE)) as gate:
-            for name in ("curl", "jq", "stty", "sed"):
+        with tempfile.TemporaryDirectory() as room, Listener(*[response(DONE)] * 5) as gate:
+            with open(f"{room}/secret.csv", "w", encoding="utf-8") as file:
+                file.write("SECRET")
+            for name in ("curl", "jq", "stty", "sed", "tr"):
                 with open(f"{room}/{name}", "w", encoding="utf-8") as file:
                     file.write(f'#!/bin/sh\necho "$0 $*" >> {room}/words\nexec {shutil.which(name)} "$@"\n')
                 os.chmod(f"{room}/{name}", 0o755)
             url = f"http://anna@{gate.at}"
-            found = ran("pass:w@rd\nLOGON CARL,SECRET\nD U\n", url, PATH=f"{room}:{os.environ['PATH']}")
+            lines = ["pass:w@rd", "LOGON CARL,SECRET", "D U", "/AddUser id=SECRET digest=SECRET", "/profiles SECRET"]
+            typed = "\n".join([*lines, f"/import 1 {room}/secret.csv"])
+            found = ran(typed, url, PATH=f"{room}:{os.environ['PATH']}")
             with open(f"{room}/words", encoding="utf-8") as file:
                 words = file.read()
-        self.assertEqual((found[0], found[2], gate.texts[0]), (0, "", {"text": "LOGON CARL,SECRET"}))
+        self.assertEqual((found[0], found[2], json.loads(gate.bodies[0])), (0, "", {"text": "LOGON CARL,SECRET"}))
+        self.assertEqual((gate.lines[3], gate.bodies[4]), ("GET /profiles/SECRET", b"SECRET"))
         pair = base64.b64encode(b"anna:pass:w@rd").decode()
         self.assertTrue(gate.heads[0].startswith(f"POST /command HTTP/1.1\r\nHost: {gate.at}\r\n"), gate.heads)
         self.assertIn(f"\r\nAuthorization: Basic {pair}\r\n", gate.heads[0])
         self.assertTrue("curl" in words and "jq" in words)
-        self.assertEqual([it for it in ("pass", "SECRET", pair) if it in words], [])
+        self.assertEqual([it for it in ("pass", "SECRET", pair, "secret.csv") if it in words], [])
 
     def test_passwords_at_a_terminal_are_not_shown(self) -> None:
         with Listener(response(DONE), response(REFUSED), response(DONE)) as gate:
@@ -185,10 +225,10 @@ class Prompt(unittest.TestCase):
             prompt.types("of anna\n", "anna> ")
             prompt.types(" logon  c@rl \n", "password: ")
             self.assertFalse(prompt.shows_what_is_typed())
-            prompt.types("hidden\n", "anna> ")
+            prompt.types("hidden\n", "anna C@RL> ")
             self.assertTrue(prompt.shows_what_is_typed())
             for text in ("LOGON CARL,seen", "D U"):
-                prompt.types(f"{text}\n", "anna> ")
+                prompt.types(f"{text}\n", "anna C@RL> ")
             prompt.types("\x04", "\r\n")
             self.assertEqual(prompt.ends(), 1)
         texts = ["logon c@rl,hidden", "LOGON CARL,seen", "D U"]
@@ -211,6 +251,128 @@ class Prompt(unittest.TestCase):
         prompt.until("C1> ")
         os.write(prompt.file, b"\x03")
         self.assertEqual(prompt.ends(), -signal.SIGINT)
+
+    def test_the_prompt_says_who_is_on(self) -> None:
+        steps = (
+            ("D U", response(DONE), ""), ("LOGON anna,ABC", response({**DONE, "lines": []}), " ANNA"),
+            ("LOGON BERT,ABC", refused("E15", "AlreadyOn ANNA"), " ANNA"), ("LOGOFF", response(QUIET), ""),
+            ("LOGON BERT,ABC", refused("E14", "BadLogon"), ""),
+            ("LOGON BERT,ABC", refused("E15", "AlreadyOn CARL"), " CARL"), ("logoff", refused("E16", "NotOn"), ""),
+        )
+        with Listener(*(answer for _, answer, _ in steps)) as gate:
+            prompt = Terminal(gate.url("C1"))
+            prompt.until("C1> ")
+            for text, _, user in steps:
+                prompt.shown = ""
+                prompt.types(f"{text}\n", "> ")
+                self.assertEqual(prompt.shown.splitlines()[-1], f"C1{user}> ")
+            prompt.types("\x04", "\r\n")
+            self.assertEqual(prompt.ends(), 1)
+
+    def test_a_mark_stands_under_the_place_of_a_fault(self) -> None:
+        faults = (
+            ("D  T", "E05 BadOperand 3 4", "   ^"), ("  frob it", "E04 UnknownVerb 2 6", "  ^^^^"),
+            ("D", "E05 BadOperand 1 1", " ^"), ("L 'x", "E06 OpenQuote 2", "  ^"), ("é", "E03 BadCharacter 0", "^"),
+            ("D Q", "E05 BadOperand 99999 2", None), ("C X", "E30 NoUnit", None),
+        )
+        with Listener(*(refused(*fault.split(" ", 1)) for _, fault, _ in faults)) as gate:
+            prompt = Terminal(gate.url("C1"))
+            prompt.until("C1> ")
+            for text, fault, mark in faults:
+                prompt.shown = ""
+                prompt.types(f"{text}\n", "C1> ")
+                wanted = [text, *([f"    {mark}"] if mark else []), f"{fault} -", "C1> "]
+                self.assertEqual(prompt.shown.splitlines(), wanted)
+            prompt.types("\x04", "\r\n")
+            prompt.ends()
+        with Listener(refused("E05", "BadOperand 3 4")) as gate:
+            self.assertEqual(ran("D  T\n", gate.url("C1")), (1, "E05 BadOperand 3 4 -\n", ""))
+
+    def test_no_rule_is_not_shown(self) -> None:
+        with Listener(response(QUIET), response({**QUIET, "lines": ["x"]}), response(QUIET)) as gate:
+            found = ran("LOGOFF\n/account 1 1\n/DelUser id=X\n", gate.url("C1"))
+        self.assertEqual(found, (0, "x\ndone\n", ""))
+
+    def test_lists_of_what_can_be_typed(self) -> None:
+        found = ran("?\n help \nHelp me\n", NOBODY)
+        self.assertEqual((found[0], found[2]), (0, ""))
+        commands = found[1][: len(found[1]) // 3]
+        self.assertEqual(found[1], commands * 3)
+        listed = {}
+        for line in commands.splitlines():
+            words, _, _ = line.partition("  ")
+            verb, _, forms = words.partition(" ")
+            listed[verb] = [*listed.get(verb, []), *forms.split(" | ")]
+        listed["PM"] = ["JOBNAMES"] if "PM JOBNAMES" in commands else []
+        wanted: dict[str, list[str]] = {}
+        for verb, form in operands():
+            wanted[verb] = [*wanted.get(verb, []), form.replace("NONE", "")]
+        self.assertEqual(listed.pop("?"), [""])
+        self.assertEqual(listed, wanted)
+
+    def test_the_list_of_operations(self) -> None:
+        status, printed, said = ran("/?\n", NOBODY)
+        self.assertEqual((status, said), (0, ""))
+        lines = [line for line in printed.splitlines() if line.startswith("/") and "  " not in line]
+        listed = {verb: [key.split("=")[0] for key in keys] for verb, *keys in (line[1:].split(" ") for line in lines)}
+        wanted = {}
+        for verbs, keys in rows_of("http.md", "| `op` | Further keys |"):
+            found = re.findall(r"`(\w+)`", keys)
+            wanted |= {verb: found for verb in re.findall(r"`(\w+)`", verbs)}
+        # (what sets all keys of something that is there has none that counts though nobody typed it)
+        self.assertEqual([line for line in lines if line.startswith(("/AltUser", "/RAlter")) and "=" in line], [])
+        in_order = {verb: sorted(keys) for verb, keys in wanted.items()}
+        self.assertEqual({verb: sorted(keys) for verb, keys in listed.items()}, in_order)
+
+    def test_operations_listings_and_imports(self) -> None:
+        entry = {"class": "OPERCMDS", "pattern": "MVS.CANCEL.JOB.PAY*", "id": "ANNA", "level": "UPDATE"}
+        user = {"id": "DORA", "special": False, "auditor": False, "digest": None, "restricted": False}
+        profile = {"class": "OPERCMDS", "pattern": "MVS.**", "owner": "ANNA", "uacc": "READ", "warning": True}
+        asked = {
+            "/Permit class=OPERCMDS pattern=MVS.CANCEL.JOB.PAY* id=ANNA level=UPDATE":
+                {"op": "Permit", **entry, "when": None},
+            "/permit Level=update when=c1 class=opercmds pattern=mvs.cancel.job.pay*  id=anna":
+                {"op": "Permit", **entry, "when": "C1"},
+            "/AddUser id=DORA": {"op": "AddUser", **user},
+            "/AltUser id=DORA special=TRUE auditor=false revoked=true digest=abc restricted=false":
+                {"op": "AltUser", **user, "special": True, "revoked": True, "digest": "abc"},
+            "/RDefine class=OPERCMDS pattern=MVS.** owner=ANNA uacc=READ warning=true": {"op": "RDefine", **profile},
+            "/DefineConsole name=C#1 auth=SYS,IO mode=AUTO":
+                {"op": "DefineConsole", "name": "C#1", "auth": "SYS,IO", "mode": "AUTO"},
+        }
+        with Listener(*(response(QUIET) for _ in asked)) as gate:
+            found = ran("\n".join(asked), gate.url("C1"))
+        self.assertEqual(found, (0, "done\n" * len(asked), ""))
+        self.assertEqual(gate.texts, [*asked.values()])
+        self.assertEqual({*gate.lines}, {"POST /consoles/C1/admin"})
+        with tempfile.TemporaryDirectory() as room, Listener(*[response({**QUIET, "lines": ["A"]})] * 3) as gate:
+            with open(f"{room}/a.csv", "wb") as file:
+                file.write(b"kind\r\n\x00@")
+            found = ran(f"/profiles opercmds\n/Account 1 20\n/import 2 {room}/a.csv\n", gate.url("C1"))
+        self.assertEqual(found, (0, "A\nA\nA\n", ""))
+        paths = ["GET /consoles/C1/profiles/OPERCMDS", "GET /consoles/C1/account/1/20", "POST /consoles/C1/import/2"]
+        self.assertEqual((gate.lines, gate.bodies), (paths, [b"", b"", b"kind\r\n\x00@"]))
+
+    def test_lines_that_are_not_sent(self) -> None:
+        missing = "a word is missing, or too many; see /?"
+        lines = {
+            "/Frob x=1": "/frob is not known; see /?", "/": "/ is not known; see /?", "/profiles": missing,
+            "/account 1": missing, "/import 2": missing, "/import 2 a b": missing,
+            "/import 2 /none": "this file cannot be read", "/import 2 /": "this file cannot be read",
+            "/RAlter class=OPERCMDS pattern=X owner=A uacc=NONE": "warning is missing",
+            "/Permit class=OPERCMDS": "pattern is missing", "/DelUser id=": "id is missing",
+            "/AltUser id=X special=true": "auditor is missing", "/AddUser id=X special=yes": "special is true or false",
+            "/DelUser id=X name=Y": "DelUser has no key name", "/DelUser X": "DelUser has no key x",
+            "/DelUser \x1b[2J=1": "DelUser has no key \\u{1b}[2j",
+        }
+        for line, why in lines.items():
+            with self.subTest(line):
+                self.assertEqual(ran(f"{line}\n", NOBODY), (1, f"opc: {why}\n", ""))
+        with tempfile.TemporaryDirectory() as room:
+            for name in ("-", "file"):  # (to curl - is its input)
+                os.close(os.open(f"{room}/{name}", os.O_CREAT))
+            self.assertEqual(ran("/import 2 -\n", NOBODY, cwd=room)[1], "opc: this file cannot be read\n")
+            self.assertRegex(ran("/import 2 file\n", NOBODY, cwd=room)[1], r"^no answer: \(7\) ")
 
     def test_help_mistakes_and_what_is_missing(self) -> None:
         shown = ran("", "--help")

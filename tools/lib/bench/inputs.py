@@ -14,6 +14,8 @@ from lib.service import Service
 QUESTION = ["--user", "ANNA", "--resource", "MVS.A.A.A.A.A.A.A.A.A.A.A.A.A.A.A.A.A", "--level", "READ"]
 SERVED = ("body", "account")
 EXCHANGES = 20  # of each request that is served
+# by the profile that covers all, which denies them
+COMMANDS = "1 C1 LOGON ANNA,ABC\n" + "1 C1 S X\n" * 200
 
 
 class Input(NamedTuple):
@@ -45,6 +47,12 @@ def groups(size: int) -> str:
     return policy([*rows, *(f"connect,,ANNA,G{at:05},,,," for at in range(size))])
 
 
+def listed_groups(size: int) -> str:
+    """So many groups that the user is in, each with an entry in the access list of the profile that covers all."""
+    rows = [f"permit,OPERCMDS,MVS.**,G{at:05},READ,,," for at in range(size)]
+    return groups(size) + "".join(f"{row}\n" for row in rows)
+
+
 def new_groups(size: int) -> str:
     return "".join(f"{line}\n" for line in [HEADER, *(f"group,,N{at:05},,,,," for at in range(size))])
 
@@ -68,6 +76,7 @@ INPUTS = {
     "patterns of %": Input("explain", 5_000, profiles("MVS.%.%.%.%.%.%.%.%.%.%.%.%.%.P")),
     "entries of a profile": Input("explain", 4_900, entries),
     "groups of a user": Input("explain", 4_900, groups),
+    "groups of a user, each with an entry": Input("explain", 3_300, listed_groups),
     "quotes": Input("explain", 16_000_000, padded('"')),
     "commas": Input("explain", 16_000_000, padded(",")),
     "line ends": Input("explain", 16_000_000, padded("\n")),
@@ -83,7 +92,8 @@ INPUTS = {
     "a body of different keys": Input("body", 5_900, keys),
     "a body of the same key": Input("body", 5_000, same_keys),
     "a body of digits": Input("body", 65_000, lambda size: '{"text":' + "1" * (size - 9) + "}"),
-    # policies and listings
+    # commands, policies and listings
+    "commands by groups, each with an entry": Input("commands", 3_300, listed_groups),
     "a first policy": Input("first policy", 9_900, profiles("MVS.START.STC.P")),
     "an export, with the opening": Input("export", 9_900, profiles("MVS.START.STC.P")),
     "an import of new groups": Input("import", 2_000, new_groups),
@@ -100,6 +110,7 @@ class Inputs(Program):
         self.works: dict[str, Callable[[str], Took]] = {
             "explain": lambda text: self.given(["explain", *QUESTION], text),
             "script": lambda text: self.given(["run", "--policy", POLICY], text),
+            "commands": lambda text: self.ours(["--policy", self.written(text)], COMMANDS),
             "first policy": lambda text: self.ours(["--policy", self.written(text)], ""),
             "export": self.exported,
             "import": lambda text: self.imported(text, 1),

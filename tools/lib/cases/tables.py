@@ -1,11 +1,18 @@
 """Tables of cases: what is asked of a database file, and what must come of it."""
+import os
 from typing import NamedTuple
+
+from lib.rows import NoRow
 
 
 class Case(NamedTuple):
     number: int  # of its line in the table
     line: str
     wanted: list  # lines
+
+    def has(self, line: int) -> bool:
+        """Whether it stands in this line of the table, or has it under itself."""
+        return self.number <= line <= self.number + len(self.wanted)
 
 
 class Room(NamedTuple):
@@ -35,3 +42,13 @@ def rooms_of(path: str) -> list[Room]:
                     rooms.append(Room(title, tuple(rows), tuple(beginning), []))
                 rooms[-1].cases.append(Case(number, line, []))
     return rooms
+
+
+def room_of(path: str, line: int) -> tuple[Room, bool]:
+    """The room that has this line of a table, with its cases up to the one that stands there; and whether these are
+    all."""
+    for room in rooms_of(path):
+        for at, case in enumerate(room.cases, 1):
+            if case.has(line):
+                return room._replace(cases=room.cases[:at]), at == len(room.cases)
+    raise NoRow(f"{os.path.basename(path)}:{line}: nothing is asked there")

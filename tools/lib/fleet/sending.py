@@ -26,9 +26,14 @@ def by_send(gates: Gates, folder: str, policy: str) -> tuple[int, dict[str, str]
 
 def by_playbook(gates: Gates, folder: str, policy: str) -> tuple[int, dict[str, str]]:
     """The status of Ansible, and what its last task says of each host."""
+    return playbook(folder, {name: gates.url(at) for at, name in enumerate(gates.names())}, policy)
+
+
+def playbook(folder: str, urls: dict[str, str], policy: str) -> tuple[int, dict[str, str]]:
+    """The same of these hosts, each with its `gate_url`."""
     with open(f"{folder}/inventory.yml", "w", encoding="utf-8") as file:
         file.write("gates:\n  hosts:\n")
-        file.writelines(f"    {name}: {{gate_url: '{gates.url(at)}'}}\n" for at, name in enumerate(gates.names()))
+        file.writelines(f"    {name}: {{gate_url: '{url}'}}\n" for name, url in urls.items())
     words = ["ansible-playbook", "-i", f"{folder}/inventory.yml", "-f", "8", f"{FLEET}/playbook.yml"]
     for pair in (f"number={NUMBER}", f"policy={policy}", f"rounds={ANSIBLE_ROUNDS}", "pause=0"):
         words += ["-e", pair]

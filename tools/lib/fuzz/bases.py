@@ -100,12 +100,13 @@ class Held(NamedTuple):
 
 
 def looked(file: str, room: str) -> Held:
-    """What a file and its log hold, as Python's SQLite reads it from a copy."""
+    """What a file and its log hold, as Python's SQLite reads it from a copy. Bytes that are no text stand as halves of
+    pairs of surrogates, which no text has."""
     copied = f"{room}/looked"
     copy(file, copied, ("", "-wal"))
     try:
         with contextlib.closing(sqlite3.connect(copied)) as reader:
-            reader.text_factory = lambda data: data.decode(errors="backslashreplace")
+            reader.text_factory = lambda data: data.decode(errors="surrogateescape")
             return read(reader)
     finally:
         remove(copied)

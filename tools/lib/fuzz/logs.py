@@ -15,6 +15,27 @@ def summed(data: bytes, order: str, before: Sums = (0, 0)) -> Sums:
     return one, other
 
 
+def without_salts(data: bytes) -> bytes:
+    """A log in which its random salts, and the sums over them, are replaced by whether they are right: two logs that
+    come to the same are the same but for these numbers. From the first sum on that is wrong, it stays as it is. (The
+    first byte is the last that an opening writes.)"""
+    if len(data) < HEADER:
+        return data
+    magic, _, size = struct.unpack(">III", b"7" + data[1:12])
+    order, salts, sums = MAGIC.get(magic), data[16:24], struct.unpack(">II", data[24:32])
+    if order is None or size == 0 or summed(b"7" + data[1:24], order) != sums:
+        return data
+    found = [b"right", data[:16]]
+    for at in range(HEADER, len(data), FRAME + size):
+        head, page = data[at:at + FRAME], data[at + FRAME:at + FRAME + size]
+        if len(page) == size and size % 8 == 0:
+            sums = summed(head[:8] + page, order, sums)
+        if len(page) < size or head[8:16] != salts or struct.unpack(">II", head[16:24]) != sums:
+            return b"".join([*found, b"wrong", data[at:]])
+        found += [b"right", head[:8], page]
+    return b"".join(found)
+
+
 def pages(data: bytes) -> list[bytes]:
     """The committed pages of a log in the order in which they were written, each with its number before it."""
     if len(data) < HEADER:

@@ -36,10 +36,12 @@ FIELD = re.compile(rf'"((?:[^"\\]|{ESCAPED.pattern})*)"(\.\.)?$')
 MOST_SHOWN = 39  # characters of a field
 # why a line of a script is bad; what follows a fault that some rows have, and the faults of which a line may follow
 BAD_LINE = re.compile(
-    rf'opcmds: script(?:: (?:more than 1,048,576 bytes|not UTF-8)|, line {NUMBER}: (?:no moment|no console|no command|'
+    rf'opcmds: script(?:: (?:more than 1,048,576 bytes|not UTF-8)|, line {NUMBER}: (no moment|no console|no command|'
     r"the moment has more than 13 digits|the (?:console's name|event) does not read): (\".*\"(?:\.\.)?) "
     r"\(a line (?:is MOMENT CONSOLE COMMAND|of an event is MOMENT \* EVENT)\))\n"
 )
+# how many words of it are shown at most, since a password may follow; of any other fault two
+WORDS = {"no moment": 1, "the moment has more than 13 digits": 1, "the event does not read": 3}
 REFUSED_ROW = (
     rf"opcmds: (?s:.*), row {NUMBER}: (?:no (?:user|group|user or group|profile (?:CONSOLE|OPERCMDS))|"
     rf"a (?:user|group) has the name) {NAME}"
@@ -151,15 +153,22 @@ def wrong_reason(first: str, line: str) -> str | None:
 def wrong_note(text: str) -> str | None:
     """What is wrong with what is said of the bad line of a script."""
     found = BAD_LINE.fullmatch(text)
-    is_good = found and (found[1] is None or is_clean(found[1]))
+    is_good = found and (found[2] is None or is_clean(found[2], True) and has_words(found[2], WORDS.get(found[1], 2)))
     return None if is_good else f"not why a line is bad: {text[:400]!r}"
 
 
-def is_clean(reason: str) -> bool:
-    """Whether what is said of a row has no control characters, and at most 39 characters of the field."""
+def has_words(shown: str, most: int) -> bool:
+    """Whether a text in quotes has at most so many words, which end at a space or a comma."""
+    return re.fullmatch(rf'"(?: *[^ ,]*){{0,{most}}}"(?:\.\.)?', shown) is not None
+
+
+def is_clean(reason: str, is_cut: bool = False) -> bool:
+    """Whether what is said of a row has no control characters, and at most 39 characters of the field; of a line that
+    is cut fewer may be shown."""
     shown = FIELD.search(reason)
     size = len(ESCAPED.sub("x", shown[1])) if shown else 0
-    return not CONTROL.search(reason) and (shown is None or size <= MOST_SHOWN and (not shown[2] or size == MOST_SHOWN))
+    is_short = size <= MOST_SHOWN and (is_cut or not shown or not shown[2] or size == MOST_SHOWN)
+    return not CONTROL.search(reason) and is_short
 
 
 def reason_of_version(first: str) -> str:

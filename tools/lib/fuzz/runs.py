@@ -93,8 +93,6 @@ def wants_answer(ran: Ran, wanted: tuple[int, str, str | None]) -> None:
     read, of which the rules fix no text."""
     status, printed, said = wanted
     first = ran.said.decode(errors="backslashreplace").partition("\n")[0]
-    if first.startswith("opcmds: script, line "):
-        first = first.partition('"')[0]  # what is shown of the line is left out
     found = ran.status, ran.printed.decode(errors="backslashreplace"), None if said is None else first
     if said is None and not first.startswith("error: "):
         raise Wrong("not what is said of bad words", first)

@@ -15,6 +15,7 @@ AUTHS = {tables.auth_number(auth): auth for auth in (
     "MASTER", "ALL", "INFO", "SYS", "IO", "CONS", "SYS,IO", "SYS,CONS", "IO,CONS", "SYS,IO,CONS"
 )}
 TYPED = re.compile("[ -~]*")  # what a command line has
+SURROGATE = re.compile("[\ud800-\udfff]")
 LATEST = 9_999_999_999_999
 Rows = dict[str, list[tuple]]
 
@@ -114,8 +115,8 @@ def is_typed(text: Any) -> bool:
 
 
 def is_text(text: Any) -> bool:
-    """Whether something may have asked so. (A backslash and an x stand for what is not UTF-8.)"""
-    return isinstance(text, str) and text != "" and "\n" not in text and "\\x" not in text
+    """Whether something may have asked so, in UTF-8."""
+    return isinstance(text, str) and text != "" and "\n" not in text and not SURROGATE.search(text)
 
 
 def is_account(rows: list[tuple]) -> bool:

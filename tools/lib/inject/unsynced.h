@@ -44,6 +44,8 @@ static struct made *all_made;
 static int is_losing;
 static uint64_t dice; /* 0: all is lost */
 
+static int removed(const char *path); /* removes a file (each.h) */
+
 static void give_up(const char *why) {
     (void)!syscall(SYS_write, 2, why, strlen(why));
     _exit(78);
@@ -61,10 +63,11 @@ static struct unsynced **place_of(const struct stat *file) {
     return place;
 }
 
-/* What is kept of the file that is about to be written to, if it is one that can lose anything. */
+/* What is kept of the file that is about to be written to, if it is one that can lose anything. The standard streams
+   lose nothing, wherever they lead. */
 static struct unsynced *kept(int file) {
     struct stat found;
-    if (!is_losing || fstat(file, &found) || !S_ISREG(found.st_mode)) return NULL;
+    if (!is_losing || file <= STDERR_FILENO || fstat(file, &found) || !S_ISREG(found.st_mode)) return NULL;
     struct unsynced **place = place_of(&found);
     if (*place) return *place;
     struct unsynced *made = room_for(sizeof *made);
@@ -168,5 +171,5 @@ static void lose(void) {
         syscall(SYS_close, file);
     }
     for (struct made *made = all_made; made; made = made->next)
-        if (!dice || thrown(2)) syscall(SYS_unlink, made->path);
+        if (!dice || thrown(2)) removed(made->path);
 }

@@ -6,6 +6,7 @@ from .help import Command
 
 OPTION = re.compile(r"Fl -([\w-]+)(?: Ar (\S+))?")
 EXPLAINED = re.compile(r"\.It Fl -([\w-]+)(?: Ar (\S+))?")
+MISPLACED = re.compile(r"\S*(?:\|[\]}]|[\[{]\|)\S*|‘[^’]*‘[^’]*’+")
 CODE = re.compile(r"(?m)^\.It Sy (E\d\d \w+)(?: Ar (.*))?\n((?:[^.\n].*\n)+)")
 
 
@@ -55,6 +56,11 @@ def codes_in(page: str) -> list[tuple[str, str]]:
         line = " ".join(meaning.split()).removesuffix(".")
         found.append((code, f"`{name}`{' ' + details if details else ''}", line[0].lower() + line[1:]))
     return found
+
+
+def misplaced_in(printed: str) -> list[str]:
+    """What stands in brackets with a bar that belongs outside, and what is quoted twice."""
+    return MISPLACED.findall(" ".join(printed.split()))
 
 
 def examples_in(page: str) -> list[str]:

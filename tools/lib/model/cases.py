@@ -299,7 +299,7 @@ def digests(chance: Random) -> list[Step]:
     """Passwords, and what almost is one."""
     letters = "AZaz09#$@" if one_in(chance, 2) else "Ab0@ .\r\xe4"
     typed = "".join(chance.choice(letters) for _ in range(chance.randint(0, 10)))
-    end = chance.choice(("", "\n", "\r\n", "\nX"))
+    end = chance.choice(("", "\n", "\r\n", "\nX", "\r"))
     return [Digest((typed + end).encode())]
 
 

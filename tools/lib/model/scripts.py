@@ -1,8 +1,12 @@
 """Scripts of commands and events: their lines, and what is printed of the answers."""
+import re
+
 from . import counting, events, names, requests
 from .machine import State
 
 MOST_BYTES = 1_048_576
+MOST_SHOWN = 39  # characters of a line
+SHORT = {'"': '\\"', "\\": "\\\\", "\t": "\\t", "\r": "\\r", "\0": "\\0"}
 Asked = tuple[int, requests.Request]  # with its moment
 
 
@@ -53,14 +57,31 @@ def slip(line: str) -> str:
     return "the event does not read" if console == "*" else "the console's name does not read"
 
 
+def past_word(text: str) -> str:
+    """What follows the first word of a text; a word ends at a space or a comma."""
+    return re.sub(r"\A *[^ ,]*", "", text)
+
+
+def shown(line: str) -> str:
+    """What is shown of a line that is no request, since a password may follow the word that is wrong."""
+    words = {"no moment": 1, "the moment has more than 13 digits": 1, "the event does not read": 3}
+    rest = line
+    for _ in range(words.get(slip(line), 2)):
+        rest = past_word(rest)
+    start = line[: len(line) - len(rest)]
+    text = "".join(SHORT.get(c) or (c if c.isprintable() else f"\\u{{{ord(c):x}}}") for c in start[:MOST_SHOWN])
+    return f'"{text}"' + ".." * (bool(rest) or len(start) > MOST_SHOWN)
+
+
 def why_bad(data: bytes, number: int) -> str:
-    """What is said of the first bad line, up to what is shown of it."""
+    """What is said of the first bad line."""
     if number == 0:
         return f"opcmds: script: {'more than 1,048,576 bytes' if len(data) > MOST_BYTES else 'not UTF-8'}"
     lines = data.decode().split("\n")
     line = lines[number - 1]
     line = line.removesuffix("\r") if number < len(lines) else line
-    return f"opcmds: script, line {number}: {slip(line)}: "
+    form = "of an event is MOMENT * EVENT" if slip(line) == "the event does not read" else "is MOMENT CONSOLE COMMAND"
+    return f"opcmds: script, line {number}: {slip(line)}: {shown(line)} (a line {form})"
 
 
 def printed(moment: int, answer: requests.Answer) -> str:

@@ -280,8 +280,7 @@ class Run:
                 policy_file.write(self.policy)
             words += ["--policy", f"{file}.csv"]
         status, output, errors = run(words, self.data())
-        # what is shown of a bad line is left out
-        return [("run", (status, output, errors.partition('"')[0] if output.startswith("BAD LINE ") else errors))]
+        return [("run", (status, output, errors))]
 
     def model(self, state: State) -> Answers:
         try:

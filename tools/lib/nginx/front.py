@@ -14,7 +14,11 @@ from lib.clients import HOST, SECONDS, free_port, taken
 from lib.places import TOP
 
 NAME = "gate.example"
-LOGINS = {"anna": "of anna", "carl": "of carl", "secadm": "of secadm", "guest": "has no console"}
+LOGINS = {
+    "anna": "of anna", "carl": "of carl", "secadm": "of secadm", "guest": "has no console", "Anna": "of another",
+    "ANNA": "of a third",
+}
+WITHOUT_CONSOLE = ("guest", "Anna", "ANNA")
 # What encloses the file: one process, whose user need not have rights, and no folder where a body could be written.
 MAIN = """\
 daemon off;

@@ -6,7 +6,7 @@ import time
 
 from lib.clients import HOST, taken
 from lib.tally import Tally
-from .front import NAME, Answer, Front, head
+from .front import NAME, WITHOUT_CONSOLE, Answer, Front, head
 from .upstream import Upstream
 
 COMMAND = b'{"text":"D U"}'
@@ -80,9 +80,10 @@ class Passing:
         self.refused("a wrong password of a login without a console", guest, 401)
         alike = {without_date(answer) for answer in (wrong, unknown, guest)}
         self.tally.equal("wrong passwords and unknown logins get one answer", len(alike), 1)
-        answer = self.front.asked("POST", "/command", COMMAND, "guest")
-        # (which the program answers 404, as tools/nginx program shows)
-        self.passed("a login without a console", answer, "POST", "/consoles//command", COMMAND)
+        for login in WITHOUT_CONSOLE:
+            answer = self.front.asked("POST", "/command", COMMAND, login)
+            # (which the program answers 404, as tools/nginx port shows)
+            self.passed(f"{login}: a login without a console", answer, "POST", "/consoles//command", COMMAND)
 
     def paths(self) -> None:
         for path in OTHER_PATHS:

@@ -1,7 +1,9 @@
 """The parts of tools/program: tables, and what no table can say."""
+import contextlib
 import errno
 import fcntl
 import glob
+import json
 import os
 import pty
 import re
@@ -15,9 +17,10 @@ import time
 import tty
 from typing import Callable
 
-from lib import files, older, version
+from lib import crowd, files, older, record, version
 from lib.files import bytes_of
 from lib.places import HEADER, POLICY, TOP, built, preload, wide_policy
+from .readers import readers
 from .room import SECONDS, Ran, Room, asked
 
 HELPS = ("--help", "explain --help", "help explain", "run --help", "serve --help", "who --help", "check --help",
@@ -42,6 +45,8 @@ SCRIPT = """\
 """
 BATCH = f"{HEADER}\ngroup,,DAY,,,,,\n"
 UNITS = 1_000  # more than the names that are cached
+CROWD, COMMAS, MEMORY = 400, 4_000_000, 24_000  # with all lines or fields at once it takes more KB than that
+TOO_LONG = b"row 26: it has more than 10 columns and not 8\n1 of 26 rows is bad\n"
 # texts with what a terminal acts on or hides, and the line of a display that a terminal shows for each
 TEXTS = {
     "MOUNT \x1b[31mRED": r"MOUNT \u{1b}[31mRED",
@@ -68,11 +73,15 @@ def another_name(room: Room) -> None:
 
 
 def says_version(room: Room) -> None:
-    """The version of the file VERSION; and a program that tools/unproved compiled says that it is not proved."""
-    is_proved = f"{os.sep}unproved{os.sep}" not in os.path.realpath(built())
+    """The version of the file VERSION; and a program that tools/unproved compiled says that it is not proved, and
+    whether it is a patch of another."""
+    program = os.path.realpath(built())
+    word = version.UNPROVED if f"{os.sep}unproved{os.sep}" in program else version.PROVED
+    if record.note_of(program) == record.PATCHED:
+        word = version.PATCHED
     for words in (["--version"], ["-V"], ["--version", "explain"]):
         ran = room.run(words)
-        wanted = (0, f"{version.line(is_proved)}\n".encode(), b"")
+        wanted = (0, f"{version.line(word)}\n".encode(), b"")
         room.tally.equal(f"the version by {' '.join(words)}", tuple(ran), wanted)
     with open("/dev/full", "wb") as output:
         ran = subprocess.run([built(), "--version"], stdout=output, stderr=subprocess.PIPE)
@@ -96,11 +105,11 @@ def written(room: Room, name: str, lines: list[str]) -> str:
     return path
 
 
-def imports(room: Room) -> None:
+def files_of_imports(room: Room) -> dict[str, str]:
+    """The base policy in ten columns, and what the batches leave of it."""
     wide = wide_policy()
-    room.values["wide"] = written(room, "wide.csv", wide)
-    room.values["then"] = written(room, "then.csv", [changed for line in wide for changed in after_batches(line)])
-    room.table("imports")
+    then = [changed for line in wide for changed in after_batches(line)]
+    return {"wide": written(room, "wide.csv", wide), "then": written(room, "then.csv", then)}
 
 
 def held(room: Room) -> None:
@@ -120,11 +129,6 @@ def held(room: Room) -> None:
         ran = room.run(["serve", "--db", room.folder, "--port", str(port)])
         title = "a database that is a folder, and a port that is in use"
         ended(room, title, ran, 3, f"E91 Store\nopcmds: database {room.folder}: Is a directory\n")
-
-
-def databases(room: Room) -> None:
-    room.values["long"] = f"{room.folder}/{'a' * 250}"
-    room.table("databases")
 
 
 def full(room: Room) -> None:
@@ -152,6 +156,28 @@ def limited(room: Room) -> None:
     done, aborted = ran.stdout.count(" DONE "), ran.stdout.count(" REFUSED E91 ")
     room.tally.wants("a limit of size", ran.returncode == 3 and 0 < done < 400 == done + aborted, ran)
     room.tally.equal("a limit of size: what is kept", asked(path, "SELECT count(*) FROM log"), f"{done}\n")
+
+
+def within(words: list[str], data: bytes, kilobytes: int) -> subprocess.CompletedProcess[bytes]:
+    """A run that has no more memory than this."""
+    limited_run = ["sh", "-c", f'ulimit -v {kilobytes}; exec "$0" "$@"', built(), *words]
+    return subprocess.run(limited_run, input=data, capture_output=True, timeout=SECONDS)
+
+
+def memory(room: Room) -> None:
+    """An answer that is longer than there is memory for, and a record with more fields."""
+    policy, database = crowd.crowd(CROWD).encode(), f"{room.folder}/crowd"
+    lines = CROWD * CROWD + 2 * CROWD
+    ended(room, "a database for a crowd", room.run(["import", "--db", database, "--batch", "1"], policy))
+    for title, words, data in (("a policy file", [], policy), ("a database", ["--db", database], b"")):
+        ran = within([*crowd.ENQUIRY, *words], data, MEMORY)
+        is_whole = ran.stdout.endswith(crowd.last_line(CROWD)) and ran.stdout.count(b"\n") == lines + 3
+        room.tally.wants(f"who, of {title}", ran.returncode == 0 and is_whole, ran.stderr)
+        ran = within([*crowd.ENQUIRY, "--json", *words], data, MEMORY)
+        is_whole = ran.stdout.count(b"\n") == lines + 1
+        room.tally.wants(f"who --json, of {title}", ran.returncode == 0 and is_whole, ran.stderr)
+    ran = within(["check"], bytes_of(POLICY) + b"," * COMMAS, MEMORY)
+    room.tally.equal("check of commas", (ran.returncode, ran.stdout), (2, TOO_LONG))
 
 
 def on_terminal(words: list[str], data: bytes, stream: str = "stdout") -> bytes:
@@ -220,6 +246,31 @@ def terminal(room: Room) -> None:
     room.tally.equal("a password that is typed", typed(["digest"], b"ABC\n"), said)
 
 
+def account(room: Room) -> None:
+    """The table, and rows whose texts another program wrote: no character of them ends a line or acts on a terminal,
+    and what the program wrote itself is shown as it is."""
+    room.table("account")
+    path = f"{room.folder}/others.db"
+    ran = room.run(["run", "--db", path, "--policy", POLICY], b"1 C1 FORCE X\n2 C1 FORCE X\n")
+    ended(room, "an account to be changed", ran, 1)
+    changed = ("C\x1b[1", "A\tB", "E\x9b", "-\n3      1970-01-01T00:00:03Z C1       -        E21  -\u202e")
+    with contextlib.closing(sqlite3.connect(path)) as tables:
+        tables.execute("UPDATE account SET console = ?, usr = ?, code = ?, rule = ? WHERE moment = 1", changed)
+        tables.commit()
+    shown = (
+        "NUMBER TIME                 CONSOLE  USER     CODE RULE\n"
+        r"1      1970-01-01T00:00:01Z C\u{1b}[1 A\u{9}B  E\u{9b} -\u{a}3      1970-01-01T00:00:03Z C1       -"
+        "        E21  -\\u{202e}\n"
+        "2      1970-01-01T00:00:02Z C1       -        E21  GROUP MASTER AUTH SYS\n"
+    )
+    words = ["account", "--db", path]
+    room.tally.equal("rows of another program", room.run(words).printed.decode(), shown)
+    room.tally.equal("rows of another program on a terminal", on_terminal(words, b"").decode(), shown)
+    lines = [json.loads(line) for line in room.run([*words, "--json"]).printed.decode().splitlines()]
+    found = tuple(lines[0][key] for key in ("console", "user", "code", "rule"))
+    room.tally.equal("rows of another program as JSON", (len(lines), found), (2, changed))
+
+
 def units(room: Room) -> None:
     """A display of more names than are cached, twice: each time every line, in order."""
     script = "".join(f"1 * JOBIN U{at:03} JOB\n" for at in range(UNITS))
@@ -276,8 +327,22 @@ def of_version(room: Room, version: int, newer: str, exported: bytes) -> None:
     ended(room, f"{title} goes on", room.run(["run", "--db", path], b"6 C2 D A,L\n7 * JOBIN DAY JOB\n"))
 
 
+# What tables name in braces, besides the room, the repository and the base policy.
+VALUES: dict[str, Callable[[Room], dict[str, str]]] = {
+    "imports": files_of_imports,
+    "databases": lambda room: {"long": f"{room.folder}/{'a' * 250}"},
+}
+
+
+def prepared(room: Room, name: str) -> Room:
+    """The room with what a table names in braces."""
+    if name in VALUES:
+        room.values |= VALUES[name](room)
+    return room
+
+
 def table(name: str) -> Callable[[Room], None]:
-    return lambda room: room.table(name)
+    return lambda room: prepared(room, name).table(name)
 
 
 def now(room: Room) -> None:
@@ -336,7 +401,7 @@ PARTS: dict[str, Callable[[Room], None]] = {
     "who": table("who"),
     "check": table("check"),
     "sources": table("sources"),
-    "account": table("account"),
+    "account": account,
     "digest": table("digest"),
     "name": another_name,
     "version": says_version,
@@ -344,12 +409,14 @@ PARTS: dict[str, Callable[[Room], None]] = {
     "scripts": table("scripts"),
     "now": now,
     "files": table("files"),
-    "imports": imports,
-    "databases": databases,
+    "imports": table("imports"),
+    "databases": table("databases"),
     "full": full,
     "limited": limited,
+    "memory": memory,
     "terminal": terminal,
     "held": held,
+    "readers": readers,
     "units": units,
     "older": older_files,
 }

@@ -10,6 +10,7 @@ from typing import NamedTuple
 from lib.escapes import unescaped
 from lib.files import bytes_of
 from lib.places import POLICY, TOP, built
+from lib.rows import NoRow
 from lib.tally import Tally
 from .tables import BadTable, Check, checks_of
 
@@ -39,6 +40,21 @@ class Room:
 
     def table(self, name: str) -> None:
         for check in checks_of(f"{TABLES}/{name}.runs", self.values):
+            self.judge(check)
+
+    def row(self, name: str, line: int) -> None:
+        """Judges what stands in a line of a table, after all that stands before it, which is not counted. Under a title
+        with rows of cells, the line of a row has one check, and each other line the checks of all rows."""
+        checks = list(checks_of(f"{TABLES}/{name}.runs", self.values))
+        chosen = [check for check in checks if line in check.at]
+        if not chosen:
+            raise NoRow(f"{name}.runs:{line}: nothing is run there")
+        tally, self.tally = self.tally, Tally(is_silent=True)
+        for check in checks[: checks.index(chosen[0])]:
+            self.judge(check)
+        self.tally.tell_before(f"{name}.runs:{line}")
+        self.tally = tally
+        for check in chosen:
             self.judge(check)
 
     def judge(self, check: Check) -> None:

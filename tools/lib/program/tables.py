@@ -4,6 +4,7 @@ from typing import Iterator, NamedTuple
 
 MARKS = ("$", "<", "<-", "<<", ">", ">>", ">=", "~", "~=", "!", "status", "made", "rows", "absent")
 Lines = list[tuple[str, str]]  # marks with their texts
+Rows = dict[int, list[str]]  # by their lines the cells of rows
 
 
 class BadTable(Exception):
@@ -12,9 +13,10 @@ class BadTable(Exception):
 
 class Check(NamedTuple):
     """What stands under one title, or under `file` or `link`, which make something ready."""
-    place: str  # the table and its line
+    place: str  # the table and its line; of a row of cells the line of the row
     title: str
     lines: Lines
+    at: tuple[int, ...] = ()  # all lines of the table that say something of it
 
     def texts(self, *marks: str) -> list[str]:
         return [text for mark, text in self.lines if mark in marks]
@@ -33,7 +35,7 @@ class Check(NamedTuple):
     def filled(self, values: dict[str, str]) -> "Check":
         """The same with these values in the place of their names in braces."""
         lines = [(mark, with_values(text, values)) for mark, text in self.lines]
-        return Check(self.place, with_values(self.title, values), lines)
+        return self._replace(title=with_values(self.title, values), lines=lines)
 
 
 def with_values(text: str, values: dict[str, str]) -> str:
@@ -56,9 +58,9 @@ def marked(place: str, line: str) -> tuple[str, str]:
     return mark, text
 
 
-def blocks_of(path: str) -> Iterator[tuple[Check, list[list[str]]]]:
+def blocks_of(path: str) -> Iterator[tuple[Check, Rows]]:
     """Each title of a table with its lines, and with the rows for which it is checked."""
-    name, found, rows = os.path.basename(path), None, []
+    name, found, rows = os.path.basename(path), None, {}
     with open(path, encoding="utf-8") as table:
         for number, line in enumerate(table.read().split("\n"), 1):
             place = f"{name}:{number}"
@@ -66,13 +68,14 @@ def blocks_of(path: str) -> Iterator[tuple[Check, list[list[str]]]]:
                 if found is None:
                     raise BadTable(f"{place}: no title stands above it")
                 if line[2:].startswith("|"):
-                    rows.append(cells_of(place, line[2:]))
+                    rows[number] = cells_of(place, line[2:])
                 else:
                     found.lines.append(marked(place, line[2:]))
+                    found = found._replace(at=(*found.at, number))
             elif line and not line.startswith("#"):
                 if found is not None:
                     yield found, rows
-                found, rows = Check(place, line, []), []
+                found, rows = Check(place, line, [], (number,)), {}
     if found is not None:
         yield found, rows
 
@@ -80,6 +83,9 @@ def blocks_of(path: str) -> Iterator[tuple[Check, list[list[str]]]]:
 def checks_of(path: str, values: dict[str, str]) -> Iterator[Check]:
     """The checks of a table, with these values; one for each row if there are rows."""
     for check, rows in blocks_of(path):
-        for cells in rows or [[]]:
+        if not rows:
+            yield check.filled(values)
+        for number, cells in rows.items():
+            row = check._replace(place=f"{os.path.basename(path)}:{number}", at=(*check.at, number))
             # (a value may stand in a cell)
-            yield check.filled({str(at): cell for at, cell in enumerate(cells, 1)}).filled(values)
+            yield row.filled({str(at): cell for at, cell in enumerate(cells, 1)}).filled(values)

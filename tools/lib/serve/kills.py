@@ -115,8 +115,15 @@ class Kills:
                 service.process.wait(20)
         except RuntimeError:  # (stopped before it listened)
             answered = 0
-        with open(count) as counted:
-            return self.is_kept(file, answered), int(counted.read())
+        return self.is_kept(file, answered), counted(count)
+
+
+def counted(path: str) -> int:
+    """The number of calls that a run wrote at its end; 0 if it wrote none, as one without the preload."""
+    if not os.path.exists(path):
+        return 0
+    with open(path, encoding="utf-8") as file:
+        return int(file.read())
 
 
 SEEN = "requests answered, state of the file after this many requests, status of the next opening"
@@ -133,6 +140,7 @@ def stops(tally: Tally, room: str, base: str) -> None:
     """The process stopped at each write of a few requests."""
     trial = Kills(tally, room, base, requests()[:9])
     _, writes = trial.stopped(0)
+    tally.wants("stops: the program makes its writes by the C library, where they are counted", writes > 0, writes)
     with concurrent.futures.ThreadPoolExecutor(4) as pool:
-        for at, ((good, found), _) in enumerate(pool.map(trial.stopped, range(1, writes + 1)), 1):
-            tally.wants(f"stop at write {at} of {writes}: {SEEN}", good, found)
+        for at, ((good, found), made) in enumerate(pool.map(trial.stopped, range(1, writes + 1)), 1):
+            tally.wants(f"stop at write {at} of {writes}: {SEEN}, writes made", good and made == at, (*found, made))

@@ -1,10 +1,13 @@
-"""Where the service listens: faults of an accept, and Unix sockets."""
+"""Where the service listens: faults of an accept, Unix sockets, and standard streams that are closed."""
+import contextlib
 import errno
 import os
 import shutil
 import socket
 import stat
 import subprocess
+
+from typing import Iterator
 
 from lib import clients, stored
 from lib.answers import done
@@ -75,6 +78,7 @@ def sockets(tally: Tally, room: str, base: str) -> None:
     tally.equal("its path afterwards", os.path.lexists(path), False)
     stale(tally, file, path)
     taken(tally, room, file)
+    left(tally, room, base)
 
 
 def permissions(tally: Tally, file: str, path: str) -> None:
@@ -128,3 +132,83 @@ def taken(tally: Tally, room: str, file: str) -> None:
     tally.equal("a folder that is missing", ran(file, missing), refused(missing, errno.ENOENT))
     said = "path must be shorter than SUN_LEN"
     tally.equal("a path that is too long", ran(file, long), (3, "", f"E91 Store\nopcmds: socket {long}: {said}\n"))
+
+
+@contextlib.contextmanager
+def last_exchange(tally: Tally, title: str, file: str, path: str) -> Iterator[None]:
+    """A service in its last exchange, within which its socket is removed; it ends after that."""
+    with Service(file, "--count", "1", socket=path) as service, clients.connected(path) as link:
+        os.remove(path)
+        yield
+        link.sendall(REFUSED)
+        tally.equal(f"{title} at the path: the exchange", clients.taken(link), NO_CONSOLE)
+        tally.equal(f"{title} at the path: the end", service.ended(), (0, "", ""))
+
+
+def left(tally: Tally, room: str, base: str) -> None:
+    """At its end a service removes the socket that it made, and nothing else that is at its path by then."""
+    file, other, path, target = f"{room}/ends", f"{room}/stays", f"{room}/end.sock", f"{room}/end.target"
+    for copy in (file, other):
+        shutil.copy(base, copy)
+    with last_exchange(tally, "nothing", file, path):
+        pass
+    tally.equal("nothing at the path afterwards", os.path.lexists(path), False)
+    with contextlib.ExitStack() as opened:
+        with last_exchange(tally, "another service", file, path):
+            service = opened.enter_context(Service(other, "--count", "1", socket=path))
+        tally.equal("the other service is reached", os.path.lexists(path) and clients.sent(path, REFUSED), NO_CONSOLE)
+        tally.equal("the other service ends", service.ended(), (0, "", ""))
+    tally.equal("the other service's path afterwards", os.path.lexists(path), False)
+    with last_exchange(tally, "a file", file, path), open(path, "w") as text:
+        text.write("precious")
+    tally.equal("the file at the path stays", os.path.lexists(path) and open(path).read(), "precious")
+    os.remove(path)
+    with socket.socket(socket.AF_UNIX) as listener:
+        listener.bind(target)
+        with last_exchange(tally, "a link to a socket", file, path):
+            os.symlink(target, path)
+    found = (os.path.islink(path), os.path.lexists(target))
+    tally.equal("the link to a socket stays", found, (True, True))
+    os.remove(path)
+    with Service(file, "--count", "1", socket=path) as service, clients.connected(path) as link:
+        os.rename(path, target)
+        os.rename(target, path)
+        link.sendall(REFUSED)
+        tally.equal("its socket, moved and moved back: the exchange", clients.taken(link), NO_CONSOLE)
+        tally.equal("its socket, moved and moved back: the end", service.ended(), (0, "", ""))
+    tally.equal("its socket is removed", os.path.lexists(path), False)
+
+
+class Closed(Service):
+    """A service that is started with standard streams closed, as a shell closes them."""
+
+    def __init__(self, closed: str, file: str, *words: str, socket: str) -> None:
+        self.closed = closed
+        super().__init__(file, *words, socket=socket)
+
+    def words(self, file: str, *words: str) -> list[str]:
+        return ["sh", "-c", f'exec "$0" "$@" {self.closed}', *super().words(file, *words)]
+
+
+def streams(tally: Tally, room: str, base: str) -> None:
+    """If standard streams are closed at the start, no connection gets their numbers: the response is as ever, without a
+    line of the log, and a service that cannot print where it listens ends."""
+    path = f"{room}/closed.sock"
+    asked = clients.head("POST", "/consoles/C1/command", BODY.encode()) + BODY.encode()
+    for closed in ("", "<&-", "2>&-", "<&- 2>&-"):
+        file = f"{room}/closed"
+        shutil.copy(base, file)
+        with Closed(closed, file, "--log", "--count", "2", socket=path) as service:
+            found = [clients.sent(path, asked) for _ in range(2)]
+            response = done("0A80 ONLINE  ------ -", rule="GROUP INFO AUTH SYS")
+            tally.equal(f"streams closed by '{closed}': the responses", found, [response] * 2)
+            status, printed, said = service.ended()
+            lines = 0 if "2" in closed else 2
+            tally.equal(f"streams closed by '{closed}': the end", (status, printed, said.count("\n")), (0, "", lines))
+    said = "E91 Store\nopcmds: standard output: Bad file descriptor\n"
+    for closed in (">&-", "<&- >&-", ">&- 2>&-", "<&- >&- 2>&-"):
+        words = ["sh", "-c", f'exec "$0" "$@" {closed}', built(), "serve", "--db", f"{room}/closed", "--socket", path]
+        ran_so = subprocess.run([*words, "--log"], stdin=subprocess.DEVNULL, capture_output=True, text=True, timeout=20)
+        found = (ran_so.returncode, ran_so.stdout, ran_so.stderr)
+        tally.equal(f"streams closed by '{closed}'", found, (3, "", "" if "2" in closed else said))
+        tally.equal(f"streams closed by '{closed}': no socket is left", os.path.lexists(path), False)

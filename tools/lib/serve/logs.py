@@ -45,7 +45,7 @@ LINES = [
     typed("C1", "D U", '- 200 - "D U" GROUP INFO AUTH SYS'),
     typed("C3", "D U", '- 403 E12 "D U" LOGONREQUIRED'),
     typed("C9", "D U", '- 404 E10 "D U" -'),
-    # no password, however a LOGON is typed
+    # no password of a LOGON, nor what follows the first word of what is none
     typed("C1", "LOGON ANNA,WRONG", '- 403 E14 "LOGON ANNA,********" -'),
     typed("C1", "  logon   anna,wrong  ", '- 403 E14 "  logon   anna,********" -'),
     typed("C9", "LOGON ANNA,ABC", '- 404 E10 "LOGON ANNA,********" -'),
@@ -59,6 +59,9 @@ LINES = [
     typed("C1", "LOGON ANNA,ABC\u20ac", '- 400 E03 "LOGON,********" -'),
     typed("C1", "LOGON ANNA,ABC" + " " * 113, '- 400 E02 "LOGON,********" -'),
     typed("C1", "LOGON", '- 400 E05 "LOGON" -'),
+    # but a password in another place
+    typed("C1", "LOGON.ANNA.GEHEIM", '- 400 E04 "LOGON.ANNA.GEHEIM" -'),
+    typed("C1", "LOGON ABC,ANNA", '- 403 E14 "LOGON ABC,********" -'),
     typed("C1", "LOGON ANNA,ABC", '- 200 - "LOGON ANNA,********" NOPROFILE'),
     typed("C1", "LOGON ANNA,ABC", 'ANNA 403 E15 "LOGON ANNA,********" -'),
     typed("C1", "C PAYROLL", f'ANNA 403 E20 "C PAYROLL" {PAYROLL}'),

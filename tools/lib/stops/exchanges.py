@@ -17,6 +17,7 @@ ROWS = [
 ]
 ALL = [*LISTED[:4], "MVS.START.** UACC READ OWNER ANNA", *LISTED[4:]]
 ONE = ["group,,NOON,,,,,"]
+WHOLE = {"an operation: Permit"}
 # By title: the request, after those that stand before it.
 OPERATIONS = {
     "AddUser": [add_user("C2", "FRED", done(), auditor=True, restricted=True)],
@@ -77,4 +78,7 @@ def works(room: str) -> list[Exchange]:
         **{f"an operation: {title}": steps for title, steps in OPERATIONS.items()},
         **{f"over HTTP: {title}": steps for title, steps in OTHERS.items()},
     }
-    return [Exchange(title, state, steps[-1], steps[:-1]) for title, steps in titled.items()]
+    found = [Exchange(title, state, steps[-1], steps[:-1]) for title, steps in titled.items()]
+    for work in found:
+        work.is_whole = work.title in WHOLE
+    return found

@@ -35,8 +35,8 @@ class Explained(Single):
         if (ran := self.run("", {})) != self.wanted:
             raise RuntimeError(f"{self.title}, without a fault: {ran}")
 
-    def run(self, file: str, environment: dict[str, str]) -> files.Ran:
-        return files.run(self.words, self.data, environment)
+    def command(self, file: str) -> tuple[list[str], str]:
+        return self.words, self.data
 
     def held(self, file: str) -> Held:
         return NONE

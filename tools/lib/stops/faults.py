@@ -14,6 +14,10 @@ class Kind(NamedTuple):
     part: str | None = None
     loses: str = ""
 
+    def counted_as(self) -> str:
+        """The word of its calls where those of every kind are counted."""
+        return self.call if self.part is None else self.word
+
     def is_stop(self) -> bool:
         return self.does == "stop"
 
@@ -23,7 +27,7 @@ class Kind(NamedTuple):
         if self.part is not None:
             found.update(FAULT_FILE=f"{file}{self.part}", FAULT_TIMES="0")
         if self.loses:
-            found["FAULT_LOSES"] = "0" if self.loses == ALL else str(seed * MANY + at)
+            found["FAULT_LOSES"] = "0" if self.loses == ALL else str((seed + 1) * MANY + at)
         return found
 
     def code(self) -> str:
@@ -41,6 +45,7 @@ LOSSES = [
     Kind("log", "any-write", part="-wal", loses=ALL), Kind("database", "any-write", part="", loses=ALL),
 ]
 KINDS = [*REFUSALS, *LOSSES]
+EVERY = Kind("every", "every", part="")  # no fault: calls of every kind are counted
 STOPPED = 77  # the status of a process that is stopped
 TEXTS = {"E90": "NoMemory", "E91": "Store"}
 

@@ -9,6 +9,7 @@ import tempfile
 from typing import Callable, NamedTuple
 
 from lib import files
+from lib.fuzz import logs
 
 Tables = dict[str, list[str]]
 PARTS = ("", "-wal", "-shm", "-journal")
@@ -31,10 +32,13 @@ def parts(file: str) -> list[str]:
 
 
 def digest(file: str) -> bytes:
+    """Of all its bytes, but for the random numbers of the log."""
     found = hashlib.sha256()
     for path in parts(file):
         with open(path, "rb") as part:
             data = part.read()
+        if path.endswith("-wal"):
+            data = logs.without_salts(data)
         found.update(f"{path.removeprefix(file)} {len(data)}\n".encode() + data)
     return found.digest()
 

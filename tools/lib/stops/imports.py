@@ -45,8 +45,8 @@ class Import(Aborting):
     def sent_again(self, file: str) -> tuple[files.Ran, Tables]:
         return self.run(file, {}), held_in(file)
 
-    def run(self, file: str, environment: dict[str, str]) -> files.Ran:
-        status, output, errors = super().run(file, environment)
+    def seen(self, ran: files.Ran, file: str) -> files.Ran:
+        status, output, errors = ran
         return status, output, without_note(errors)
 
     def tables_in(self, file: str) -> Tables:
@@ -89,8 +89,10 @@ def works(room: str) -> list[Single]:
     with open(POLICY, encoding="utf-8") as policy:
         first = policy.read()
     at_c2, at_c1, at_none = ["--batch", "7", "--console", "C2"], ["--batch", "7", "--console", "C1"], ["--batch", "1"]
+    new = Import("an import: batch 7, new", stored, at_c2, small, KEPT)
+    new.is_whole = True
     return [
-        Import("an import: batch 7, new", stored, at_c2, small, KEPT),
+        new,
         Import("an import: batch 7 of many rows, new", stored, at_c2, batch, KEPT),
         Import("an import: batch 7 again", again, at_c2, batch, AGAIN),
         Import("an import: batch 7 with other rows", again, at_c2, small, CHANGED),

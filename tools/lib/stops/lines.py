@@ -72,6 +72,9 @@ HALTED = [("2 * RESUME", "DONE -"), ("2 * JOBIN LATE JOB", "REFUSED E40 Halted -
 # the second device, moved to the first
 MOVED = [("2 C2 G 0A80,0A81", BY("IO"))]
 
+# a command that changes something, and a LOGON
+WHOLE = {f"2 C1 {text}\n" for text in ("C BACKUP", "LOGON BERT,ABC")}
+
 
 def works(room: str) -> list[Single]:
     logons, master = Prepared(room, "logons", [*JOBS, *LOGONS]), Prepared(room, "master", ROOM)
@@ -79,4 +82,7 @@ def works(room: str) -> list[Single]:
     halted = Prepared(room, "halted", [*JOBS, "1 C2 Z EOD"])
     moved = Prepared(room, "moved", [*JOBS, "1 C2 M 0A80,VOL=PAY001"])
     tables = [(logons, ANNAS), (carl, CARLS), (master, MASTERS), (halted, HALTED), (moved, MOVED)]
-    return [Line(state, *line) for state, lines in tables for line in lines]
+    found = [Line(state, *line) for state, lines in tables for line in lines]
+    for work in found:
+        work.is_whole = work.data in WHOLE
+    return found

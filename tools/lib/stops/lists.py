@@ -97,6 +97,7 @@ class Requests(Work[Ran]):
     was not read is not there."""
 
     counted_from = "1"
+    can_fork = False
 
     def __init__(self, title: str, state: Prepared, steps: list[Step]) -> None:
         super().__init__(f"a list: {title}", state)

@@ -33,7 +33,7 @@ class Opening(Single):
     as the opening leaves it if anything was printed; and then the same export is good, and leaves it so. Of a new
     file a page may be there in which nothing stands yet, which is no database to other programs."""
 
-    loses_most = True
+    is_whole = loses_most = True
     counted_from = None
 
     def __init__(self, name: str, version: int | None, state: Prepared) -> None:
@@ -58,9 +58,9 @@ class Opening(Single):
         if self.version:
             shutil.copy(self.older, file)
 
-    def run(self, file: str, environment: dict[str, str]) -> files.Ran:
+    def seen(self, ran: files.Ran, file: str) -> files.Ran:
         """The export, without the line that says of a new file that it was made, as far as that could be written."""
-        status, output, errors = super().run(file, environment)
+        status, output, errors = ran
         made = "" if self.version else files.made(file)
         return status, output, "" if made.startswith(errors) else errors.removeprefix(made)
 

@@ -63,8 +63,8 @@ class Script(Work[files.Ran]):
         if [moment for moment, _ in whole] != self.moments:
             raise RuntimeError(f"{self.title}, without a fault: {whole}")
 
-    def run(self, file: str, environment: dict[str, str]) -> files.Ran:
-        return files.script(self.lines, file, environment, self.policy)
+    def command(self, file: str) -> tuple[list[str], str]:
+        return files.script_words(file, self.policy), "".join(self.lines)
 
     def after(self, which: tuple[int, ...]) -> tuple[Answers, Tables]:
         """What these lines come to, without a fault: their answers, and the tables."""

@@ -7,7 +7,7 @@ from lib import clients, files
 from lib.requests import Step
 from lib.serve.rows import timeless as timeless_response
 from lib.service import FIRST, Service
-from . import faults
+from . import faults, forks
 from .faults import Kind
 from .held import Held, Tables, held_in, timeless
 from .prepared import Prepared
@@ -67,6 +67,23 @@ class Exchange(Single):
 
     def run(self, file: str, environment: dict[str, str]) -> Ran:
         return asked(self.steps, file, environment)
+
+    def forked(self, room: str, file: str, environment: dict[str, str], places: list[int]) -> forks.Forked[Ran]:
+        """One service, which forks before it accepts the request: each child answers it, and at last the service."""
+        said = f"{room}/err"
+        environment = {**environment, **forks.forking(room, file, places, [said])}
+        with open(said, "wb") as errors:
+            with Faulty(file, "--count", str(len(self.steps)), errors=errors, **environment) as service:
+                earlier = [service.response(step) for step in self.steps[:-1]]
+                of_each = {at: service.response(self.step) for at in places}
+                response = service.response(self.step)
+                status, output, _ = service.ended(forks.PATIENCE)
+        whole = Ran([*earlier, response], status, output, forks.text_of(said))
+        children = {
+            at: (Ran([*earlier, of_each[at]], found.status, output, "".join(found.printed)), found.file)
+            for at, found in forks.endings(room).items()
+        }
+        return forks.Forked(whole, children)
 
     def tables_in(self, file: str) -> Tables:
         return held_in(file)

@@ -44,8 +44,8 @@ class Single(Work[files.Ran]):
     def tables_in(self, file: str) -> Tables:
         return files.tables(file)
 
-    def run(self, file: str, environment: dict[str, str]) -> files.Ran:
-        return files.run([self.words[0], "--db", file, *self.words[1:]], self.data, environment)
+    def command(self, file: str) -> tuple[list[str], str]:
+        return [self.words[0], "--db", file, *self.words[1:]], self.data
 
     def aborted(self, code: str) -> str | None:
         """What is printed of a request that was aborted, if anything is."""

@@ -2,6 +2,8 @@
 import shutil
 from typing import Generic, TypeVar
 
+from lib import files
+from . import forks
 from .faults import KINDS, Kind
 from .held import Held, Known
 from .prepared import Prepared
@@ -19,6 +21,8 @@ class Work(Generic[Ran]):
     loses_most = False  # whether more stops at which something is lost are tried of this work than of others
     counted_from: str | None = None  # FAULT_FROM of lib/inject/faults.c; none: the start of the process
     skips_opening = False  # whether the calls of the opening are left out, if the count cannot begin after them
+    is_whole = False  # whether every call is tried, and not a sample, even of those after which something is lost
+    can_fork = True  # whether one run can fork at each call that is tried
 
     def __init__(self, title: str, state: Prepared | None) -> None:
         self.title, self.state, self.known = title, state, Known()
@@ -31,8 +35,23 @@ class Work(Generic[Ran]):
         if self.state:
             shutil.copy(self.state.file(), file)
 
-    def run(self, file: str, environment: dict[str, str]) -> Ran:
+    def command(self, file: str) -> tuple[list[str], str]:
+        """The words and the input of a run of the program alone."""
         raise NotImplementedError
+
+    def seen(self, ran: files.Ran, file: str) -> files.Ran:
+        """How a run of the program over this file ended, without what does not count."""
+        return ran
+
+    def run(self, file: str, environment: dict[str, str]) -> Ran:
+        words, data = self.command(file)
+        return self.seen(files.run(words, data, environment), file)
+
+    def forked(self, room: str, file: str, environment: dict[str, str], places: list[int]) -> forks.Forked[Ran]:
+        """One run, in this folder, which forks at the calls with these numbers."""
+        found = forks.of_program(room, *self.command(file), file, environment, places)
+        children = {at: (self.seen(ran, file), left) for at, (ran, left) in found.children.items()}
+        return forks.Forked(self.seen(found.whole, file), children)
 
     def held(self, file: str) -> Held:
         """What is in the file then."""

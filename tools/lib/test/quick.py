@@ -47,7 +47,7 @@ class Quick:
     def compiled(self) -> bool:
         """Compiles the program if it is not that of these sources; says whether it is there."""
         began = time.monotonic()
-        is_made = subprocess.run(["tools/unproved"], cwd=self.top, stdin=subprocess.DEVNULL).returncode == 0
+        is_made = subprocess.run(["tools/unproved", "--whole"], cwd=self.top, stdin=subprocess.DEVNULL).returncode == 0
         with self.turn:
             print(f"{'compiled' if is_made else 'not compiled'}, in {time.monotonic() - began:.0f} seconds", flush=True)
         return is_made

@@ -4,13 +4,15 @@ import subprocess
 import tempfile
 import unittest
 
-from lib.clone import Clone, lines_of, standing_on
+from lib.clone import Clone, below_in, crates_of_tests, lines_in, lines_of, standing_on
+from lib.places import TOP
 
 CRATES = """\
 # words
 low: arrayvec
 other: low  # beside it
 high: low thiserror
+high_tests: high
 """
 
 
@@ -19,7 +21,7 @@ class Copies(unittest.TestCase):
         room = tempfile.TemporaryDirectory()
         self.addCleanup(room.cleanup)
         self.top, self.room = f"{room.name}/top", f"{room.name}/room"
-        for name in ("low", "other", "high"):
+        for name in ("low", "other", "high", "high_tests"):
             self.write(f"crates/{name}/src/lib.rt", name)
             self.write(f"crates/{name}/out/kept", name)
         self.write("crates/high/must-fail/it.edit", "")
@@ -35,7 +37,8 @@ class Copies(unittest.TestCase):
     def test_what_crates_stand_on(self) -> None:
         known = lines_of(self.top)
         self.assertEqual(
-            {name: below for name, (_, below) in known.items()}, {"low": [], "other": ["low"], "high": ["low"]}
+            {name: below for name, (_, below) in known.items()},
+            {"low": [], "other": ["low"], "high": ["low"], "high_tests": ["high"]},
         )
         self.assertEqual(standing_on(known, ["high"]), {"high", "low"})
 
@@ -46,12 +49,26 @@ class Copies(unittest.TestCase):
         with open(f"{clone.root}/crates.txt", encoding="utf-8") as file:
             self.assertEqual(file.read(), "low: arrayvec\nhigh: low thiserror\n")
 
-    def test_edits_are_away_for_a_time(self) -> None:
+    def test_what_the_product_stands_on_is_proved_with_it(self) -> None:
+        known = lines_in("high: kept_failing\nkept_failing:\nhigh_tests: high lost_failing\nlost_failing:\n")
+        self.assertEqual(crates_of_tests(below_in(known)), {"high_tests", "lost_failing"})
+        known = lines_of(TOP)
+        proved = known.keys() - crates_of_tests(below_in(known))
+        self.assertEqual(standing_on(known, proved), proved)
+
+    def test_edits_and_tests_are_away_for_a_time(self) -> None:
         clone = Clone(self.top, self.room, [])
-        folder = f"{clone.root}/crates/high/must-fail"
-        with clone.without_edits():
+        parts = ("crates/high/must-fail", "crates/high_tests", "crates.txt")
+        folder, tests, listed = (f"{clone.root}/{part}" for part in parts)
+        with clone.to_prove():
             self.assertFalse(os.path.exists(folder))
+            self.assertFalse(os.path.exists(tests))
+            self.assertNotIn("high_tests", lines_of(clone.root))
+            self.assertIn("high", lines_of(clone.root))
         self.assertEqual(os.listdir(folder), ["it.edit"])
+        self.assertEqual(os.listdir(f"{tests}/src"), ["lib.rt"])
+        with open(listed, encoding="utf-8") as file:
+            self.assertEqual(file.read(), CRATES)
 
 
 if __name__ == "__main__":

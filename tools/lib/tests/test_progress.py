@@ -1,5 +1,6 @@
 """What is said of how far a build is."""
 import io
+import tempfile
 import unittest
 
 from lib.progress import Progress, Said
@@ -24,6 +25,14 @@ class Checks(unittest.TestCase):
         progress.begins("high", said)
         said.write("checked high::a, 1 of 2\n")
         self.assertRegex(progress.line(), r"building: 1 of 2 crates proved, 0:0\d minutes; now high 1 of 2 functions$")
+
+    def test_what_a_build_keeps(self) -> None:
+        with tempfile.TemporaryDirectory() as kept:
+            said = Said(kept)
+            self.assertEqual(said.so_far(), "")
+            for name in ("low-proofs.a.Met.oantt", "low-proofs.b.Met.oantt", "low-proofs.b.oantt"):
+                open(f"{kept}/{name}", "w").close()
+            self.assertEqual(said.so_far(), "2 functions")
 
 
 if __name__ == "__main__":

@@ -22,7 +22,12 @@ class Unproved(unittest.TestCase):
     def test_a_program_without_a_proof_says_so(self) -> None:
         copy = version.unproved_copy(os.path.dirname(version.SOURCE), f"{self.folder}/copy")
         self.assertEqual(sorted(os.listdir(copy)), sorted(os.listdir(os.path.dirname(version.SOURCE))))
-        self.assertEqual(version.lines_in(f"{copy}/version.rt"), [version.line(is_proved=False)])
+        self.assertEqual(version.lines_in(f"{copy}/version.rt"), [version.line(version.UNPROVED)])
+
+    def test_a_patched_program_says_so(self) -> None:
+        copy = version.unproved_copy(os.path.dirname(version.SOURCE), f"{self.folder}/copy", version.PATCHED)
+        self.assertEqual(version.lines_in(f"{copy}/version.rt"), [version.line(version.PATCHED)])
+        self.assertTrue(version.line(version.PATCHED).endswith("not proved, patched)"))
 
     def test_sources_without_the_word_are_not_compiled(self) -> None:
         os.mkdir(f"{self.folder}/src")

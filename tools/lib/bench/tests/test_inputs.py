@@ -8,7 +8,7 @@ from lib.bench.mixture import kinds, mixed
 MOST = {
     "explain": (16_777_216, 10_000), "first policy": (16_777_216, 10_000), "export": (16_777_216, 10_000),
     "import": (16_777_216, 10_000), "again": (16_777_216, 10_000), "script": (1_048_576, None),
-    "body": (65_536, None), "account": (4, None),
+    "body": (65_536, None), "account": (4, None), "commands": (16_777_216, 10_000),
 }
 
 

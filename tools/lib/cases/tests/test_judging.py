@@ -6,6 +6,7 @@ import unittest
 
 from lib import answers
 from lib.cases import accounts, exchanges, rooms, tables
+from lib.rows import NoRow
 
 TABLE = """\
 # Two rooms.
@@ -32,11 +33,26 @@ def left(*cases: tuple[str, list[str]]) -> list[str]:
 
 
 class Tables(unittest.TestCase):
-    def test_rooms_begin_with_what_stands_above_them(self) -> None:
+    def setUp(self) -> None:
         with tempfile.NamedTemporaryFile("w", suffix=".cases", delete=False) as out:
             out.write(TABLE)
         self.addCleanup(os.remove, out.name)
-        first, second = tables.rooms_of(out.name)
+        self.path = out.name
+
+    def test_a_line_is_asked_with_those_before_it(self) -> None:
+        first, second = tables.rooms_of(self.path)
+        self.assertEqual(tables.room_of(self.path, 6), (first._replace(cases=first.cases[:1]), False))
+        for line in (8, 9, 10):
+            self.assertEqual(tables.room_of(self.path, line), (first, True))
+        self.assertEqual(tables.room_of(self.path, 13), (second, True))
+
+    def test_lines_in_which_nothing_is_asked(self) -> None:
+        for line in (0, 1, 2, 3, 4, 5, 11, 12, 15):
+            with self.assertRaises(NoRow):
+                tables.room_of(self.path, line)
+
+    def test_rooms_begin_with_what_stands_above_them(self) -> None:
+        first, second = tables.rooms_of(self.path)
         self.assertEqual(
             (first.title, first.rows, first.beginning), ("The first", ("group,,OPS,,,,,,,",), ("1 * HALT",))
         )

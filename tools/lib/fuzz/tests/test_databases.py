@@ -6,6 +6,7 @@ import tempfile
 import unittest
 from random import Random
 
+from lib import older
 from lib.fuzz import bases, broken, databases, states
 from lib.fuzz.databases import Database, Edit
 from lib.fuzz.runs import Ran, Wrong
@@ -103,6 +104,22 @@ class States(unittest.TestCase):
         }
         for table, rows in bad.items():
             self.assertIsNone(states.state_of({**self.rows, table: rows}), table)
+
+    def test_bytes_that_are_no_text(self) -> None:
+        with tempfile.TemporaryDirectory() as folder:
+            file = f"{folder}/db"
+            with contextlib.closing(sqlite3.connect(file, isolation_level=None)) as writer:
+                for statement in older.statements(tables.VERSION).values():
+                    writer.execute(statement)
+                writer.execute("INSERT INTO units VALUES ('CICS', 'S', 'CICS', 1, 0, CAST(x'5354FF' AS TEXT))")
+                writer.execute("INSERT INTO replies VALUES (7, CAST(x'5354FF' AS TEXT))")
+            found = bases.looked(file, folder)
+        self.assertEqual(found.faults, [])
+        for table in ("units", "replies"):
+            self.assertIsNone(states.state_of({**self.rows, table: found.rows[table]}), table)
+        # what looks like such a byte may have been typed
+        for table, row in (("units", ("CICS", "S", "CICS", 1, 0, "ST\\xff")), ("replies", (7, "ST\\xff"))):
+            self.assertIsNotNone(states.state_of({**self.rows, table: [row], "devices": []}), table)
 
     def test_statements(self) -> None:
         for number in range(300):

@@ -2,7 +2,7 @@
 import unittest
 
 from lib.manual.help import Command, Option
-from lib.manual.page import codes_in, differences, examples_in
+from lib.manual.page import codes_in, differences, examples_in, misplaced_in
 
 PAGE = """\
 .Sh NAME
@@ -94,6 +94,11 @@ class Page(unittest.TestCase):
             ("E10", "`NoConsole`", "there is none"),
         ]
         self.assertEqual(codes_in(PAGE), wanted)
+
+    def test_brackets_and_quotes(self) -> None:
+        shown = "gate {--port number [--strict |] --socket\n    path} [--log] says ‘HELD level ‘BY source’’ or ‘a’ ‘b’"
+        self.assertEqual(misplaced_in(shown), ["|]", "‘HELD level ‘BY source’’"])
+        self.assertEqual(misplaced_in("gate {--port number [--strict] | --socket path} says ‘a’ or ‘b’."), [])
 
     def test_examples(self) -> None:
         self.assertEqual(examples_in(PAGE), ["gate serve --db x"])

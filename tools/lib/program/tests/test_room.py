@@ -9,6 +9,7 @@ from unittest import mock
 from lib.program import room as rooms
 from lib.program.room import Ran, Room
 from lib.program.tables import Check
+from lib.rows import NoRow
 from lib.tally import Tally
 
 # prints its input, says its first word, and ends with its second as the status
@@ -16,6 +17,22 @@ PROGRAM = """#!/bin/sh
 cat
 test -z "$1" || echo "$1" >&2
 exit "${2:-0}"
+"""
+
+
+ROWS = """\
+# A remark.
+file {room}/begins
+  < one
+a file
+  $ ''
+a wrong status
+  $ '' 3
+the word '{{1}}'
+  $ '{{1}}' {{2}}
+  |one|0|
+  |two|1|
+  ! {{1}}
 """
 
 
@@ -95,6 +112,25 @@ class Runs(unittest.TestCase):
         self.assertEqual(self.judged(*asked, (">", "1|x")), (0, 1))
         self.assertEqual(self.judged(("absent", path)), (0, 1))
         self.assertEqual(self.judged(("absent", f"{path}-none")), (1, 0))
+
+    def row(self, line: int) -> tuple[int, int, str]:
+        """How many checks of a line of ROWS passed and failed, and what was printed."""
+        said = io.StringIO()
+        with mock.patch.object(rooms, "TABLES", self.folder), contextlib.redirect_stdout(said):
+            self.room.row("rows", line)
+        return self.tally.passed, self.tally.failed, said.getvalue()
+
+    def test_one_row_is_counted_and_those_before_it_are_run(self) -> None:
+        with open(f"{self.folder}/rows.runs", "w", encoding="utf-8") as file:
+            file.write(ROWS.format(room=self.folder))
+        self.assertEqual(self.row(4), (1, 0, ""))
+        self.assertEqual(self.row(10), (2, 0, "rows.runs:10: 1 of 2 checks before it failed\n"))
+        passed, failed, said = self.row(6)
+        self.assertEqual((passed, failed), (2, 1))
+        self.assertTrue(said.startswith("rows.runs:6: a wrong status: no"), said)
+        self.assertEqual(self.row(8)[:2], (3, 2), "the title of rows has all of them")
+        with self.assertRaises(NoRow):
+            self.row(1)
 
     def test_what_makes_ready_is_not_counted_and_has_to_be_good(self) -> None:
         self.assertEqual(self.judged(("$", ""), title="(ready)"), (0, 0))

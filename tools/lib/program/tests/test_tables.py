@@ -27,7 +27,9 @@ class Reading(unittest.TestCase):
         with tempfile.NamedTemporaryFile("w", suffix=".runs", delete=False) as out:
             out.write(text)
         self.addCleanup(os.remove, out.name)
-        return [check._replace(place=check.place.split(":")[1]) for check in checks_of(out.name, {"room": "/room"})]
+        found = list(checks_of(out.name, {"room": "/room"}))
+        self.lines = [check.at for check in found]
+        return [check._replace(place=check.place.split(":")[1], at=()) for check in found]
 
     def test_a_table(self) -> None:
         file, ready, first, second = self.checks(TABLE)
@@ -35,8 +37,14 @@ class Reading(unittest.TestCase):
         self.assertEqual((ready.title, ready.text("$")), ("(SECADM is on)", "run --db /room/db"))
         self.assertEqual([check.is_ready() for check in (file, ready, first, second)], [True, True, False, False])
         lines = [("$", "run"), ("<-", "1 * "), ("status", "0 or 1"), (">", "")]
-        self.assertEqual(first, Check("7", "the line '1 * '", lines))
+        self.assertEqual(first, Check("12", "the line '1 * '", lines))
+        self.assertEqual(second.place, "13")
         self.assertEqual((second.title, second.text("<-"), second.text("status")), ("the line ''", "", "2"))
+
+    def test_where_it_stands(self) -> None:
+        self.checks(TABLE)
+        title = (7, 8, 9, 10, 11)
+        self.assertEqual(self.lines, [(2, 3), (4, 5), (*title, 12), (*title, 13)])
 
     def test_marks(self) -> None:
         check, = self.checks("a title\n  > one\n  >   two\n  <\n")

@@ -111,7 +111,7 @@ class Losses(unittest.TestCase):
         stop = {"FAULT_CALL": "any-write", "FAULT_KIND": "stop", "FAULT_AT": "7"}
         self.assertEqual(STOP.environment(7, "db", 3), stop)
         self.assertEqual(POWER.environment(7, "db", 3), {**stop, "FAULT_LOSES": "0"})
-        self.assertEqual(TORN.environment(7, "db", 3), {**stop, "FAULT_LOSES": "3000007"})
+        self.assertEqual(TORN.environment(7, "db", 3), {**stop, "FAULT_LOSES": "4000007"})
         fails = {**stop, "FAULT_KIND": "fail", "FAULT_LOSES": "0", "FAULT_TIMES": "0"}
         self.assertEqual(LOG.environment(7, "db", 3), {**fails, "FAULT_FILE": "db-wal"})
         self.assertEqual(DISK.environment(7, "db", 3), {**fails, "FAULT_FILE": "db"})

@@ -7,10 +7,13 @@ import subprocess
 import sys
 import tempfile
 import unittest
+from unittest import mock
 
 from lib.places import preload
+from lib.stops import exchanges, explained, imports, lines, lists, openings, script
 from lib.stops.faults import KINDS, LOSSES, REFUSALS
-from lib.stops.trials import Chosen, Point, disordered, places
+from lib.stops.forks import Forked
+from lib.stops.trials import Chosen, Count, Point, Trial, disordered, places
 from lib.stops.work import ABORTED, ANSWERED, UNREAD, UNWRITTEN, Work
 
 COMPILER = shutil.which("cc")
@@ -42,6 +45,27 @@ class Places(unittest.TestCase):
         self.assertEqual([sample.most_of(kind, work) for kind in KINDS], [30] * 5 + [300] * 4)
         self.assertEqual({every.most_of(kind, work) for kind in KINDS}, {None})
 
+    def test_in_the_usual_run(self) -> None:
+        work, usual = Work("one", None), Chosen(30, is_usual=True)
+        self.assertEqual([usual.most_of(kind, work) for kind in KINDS], [None] * 5 + [3] * 4)
+        work.is_whole = True
+        self.assertEqual([usual.most_of(kind, work) for kind in KINDS], [None] * 9)
+        self.assertEqual([Chosen(30).most_of(kind, work) for kind in KINDS], [30] * 5 + [3] * 4)
+        work.is_whole = work.can_fork = False
+        self.assertEqual([usual.most_of(kind, work) for kind in KINDS], [30] * 5 + [3] * 4)
+
+    def test_works_that_are_tried_whole(self) -> None:
+        parts = (lines, exchanges, imports, explained, openings, script, lists)
+        every = [work for part in parts for work in part.works("")]
+        self.assertEqual([work.title for work in every if work.is_whole], [
+            "a command: C1 C BACKUP, done", "a command: C1 LOGON BERT,ABC, E15", "a command: C1 LOGON BERT,ABC, done",
+            "an operation: Permit", "an import: batch 7, new", "an opening: a file of version 1",
+            "an opening: a file of version 2", "an opening: a file of version 3", "an opening: a new file",
+        ])
+        self.assertEqual({work.title for work in every if not work.can_fork}, {
+            f"a list: {title}" for title in [*lists.LISTS, "a policy changed, and commands by it"]
+        })
+
     def test_kinds(self) -> None:
         self.assertEqual(Chosen().kinds(KINDS), KINDS)
         self.assertEqual(Chosen(words=["power", "alloc"]).kinds(KINDS), [KINDS[0], LOSSES[0]])
@@ -51,6 +75,51 @@ class Places(unittest.TestCase):
     def test_each_can_be_chosen(self) -> None:
         found = {at for seed in range(200) for at in places(1, 7, 3, random.Random(seed))}
         self.assertEqual(found, set(range(1, 8)))
+
+
+class Children(unittest.TestCase):
+    """How far the calls come that a run forks at."""
+
+    def stages(self, *children: int, whole: str | None = ANSWERED) -> list[str | None]:
+        work = mock.Mock(Work("one", None), begin=lambda file: None, counted_from=None, left=lambda held: "")
+        ends = {at: ((0, "", f"{at}"), "db") for at in children}
+        work.forked = lambda *_: Forked((0, "", ""), ends)
+        work.stage = lambda kind, ran, held: ABORTED if ran[2] else whole
+        with tempfile.TemporaryDirectory() as room:
+            trial = Trial(room, "", work, Chosen(30), None)
+            return [point.stage for point in trial.at_each(KINDS[0], [3, 5, 8])]
+
+    def test_each(self) -> None:
+        self.assertEqual(self.stages(3, 5, 8), [ABORTED] * 3)
+
+    def test_a_run_with_fewer_calls(self) -> None:
+        self.assertEqual(self.stages(3, 5), [ABORTED, ABORTED, ANSWERED])
+        self.assertEqual(self.stages(3, 8), [ABORTED, None, ABORTED])
+
+    def test_no_child(self) -> None:
+        self.assertEqual(self.stages(), [None] * 3)
+
+    def test_a_run_that_ends_otherwise(self) -> None:
+        self.assertEqual(self.stages(3, 5, 8, whole=ABORTED), [None] * 3)
+
+
+class Alone(unittest.TestCase):
+    """One call of each work is tried by a run of its own, too."""
+
+    def bad(self, stage: str | None) -> list[Point]:
+        with tempfile.TemporaryDirectory() as room:
+            trial = Trial(room, "", Work("one", None), Chosen(30), None)
+        with mock.patch.object(trial, "once", lambda kind, at: Point(at, stage, "how it ended")):
+            bad = [[], []]
+            trial.try_alone([Count(kind, 1, [1], 1) for kind in KINDS[:2]], [[], [Point(7, ABORTED, "")]], bad)
+        self.assertEqual(bad[0], [])
+        return bad[1]
+
+    def test_as_the_child(self) -> None:
+        self.assertEqual(self.bad(ABORTED), [])
+
+    def test_another_stage(self) -> None:
+        self.assertEqual(self.bad(UNREAD), [Point(7, None, "aborted, but alone unread: how it ended")])
 
 
 class Order(unittest.TestCase):

@@ -1,0 +1,1 @@
+"""What changed since a commit, and the steps of tools/check over it."""

@@ -1,0 +1,1 @@
+"""Tests of what counts as a failure of the service: tools/selftest runs them."""

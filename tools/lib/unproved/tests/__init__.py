@@ -1,0 +1,1 @@
+"""Tests of tools/unproved: tools/selftest runs them."""

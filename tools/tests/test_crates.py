@@ -1,0 +1,39 @@
+"""The documents have each crate of crates.txt: ARCHITECTURE those of the product, PROVED those with contracts, and
+PERFORMANCE all."""
+import re
+import unittest
+
+from lib import crates
+from lib.places import TOP
+
+
+def page(name: str) -> str:
+    with open(f"{TOP}/docs/{name}.md", encoding="utf-8") as it:
+        return it.read()
+
+
+class Crates(unittest.TestCase):
+    maxDiff = None
+
+    def test_architecture_has_a_row_for_each_of_the_product(self) -> None:
+        rows = re.findall(r"(?m)^\|[^|]*\| `(\w+)` \|", page("ARCHITECTURE"))
+        self.assertEqual(sorted(rows), sorted(crates.product_crates()))
+
+    def test_proved_has_each_with_contracts(self) -> None:
+        headed = re.findall(r"`(opc\w+)`", "\n".join(re.findall(r"(?m)^## .*", page("PROVED"))))
+        proved = [name for name in crates.product_crates() if crates.has_contracts(name)]
+        self.assertEqual([name for name in proved if headed.count(name) != 1], [])
+        self.assertEqual(sorted({*headed} - {*crates.product_crates()}), [])
+
+    def test_performance_has_a_row_for_each(self) -> None:
+        rows = re.findall(r"(?m)^\| `(opc\w*)` \|(?:[^|]*\|){3}$", page("PERFORMANCE"))
+        self.assertEqual(sorted(rows), sorted(crates.crates()))
+
+    def test_layers_are_read(self) -> None:
+        text = "# words\nopc_a: x\n# cases and tests\nopc_b: opc_a\n"
+        layers = [("words", {"opc_a": ["x"]}), ("cases and tests", {"opc_b": ["opc_a"]})]
+        self.assertEqual(crates.layers_in(text), layers)
+
+    def test_contracts_are_found(self) -> None:
+        self.assertTrue(crates.has_contracts("opc_account"))
+        self.assertFalse(crates.has_contracts("opcmds"))

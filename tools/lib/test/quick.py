@@ -34,7 +34,7 @@ class Quick:
     def __init__(self, top: str, left_out: dict[str, str]) -> None:
         self.top, self.left_out, self.passed, self.failed = top, left_out, 0, 0
         self.program = f"{top}/crates/opcmds/out/unproved/opcmds"
-        self.turn, self.began = threading.Lock(), time.monotonic()
+        self.turn, self.began, self.failures = threading.Lock(), time.monotonic(), []
 
     def step(self, title: str, words: list[str]) -> None:
         """Runs a tool, and prints all that it printed at its end, since others run beside it."""
@@ -42,6 +42,7 @@ class Quick:
         ran = Step(words, self.top, lines.append, {"OPCMDS": self.program})
         with self.turn:
             self.passed, self.failed = self.passed + ran.passed, self.failed + ran.failed
+            self.failures += [f"{title}: {line}" for line in ran.failures()]
             print(f"{''.join(lines)}{title}: {ran.counts()}, in {ran.seconds:.0f} seconds", flush=True)
 
     def compiled(self) -> bool:
@@ -67,5 +68,6 @@ class Quick:
         for tool, lacks in self.left_out.items():
             print(f"not tried: tools/{tool}, which needs {lacks}")
         print(f"nothing was proved: tools/test proves everything. {(time.monotonic() - self.began) / 60:.1f} minutes")
+        print("".join(f"failed: {line}\n" for line in self.failures), end="")
         print(f"{self.passed} passed, {self.failed} failed", flush=True)
         return 1 if self.failed else 0

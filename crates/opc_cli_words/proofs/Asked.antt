@@ -36,7 +36,8 @@ use Rattle.opc_cli_words.specs.Accounts.{
 }
 use Rattle.opc_cli_words.specs.Numbers.{number_between}
 use Rattle.opc_cli_words.specs.Checks.{Check, first_mistake}
-use Rattle.opc_cli_words.specs.Mistakes.{unread}
+use Rattle.opc_cli_words.specs.declared.mistake.Mistake.{Mistake}
+use Rattle.opc_cli_words.specs.declared.mistake.Mistake.TheVariants as wrong
 use Rattle.opc_cli_words.specs.Services.{IsAddress}
 use Rattle.opc_cli_words.specs.Sources.{IsSource}
 use Rattle.opc_cli_words.specs.Enquiries.{kind_given}
@@ -79,7 +80,7 @@ options_by explain run import serve who check account command =
     else if bytes_eq command (codes "check") then check
     else if bytes_eq command (codes "account") then account
     else if bytes_eq command (codes "digest") then []
-    else (unread (codes "COMMAND"), false) ∷ []
+    else (wrong.NoCommand, false) ∷ []
 
 -- two ways in which the values of options are known
 module _ (one other : List ℕ → Option (List ℕ)) (same : (name : List ℕ) → one name ≡ other name) where
@@ -305,7 +306,7 @@ module _ {B : Type 0} (name_of : B → List ℕ) (rows_in : B → List Row) wher
       let also : rows_in b ≡ rows = cc in
       ap₂ (λ x y. let p : List ℕ × List Row = (x, y) in Some p) same also
 
-pub fails_at : (found : ArgMatches) (chosen : Found) (command mistake : List ℕ) → Some command ≡ subcommand_name_of found
+pub fails_at : (found : ArgMatches) (chosen : Found) (command : List ℕ) (mistake : Mistake) → Some command ≡ subcommand_name_of found
     → Some (rows_of chosen) ≡ option_map (λ (p : List ℕ × List Row). p.1) (subcommand_rows_of found)
     → first_mistake (options_of (first_value chosen) command) ≡ Some mistake
     → FailsAt (subcommand_rows_of found) command mistake

@@ -4,9 +4,7 @@ use Rattle.std.specs.Prelude.{OnOk, Result, Ok, Err}
 use Rattle.std.specs.Io.KnownBytes.{Appends}
 use Rattle.opc_io.proofs.Writing.{appends-more}
 
-pub five_pieces : {A E : Type 0} (result : Result A E) (a b c d e f : Option (List ℕ)) (p q r s t line : List ℕ) → line ≡ p ++ q ++ r ++ s ++ t
-    → Appends a b p → Appends b c q → Appends c d r → Appends d e s → OnOk result (Appends e f t) → OnOk result (Appends a f line)
-five_pieces (Ok v) a b c d e f p q r s t line is h i j k l =
-    subst (Appends a f) (sym is)
-    (appends-more a e f (p ++ q ++ r ++ s) t (appends-more a d e (p ++ q ++ r) s (appends-more a c d (p ++ q) r (appends-more a b c p q h i) j) k) l)
-five_pieces (Err x) a b c d e f p q r s t line is h i j k l = tt
+pub last_piece : {A E : Type 0} (result : Result A E) (a b c : Option (List ℕ)) (before last line : List ℕ) → line ≡ before ++ last
+    → Appends a b before → OnOk result (Appends b c last) → OnOk result (Appends a c line)
+last_piece (Ok v) a b c before last line is h k = subst (Appends a c) (sym is) (appends-more a b c before last h k)
+last_piece (Err x) a b c before last line is h k = tt

@@ -42,9 +42,11 @@ use Rattle.opc_account.specs.declared.query.First.TheVariants.{Last, Number}
 use Rattle.opc_cli_words.specs.declared.account.Account.{Account}
 use Rattle.opc_cli_words.specs.Checks.{Check}
 use Rattle.opc_cli_words.specs.Enquiries.{is_a}
-use Rattle.opc_cli_words.specs.Mistakes.{unread}
 use Rattle.opc_cli_words.specs.Numbers.{number_between}
 use Rattle.opc_cli_words.specs.Options.{given, is_set}
+use Rattle.opc_cli_words.specs.declared.mistake.Mistake.TheVariants as wrong
+use Rattle.opc_cli_words.specs.declared.mistake.Opt.{Opt}
+use Rattle.opc_cli_words.specs.declared.mistake.Opt.TheVariants as opt
 
 -- as many rows as an account can have
 abbrev pub all_rows : ℕ
@@ -84,8 +86,8 @@ abbrev pub is_codes : List ℕ → Bool
 is_codes text = is_stem (stem_of text)
 
 -- an option that is not given, or whose value is such
-abbrev pub option_check : (option : List ℕ) → (List ℕ → Bool) → Option (List ℕ) → Check
-option_check option is value = (unread option, option_map_or is value true)
+abbrev pub option_check : Opt → (List ℕ → Bool) → Option (List ℕ) → Check
+option_check option is value = (wrong.Unread option, option_map_or is value true)
 
 abbrev pub IsFirst : (from last : Option (List ℕ)) → First → Type 0
 IsFirst from last (Number n) = (last ≡ None) × (option_map_or rows_of from (Some 1) ≡ Some n)
@@ -104,27 +106,27 @@ AreCodes (Some text) (Some (Beginning start)) = (has_star text ≡ true) × (sta
 -- not both beginnings
 abbrev pub first_checks : (from last : Option (List ℕ)) → List Check
 first_checks from last =
-    (codes "account takes --from or --last, not both", is_none from || is_none last)
-    ∷ option_check (codes "--from") (λ text. is_some (rows_of text)) from
-    ∷ option_check (codes "--last") (λ text. is_some (rows_of text)) last
+    (wrong.TwoBeginnings, is_none from || is_none last)
+    ∷ option_check opt.From (λ text. is_some (rows_of text)) from
+    ∷ option_check opt.Last (λ text. is_some (rows_of text)) last
     ∷ []
 
 -- In these, `value` is what the words give an option, by its name.
 module _ (value : List ℕ → Option (List ℕ)) where
   abbrev pub filter_checks : List Check
   filter_checks =
-      option_check (codes "--since") (λ text. is_some (moment_of text)) (value (codes "since"))
-      ∷ option_check (codes "--until") (λ text. is_some (moment_of text)) (value (codes "until"))
-      ∷ option_check (codes "--user") is_user (value (codes "user"))
-      ∷ option_check (codes "--console") is_console (value (codes "console"))
-      ∷ option_check (codes "--code") is_codes (value (codes "code"))
+      option_check opt.Since (λ text. is_some (moment_of text)) (value (codes "since"))
+      ∷ option_check opt.Until (λ text. is_some (moment_of text)) (value (codes "until"))
+      ∷ option_check opt.User is_user (value (codes "user"))
+      ∷ option_check opt.Console is_console (value (codes "console"))
+      ∷ option_check opt.Code is_codes (value (codes "code"))
       ∷ []
 
   -- the checks, in the order in which they are made
   abbrev pub account_checks : List Check
   account_checks =
       first_checks (value (codes "from")) (value (codes "last"))
-      ++ option_check (codes "--count") (λ text. is_some (rows_of text)) (value (codes "count")) ∷ filter_checks
+      ++ option_check opt.Count (λ text. is_some (rows_of text)) (value (codes "count")) ∷ filter_checks
 
   pub record IsFilter (filter : Filter) : Type 0 where
     pub since : IsMoment (value (codes "since")) filter.since

@@ -1,7 +1,6 @@
 -- Checks of the options of a command, in the order in which they are made.
 use Rattle.std.specs.Prelude.{
   ◌≡◌,
-  ℕ,
   Bool,
   true,
   false,
@@ -16,23 +15,23 @@ use Rattle.std.specs.Prelude.{
   Err,
   if◌then◌else◌,
 }
-use Rattle.std.specs.Borrow.{Bor}
+use Rattle.opc_cli_words.specs.declared.mistake.Mistake.{Mistake}
 
--- what is printed of a mistake, and whether it was not made
+-- a mistake, and whether it was not made
 abbrev pub Check : Type 0
-Check = List ℕ × Bool
+Check = Mistake × Bool
 
 -- the first mistake that was made
-abbrev pub first_mistake : List Check → Option (List ℕ)
+abbrev pub first_mistake : List Check → Option Mistake
 first_mistake [] = None
 first_mistake (check ∷ checks) = if check.1 then first_mistake checks else Some check.0
 
 -- A value was read, or the mistake was answered.
-abbrev pub IsReadAs : {A : Type 0} → (A → Type 0) → Check → Result A (Bor (List ℕ)) → Type 0
+abbrev pub IsReadAs : {A : Type 0} → (A → Type 0) → Check → Result A Mistake → Type 0
 IsReadAs is check (Ok a) = is a × (check.1 ≡ true)
-IsReadAs is check (Err mistake) = (mistake.now ≡ check.0) × (check.1 ≡ false)
+IsReadAs is check (Err mistake) = (mistake ≡ check.0) × (check.1 ≡ false)
 
 -- What these checks are for was read, or the first mistake was answered.
-abbrev pub AreReadAs : {A : Type 0} → (A → Type 0) → List Check → Result A (Bor (List ℕ)) → Type 0
+abbrev pub AreReadAs : {A : Type 0} → (A → Type 0) → List Check → Result A Mistake → Type 0
 AreReadAs is checks (Ok a) = is a × (first_mistake checks ≡ None)
-AreReadAs is checks (Err mistake) = first_mistake checks ≡ Some mistake.now
+AreReadAs is checks (Err mistake) = first_mistake checks ≡ Some mistake

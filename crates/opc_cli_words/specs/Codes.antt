@@ -1,8 +1,9 @@
 -- The codes of notes, as `check --allow` takes them.
-use Rattle.std.specs.Prelude.{◌==◌, ◌&&◌, ℕ, Bool, true, false, List, [], ◌∷◌, Option, codes, nat_le}
+use Rattle.std.specs.Prelude.{◌==◌, ◌&&◌, ℕ, Bool, true, false, List, [], ◌∷◌, Option, nat_le}
 use Rattle.std.specs.Option.{option_map_or}
 use Rattle.opc_cli_words.specs.Checks.{Check}
-use Rattle.opc_cli_words.specs.Mistakes.{unread}
+use Rattle.opc_cli_words.specs.declared.mistake.Mistake.TheVariants as wrong
+use Rattle.opc_cli_words.specs.declared.mistake.Opt.TheVariants as opt
 
 abbrev pub is_digit : ℕ → Bool
 is_digit c = nat_le 48 c && nat_le c 57
@@ -18,4 +19,4 @@ are_codes (n ∷ tens ∷ ones ∷ comma ∷ rest) = is_code n tens ones && ((co
 are_codes text = false
 
 abbrev pub allow_check : (allowed : Option (List ℕ)) → Check
-allow_check allowed = (unread (codes "--allow"), option_map_or are_codes allowed true)
+allow_check allowed = (wrong.Unread opt.Allow, option_map_or are_codes allowed true)

@@ -28,9 +28,10 @@ use Rattle.opc_names.specs.declared.rule.NameRule.{NameRule}
 use Rattle.opc_terms.specs.declared.unit_kind.UnitKindAt.{UnitKindAt}
 use Rattle.opc_terms.specs.declared.unit_kind.UnitKindAt.TheVariants.{Absent, Stc, Tsu}
 use Rattle.opc_cli_words.specs.Checks.{Check}
-use Rattle.opc_cli_words.specs.Mistakes.{lacking, unread}
 use Rattle.opc_cli_words.specs.declared.who.Asked.{Asked}
 use Rattle.opc_cli_words.specs.declared.who.Asked.TheVariants.{Command, Access}
+use Rattle.opc_cli_words.specs.declared.mistake.Mistake.TheVariants as wrong
+use Rattle.opc_cli_words.specs.declared.mistake.Opt.TheVariants as opt
 
 abbrev pub is_a : NameRule → List ℕ → Bool
 is_a rule text = is_none (name_fault rule text)
@@ -48,26 +49,26 @@ abbrev pub kind_given : (kind : Option (List ℕ)) → Option UnitKindAt
 kind_given kind = option_map_or kind_of kind (Some Absent)
 
 abbrev pub kind_check : (kind : Option (List ℕ)) → Check
-kind_check kind = (unread (codes "--as"), is_some (kind_given kind))
+kind_check kind = (wrong.Unread opt.As, is_some (kind_given kind))
 
 abbrev pub class_check : (class : List ℕ) → Check
-class_check class = (unread (codes "--class"), is_some (lookup classes class))
+class_check class = (wrong.Unread opt.Class, is_some (lookup classes class))
 
 abbrev pub resource_check : (resource : Option (List ℕ)) → Check
-resource_check resource = (unread (codes "--resource"), is_a resource_rule (unwrap_or resource []))
+resource_check resource = (wrong.Unread opt.Resource, is_a resource_rule (unwrap_or resource []))
 
 abbrev pub level_check : (level : Option (List ℕ)) → Check
-level_check level = (unread (codes "--level"), is_some (lookup levels (unwrap_or level [])))
+level_check level = (wrong.Unread opt.Level, is_some (lookup levels (unwrap_or level [])))
 
 -- exactly one of a command and a resource is given,
 abbrev pub one_question : Bool → Check
-one_question is_one = (lacking (codes "a question") (codes "exactly one of --command and --resource"), is_one)
+one_question is_one = (wrong.NotOneQuestion, is_one)
 
 -- with a command a kind of unit, if any, and no level,
 abbrev pub command_checks : (kind resource level : Option (List ℕ)) → List Check
 command_checks kind resource level =
     one_question (is_none resource)
-    ∷ (lacking (codes "--level") (codes "--resource"), is_none level)
+    ∷ (wrong.Lacks opt.Level opt.Resource, is_none level)
     ∷ kind_check kind
     ∷ []
 
@@ -75,8 +76,8 @@ command_checks kind resource level =
 abbrev pub access_checks : (kind resource level : Option (List ℕ)) → List Check
 access_checks kind resource level =
     one_question (is_some resource)
-    ∷ (lacking (codes "--as") (codes "--command"), is_none kind)
-    ∷ (lacking (codes "--resource") (codes "--level"), is_some level)
+    ∷ (wrong.Lacks opt.As opt.Command, is_none kind)
+    ∷ (wrong.Lacks opt.Resource opt.Level, is_some level)
     ∷ []
 
 abbrev pub enquiry_checks : (command kind resource level : Option (List ℕ)) → (class : List ℕ) → List Check

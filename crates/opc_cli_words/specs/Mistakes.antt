@@ -1,14 +1,48 @@
 -- What is printed about the options of a command, if something is wrong with them.
 use Rattle.std.specs.Prelude.{ℕ, List, ◌++◌, codes}
+use Rattle.opc_cli_words.specs.declared.mistake.Mistake.{Mistake}
+use Rattle.opc_cli_words.specs.declared.mistake.Mistake.TheVariants as wrong
+use Rattle.opc_cli_words.specs.declared.mistake.Opt.{Opt}
+use Rattle.opc_cli_words.specs.declared.mistake.Opt.TheVariants as opt
 
--- about an option whose value is not valid
-abbrev pub unread : (option : List ℕ) → List ℕ
-unread option = codes "the value of " ++ option ++ codes " does not read"
+-- the name of an option, as the command line has it
+abbrev pub option_name : Opt → List ℕ
+option_name opt.Allow = codes "allow"
+option_name opt.As = codes "as"
+option_name opt.Batch = codes "batch"
+option_name opt.Class = codes "class"
+option_name opt.Code = codes "code"
+option_name opt.Command = codes "command"
+option_name opt.Console = codes "console"
+option_name opt.Count = codes "count"
+option_name opt.From = codes "from"
+option_name opt.Last = codes "last"
+option_name opt.Level = codes "level"
+option_name opt.Now = codes "now"
+option_name opt.Port = codes "port"
+option_name opt.Resource = codes "resource"
+option_name opt.Since = codes "since"
+option_name opt.Socket = codes "socket"
+option_name opt.SocketMode = codes "socket-mode"
+option_name opt.Strict = codes "strict"
+option_name opt.Timeout = codes "timeout"
+option_name opt.Until = codes "until"
+option_name opt.User = codes "user"
 
--- about one thing that is given without another that it needs
-abbrev pub lacking : (given needed : List ℕ) → List ℕ
-lacking given needed = given ++ codes " needs " ++ needed
+-- what is wrong: a value that does not read, an option without another that it needs, or one of six mistakes with texts
+-- of their own
+abbrev pub mistake_text : Mistake → List ℕ
+mistake_text (wrong.Unread option) = codes "the value of --" ++ option_name option ++ codes " does not read"
+mistake_text (wrong.Lacks given needed) =
+    codes "--" ++ option_name given ++ codes " needs --" ++ option_name needed
+mistake_text wrong.NobodyAlone = codes "--user - needs --console"
+mistake_text wrong.NotOneAddress = codes "serve needs exactly one of --port and --socket"
+mistake_text wrong.NotOneQuestion = codes "a question needs exactly one of --command and --resource"
+mistake_text wrong.TwoBeginnings = codes "account takes --from or --last, not both"
+mistake_text wrong.TwoSources = codes "give --policy or --db, not both"
+mistake_text wrong.NoCommand = codes "the value of COMMAND does not read"
 
 -- the line, with the name of the help
-abbrev pub mistake_line : (command mistake : List ℕ) → List ℕ
-mistake_line command mistake = codes "error: " ++ mistake ++ codes "; see opcmds " ++ command ++ codes " --help\n"
+abbrev pub mistake_line : (command : List ℕ) → Mistake → List ℕ
+mistake_line command mistake =
+    codes "error: " ++ mistake_text mistake ++ codes "; see opcmds " ++ command ++ codes " --help\n"

@@ -47,10 +47,11 @@ use Rattle.opc_cli_words.specs.Enquiries.{
   level_check,
   resource_check,
 }
-use Rattle.opc_cli_words.specs.Mistakes.{lacking, unread}
 use Rattle.opc_cli_words.specs.Numbers.{number_between}
 use Rattle.opc_cli_words.specs.Services.{IsAddress, address_checks}
 use Rattle.opc_cli_words.specs.Sources.{IsSource, source_check}
+use Rattle.opc_cli_words.specs.declared.mistake.Mistake.TheVariants as wrong
+use Rattle.opc_cli_words.specs.declared.mistake.Opt.TheVariants as opt
 
 -- in nanoseconds, where 0 seconds are as long as it takes
 abbrev pub longest : ℕ → Option ℕ
@@ -67,7 +68,7 @@ module _ (value : List ℕ → Option (List ℕ)) where
   given name = unwrap_or (value name) []
 
   abbrev pub user_option : Check
-  user_option = (unread (codes "--user"), is_a user_rule (given (codes "user")))
+  user_option = (wrong.Unread opt.User, is_a user_rule (given (codes "user")))
 
   abbrev pub class_option : Check
   class_option = class_check (given (codes "class"))
@@ -76,7 +77,7 @@ module _ (value : List ℕ → Option (List ℕ)) where
   resource_option = resource_check (value (codes "resource"))
 
   abbrev pub console_option : Check
-  console_option = (unread (codes "--console"), option_map_or (is_a console_rule) (value (codes "console")) true)
+  console_option = (wrong.Unread opt.Console, option_map_or (is_a console_rule) (value (codes "console")) true)
 
   abbrev pub level_option : Check
   level_option = level_check (value (codes "level"))
@@ -85,19 +86,19 @@ module _ (value : List ℕ → Option (List ℕ)) where
   batch_of = number_between 1 999_999_999 (given (codes "batch"))
 
   abbrev pub batch_option : Check
-  batch_option = (unread (codes "--batch"), is_some batch_of)
+  batch_option = (wrong.Unread opt.Batch, is_some batch_of)
 
   abbrev pub count_of : Option ℕ
   count_of = number_between 1 1_000_000 (given (codes "count"))
 
   abbrev pub count_option : Check
-  count_option = (unread (codes "--count"), is_some count_of)
+  count_option = (wrong.Unread opt.Count, is_some count_of)
 
   abbrev pub timeout_of : Option ℕ
   timeout_of = number_between 0 3_600 (given (codes "timeout"))
 
   abbrev pub timeout_option : Check
-  timeout_option = (unread (codes "--timeout"), is_some timeout_of)
+  timeout_option = (wrong.Unread opt.Timeout, is_some timeout_of)
 
   -- An exchange may take this long: for the seconds that are given, or without end if they are 0.
   abbrev pub IsWait : Option Duration → Type 0
@@ -110,16 +111,16 @@ module _ (value : List ℕ → Option (List ℕ)) where
   -- only with a port, since no web page reaches a Unix socket
   abbrev pub strict_option : Check
   strict_option = (
-    lacking (codes "--strict") (codes "--port"),
+    wrong.Lacks opt.Strict opt.Port,
     not (is_set (codes "strict")) || is_some (value (codes "port")),
   )
 
   abbrev pub actor_option : Check
-  actor_option = (unread (codes "--user"), option_map_or (is_a user_rule) (actor_of (given (codes "user"))) true)
+  actor_option = (wrong.Unread opt.User, option_map_or (is_a user_rule) (actor_of (given (codes "user"))) true)
 
   abbrev pub nobody_option : Check
   nobody_option = (
-    lacking (codes "--user -") (codes "--console"),
+    wrong.NobodyAlone,
     is_some (actor_of (given (codes "user"))) || is_some (value (codes "console")),
   )
 

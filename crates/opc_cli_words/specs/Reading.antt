@@ -35,6 +35,7 @@ use Rattle.opc_cli_failures.specs.Statuses.{IsFailure}
 use Rattle.opc_cli_words.specs.declared.words.Task.{Task}
 use Rattle.opc_cli_words.specs.CommandLine.{command_line}
 use Rattle.opc_cli_words.specs.Mistakes.{mistake_line}
+use Rattle.opc_cli_words.specs.declared.mistake.Mistake.{Mistake}
 use Rattle.opc_cli_words.specs.Tasks.{AsksFor, FailsAt}
 use Rattle.opc_cli_words.specs.Version.{version_line}
 
@@ -43,7 +44,7 @@ abbrev pub words_after : List (String Global) → List (List ℕ)
 words_after words = map string_bytes (drop 1 words)
 
 -- The line of a mistake was printed, and perhaps one about the value.
-pub record IsMistakePrinted (before written : Option (List ℕ)) (command mistake : List ℕ) : Type 0 where
+pub record IsMistakePrinted (before written : Option (List ℕ)) (command : List ℕ) (mistake : Mistake) : Type 0 where
   pub more : List ℕ
   pub text : Appends before written (mistake_line command mistake ++ more)
 
@@ -73,7 +74,7 @@ module _ {E : Type 0} (shown : E → Option (List ℕ)) (quiet reported : Watche
   -- What was found is a command with a mistake in its options; the first one is printed, unless a write failed.
   pub record IsReportedMistake (found : Option (List ℕ × List Row)) : Type 0 where
     pub command : List ℕ
-    pub mistake : List ℕ
+    pub mistake : Mistake
     pub fails : FailsAt found command mistake
     pub printed : reported.failed ≡ false
         → IsMistakePrinted (shown quiet.inner) (shown reported.inner) command mistake

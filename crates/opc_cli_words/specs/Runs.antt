@@ -2,18 +2,19 @@
 use Rattle.std.specs.Prelude.{◌≡◌, ◌||◌, ℕ, true, false, List, [], ◌∷◌, Option, codes, is_some, not}
 use Rattle.std.specs.Option.{option_copied}
 use Rattle.opc_cli_words.specs.Checks.{Check}
-use Rattle.opc_cli_words.specs.Mistakes.{lacking}
 use Rattle.opc_cli_words.specs.Options.{console_option, is_set}
 use Rattle.opc_cli_words.specs.declared.run.Lines.{Lines}
 use Rattle.opc_cli_words.specs.declared.run.Lines.TheVariants.{Script, Now}
 use Rattle.opc_cli_words.specs.declared.run.Run.{Run}
+use Rattle.opc_cli_words.specs.declared.mistake.Mistake.TheVariants as wrong
+use Rattle.opc_cli_words.specs.declared.mistake.Opt.TheVariants as opt
 
 -- In these, `value` is what the words give an option, by its name.
 module _ (value : List ℕ → Option (List ℕ)) where
   -- A console is named only for lines without one, and a script has none of these.
   abbrev pub now_option : Check
   now_option = (
-    lacking (codes "--console") (codes "--now"),
+    wrong.Lacks opt.Console opt.Now,
     is_set value (codes "now") || not (is_some (value (codes "console"))),
   )
 

@@ -25,10 +25,11 @@ use Rattle.std.specs.Prelude.{
 use Rattle.std.specs.Option.{option_map_or}
 use Rattle.opc_names.specs.Spellings.{lookup}
 use Rattle.opc_cli_words.specs.Checks.{Check}
-use Rattle.opc_cli_words.specs.Mistakes.{lacking, unread}
 use Rattle.opc_cli_words.specs.Numbers.{number_between}
 use Rattle.opc_cli_words.specs.declared.serve.Address.{Address}
 use Rattle.opc_cli_words.specs.declared.serve.Address.TheVariants.{Port, Socket}
+use Rattle.opc_cli_words.specs.declared.mistake.Mistake.TheVariants as wrong
+use Rattle.opc_cli_words.specs.declared.mistake.Opt.TheVariants as opt
 
 -- whether the value of an option is right, if it has one
 abbrev pub is_right : (List ℕ → Bool) → Option (List ℕ) → Bool
@@ -38,11 +39,11 @@ abbrev pub port_of : List ℕ → Option ℕ
 port_of text = number_between 0 65_535 text
 
 abbrev pub port_check : (port : Option (List ℕ)) → Check
-port_check port = (unread (codes "--port"), is_right (λ text. is_some (port_of text)) port)
+port_check port = (wrong.Unread opt.Port, is_right (λ text. is_some (port_of text)) port)
 
 -- a path is not empty
 abbrev pub path_check : (socket : Option (List ℕ)) → Check
-path_check socket = (unread (codes "--socket"), is_right (λ path. not (length path == 0)) socket)
+path_check socket = (wrong.Unread opt.Socket, is_right (λ path. not (length path == 0)) socket)
 
 -- permissions by their three digits of base 8: of the owner, of the group, of everybody else
 abbrev pub permissions : ℕ → ℕ → ℕ → ℕ
@@ -64,7 +65,7 @@ abbrev pub mode_of : Option (List ℕ) → Option ℕ
 mode_of mode = lookup socket_modes (unwrap_or mode (codes "600"))
 
 abbrev pub mode_check : (mode : Option (List ℕ)) → Check
-mode_check mode = (unread (codes "--socket-mode"), is_some (mode_of mode))
+mode_check mode = (wrong.Unread opt.SocketMode, is_some (mode_of mode))
 
 -- exactly one of the two is given
 abbrev pub is_one : {A B : Type 0} → Option A → Option B → Bool
@@ -76,8 +77,8 @@ is_with a b = not (is_some a) || is_some b
 
 abbrev pub address_checks : (port socket mode : Option (List ℕ)) → List Check
 address_checks port socket mode =
-    (lacking (codes "serve") (codes "exactly one of --port and --socket"), is_one port socket)
-    ∷ (lacking (codes "--socket-mode") (codes "--socket"), is_with mode socket)
+    (wrong.NotOneAddress, is_one port socket)
+    ∷ (wrong.Lacks opt.SocketMode opt.Socket, is_with mode socket)
     ∷ port_check port
     ∷ path_check socket
     ∷ mode_check mode

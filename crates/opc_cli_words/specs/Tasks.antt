@@ -18,7 +18,6 @@ use Rattle.clap.specs.Walk.{Row, first_of}
 use Rattle.clap.specs.declared.parser.matches.ArgMatches.{ArgMatches}
 use Rattle.opc_cli_words.specs.Accounts.{IsAccount, account_checks}
 use Rattle.opc_cli_words.specs.Checks.{Check, first_mistake}
-use Rattle.opc_cli_words.specs.Mistakes.{unread}
 use Rattle.opc_cli_words.specs.Options.{
   IsCommandQuestion,
   IsEnquiry,
@@ -36,6 +35,8 @@ use Rattle.opc_cli_words.specs.Options.{
 use Rattle.opc_cli_words.specs.Runs.{IsRun, run_checks}
 use Rattle.opc_cli_words.specs.declared.words.Task.{Task}
 use Rattle.opc_cli_words.specs.declared.words.Task.TheVariants as task
+use Rattle.opc_cli_words.specs.declared.mistake.Mistake.{Mistake}
+use Rattle.opc_cli_words.specs.declared.mistake.Mistake.TheVariants as wrong
 
 -- In these, `value` is what the words give an option, by its name.
 module _ (value : List ℕ → Option (List ℕ)) where
@@ -51,7 +52,7 @@ module _ (value : List ℕ → Option (List ℕ)) where
       else if bytes_eq command (codes "check") then policy_checks value
       else if bytes_eq command (codes "account") then account_checks value
       else if bytes_eq command (codes "digest") then []
-      else (unread (codes "COMMAND"), false) ∷ []
+      else (wrong.NoCommand, false) ∷ []
 
   -- what a command of this name asks for
   abbrev pub IsTaskOf : (command : List ℕ) → Task → Type 0
@@ -75,7 +76,7 @@ AsksFor found task = (command : List ℕ) × (rows : List Row) × (found ≡ Som
     × IsTaskOf (λ name. first_of name rows) command task
 
 -- They are those of a command, and this is the first mistake in its options.
-abbrev pub FailsAt : Option (List ℕ × List Row) → (command mistake : List ℕ) → Type 0
+abbrev pub FailsAt : Option (List ℕ × List Row) → (command : List ℕ) → Mistake → Type 0
 FailsAt found command mistake = (rows : List Row) × (found ≡ Some (command, rows))
     × (first_mistake (options_of (λ name. first_of name rows) command) ≡ Some mistake)
 

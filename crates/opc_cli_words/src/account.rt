@@ -25,7 +25,7 @@ ghost use Rattle.opc_cli_words.specs.Accounts.{
 ghost use Rattle.opc_cli_words.specs.Checks.{AreReadAs, IsReadAs};
 
 use crate::flag::is_set;
-use crate::mistake::{TWO_BEGINNINGS, unread};
+use crate::mistake::{Mistake, Opt};
 use crate::number::number_between;
 use clap::ArgMatches;
 use opc_account::filter::{Codes, Filter};
@@ -54,28 +54,28 @@ fn rows_of(text: &str) -> Option<u64>
 }
 
 /// A number of rows, if one is given.
-fn rows_in(given: Option<&str>, usual: u64, mistake: &'static str) -> Result<u64, &'static str>
+fn rows_in(given: Option<&str>, usual: u64, option: Opt) -> Result<u64, Mistake>
     ensures { IsReadAs (λ n. option_map_or rows_of (option_copied given.entry) (Some usual) ≡ Some n)
-        (mistake.now, option_map_or (λ text. is_some (rows_of text)) (option_copied given.entry) true) result }
+        (option_check option (λ text. is_some (rows_of text)) (option_copied given.entry)) result }
 {
     let Some(text) = given else {
         return Ok(usual);
     };
     match rows_of(text) {
         Some(rows) => Ok(rows),
-        None => Err(mistake),
+        None => Err(Mistake::Unread(option)),
     }
 }
 
 /// Where the rows begin that are looked at.
-fn first_in(from: Option<&str>, last: Option<&str>) -> Result<First, &'static str>
+fn first_in(from: Option<&str>, last: Option<&str>) -> Result<First, Mistake>
     ensures { AreReadAs (IsFirst (option_copied from.entry) (option_copied last.entry))
         (first_checks (option_copied from.entry) (option_copied last.entry)) result }
 {
     match (from, last) {
-        (Some(_), Some(_)) => Err(TWO_BEGINNINGS),
-        (from, None) => Ok(First::Number(rows_in(from, 1, unread!("--from"))?)),
-        (None, last) => Ok(First::Last(rows_in(last, 1, unread!("--last"))?)),
+        (Some(_), Some(_)) => Err(Mistake::TwoBeginnings),
+        (from, None) => Ok(First::Number(rows_in(from, 1, Opt::From)?)),
+        (None, last) => Ok(First::Last(rows_in(last, 1, Opt::Last)?)),
     }
 }
 
@@ -90,16 +90,16 @@ fn moment_of(text: &str) -> Option<u64>
 }
 
 /// A moment, if one is given.
-fn moment_given(given: Option<&str>, mistake: &'static str) -> Result<Option<u64>, &'static str>
+fn moment_given(given: Option<&str>, option: Opt) -> Result<Option<u64>, Mistake>
     ensures { IsReadAs (IsMoment (option_copied given.entry))
-        (mistake.now, option_map_or (λ text. is_some (moment_of text)) (option_copied given.entry) true) result }
+        (option_check option (λ text. is_some (moment_of text)) (option_copied given.entry)) result }
 {
     let Some(text) = given else {
         return Ok(None);
     };
     match moment_of(text) {
         Some(moment) => Ok(Some(moment)),
-        None => Err(mistake),
+        None => Err(Mistake::Unread(option)),
     }
 }
 
@@ -116,21 +116,21 @@ fn is_console(text: &str) -> bool
 }
 
 /// A user, or nobody, if one is given.
-fn user_given(given: Option<&str>) -> Result<(), &'static str>
-    ensures { IsReadAs (λ _. ⊤) (option_check (codes "--user") is_user (option_copied given.entry)) result }
+fn user_given(given: Option<&str>) -> Result<(), Mistake>
+    ensures { IsReadAs (λ _. ⊤) (option_check Opt.User is_user (option_copied given.entry)) result }
 {
     match given {
-        Some(text) if !is_user(text) => Err(unread!("--user")),
+        Some(text) if !is_user(text) => Err(Mistake::Unread(Opt::User)),
         _ => Ok(()),
     }
 }
 
 /// A console, or that of events, if one is given.
-fn console_given(given: Option<&str>) -> Result<(), &'static str>
-    ensures { IsReadAs (λ _. ⊤) (option_check (codes "--console") is_console (option_copied given.entry)) result }
+fn console_given(given: Option<&str>) -> Result<(), Mistake>
+    ensures { IsReadAs (λ _. ⊤) (option_check Opt.Console is_console (option_copied given.entry)) result }
 {
     match given {
-        Some(text) if !is_console(text) => Err(unread!("--console")),
+        Some(text) if !is_console(text) => Err(Mistake::Unread(Opt::Console)),
         _ => Ok(()),
     }
 }
@@ -181,26 +181,26 @@ fn codes_of(text: &str) -> Option<Codes<'_>>
 }
 
 /// The codes that are asked for, if some are given.
-fn codes_given<'a>(given: Option<&'a str>) -> Result<Option<Codes<'a>>, &'static str>
+fn codes_given<'a>(given: Option<&'a str>) -> Result<Option<Codes<'a>>, Mistake>
     ensures { IsReadAs (AreCodes (option_copied given.entry))
-        (option_check (codes "--code") is_codes (option_copied given.entry)) result }
+        (option_check Opt.Code is_codes (option_copied given.entry)) result }
 {
     let Some(text) = given else {
         return Ok(None);
     };
     match codes_of(text) {
         Some(codes) => Ok(Some(codes)),
-        None => Err(unread!("--code")),
+        None => Err(Mistake::Unread(Opt::Code)),
     }
 }
 
 /// What a row has to be.
-fn filter_in<'a>(chosen: &ArgMatches<'a>) -> Result<Filter<'a>, &'static str>
+fn filter_in<'a>(chosen: &ArgMatches<'a>) -> Result<Filter<'a>, Mistake>
     ensures { AreReadAs (IsFilter (first_value (found_of chosen.now)))
         (filter_checks (first_value (found_of chosen.now))) result }
 {
-    let since = moment_given(chosen.get_str("since"), unread!("--since"))?;
-    let until = moment_given(chosen.get_str("until"), unread!("--until"))?;
+    let since = moment_given(chosen.get_str("since"), Opt::Since)?;
+    let until = moment_given(chosen.get_str("until"), Opt::Until)?;
     let (user, console) = (chosen.get_str("user"), chosen.get_str("console"));
     user_given(user)?;
     console_given(console)?;
@@ -216,12 +216,12 @@ fn filter_in<'a>(chosen: &ArgMatches<'a>) -> Result<Filter<'a>, &'static str>
 
 impl<'a> Account<'a> {
     /// What these words ask, or the first mistake in their options.
-    pub fn read(chosen: &ArgMatches<'a>) -> Result<Self, &'static str>
+    pub fn read(chosen: &ArgMatches<'a>) -> Result<Self, Mistake>
         ensures { AreReadAs (IsAccount (first_value (found_of chosen.now)))
             (account_checks (first_value (found_of chosen.now))) result }
     {
         let first = first_in(chosen.get_str("from"), chosen.get_str("last"))?;
-        let count = rows_in(chosen.get_str("count"), ALL_ROWS, unread!("--count"))?;
+        let count = rows_in(chosen.get_str("count"), ALL_ROWS, Opt::Count)?;
         let filter = filter_in(chosen)?;
         Ok(Account {
             path: chosen.get_str("db").unwrap_or(""),

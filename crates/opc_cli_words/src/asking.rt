@@ -11,9 +11,7 @@ ghost use Rattle.opc_cli_words.specs.Enquiries.{
   task_of,
 };
 
-use crate::mistake::{
-    LEVEL_WITHOUT_RESOURCE, ONE_QUESTION, RESOURCE_WITHOUT_LEVEL, UNIT_WITHOUT_COMMAND, unread,
-};
+use crate::mistake::{Mistake, Opt};
 use opc_names::name::UnitName;
 use opc_terms::unit_kind::UnitKindAt;
 
@@ -38,7 +36,7 @@ fn kind_of(text: &str) -> Option<UnitKindAt>
 }
 
 /// What the unit is that the command names.
-fn kind_in(given: Option<&str>) -> Result<UnitKindAt, &'static str>
+fn kind_in(given: Option<&str>) -> Result<UnitKindAt, Mistake>
     ensures { IsReadAs (λ kind. kind_given (option_copied given.entry) ≡ Some kind)
         (kind_check (option_copied given.entry)) result }
 {
@@ -47,7 +45,7 @@ fn kind_in(given: Option<&str>) -> Result<UnitKindAt, &'static str>
     };
     match kind_of(text) {
         Some(kind) => Ok(kind),
-        None => Err(unread!("--as")),
+        None => Err(Mistake::Unread(Opt::As)),
     }
 }
 
@@ -56,15 +54,16 @@ pub(crate) fn kind_beside(
     kind: Option<&str>,
     resource: Option<&str>,
     level: Option<&str>,
-) -> Result<UnitKindAt, &'static str>
+) -> Result<UnitKindAt, Mistake>
     ensures { AreReadAs (λ read. kind_given (option_copied kind.entry) ≡ Some read)
         (command_checks (option_copied kind.entry) (option_copied resource.entry) (option_copied level.entry)) result }
 {
     if resource.is_some() {
-        return Err(ONE_QUESTION);
+        return Err(Mistake::NotOneQuestion);
     }
+    // A command says itself which level it needs.
     if level.is_some() {
-        return Err(LEVEL_WITHOUT_RESOURCE);
+        return Err(Mistake::Lacks(Opt::Level, Opt::Resource));
     }
     kind_in(kind)
 }
@@ -74,18 +73,19 @@ pub(crate) fn need_access(
     kind: Option<&str>,
     resource: Option<&str>,
     level: Option<&str>,
-) -> Result<(), &'static str>
+) -> Result<(), Mistake>
     ensures { AreReadAs (λ _. is_some (option_copied resource.entry) ≡ true)
         (access_checks (option_copied kind.entry) (option_copied resource.entry) (option_copied level.entry)) result }
 {
     if resource.is_none() {
-        return Err(ONE_QUESTION);
+        return Err(Mistake::NotOneQuestion);
     }
+    // Only a command names a unit.
     if kind.is_some() {
-        return Err(UNIT_WITHOUT_COMMAND);
+        return Err(Mistake::Lacks(Opt::As, Opt::Command));
     }
     if level.is_none() {
-        return Err(RESOURCE_WITHOUT_LEVEL);
+        return Err(Mistake::Lacks(Opt::Resource, Opt::Level));
     }
     Ok(())
 }

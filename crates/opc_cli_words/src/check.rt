@@ -7,7 +7,7 @@ ghost use Rattle.opc_cli_words.specs.Codes.{allow_check, are_codes, is_code, is_
 ghost use Rattle.opc_cli_words.specs.Options.{IsPolicyCheck, policy_checks};
 
 use crate::flag::is_set;
-use crate::mistake::unread;
+use crate::mistake::{Mistake, Opt};
 use crate::source::{Source, source_in};
 use clap::ArgMatches;
 
@@ -46,7 +46,7 @@ fn are_codes(text: &[u8]) -> bool
     }
 }
 
-fn allowed_in<'a>(given: Option<&'a str>) -> Result<Option<&'a str>, &'static str>
+fn allowed_in<'a>(given: Option<&'a str>) -> Result<Option<&'a str>, Mistake>
     ensures { IsReadAs (λ allowed. option_copied allowed ≡ option_copied given.entry)
         (allow_check (option_copied given.entry)) result }
 {
@@ -55,7 +55,7 @@ fn allowed_in<'a>(given: Option<&'a str>) -> Result<Option<&'a str>, &'static st
             if are_codes(text.as_bytes()) {
                 Ok(Some(text))
             } else {
-                Err(unread!("--allow"))
+                Err(Mistake::Unread(Opt::Allow))
             }
         }
         None => Ok(None),
@@ -64,7 +64,7 @@ fn allowed_in<'a>(given: Option<&'a str>) -> Result<Option<&'a str>, &'static st
 
 impl<'a> PolicyCheck<'a> {
     /// What these words ask for, or the first mistake in their options.
-    pub fn read(chosen: &ArgMatches<'a>) -> Result<Self, &'static str>
+    pub fn read(chosen: &ArgMatches<'a>) -> Result<Self, Mistake>
         ensures { AreReadAs (IsPolicyCheck (first_value (found_of chosen.now)))
             (policy_checks (first_value (found_of chosen.now))) result }
     {

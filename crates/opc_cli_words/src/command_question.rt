@@ -14,7 +14,7 @@ ghost use Rattle.opc_cli_words.specs.Options.{
 
 use crate::asking::kind_beside;
 use crate::flag::is_set;
-use crate::mistake::{NOBODY_WITHOUT_CONSOLE, unread};
+use crate::mistake::{Mistake, Opt};
 use crate::question::console_in;
 use crate::source::{Source, source_in};
 use clap::ArgMatches;
@@ -35,7 +35,7 @@ pub struct CommandQuestion<'a> {
 }
 
 /// The user, or nobody, written `-`.
-fn actor_in(chosen: &ArgMatches<'_>) -> Result<Option<UserId>, &'static str>
+fn actor_in(chosen: &ArgMatches<'_>) -> Result<Option<UserId>, Mistake>
     ensures { IsReadAs (λ user. user ≡ actor_of (given (first_value (found_of chosen.now)) (codes "user")))
         (actor_option (first_value (found_of chosen.now))) result }
 {
@@ -43,16 +43,13 @@ fn actor_in(chosen: &ArgMatches<'_>) -> Result<Option<UserId>, &'static str>
         "-" => Ok(None),
         text => match UserId::read(text) {
             Ok(user) => Ok(Some(user)),
-            Err(_) => Err(unread!("--user")),
+            Err(_) => Err(Mistake::Unread(Opt::User)),
         },
     }
 }
 
 /// The console that is named. Nobody is asked about at one alone.
-fn console_for(
-    chosen: &ArgMatches<'_>,
-    is_somebody: bool,
-) -> Result<Option<ConsoleName>, &'static str>
+fn console_for(chosen: &ArgMatches<'_>, is_somebody: bool) -> Result<Option<ConsoleName>, Mistake>
     requires { is_somebody ≡ is_some (actor_of (given (first_value (found_of chosen.now)) (codes "user"))) }
     ensures { AreReadAs (λ console. console ≡ first_value (found_of chosen.now) (codes "console"))
         (console_option (first_value (found_of chosen.now)) ∷ nobody_option (first_value (found_of chosen.now)) ∷ [])
@@ -60,14 +57,14 @@ fn console_for(
 {
     let console = console_in(chosen)?;
     if !is_somebody && console.is_none() {
-        return Err(NOBODY_WITHOUT_CONSOLE);
+        return Err(Mistake::NobodyAlone);
     }
     Ok(console)
 }
 
 impl<'a> CommandQuestion<'a> {
     /// The question of these words about the command that is given, or the first mistake in their options.
-    pub fn read(chosen: &ArgMatches<'a>, text: &'a str) -> Result<Self, &'static str>
+    pub fn read(chosen: &ArgMatches<'a>, text: &'a str) -> Result<Self, Mistake>
         requires { first_value (found_of chosen.now) (codes "command") ≡ Some text.now }
         ensures { AreReadAs (IsCommandQuestion (first_value (found_of chosen.now)))
             (question_checks (first_value (found_of chosen.now)) (Some text.entry.now)) result }

@@ -4,7 +4,7 @@ ghost use Rattle.clap.specs.Matches.{first_value, found_of};
 ghost use Rattle.opc_cli_words.specs.Checks.{AreReadAs, IsReadAs};
 ghost use Rattle.opc_cli_words.specs.Options.{IsImport, batch_of, batch_option, import_checks};
 
-use crate::mistake::unread;
+use crate::mistake::{Mistake, Opt};
 use crate::number::number_between;
 use crate::question::console_in;
 use clap::ArgMatches;
@@ -19,19 +19,19 @@ pub struct Import<'a> {
 }
 
 /// A batch's number, 1 to 999,999,999.
-fn batch_in(chosen: &ArgMatches<'_>) -> Result<u32, &'static str>
+fn batch_in(chosen: &ArgMatches<'_>) -> Result<u32, Mistake>
     ensures { IsReadAs (λ batch. batch_of (first_value (found_of chosen.now)) ≡ Some batch)
         (batch_option (first_value (found_of chosen.now))) result }
 {
     match number_between(chosen.get_str("batch").unwrap_or(""), 1, 999_999_999) {
         Some(number) => Ok(number as u32),
-        None => Err(unread!("--batch")),
+        None => Err(Mistake::Unread(Opt::Batch)),
     }
 }
 
 impl<'a> Import<'a> {
     /// What these words ask for, or the first mistake in their options.
-    pub fn read(chosen: &ArgMatches<'a>) -> Result<Self, &'static str>
+    pub fn read(chosen: &ArgMatches<'a>) -> Result<Self, Mistake>
         ensures { AreReadAs (IsImport (first_value (found_of chosen.now)))
             (import_checks (first_value (found_of chosen.now))) result }
     {

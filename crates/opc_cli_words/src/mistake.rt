@@ -1,64 +1,134 @@
 //! What is wrong with the options of a command.
 ghost use Rattle.std.specs.Prelude.{◌≡◌, OnOk, if◌then◌else◌, is_err, true};
 ghost use Rattle.std.specs.Io.KnownBytes.{Appends};
-ghost use Rattle.opc_cli_words.specs.Mistakes.{mistake_line};
+ghost use Rattle.opc_cli_words.specs.Mistakes.{mistake_line, mistake_text};
 
 use opc_io::sink::{Sink, WriteFault, write_whole};
 
-/// That the value of this option is not valid.
-macro_rules! unread {
-    ($option:literal) => {
-        concat!("the value of ", $option, " does not read")
-    };
+/// An option of a command.
+#[derive(Clone, Copy)]
+pub enum Opt {
+    Allow,
+    As,
+    Batch,
+    Class,
+    Code,
+    Command,
+    Console,
+    Count,
+    From,
+    Last,
+    Level,
+    Now,
+    Port,
+    Resource,
+    Since,
+    Socket,
+    SocketMode,
+    Strict,
+    Timeout,
+    Until,
+    User,
 }
 
-pub(crate) use unread;
+impl Opt {
+    ghost use Rattle.opc_cli_words.specs.Mistakes.{option_name};
 
-/// Neither or both options state where to listen.
-pub(crate) const ONE_ADDRESS: &str = "serve needs exactly one of --port and --socket";
+    /// Its name, as `clap` has it.
+    pub fn name(self) -> &'static str
+        ensures { result.now ≡ option_name self }
+    {
+        match self {
+            Opt::Allow => "allow",
+            Opt::As => "as",
+            Opt::Batch => "batch",
+            Opt::Class => "class",
+            Opt::Code => "code",
+            Opt::Command => "command",
+            Opt::Console => "console",
+            Opt::Count => "count",
+            Opt::From => "from",
+            Opt::Last => "last",
+            Opt::Level => "level",
+            Opt::Now => "now",
+            Opt::Port => "port",
+            Opt::Resource => "resource",
+            Opt::Since => "since",
+            Opt::Socket => "socket",
+            Opt::SocketMode => "socket-mode",
+            Opt::Strict => "strict",
+            Opt::Timeout => "timeout",
+            Opt::Until => "until",
+            Opt::User => "user",
+        }
+    }
+}
 
-/// A port has no permissions.
-pub(crate) const MODE_WITHOUT_SOCKET: &str = "--socket-mode needs --socket";
+/// What is wrong with the options of a command.
+#[derive(Clone, Copy)]
+pub enum Mistake {
+    /// The value of this option does not read.
+    Unread(Opt),
+    /// The first option is given without the second, which it needs.
+    Lacks(Opt, Opt),
+    /// Nobody is asked about, but acts only at a console, and none is named.
+    NobodyAlone,
+    /// Neither option says where to listen, or both do.
+    NotOneAddress,
+    /// Neither option says what is asked about, or both do.
+    NotOneQuestion,
+    /// Two options say where the rows begin.
+    TwoBeginnings,
+    /// Two options say where the policy comes from.
+    TwoSources,
+    /// The command line has no such command.
+    NoCommand,
+}
 
-/// No web page reaches a Unix socket.
-pub(crate) const STRICT_WITHOUT_PORT: &str = "--strict needs --port";
-
-/// Neither or both say what is asked about.
-pub(crate) const ONE_QUESTION: &str = "a question needs exactly one of --command and --resource";
-
-/// A command says itself which level it needs.
-pub(crate) const LEVEL_WITHOUT_RESOURCE: &str = "--level needs --resource";
-
-/// A resource is asked about with a level.
-pub(crate) const RESOURCE_WITHOUT_LEVEL: &str = "--resource needs --level";
-
-/// Only a command names a unit.
-pub(crate) const UNIT_WITHOUT_COMMAND: &str = "--as needs --command";
-
-/// Nobody acts at a console.
-pub(crate) const NOBODY_WITHOUT_CONSOLE: &str = "--user - needs --console";
-
-/// The lines of a script name their consoles.
-pub(crate) const CONSOLE_WITHOUT_NOW: &str = "--console needs --now";
-
-/// The rows begin at one place.
-pub(crate) const TWO_BEGINNINGS: &str = "account takes --from or --last, not both";
-
-/// The policy comes from one place.
-pub(crate) const ONE_SOURCE: &str = "give --policy or --db, not both";
+/// Writes what is wrong, in words.
+fn write_mistake<K: Sink>(mistake: Mistake, errors: &mut K) -> Result<(), WriteFault>
+    ensures text { OnOk result (Appends (K.held errors.old) (K.held errors.new) (mistake_text mistake)) }
+    ensures failed { K.has_failed errors.new ≡ (if is_err result then true else K.has_failed errors.old) }
+{
+    match mistake {
+        Mistake::Unread(option) => {
+            write_whole(errors, b"the value of --")?;
+            write_whole(errors, option.name().as_bytes())?;
+            write_whole(errors, b" does not read")
+        }
+        Mistake::Lacks(given, needed) => {
+            write_whole(errors, b"--")?;
+            write_whole(errors, given.name().as_bytes())?;
+            write_whole(errors, b" needs --")?;
+            write_whole(errors, needed.name().as_bytes())
+        }
+        Mistake::NobodyAlone => write_whole(errors, b"--user - needs --console"),
+        Mistake::NotOneAddress => write_whole(
+            errors,
+            b"serve needs exactly one of --port and --socket",
+        ),
+        Mistake::NotOneQuestion => write_whole(
+            errors,
+            b"a question needs exactly one of --command and --resource",
+        ),
+        Mistake::TwoBeginnings => write_whole(errors, b"account takes --from or --last, not both"),
+        Mistake::TwoSources => write_whole(errors, b"give --policy or --db, not both"),
+        Mistake::NoCommand => write_whole(errors, b"the value of COMMAND does not read"),
+    }
+}
 
 /// Prints a mistake, and which help to ask for.
 pub fn print_mistake<K: Sink>(
     command: &str,
-    mistake: &str,
+    mistake: Mistake,
     errors: &mut K,
 ) -> Result<(), WriteFault>
     ensures text { OnOk result (Appends (K.held errors.old) (K.held errors.new)
-        (mistake_line command.now mistake.now)) }
+        (mistake_line command.now mistake)) }
     ensures failed { K.has_failed errors.new ≡ (if is_err result then true else K.has_failed errors.old) }
 {
     write_whole(errors, b"error: ")?;
-    write_whole(errors, mistake.as_bytes())?;
+    write_mistake(mistake, errors)?;
     write_whole(errors, b"; see opcmds ")?;
     write_whole(errors, command.as_bytes())?;
     write_whole(errors, b" --help\n")

@@ -16,7 +16,7 @@ ghost use Rattle.opc_cli_words.specs.Options.{
 
 use crate::asking::need_access;
 use crate::flag::is_set;
-use crate::mistake::unread;
+use crate::mistake::{Mistake, Opt};
 use crate::source::{Source, source_in};
 use clap::ArgMatches;
 use opc_names::class::Class;
@@ -37,40 +37,40 @@ pub struct Question<'a> {
     pub source: Source<'a>,
 }
 
-fn user_in(chosen: &ArgMatches<'_>) -> Result<UserId, &'static str>
+fn user_in(chosen: &ArgMatches<'_>) -> Result<UserId, Mistake>
     ensures { IsReadAs (λ user. user ≡ given (first_value (found_of chosen.now)) (codes "user"))
         (user_option (first_value (found_of chosen.now))) result }
 {
     match UserId::read(chosen.get_str("user").unwrap_or("")) {
         Ok(user) => Ok(user),
-        Err(_) => Err(unread!("--user")),
+        Err(_) => Err(Mistake::Unread(Opt::User)),
     }
 }
 
 /// The class that is given.
-pub(crate) fn class_in(chosen: &ArgMatches<'_>) -> Result<Class, &'static str>
+pub(crate) fn class_in(chosen: &ArgMatches<'_>) -> Result<Class, Mistake>
     ensures { IsReadAs (λ class. lookup classes (given (first_value (found_of chosen.now)) (codes "class")) ≡ Some
         class) (class_option (first_value (found_of chosen.now))) result }
 {
     match Class::read(chosen.get_str("class").unwrap_or("")) {
         Some(class) => Ok(class),
-        None => Err(unread!("--class")),
+        None => Err(Mistake::Unread(Opt::Class)),
     }
 }
 
 /// The resource that is given.
-pub(crate) fn resource_in(chosen: &ArgMatches<'_>) -> Result<Resource, &'static str>
+pub(crate) fn resource_in(chosen: &ArgMatches<'_>) -> Result<Resource, Mistake>
     ensures { IsReadAs (λ resource. resource ≡ given (first_value (found_of chosen.now)) (codes "resource"))
         (resource_option (first_value (found_of chosen.now))) result }
 {
     match Resource::read(chosen.get_str("resource").unwrap_or("")) {
         Ok(resource) => Ok(resource),
-        Err(_) => Err(unread!("--resource")),
+        Err(_) => Err(Mistake::Unread(Opt::Resource)),
     }
 }
 
 /// The console that is named, if one is.
-pub(crate) fn console_in(chosen: &ArgMatches<'_>) -> Result<Option<ConsoleName>, &'static str>
+pub(crate) fn console_in(chosen: &ArgMatches<'_>) -> Result<Option<ConsoleName>, Mistake>
     ensures { IsReadAs (λ console. console ≡ first_value (found_of chosen.now) (codes "console"))
         (console_option (first_value (found_of chosen.now))) result }
 {
@@ -79,24 +79,24 @@ pub(crate) fn console_in(chosen: &ArgMatches<'_>) -> Result<Option<ConsoleName>,
     };
     match ConsoleName::read(text) {
         Ok(console) => Ok(Some(console)),
-        Err(_) => Err(unread!("--console")),
+        Err(_) => Err(Mistake::Unread(Opt::Console)),
     }
 }
 
 /// The level that is given.
-pub(crate) fn level_in(chosen: &ArgMatches<'_>) -> Result<Level, &'static str>
+pub(crate) fn level_in(chosen: &ArgMatches<'_>) -> Result<Level, Mistake>
     ensures { IsReadAs (λ level. lookup levels (given (first_value (found_of chosen.now)) (codes "level")) ≡ Some level)
         (level_option (first_value (found_of chosen.now))) result }
 {
     match Level::read(chosen.get_str("level").unwrap_or("")) {
         Some(level) => Ok(level),
-        None => Err(unread!("--level")),
+        None => Err(Mistake::Unread(Opt::Level)),
     }
 }
 
 impl<'a> Question<'a> {
     /// The question of these words, or the first mistake in their options.
-    pub fn read(chosen: &ArgMatches<'a>) -> Result<Self, &'static str>
+    pub fn read(chosen: &ArgMatches<'a>) -> Result<Self, Mistake>
         ensures { AreReadAs (IsQuestion (first_value (found_of chosen.now)))
             (question_checks (first_value (found_of chosen.now)) None) result }
     {

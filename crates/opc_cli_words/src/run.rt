@@ -4,7 +4,7 @@ ghost use Rattle.opc_cli_words.specs.Checks.{AreReadAs};
 ghost use Rattle.opc_cli_words.specs.Runs.{IsLines, IsRun, run_checks};
 
 use crate::flag::is_set;
-use crate::mistake::CONSOLE_WITHOUT_NOW;
+use crate::mistake::{Mistake, Opt};
 use crate::question::console_in;
 use clap::ArgMatches;
 use opc_names::name::ConsoleName;
@@ -27,7 +27,7 @@ pub struct Run<'a> {
 }
 
 /// How the lines are answered, at a console that reads, if one is named.
-fn lines_in(chosen: &ArgMatches<'_>) -> Result<Lines, &'static str>
+fn lines_in(chosen: &ArgMatches<'_>) -> Result<Lines, Mistake>
     ensures { AreReadAs (IsLines (first_value (found_of chosen.now))) (run_checks (first_value (found_of chosen.now)))
         result }
 {
@@ -36,14 +36,15 @@ fn lines_in(chosen: &ArgMatches<'_>) -> Result<Lines, &'static str>
         return Ok(Lines::Now(console));
     }
     match console {
-        Some(_) => Err(CONSOLE_WITHOUT_NOW),
+        // The lines of a script name their consoles.
+        Some(_) => Err(Mistake::Lacks(Opt::Console, Opt::Now)),
         None => Ok(Lines::Script),
     }
 }
 
 impl<'a> Run<'a> {
     /// What these words ask for, or the first mistake in their options.
-    pub fn read(chosen: &ArgMatches<'a>) -> Result<Self, &'static str>
+    pub fn read(chosen: &ArgMatches<'a>) -> Result<Self, Mistake>
         ensures { AreReadAs (IsRun (first_value (found_of chosen.now)))
             (run_checks (first_value (found_of chosen.now))) result }
     {

@@ -26,7 +26,7 @@ ghost use Rattle.opc_cli_words.specs.Options.{
 };
 
 use crate::flag::is_set;
-use crate::mistake::{MODE_WITHOUT_SOCKET, ONE_ADDRESS, STRICT_WITHOUT_PORT, unread};
+use crate::mistake::{Mistake, Opt};
 use crate::number::number_between;
 use clap::ArgMatches;
 use std::time::Duration;
@@ -55,21 +55,21 @@ pub struct Serve<'a> {
 }
 
 /// A port, 0 to 65,535.
-fn port_in(text: &str) -> Result<u16, &'static str>
+fn port_in(text: &str) -> Result<u16, Mistake>
     ensures { IsReadAs (λ port. port_of text.now ≡ Some port) (port_check (Some text.now)) result }
 {
     match number_between(text, 0, 65_535) {
         Some(port) => Ok(port as u16),
-        None => Err(unread!("--port")),
+        None => Err(Mistake::Unread(Opt::Port)),
     }
 }
 
 /// The path of a socket. An empty one has a meaning of its own for Linux: a socket without permissions.
-fn path_in<'a>(text: &'a str) -> Result<&'a str, &'static str>
+fn path_in<'a>(text: &'a str) -> Result<&'a str, Mistake>
     ensures { IsReadAs (λ path. path.now ≡ text.entry.now) (path_check (Some text.entry.now)) result }
 {
     if text.is_empty() {
-        return Err(unread!("--socket"));
+        return Err(Mistake::Unread(Opt::Socket));
     }
     Ok(text)
 }
@@ -88,13 +88,13 @@ fn mode_named(text: &str) -> Option<u32>
 }
 
 /// The permissions of a socket: the owner's alone, if none are given.
-fn mode_in(given: Option<&str>) -> Result<u32, &'static str>
+fn mode_in(given: Option<&str>) -> Result<u32, Mistake>
     ensures { IsReadAs (λ mode. mode_of (option_copied given.entry) ≡ Some mode)
         (mode_check (option_copied given.entry)) result }
 {
     match mode_named(given.unwrap_or("600")) {
         Some(mode) => Ok(mode),
-        None => Err(unread!("--socket-mode")),
+        None => Err(Mistake::Unread(Opt::SocketMode)),
     }
 }
 
@@ -103,13 +103,14 @@ fn address_of<'a>(
     port: Option<&'a str>,
     socket: Option<&'a str>,
     mode: Option<&'a str>,
-) -> Result<Address<'a>, &'static str>
+) -> Result<Address<'a>, Mistake>
     ensures { AreReadAs
         (IsAddress (option_copied port.entry) (option_copied socket.entry) (option_copied mode.entry))
         (address_checks (option_copied port.entry) (option_copied socket.entry) (option_copied mode.entry)) result }
 {
     match (port, socket, mode) {
-        (Some(_), None, Some(_)) => Err(MODE_WITHOUT_SOCKET),
+        // A port has no permissions.
+        (Some(_), None, Some(_)) => Err(Mistake::Lacks(Opt::SocketMode, Opt::Socket)),
         (Some(port), None, None) => Ok(Address::Port(port_in(port)?)),
         (None, Some(path), mode) => {
             let path = path_in(path)?;
@@ -117,12 +118,12 @@ fn address_of<'a>(
             Ok(Address::Socket { path, mode })
         }
         // Both are given, or neither is.
-        _ => Err(ONE_ADDRESS),
+        _ => Err(Mistake::NotOneAddress),
     }
 }
 
 /// Whether what a web page can send is refused.
-fn strict_in(chosen: &ArgMatches<'_>) -> Result<bool, &'static str>
+fn strict_in(chosen: &ArgMatches<'_>) -> Result<bool, Mistake>
     ensures { IsReadAs (λ strict. strict ≡ is_set (first_value (found_of chosen.now)) (codes "strict"))
         (strict_option (first_value (found_of chosen.now))) result }
 {
@@ -131,36 +132,37 @@ fn strict_in(chosen: &ArgMatches<'_>) -> Result<bool, &'static str>
     }
     match chosen.get_str("port") {
         Some(_) => Ok(true),
-        None => Err(STRICT_WITHOUT_PORT),
+        // No web page reaches a Unix socket.
+        None => Err(Mistake::Lacks(Opt::Strict, Opt::Port)),
     }
 }
 
 /// How many clients are served, 1 to 1,000,000.
-fn count_in(chosen: &ArgMatches<'_>) -> Result<u32, &'static str>
+fn count_in(chosen: &ArgMatches<'_>) -> Result<u32, Mistake>
     ensures { IsReadAs (λ count. count_of (first_value (found_of chosen.now)) ≡ Some count)
         (count_option (first_value (found_of chosen.now))) result }
 {
     match number_between(chosen.get_str("count").unwrap_or(""), 1, 1_000_000) {
         Some(count) => Ok(count as u32),
-        None => Err(unread!("--count")),
+        None => Err(Mistake::Unread(Opt::Count)),
     }
 }
 
 /// How long an exchange may take, 0 to 3,600 seconds; with 0, as long as it takes.
-fn timeout_in(chosen: &ArgMatches<'_>) -> Result<Option<Duration>, &'static str>
+fn timeout_in(chosen: &ArgMatches<'_>) -> Result<Option<Duration>, Mistake>
     ensures { IsReadAs (IsWait (first_value (found_of chosen.now))) (timeout_option (first_value (found_of chosen.now)))
         result }
 {
     match number_between(chosen.get_str("timeout").unwrap_or(""), 0, 3_600) {
         Some(0) => Ok(None),
         Some(seconds) => Ok(Some(Duration::from_secs(seconds))),
-        None => Err(unread!("--timeout")),
+        None => Err(Mistake::Unread(Opt::Timeout)),
     }
 }
 
 impl<'a> Serve<'a> {
     /// What these words ask for, or the first mistake in their options.
-    pub fn read(chosen: &ArgMatches<'a>) -> Result<Self, &'static str>
+    pub fn read(chosen: &ArgMatches<'a>) -> Result<Self, Mistake>
         ensures { AreReadAs (IsService (first_value (found_of chosen.now)))
             (service_checks (first_value (found_of chosen.now))) result }
     {

@@ -4,7 +4,7 @@ ghost use Rattle.clap.specs.Matches.{first_value, found_of};
 ghost use Rattle.opc_cli_words.specs.Checks.{IsReadAs};
 ghost use Rattle.opc_cli_words.specs.Sources.{IsSource, source_check};
 
-use crate::mistake::ONE_SOURCE;
+use crate::mistake::Mistake;
 use clap::ArgMatches;
 
 /// Where a policy comes from.
@@ -17,7 +17,7 @@ pub enum Source<'a> {
 }
 
 /// The source that is given: the input if none is.
-pub(crate) fn source_in<'a>(chosen: &ArgMatches<'a>) -> Result<Source<'a>, &'static str>
+pub(crate) fn source_in<'a>(chosen: &ArgMatches<'a>) -> Result<Source<'a>, Mistake>
     ensures { let value = first_value (found_of chosen.now) in
         IsReadAs (IsSource (value (codes "policy")) (value (codes "db")))
         (source_check (value (codes "policy")) (value (codes "db"))) result }
@@ -25,6 +25,6 @@ pub(crate) fn source_in<'a>(chosen: &ArgMatches<'a>) -> Result<Source<'a>, &'sta
     match (chosen.get_str("policy"), chosen.get_str("db")) {
         (policy, None) => Ok(Source::PolicyFile(policy)),
         (None, Some(path)) => Ok(Source::Database(path)),
-        (Some(_), Some(_)) => Err(ONE_SOURCE),
+        (Some(_), Some(_)) => Err(Mistake::TwoSources),
     }
 }

@@ -2,6 +2,7 @@
 ghost use Rattle.std.specs.Prelude.{◌≡◌, OnOk, false, if◌then◌else◌, is_err, true};
 ghost use Rattle.opc_cli_failures.specs.Printing.{Grows};
 
+use crate::mistake::{Mistake, Opt};
 use arrayvec::ArrayString;
 use clap::ArgMatches;
 use opc_cli_failures::shown::TextStart;
@@ -22,59 +23,52 @@ const ROWS: &str = "1 to 9223372036854775807";
 /// An option with the value that is given for it, which does not read, and what it takes.
 #[derive(Drop)]
 struct BadValue<'a> {
-    option: &'a str,
+    option: Opt,
     value: &'a str,
     taken: &'static str,
 }
 
-/// The option that a mistake says does not read.
-fn option_in(mistake: &str) -> Option<&str> {
-    mistake
-        .strip_prefix("the value of --")?
-        .strip_suffix(" does not read")
-}
-
 /// What an option of a command takes. Nobody is a user in the account, and where it is asked about a command.
-fn taken_by(command: &str, option: &str, is_about_command: bool) -> &'static str {
+fn taken_by(command: &str, option: Opt, is_about_command: bool) -> &'static str {
     match (command, option) {
-        ("account", "user") => NOBODY_OR_USER,
-        ("account", "console") => "* or 2 to 8 of A to Z, 0 to 9, #, $ and @, no digit first",
-        ("account", "count") => ROWS,
-        ("explain", "user") if is_about_command => NOBODY_OR_USER,
+        ("account", Opt::User) => NOBODY_OR_USER,
+        ("account", Opt::Console) => "* or 2 to 8 of A to Z, 0 to 9, #, $ and @, no digit first",
+        ("account", Opt::Count) => ROWS,
+        ("explain", Opt::User) if is_about_command => NOBODY_OR_USER,
         _ => taken_by_any(option),
     }
 }
 
 /// What an option takes, whatever the command is.
-fn taken_by_any(option: &str) -> &'static str {
+fn taken_by_any(option: Opt) -> &'static str {
     match option {
-        "user" => "1 to 8 of A to Z, 0 to 9, #, $ and @",
-        "console" => "2 to 8 of A to Z, 0 to 9, #, $ and @, no digit first",
-        "resource" => "1 to 39 of A to Z, 0 to 9, #, $ and @, with single periods between them",
-        "level" => "NONE, READ, UPDATE, CONTROL or ALTER",
-        "class" => "CONSOLE or OPERCMDS",
-        "as" => "TSU, or STC: and a name of 1 to 8 of A to Z, 0 to 9, #, $ and @",
-        "batch" => "1 to 999999999",
-        "port" => "0 to 65535",
-        "socket" => "a path that is not empty",
-        "socket-mode" => "600, 660 or 666",
-        "count" => "1 to 1000000",
-        "timeout" => "0 to 3600",
-        "from" | "last" => ROWS,
-        "since" | "until" => "a time as 2026-11-27T08:00:00Z, or @ and 0 to 9999999999999",
-        "code" => "A to Z and 0 to 9, with * at the end for all that begin so",
-        "allow" => "N and two digits, with commas between several",
-        // No other option has values that do not read.
-        _ => "another value",
+        Opt::User => "1 to 8 of A to Z, 0 to 9, #, $ and @",
+        Opt::Console => "2 to 8 of A to Z, 0 to 9, #, $ and @, no digit first",
+        Opt::Resource => "1 to 39 of A to Z, 0 to 9, #, $ and @, with single periods between them",
+        Opt::Level => "NONE, READ, UPDATE, CONTROL or ALTER",
+        Opt::Class => "CONSOLE or OPERCMDS",
+        Opt::As => "TSU, or STC: and a name of 1 to 8 of A to Z, 0 to 9, #, $ and @",
+        Opt::Batch => "1 to 999999999",
+        Opt::Port => "0 to 65535",
+        Opt::Socket => "a path that is not empty",
+        Opt::SocketMode => "600, 660 or 666",
+        Opt::Count => "1 to 1000000",
+        Opt::Timeout => "0 to 3600",
+        Opt::From | Opt::Last => ROWS,
+        Opt::Since | Opt::Until => "a time as 2026-11-27T08:00:00Z, or @ and 0 to 9999999999999",
+        Opt::Code => "A to Z and 0 to 9, with * at the end for all that begin so",
+        Opt::Allow => "N and two digits, with commas between several",
+        // No value of these is a mistake.
+        Opt::Command | Opt::Now | Opt::Strict => "another value",
     }
 }
 
 /// What is wrong with a value that has to be a name.
-fn name_fault(option: &str, value: &str) -> Option<NameFault> {
+fn name_fault(option: Opt, value: &str) -> Option<NameFault> {
     match option {
-        "user" => UserId::read(value).err(),
-        "console" => ConsoleName::read(value).err(),
-        "resource" => Resource::read(value).err(),
+        Opt::User => UserId::read(value).err(),
+        Opt::Console => ConsoleName::read(value).err(),
+        Opt::Resource => Resource::read(value).err(),
         // The others take no name alone.
         _ => None,
     }
@@ -82,9 +76,9 @@ fn name_fault(option: &str, value: &str) -> Option<NameFault> {
 
 impl Display for BadValue<'_> {
     fn fmt<W: fmt::Write>(&self, f: &mut Formatter<W>) -> fmt::Result {
-        let (option, value) = (self.option, TextStart::of(self.value));
+        let (option, value) = (self.option.name(), TextStart::of(self.value));
         write!(f, "opcmds: --{option} {value}: ")?;
-        match name_fault(option, self.value) {
+        match name_fault(self.option, self.value) {
             Some(NameFault::BadCharacter(at)) => write!(f, "a bad character at {at}, ")?,
             Some(NameFault::BadQualifier(at)) => write!(f, "a bad qualifier at {at}, ")?,
             Some(NameFault::TooShort) => f.write_str("too short, ")?,
@@ -106,14 +100,14 @@ fn print_note<K: Sink>(bad: &BadValue<'_>, errors: &mut K) -> Result<(), WriteFa
 
 /// Prints, if the mistake is in a value, that value and what is taken in its place. That is a note beside the mistake,
 /// of which no clause speaks; the tables of `tools/program` have the words.
-pub fn note_value<K: Sink>(command: &str, mistake: &str, chosen: &ArgMatches<'_>, errors: &mut K)
+pub fn note_value<K: Sink>(command: &str, mistake: Mistake, chosen: &ArgMatches<'_>, errors: &mut K)
     ensures noted { K.has_failed errors.new ≡ false → Grows (K.held errors.old) (K.held errors.new) }
     ensures kept { K.has_failed errors.new ≡ false → K.has_failed errors.old ≡ false }
 {
-    let Some(option) = option_in(mistake) else {
+    let Mistake::Unread(option) = mistake else {
         return;
     };
-    let Some(value) = chosen.get_str(option) else {
+    let Some(value) = chosen.get_str(option.name()) else {
         return;
     };
     let taken = taken_by(command, option, chosen.get_str("command").is_some());

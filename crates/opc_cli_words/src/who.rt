@@ -8,6 +8,7 @@ ghost use Rattle.opc_cli_words.specs.Options.{IsEnquiry, given, who_checks};
 
 use crate::asking::{kind_beside, need_access};
 use crate::flag::is_set;
+use crate::mistake::Mistake;
 use crate::question::{class_in, console_in, level_in, resource_in};
 use crate::source::{Source, source_in};
 use clap::ArgMatches;
@@ -47,7 +48,7 @@ fn of_access<'a>(
     kind: Option<&'a str>,
     resource: Option<&'a str>,
     level: Option<&'a str>,
-) -> Result<Asked<'a>, &'static str>
+) -> Result<Asked<'a>, Mistake>
     requires resource { option_copied resource ≡ first_value (found_of chosen.now) (codes "resource") }
     requires level { option_copied level ≡ first_value (found_of chosen.now) (codes "level") }
     ensures { AreReadAs
@@ -68,7 +69,7 @@ fn of_access<'a>(
 }
 
 /// What is asked about.
-fn about<'a>(chosen: &ArgMatches<'a>) -> Result<Asked<'a>, &'static str>
+fn about<'a>(chosen: &ArgMatches<'a>) -> Result<Asked<'a>, Mistake>
     ensures { let value = first_value (found_of chosen.now) in
         AreReadAs
         (IsAsked (value (codes "command")) (value (codes "as")) (value (codes "resource")) (value (codes "level"))
@@ -90,7 +91,7 @@ fn about<'a>(chosen: &ArgMatches<'a>) -> Result<Asked<'a>, &'static str>
 
 impl<'a> Enquiry<'a> {
     /// What these words ask, or the first mistake in their options.
-    pub fn read(chosen: &ArgMatches<'a>) -> Result<Self, &'static str>
+    pub fn read(chosen: &ArgMatches<'a>) -> Result<Self, Mistake>
         ensures { AreReadAs (IsEnquiry (first_value (found_of chosen.now)))
             (who_checks (first_value (found_of chosen.now))) result }
     {

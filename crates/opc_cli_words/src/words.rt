@@ -25,7 +25,7 @@ use crate::check::PolicyCheck;
 use crate::command_line::command_line;
 use crate::command_question::CommandQuestion;
 use crate::import::Import;
-use crate::mistake::print_mistake;
+use crate::mistake::{Mistake, print_mistake};
 use crate::question::Question;
 use crate::run::Run;
 use crate::serve::Serve;
@@ -117,7 +117,7 @@ fn task_of<'a, E: Write>(
 }
 
 /// What a command with these options asks for, or the first mistake in them.
-fn asked<'a>(command: &str, chosen: &ArgMatches<'a>) -> Result<Task<'a>, &'static str>
+fn asked<'a>(command: &str, chosen: &ArgMatches<'a>) -> Result<Task<'a>, Mistake>
     ensures { AreReadAs (IsTaskOf (first_value (found_of chosen.now)) command.now)
         (options_of (first_value (found_of chosen.now)) command.now) result }
 {
@@ -150,12 +150,12 @@ fn asked<'a>(command: &str, chosen: &ArgMatches<'a>) -> Result<Task<'a>, &'stati
         },
         "digest" => Ok(Task::Digest),
         // The command line has no other command.
-        _ => Err("the value of COMMAND does not read"),
+        _ => Err(Mistake::NoCommand),
     }
 }
 
 /// What `explain` is asked: about a command or about a level of access.
-fn question<'a>(chosen: &ArgMatches<'a>) -> Result<Task<'a>, &'static str>
+fn question<'a>(chosen: &ArgMatches<'a>) -> Result<Task<'a>, Mistake>
     ensures { AreReadAs (IsTaskOf (first_value (found_of chosen.now)) (codes "explain"))
         (options_of (first_value (found_of chosen.now)) (codes "explain")) result }
 {
@@ -172,9 +172,9 @@ fn question<'a>(chosen: &ArgMatches<'a>) -> Result<Task<'a>, &'static str>
 }
 
 /// Reports a mistake in the options of a command, and what is taken in the place of a value that does not read.
-fn report_mistake<K: Sink>(command: &str, mistake: &str, chosen: &ArgMatches<'_>, errors: &mut K)
+fn report_mistake<K: Sink>(command: &str, mistake: Mistake, chosen: &ArgMatches<'_>, errors: &mut K)
     ensures { K.has_failed errors.new ≡ false
-        → IsMistakePrinted (K.held errors.old) (K.held errors.new) command.now mistake.now }
+        → IsMistakePrinted (K.held errors.old) (K.held errors.new) command.now mistake }
 {
     // The status reports it too, if no word can be printed.
     let _ = print_mistake(command, mistake, errors);

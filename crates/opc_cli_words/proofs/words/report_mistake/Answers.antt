@@ -10,5 +10,5 @@ returns g c = λ fine.
     (c.note_value.ensures.kept fine) in
     record {
       more = noted.0;
-      text = appends-more _ _ _ (mistake_line c.args.command.now c.args.mistake.now) noted.0 line noted.1;
+      text = appends-more _ _ _ (mistake_line c.args.command.now c.args.mistake) noted.0 line noted.1;
     }

@@ -15,8 +15,8 @@ returns-in-Err g c = (
   refl,
   inr (record {
     command = c.in-Some.command.now;
-    mistake = c.in-Err.mistake.now;
-    fails = fails_at c.args.matches.now (found_of c.in-Some.chosen.now) c.in-Some.command.now c.in-Err.mistake.now
+    mistake = c.in-Err.mistake;
+    fails = fails_at c.args.matches.now (found_of c.in-Some.chosen.now) c.in-Some.command.now c.in-Err.mistake
         c.in-Some.ensures.name c.in-Some.ensures.rows c.in-Err.ensures;
     printed = c.report_mistake.ensures;
   }),

@@ -1,0 +1,28 @@
+use Rattle.std.proofs.Common.{◌∙◌, ◌++◌, ap, codes, sym}
+use Rattle.opc_io.proofs.Writing.{appends-more}
+use Rattle.opc_cli_words.specs.Mistakes.{mistake_text}
+use Rattle.opc_cli_words.proofs.Printed.{last_piece}
+use Rattle.opc_cli_words.proofs.mistake.write_mistake.Goals as goal
+
+pub returns-in_ok-write_whole-in-Unread-2-clause-text : goal.returns-in_ok-write_whole-in-Unread-2-clause-text
+returns-in_ok-write_whole-in-Unread-2-clause-text g c =
+    let named = appends-more _ _ _ _ _ c.in_ok-write_whole-in-Unread.ensures.ok c.in_ok-write_whole-in-Unread-2.ensures.ok in
+    last_piece c.write_whole-in-Unread-2.result _ _ _ _ _ _
+    (ap mistake_text c.in-Unread.is
+    ∙ ap (λ name. codes "the value of --" ++ name ++ codes " does not read") (sym (c.as_bytes.ensures.value ∙ c.name.ensures)))
+    named c.write_whole-in-Unread-2.ensures.ok
+
+pub returns-in-NotOneAddress-clause-text : goal.returns-in-NotOneAddress-clause-text
+returns-in-NotOneAddress-clause-text g c = rw c.in-NotOneAddress.is c.write_whole-in-NotOneAddress.ensures.ok
+
+pub returns-in-NotOneQuestion-clause-text : goal.returns-in-NotOneQuestion-clause-text
+returns-in-NotOneQuestion-clause-text g c = rw c.in-NotOneQuestion.is c.write_whole-in-NotOneQuestion.ensures.ok
+
+pub returns-in-TwoBeginnings-clause-text : goal.returns-in-TwoBeginnings-clause-text
+returns-in-TwoBeginnings-clause-text g c = rw c.in-TwoBeginnings.is c.write_whole-in-TwoBeginnings.ensures.ok
+
+pub returns-in-TwoSources-clause-text : goal.returns-in-TwoSources-clause-text
+returns-in-TwoSources-clause-text g c = rw c.in-TwoSources.is c.write_whole-in-TwoSources.ensures.ok
+
+pub returns-in-NoCommand-clause-text : goal.returns-in-NoCommand-clause-text
+returns-in-NoCommand-clause-text g c = rw c.in-NoCommand.is c.write_whole-in-NoCommand.ensures.ok

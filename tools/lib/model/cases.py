@@ -4,11 +4,11 @@ from collections import Counter
 from random import Random
 from typing import Any, Callable, Iterable
 
-from . import account, counting, exchange, files, machine, names, random_lines, random_policies, random_requests
-from . import random_unread, scripts, world
-from .faults import Fault
+from . import account, counting, entering, exchange, files, machine, names, random_lines, random_policies
+from . import random_requests, random_unread, scripts, world
 from .files import Row
 from .machine import State
+from .random_policies import state_of
 from .steps import CLOCK, SOME_PORT, Account, Check, Digest, Explain, ExplainCommand, OverFile, Run, Serve, Step, Take
 from .steps import Who
 from .world import one_in
@@ -16,16 +16,6 @@ from .world import one_in
 
 def first_file(chance: Random, rows: list[Row]) -> bytes:
     return random_policies.joined(chance, random_policies.written(chance, rows), plain=not one_in(chance, 4))
-
-
-def state_of(data: bytes) -> State:
-    """The state that a first policy makes, or the empty one where it is refused."""
-    state = machine.State()
-    try:
-        state.bootstrap(files.read(data))
-    except Fault:
-        pass
-    return state
 
 
 def rarest(chance: Random, makes: Callable[[], Any], keys_of: Callable[[Any], object], seen: Counter[object]) -> Any:
@@ -397,6 +387,7 @@ def first_lines(chance: Random) -> list[str]:
 
 
 PARTS = {
-    "explain": explain, "who": who, "check": check, "lines": lines, "scripts": scripts_of, "account": accounts,
-    "stored": stored, "digest": digests, "displays": displays, "requests": requests, "imports": imports,
+    "explain": explain, "who": who, "enter": entering.cases, "check": check, "lines": lines, "scripts": scripts_of,
+    "account": accounts, "stored": stored, "digest": digests, "displays": displays, "requests": requests,
+    "imports": imports,
 }

@@ -59,7 +59,8 @@ BRANCHES = {
         "a user, GROUP AT", "a user, EVERYONE AT", "a console, AUTO", "a console, NOBODY", "as JSON",
     ),
     "why": ("OWN", "GROUP", "EVERYONE", "UACC", "RESTRICTED", "OWN AT", "GROUP AT", "EVERYONE AT"),
-    "over a file": ("a STC on the board", "a TSU on the board"), "account": ("no row",), "digest": ("no password",),
+    "entering": ("may", "may not", "no logon"), "over a file": ("a STC on the board", "a TSU on the board"),
+    "account": ("no row",), "digest": ("no password",),
     "acting": ("the user who is on", "the console's own user", "nobody at AUTO"),
 }
 

@@ -3,6 +3,7 @@ from random import Random
 from typing import Sequence
 
 from . import files, names, world
+from .faults import Fault
 from .files import Row, row
 from .machine import State
 from .world import one_in
@@ -168,3 +169,34 @@ def joined(chance: Random, lines: list[str], plain: bool = False) -> bytes:
     if not plain and one_in(chance, 6):
         text = "\ufeff" * chance.choice((1, 1, 1, 2)) + text
     return (text[:-1] if one_in(chance, 4) else text).encode()
+
+
+def state_of(data: bytes) -> State:
+    """The state that a first policy makes, or the empty one where it is refused."""
+    state = State()
+    try:
+        state.bootstrap(files.read(data))
+    except Fault:
+        pass
+    return state
+
+
+def with_doors(chance: Random) -> bytes:
+    """A first policy that is taken, in which some users have no digest, and some consoles are kept from some users."""
+    while True:
+        rows = [
+            (*made[:7], "", *made[8:]) if made[0] == "user" and one_in(chance, 6) else made
+            for made in first_policy(chance)
+        ]
+        doors = [
+            row(
+                "profile", of="CONSOLE", name=world.any_pattern(chance, "CONSOLE"), owner="SECADM",
+                value=chance.choice(("NONE", "NONE", "READ")), flags="W" * one_in(chance, 6),
+            )
+            for _ in range(chance.choice((0, 1, 3)))
+        ]
+        ids = [made[2] for made in rows if made[0] in ("user", "group")]
+        rows += doors + [permit_row(chance, doors, ids) for _ in range(6) if doors]
+        first = joined(chance, written(chance, rows), plain=True)
+        if state_of(first).board.consoles:
+            return first

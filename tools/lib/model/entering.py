@@ -1,0 +1,91 @@
+"""What users may enter who log on at a console: what `who` says of them, beside what comes of it."""
+import json
+from dataclasses import dataclass
+from random import Random
+from typing import Callable
+
+from . import counting, needs, random_lines, random_policies, reading, scripts, world
+from .machine import State
+from .steps import Answers, Step, options_of, run
+from .world import one_in
+
+PASSWORDS = {digest: word for word, digest in world.DIGESTS.items()}
+# what refuses a command for authority: other refusals say that it may be entered
+NOT_ALLOWED = ("E12", "E13", "E20", "E21")
+
+
+def unit_event(words: dict[str, str]) -> list[str]:
+    """The event that makes the unit what the command takes it for."""
+    kind, named = words.get("as"), reading.read(words["command"]).operands[:1]
+    return [f"* JOBIN {named[0]} {kind.replace(':', ' ')}"] if kind and named else []
+
+
+def script_of(state: State, user: str, words: dict[str, str]) -> list[str]:
+    """The lines of this user, who needs no LOGON where the console acts for the user."""
+    console, stored = words["console"], state.policy.users[user]
+    password = PASSWORDS.get(stored.digest, world.PASSWORD)
+    log_on = [] if state.acting(console) == user else [f"{console} LOGON {user},{password}"]
+    lines = [*unit_event(words), *log_on, f"{console} {words['command']}"]
+    return [f"{at} {line}\n" for at, line in enumerate(lines)]
+
+
+def came_of(script: list[str], printed: str) -> str:
+    """Whether the command may be entered, once the LOGON is done."""
+    answers = [line.split(" ") for line in printed.splitlines() if not line.startswith(" ")]
+    log_on = [answer for line, answer in zip(script[:-1], answers) if " LOGON " in line]
+    if any(answer[1] != "DONE" for answer in log_on):
+        return "no logon"
+    return "may not" if answers[-1][2] in NOT_ALLOWED else "may"
+
+
+@dataclass
+class Enter:
+    """Each user logs on at a console of a policy file and enters the command there. What `who` said of the users who
+    get on there has to be what comes of it."""
+    words: dict
+    rows: bytes
+
+    def each(self, runs: Callable[[bytes], str], said: Callable[[str, str], str | None]) -> Answers:
+        """By user the script, what was said of it, and what comes of it."""
+        state, found = random_policies.state_of(self.rows), []
+        # (a case that is cut down may lack the console)
+        users = state.policy.users if self.words["console"] in state.board.consoles else {}
+        for user in sorted(users):
+            script = script_of(state, user, self.words)
+            came = came_of(script, runs("".join(script).encode()))
+            found.append((script, (said(user, came), came)))
+        return found
+
+    def program(self, file: str) -> Answers:
+        with open(f"{file}.csv", "wb") as policy_file:
+            policy_file.write(self.rows)
+        _, output, _ = run(["who", "--json", *options_of(self.words)], self.rows)
+        lines = [line for line in map(json.loads, output.splitlines()) if line["kind"] == "user"]
+        may = {line["id"]: "may" if line["verdict"] in ("ALLOWED", "WARNED") else "may not" for line in lines}
+        return self.each(
+            lambda script: run(["run", "--policy", f"{file}.csv"], script)[1],
+            lambda user, came: came if came == "no logon" else may.get(user),
+        )
+
+    def model(self, _: State) -> Answers:
+        def runs(script: bytes) -> str:
+            return scripts.run(random_policies.state_of(self.rows), script)[1]
+
+        def said(_: str, came: str) -> str:
+            counting.met["entering", came] += 1
+            return came
+
+        return self.each(runs, said)
+
+
+def cases(chance: Random) -> list[Step]:
+    """A policy file with a command at a console, which each user enters there."""
+    first = random_policies.with_doors(chance)
+    state, form = random_policies.state_of(first), "LOGON"
+    while form in ("LOGON", "LOGOFF"):
+        command = random_lines.typed(chance, random_lines.any_command(chance, state))
+        form = reading.read(command).form
+    words = {"command": command, "console": chance.choice(sorted(state.board.consoles))}
+    if form in needs.OF_UNITS and not one_in(chance, 3):
+        words["as"] = chance.choice(("TSU", "STC:PAY", "STC:CICSPROD"))
+    return [Enter(words, first)]

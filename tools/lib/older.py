@@ -1,4 +1,7 @@
-"""Makes a database of version 1 or 2 with the rows of one of version 3, by the statements of docs/rules/tables.md."""
+"""Makes a database of version 1 or 2 with the rows of one of version 3, by the statements of docs/rules/tables.md.
+
+tools/program and tools/stops open such files and compare them with the file whose rows they have.
+examples/older/version-2.db was written by a program of version 2, from examples/scripts/first-look.script."""
 import contextlib
 import csv
 import io

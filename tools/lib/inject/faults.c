@@ -179,7 +179,8 @@ int posix_memalign(void **made, size_t alignment, size_t size) {
     return *made ? 0 : ENOMEM;
 }
 
-/* (A child gives nothing back: each page that it writes to is copied first, and it has little to go.) */
+/* (A child gives nothing back: each page that it writes to is copied first, and it has little to go. So memory that is
+   freed twice shows in runs of their own alone.) */
 void free(void *was) {
     if (!is_child) __libc_free(was);
 }

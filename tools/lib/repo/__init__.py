@@ -1,0 +1,1 @@
+"""The pages that tools/repo makes from the repository itself."""

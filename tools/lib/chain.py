@@ -1,23 +1,48 @@
-"""What crates take to prove and to test, by the table of docs/PERFORMANCE.md or by what tools/test prints; and the
-longest chain of crates, each of which stands on the one before it."""
+"""What crates take to prove and to test, by the table of docs/performance/minutes.md or by what tools/test prints; the
+longest chain of crates, each of which stands on the one before it; and that page."""
 import re
 from typing import Iterable, NamedTuple
 
 from .clone import crates_of_tests
 
-ROW = re.compile(r"(?m)^\| `(opc\w*)` \| ~?(\d+\.\d) \| ~?(\d+\.\d)? *\| ?([^|]*?) ?\|$")
+ROW = re.compile(r"(?m)^\| `(opc\w*)` \| (~?)(\d+\.\d) \| (\d+\.\d)? *\| ?([^|]*?) ?\|$")
 EDITS = re.compile(r"(\d+) in (\d+\.\d)")
 REPORTED = re.compile(r"(?m)^(opc\w*) +(\d+\.\d) +(\d+\.\d) *(\d+ in \d+\.\d)?$")
+
+# minutes that all crates may take, that their must-fail edits may take, and that the longest chain may take
+MOST_CODE, MOST_EDITS, MOST_CHAIN = 110, 170, 36
+PAGE = """\
+# The minutes of each crate
+
+`tools/chain --write FILE` makes this page of what `tools/test` printed into FILE, and `tools/selftest` checks it. All \
+figures are minutes of CPU time.
+
+| What | Target | Result |
+|---|---|---|
+{budgets}
+
+{sentence}
+
+- **code**: to prove the crate, and to compile a program.
+- **tests**: to compile and run a crate of tests, without a proof.
+- **must-fail edits**: how many were tried, and the minutes of all of them.
+- `~`: of a later run than the others. An empty cell: the crate has nothing of the kind.
+
+| Crate | code | tests | must-fail edits |
+|---|---|---|---|
+{rows}
+"""
 
 # by crates, those of the repository that each stands on, after which it comes
 Below = dict[str, list[str]]
 
 
 class Minutes(NamedTuple):
-    """Of CPU time; `edits` says how many must-fail edits took how many."""
+    """Of CPU time; `edits` says how many must-fail edits took how many; whether they are of a later run than others."""
     code: float
     tests: float = 0.0
     edits: str = ""
+    is_later: bool = False
 
 
 class Chain(NamedTuple):
@@ -28,7 +53,10 @@ class Chain(NamedTuple):
 
 def minutes_in(page: str) -> dict[str, Minutes]:
     """The rows of the table that have minutes."""
-    return {name: Minutes(float(code), float(tests or 0), edits) for name, code, tests, edits in ROW.findall(page)}
+    return {
+        name: Minutes(float(code), float(tests or 0), edits, bool(mark))
+        for name, mark, code, tests, edits in ROW.findall(page)
+    }
 
 
 def minutes_reported(report: str) -> dict[str, Minutes]:
@@ -72,20 +100,47 @@ def through(below: Below, took: dict[str, Minutes]) -> dict[str, float]:
     return {name: round(chain.minutes + after[name], 1) for name, chain in chains_up_to(below, took).items()}
 
 
-def row_of(name: str, took: Minutes) -> str:
-    return f"| `{name}` | {took.code:.1f} | {f'{took.tests:.1f}' if took.tests else ''} | {took.edits} |"
+def merged(old: dict[str, Minutes], new: dict[str, Minutes], counts: dict[str, int]) -> dict[str, Minutes]:
+    """The new minutes where there are any, else the old ones; with the old must-fail edits where not all were tried.
+    `counts` has all crates, with how many must-fail edits each has. If some crate has no new minutes, those of the
+    others are marked as later ones."""
+    is_whole, found = counts.keys() <= new.keys(), dict(old)
+    for name, took in new.items():
+        has_all = name not in old or took.edits.startswith(f"{counts.get(name, 0)} in ")
+        found[name] = took._replace(edits=took.edits if has_all else old[name].edits, is_later=not is_whole)
+    return {name: found[name] for name in counts if name in found}
 
 
-def total_of(took: Iterable[Minutes]) -> str:
-    """The last row of the table."""
+def cells_of(took: Minutes) -> str:
+    return f"{'~' if took.is_later else ''}{took.code:.1f} | {f'{took.tests:.1f}' if took.tests else ''} | {took.edits}"
+
+
+def total_of(took: Iterable[Minutes]) -> Minutes:
     all_took = list(took)
     edits = [EDITS.fullmatch(it.edits).groups() for it in all_took if it.edits]
     tried, minutes = sum(int(number) for number, _ in edits), sum(float(minutes) for _, minutes in edits)
     code, tests = sum(it.code for it in all_took), sum(it.tests for it in all_took)
-    return f"| all | {code:.1f} | {tests:.1f} | {tried} in {minutes:.1f} |"
+    return Minutes(code, tests, f"{tried} in {minutes:.1f}", any(it.is_later for it in all_took))
 
 
-def rows_of(names: Iterable[str], took: dict[str, Minutes]) -> list[str]:
-    """The rows of the table."""
-    rows = [row_of(name, took[name]) if name in took else f"| `{name}` | not measured |  |  |" for name in names]
-    return [*rows, total_of(took.values())]
+def rows_of(took: dict[str, Minutes]) -> list[str]:
+    """The rows of the table, the last with the sums."""
+    rows = [f"| `{name}` | {cells_of(it)} |" for name, it in took.items()]
+    return [*rows, f"| all | {cells_of(total_of(took.values()))} |"]
+
+
+def budget_of(what: str, most: int, minutes: float) -> str:
+    return f"| {what} | at most {most} | {minutes:.1f}: {'met' if minutes <= most else 'missed'} |"
+
+
+def page_of(below: Below, took: dict[str, Minutes]) -> str:
+    """The page of the minutes of these crates, in the order of `below`."""
+    known = {name: took[name] for name in below if name in took}
+    found, total = longest(below, known), total_of(known.values())
+    edits = float(EDITS.fullmatch(total.edits)[2])
+    budgets = [
+        budget_of("code and tests of all crates", MOST_CODE, total.code + total.tests),
+        budget_of("all must-fail edits", MOST_EDITS, edits),
+        budget_of("the longest chain of crates", MOST_CHAIN, found.minutes),
+    ]
+    return PAGE.format(budgets="\n".join(budgets), sentence=sentence_of(found), rows="\n".join(rows_of(known)))

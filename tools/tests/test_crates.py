@@ -1,5 +1,4 @@
-"""The documents have each crate of crates.txt: ARCHITECTURE those of the product, PROVED those with contracts, and
-PERFORMANCE all."""
+"""The documents have the crates of crates.txt: ARCHITECTURE those of the product, PROVED those with contracts."""
 import re
 import unittest
 
@@ -24,10 +23,6 @@ class Crates(unittest.TestCase):
         proved = [name for name in crates.product_crates() if crates.has_contracts(name)]
         self.assertEqual([name for name in proved if headed.count(name) != 1], [])
         self.assertEqual(sorted({*headed} - {*crates.product_crates()}), [])
-
-    def test_performance_has_a_row_for_each(self) -> None:
-        rows = re.findall(r"(?m)^\| `(opc\w*)` \|(?:[^|]*\|){3}$", page("PERFORMANCE"))
-        self.assertEqual(sorted(rows), sorted(crates.crates()))
 
     def test_layers_are_read(self) -> None:
         text = "# words\nopc_a: x\n# cases and tests\nopc_b: opc_a\n"

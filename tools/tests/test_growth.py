@@ -1,4 +1,4 @@
-"""The chart of PERFORMANCE is that of its table; tools/lib/older.py finds the statements of the rules."""
+"""The chart of the room's size is that of its table; tools/lib/older.py finds the statements of the rules."""
 import os
 import subprocess
 import unittest

@@ -25,14 +25,35 @@ class Chains(unittest.TestCase):
 
 
 class Tables(unittest.TestCase):
+    maxDiff = None
+
     def test_rows_are_read_and_written(self) -> None:
-        rows = ["| `opc_a` | 1.5 |  | 2 in 0.3 |", "| `opc_t` | 0.1 | 2.0 |  |", "| `opc_n` | not measured |  |  |"]
-        found = {"opc_a": Minutes(1.5, 0.0, "2 in 0.3"), "opc_t": Minutes(0.1, 2.0)}
-        self.assertEqual(chain.minutes_in("\n".join(["| `opc_o` | ~0.5 |  | 1 in 0.0 |", *rows]))["opc_o"].code, 0.5)
-        self.assertEqual(chain.minutes_in("\n".join(rows)), found)
-        self.assertEqual(chain.rows_of(["opc_a", "opc_t", "opc_n"], found), [*rows, "| all | 1.6 | 2.0 | 2 in 0.3 |"])
+        rows = ["| `opc_a` | ~1.5 |  | 2 in 0.3 |", "| `opc_t` | 0.1 | 2.0 |  |"]
+        found = {"opc_a": Minutes(1.5, 0.0, "2 in 0.3", True), "opc_t": Minutes(0.1, 2.0)}
+        self.assertEqual(chain.minutes_in("\n".join([*rows, "| `opc_n` | soon |  |  |"])), found)
+        self.assertEqual(chain.rows_of(found), [*rows, "| all | ~1.6 | 2.0 | 2 in 0.3 |"])
 
     def test_what_the_full_test_prints_is_read(self) -> None:
         report = f"{'opc_a':27} {1.5:7.1f} {0.0:7.1f}   2 in 0.3\n{'opc_t':27} {0.1:7.1f} {2.0:7.1f}   \n"
         found = {"opc_a": Minutes(1.5, 0.0, "2 in 0.3"), "opc_t": Minutes(0.1, 2.0)}
         self.assertEqual(chain.minutes_reported(report), found)
+
+    def test_a_whole_run_takes_the_place_of_all(self) -> None:
+        old = {"opc_a": Minutes(1.0, 0.0, "2 in 0.3", True), "opc_gone": Minutes(1.0)}
+        new = {"opc_a": Minutes(2.0, 0.0, "1 in 0.1"), "opc_b": Minutes(3.0, 0.0, "1 in 0.1")}
+        found = {"opc_a": Minutes(2.0, 0.0, "2 in 0.3"), "opc_b": Minutes(3.0, 0.0, "1 in 0.1")}
+        self.assertEqual(chain.merged(old, new, {"opc_a": 2, "opc_b": 1}), found)
+
+    def test_a_run_of_some_is_marked(self) -> None:
+        old = {"opc_a": Minutes(1.0, 0.0, "2 in 0.3"), "opc_b": Minutes(1.0)}
+        found = {"opc_a": Minutes(1.0, 0.0, "2 in 0.3"), "opc_b": Minutes(3.0, 0.0, "1 in 0.1", True)}
+        new = {"opc_b": Minutes(3.0, 0.0, "1 in 0.1")}
+        self.assertEqual(chain.merged(old, new, {"opc_a": 2, "opc_b": 1}), found)
+
+    def test_the_page_has_chain_and_budgets(self) -> None:
+        took = {"opc_a": Minutes(30.0, 0.0, "2 in 0.3"), "opc_b": Minutes(7.0)}
+        page = chain.page_of({"opc_a": [], "opc_b": ["opc_a"]}, took)
+        self.assertEqual(chain.minutes_in(page), took)
+        self.assertIn("The longest chain is `opc_a`, `opc_b`.\n", page)
+        self.assertIn("| the longest chain of crates | at most 36 | 37.0: missed |\n", page)
+        self.assertIn("| all must-fail edits | at most 170 | 0.3: met |\n", page)

@@ -1,6 +1,7 @@
 -- What is reported of the reply to a request.
 use Rattle.std.proofs.Common.{◌≡◌, ℕ, true, false, List, Option, Result, Ok, Err, IfErr, IfOk, ap, refl, rules, ◌∙◌}
-use Rattle.std.specs.Prelude.{Bool, if◌then◌else◌}
+use Rattle.std.specs.Bool.{then_some}
+use Rattle.std.specs.Prelude.{Bool, IfSome, if◌then◌else◌, is_some}
 use Rattle.opc_machine.specs.declared.request.Request.{Request}
 use Rattle.opc_http_requests.specs.declared.origins.Origins.{Origins}
 use Rattle.opc_http_requests.specs.declared.refusal.HttpRefusal.{HttpRefusal}
@@ -56,6 +57,16 @@ refused_read fault why is old new h = rw is at h
 pub only_failed : (reported old new : Bool) → old ≡ false → new ≡ (if reported then true else old) → new ≡ reported
 only_failed true old new fine is = is
 only_failed false old new fine is = is ∙ fine
+
+-- what is told has what all that is told has, and if nothing is, there is nothing to show
+pub entry_told : {A : Type 0} (has : A → Type 0) (is_told : Bool) (entry : A) → (is_told ≡ true → has entry)
+    → IfSome (then_some is_told entry) has
+entry_told has true entry is = is refl
+entry_told has false entry is = tt
+
+pub told_if : {A : Type 0} (is_told : Bool) (entry : A) → is_some (then_some is_told entry) ≡ is_told
+told_if true entry = refl
+told_if false entry = refl
 
 -- A reply that is reported or cut off was written, by what its writer holds.
 pub written : {K : Type 0} (held : K → Option (List ℕ)) (reply : Reply) (before after : K)

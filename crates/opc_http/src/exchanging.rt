@@ -10,6 +10,7 @@ ghost use Rattle.std.specs.Prelude.{
   Ok,
   Err,
   is_err,
+  is_some,
   false,
   if◌then◌else◌,
   true,
@@ -19,7 +20,9 @@ ghost use Rattle.opc_io.specs.Reads.{ReadsOnly, TakesAtMost};
 ghost use Rattle.opc_io.specs.Writes.{AppendsPrefix};
 ghost use Rattle.opc_http_requests.specs.Asked.{MayRead, StopsAtEnd};
 ghost use Rattle.opc_http.specs.Exchange.{IsCutOff, IsFaulty, IsServed, IsReported, is_read, is_write};
+ghost use Rattle.opc_http.specs.Told.{IsEntry};
 
+use crate::telling::{Exchanged, answer, told};
 use opc_gate::gate::Gate;
 use opc_http_requests::ask::read_request;
 use opc_http_requests::fault::ReadingFault;
@@ -71,11 +74,7 @@ fn respond<K: Sink>(sink: &mut K, response: &Response, handled: bool) -> Result<
 }
 
 // Writes the response to an answer.
-pub(crate) fn send_answer<K: Sink>(
-    alloc: Global,
-    sink: &mut K,
-    answer: &Answer,
-) -> Result<Served, LinkFault>
+fn send_answer<K: Sink>(alloc: Global, sink: &mut K, answer: &Answer) -> Result<Served, LinkFault>
     ensures reported { IfOk result (IsReported K.held (Ok answer.now) sink.old sink.new) }
     ensures cut_off { IfErr result (IsCutOff K.held (Ok answer.now) sink.old sink.new) }
     ensures write { K.has_failed sink.new ≡ (if is_write result then true else K.has_failed sink.old) }
@@ -87,7 +86,7 @@ pub(crate) fn send_answer<K: Sink>(
 }
 
 // Writes the response to what is not a request.
-pub(crate) fn send_refusal<K: Sink>(
+fn send_refusal<K: Sink>(
     alloc: Global,
     sink: &mut K,
     refusal: &HttpRefusal,
@@ -128,10 +127,53 @@ pub fn exchange<T: Tables, S: Source, K: Sink>(
     ensures read { S.has_failed source.new ≡ is_read result }
     ensures write { K.has_failed sink.new ≡ is_write result }
 {
+    exchange_told(alloc, routes, source, sink, gate, moment, false).served
+}
+
+/// Does what `exchange` does, and if `is_told` it also returns what a log tells of it. For that it loads for whom the
+/// console acts, before the request is handled.
+pub fn exchange_told<T: Tables, S: Source, K: Sink>(
+    alloc: Global,
+    routes: &Routes,
+    source: &mut S,
+    sink: &mut K,
+    gate: &mut Gate<T>,
+    moment: u64,
+    is_told: bool,
+) -> Exchanged
+    requires reader { S.has_failed source.old ≡ false }
+    requires writer { K.has_failed sink.old ≡ false }
+    ensures served { IfOk result.served (IsServed routes.now T.meaning K.held (S.left source.old) sink.old sink.new
+        gate.old gate.new moment) }
+    ensures fault { IfErr result.served (IsFaulty routes.now T.meaning K.held (S.left source.old) sink.old sink.new
+        gate.old gate.new moment) }
+    ensures sure { T.meaning.is_sure gate.new → T.meaning.is_sure gate.old }
+    ensures stops { IfSome (S.left source.old) (λ all. StopsAtEnd routes.now all (S.left source.new)) }
+    ensures most { TakesAtMost 73728 (S.left source.old) (S.left source.new) }
+    ensures reads { ReadsOnly S.left S.gives (MayRead routes.now) source.old [] source.new }
+    ensures read { S.has_failed source.new ≡ is_read result.served }
+    ensures write { K.has_failed sink.new ≡ is_write result.served }
+    ensures entry { is_some result.entry ≡ is_told }
+    ensures told { IfSome result.entry (IsEntry routes.now T.meaning (S.left source.old) gate.old gate.new moment
+        (K.held sink.old) (K.held sink.new) result.served) }
+{
     match read_request(alloc, routes, source) {
-        Ok(request) => send_answer(alloc, sink, &gate.handle(alloc, moment, &request)),
-        Err(ReadingFault::Refused(refusal)) => send_refusal(alloc, sink, &refusal),
-        Err(ReadingFault::Read) => Err(LinkFault::Read),
-        Err(ReadingFault::NoMemory) => Err(LinkFault::NoMemory { handled: false }),
+        Ok(request) => {
+            let handled = answer(alloc, gate, moment, &request, is_told);
+            let served = send_answer(alloc, sink, &handled.answer);
+            let reply = Some(Ok(handled.answer));
+            told(is_told, moment, Some(request), handled.user, reply, served)
+        }
+        Err(ReadingFault::Refused(refusal)) => {
+            let served = send_refusal(alloc, sink, &refusal);
+            told(is_told, moment, None, Ok(None), Some(Err(refusal)), served)
+        }
+        Err(ReadingFault::Read) => {
+            told(is_told, moment, None, Ok(None), None, Err(LinkFault::Read))
+        }
+        Err(ReadingFault::NoMemory) => {
+            let served = Err(LinkFault::NoMemory { handled: false });
+            told(is_told, moment, None, Ok(None), None, served)
+        }
     }
 }

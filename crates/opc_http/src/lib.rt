@@ -7,8 +7,8 @@ mod exchanging;
 pub mod laws;
 mod telling;
 
-pub use crate::exchanging::{LinkFault, Served, exchange};
-pub use crate::telling::{Exchanged, exchange_told};
+pub use crate::exchanging::{LinkFault, Served, exchange, exchange_told};
+pub use crate::telling::Exchanged;
 pub use opc_http_requests::routes;
 pub use opc_http_requests::routes::Routes;
 pub use opc_io::{sink, source, watched};

@@ -1,5 +1,5 @@
 -- What is said of a writer, said of what it holds.
-use Rattle.std.proofs.Common.{◌≡◌, ℕ, List, Option, Result, Ok, Err, true, false, ap}
+use Rattle.std.proofs.Common.{ℕ, List, Option, Result, Ok, Err, true, false, ap}
 use Rattle.std.specs.Prelude.{IfErr, IfOk}
 use Rattle.opc_state.specs.Meaning.{Meaning}
 use Rattle.opc_http_requests.specs.declared.origins.Origins.{Origins}

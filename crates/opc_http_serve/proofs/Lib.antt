@@ -1,3 +1,4 @@
 pub mod Clients
 pub mod Held
+pub mod Logged
 pub mod Projecting

@@ -1,5 +1,5 @@
 -- Clients that are served, seen by a part of what serves them.
-use Rattle.std.proofs.Common.{◌≡◌, inl, inr, ℕ, List, Option, Ok, Err, ap}
+use Rattle.std.proofs.Common.{inl, inr, ℕ, List, Option, Ok, Err, ap}
 use Rattle.std.specs.Prelude.{Result, IfErr, OnOk, zero, suc}
 use Rattle.std.specs.declared.io.Error.{Error}
 use Rattle.std.specs.declared.time.Duration.{Duration}

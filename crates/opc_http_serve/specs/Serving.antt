@@ -1,21 +1,5 @@
 -- Clients, served one after another.
-use Rattle.std.specs.Prelude.{
-  ◌≡◌,
-  ◌<◌,
-  ◌⊎◌,
-  ◌+◌,
-  ◌*◌,
-  ℕ,
-  zero,
-  suc,
-  List,
-  [],
-  Option,
-  Result,
-  Ok,
-  Err,
-  ⊤,
-}
+use Rattle.std.specs.Prelude.{◌≡◌, ◌<◌, ◌⊎◌, ◌*◌, ℕ, zero, suc, List, [], Option, Result, Ok, Err, ⊤}
 use Rattle.std.specs.declared.io.Error.{Error}
 use Rattle.std.specs.declared.time.Duration.{Duration}
 use Rattle.opc_io.specs.Reads.{ReadsOnly, TakesAtMost}

@@ -1,16 +1,12 @@
 //! A gate that is served, and the log of its exchanges.
-ghost use Rattle.std.specs.Prelude.{◌≡◌, [], Some, false};
+ghost use Rattle.std.specs.Prelude.{◌≡◌, Some, false, is_some};
 ghost use Rattle.std.specs.Io.KnownBytes.{Appends};
-ghost use Rattle.opc_io.specs.Reads.{ReadsOnly};
 ghost use Rattle.opc_io.specs.Writes.{AppendsPrefix};
-ghost use Rattle.opc_http_requests.specs.Asked.{MayRead};
-ghost use Rattle.opc_http.specs.Told.{IsEntry};
-ghost use Rattle.opc_http_serve.specs.Handled.{IsExchange};
 ghost use Rattle.opc_http_serve.specs.Logging.{IsLineWritten, IsLogged, IsServiceExchange};
 
 use crate::exchanges::Exchanges;
 use opc_gate::gate::Gate;
-use opc_http::{LinkFault, Served, exchange, exchange_told};
+use opc_http::{LinkFault, Served, exchange_told};
 use opc_http_log::entry::LogEntry;
 use opc_http_log::line::log_line;
 use opc_http_requests::routes::Routes;
@@ -44,27 +40,14 @@ fn write_line<K: Sink>(alloc: Global, log: &mut K, entry: &LogEntry)
     write_to(log, line.as_slice());
 }
 
-/// One exchange, and then its line.
-fn exchange_logged<T: Tables, S: Source, K: Sink, L: Sink>(
-    alloc: Global,
-    routes: &Routes,
-    source: &mut S,
-    sink: &mut K,
-    gate: &mut Gate<T>,
-    log: &mut L,
-    moment: u64,
-) -> Result<Served, LinkFault>
-    requires reader { S.has_failed source.old ≡ false }
-    requires writer { K.has_failed sink.old ≡ false }
-    ensures exchanged { IsExchange routes.now T.meaning gate.old (S.left source.old) moment (K.held sink.old)
-        (K.held sink.new) result gate.new }
-    ensures logged { IsLogged L.held L.has_failed (IsEntry routes.now T.meaning (S.left source.old) gate.old gate.new
-        moment (K.held sink.old) (K.held sink.new) result) (Some log.old) (Some log.new) }
-    ensures reads { ReadsOnly S.left S.gives (MayRead routes.now) source.old [] source.new }
+/// Writes the line of an exchange, which is over, to the log, if there are an entry and a log.
+fn write_entry<K: Sink>(alloc: Global, log: &mut Option<K>, entry: &Option<LogEntry>)
+    ensures { is_some entry.now ≡ is_some log.old
+        → IsLogged K.held K.has_failed (λ told. entry.now ≡ Some told) log.old log.new }
 {
-    let told = exchange_told(alloc, routes, source, sink, gate, moment);
-    write_line(alloc, log, &told.entry);
-    told.served
+    if let (Some(log), Some(entry)) = (log, entry) {
+        write_line(alloc, log, entry);
+    }
 }
 
 impl<T: Tables, L: Sink> Exchanges for Service<T, L> {
@@ -79,11 +62,17 @@ impl<T: Tables, L: Sink> Exchanges for Service<T, L> {
         sink: &mut K,
         moment: u64,
     ) -> Result<Served, LinkFault> {
-        match &mut self.log {
-            Some(log) => {
-                exchange_logged(alloc, routes, source, sink, &mut self.gate, log, moment)
-            }
-            None => exchange(alloc, routes, source, sink, &mut self.gate, moment),
-        }
+        let is_logged = self.log.is_some();
+        let exchanged = exchange_told(
+            alloc,
+            routes,
+            source,
+            sink,
+            &mut self.gate,
+            moment,
+            is_logged,
+        );
+        write_entry(alloc, &mut self.log, &exchanged.entry);
+        exchanged.served
     }
 }

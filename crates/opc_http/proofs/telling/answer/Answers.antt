@@ -1,4 +1,3 @@
-use Rattle.std.proofs.Common.{◌≡◌}
 use Rattle.opc_machine.specs.Inputs.{input_of}
 use Rattle.opc_http.proofs.Loaded.{handled_after}
 use Rattle.opc_http.proofs.telling.answer.Goals as goal
@@ -11,4 +10,5 @@ returns-clause-handled g c = λ sure s represented.
     (c.handle-answer.ensures.handled sure s (loaded.kept.same (c.handle-answer.ensures.sure sure) s represented))
 
 pub returns-clause-user : goal.returns-clause-user
-returns-clause-user g c = λ sure s represented. c.acting_user-user.ensures.answers (c.handle-answer.ensures.sure sure) s represented
+returns-clause-user g c = λ told sure s represented.
+    c.acting_user-user.ensures.user told (c.handle-answer.ensures.sure sure) s represented

@@ -1,8 +1,8 @@
-use Rattle.std.proofs.Common.{Ok, Err, Some, None, refl, subst, sym, ◌∙◌}
+use Rattle.std.proofs.Common.{Ok, Err, refl, subst, ◌∙◌}
 use Rattle.opc_http_requests.specs.Faults.{IfRefused}
 use Rattle.opc_http.specs.Exchange.{IsAsked}
-use Rattle.opc_http.proofs.Replies.{faulty, not_read, only_failed, refused_read, served, written}
-use Rattle.opc_http.proofs.telling.exchange_told.Goals as goal
+use Rattle.opc_http.proofs.Replies.{entry_told, faulty, not_read, only_failed, refused_read, served, told_if, written}
+use Rattle.opc_http.proofs.exchanging.exchange_told.Goals as goal
 
 pub returns-in-Ok-clause-served : goal.returns-in-Ok-clause-served
 returns-in-Ok-clause-served g c =
@@ -31,29 +31,22 @@ pub returns-in-Ok-clause-write : goal.returns-in-Ok-clause-write
 returns-in-Ok-clause-write g c =
     rw c.told.ensures.served (only_failed _ _ _ c.requires.writer c.send_answer-served.ensures.write)
 
-pub returns-in-Ok-clause-told : goal.returns-in-Ok-clause-told
-returns-in-Ok-clause-told g c = record {
-  at = c.told.ensures.moment;
-  status = rw c.told.ensures.served c.told.ensures.status;
-  told = rw (c.told.ensures.request, c.told.ensures.reply, c.told.ensures.user) (record {
-    asked = c.in-Ok.ensures.asked;
-    handled = c.answer-handled.ensures.handled;
-    acts = c.answer-handled.ensures.user;
-    written = rw c.told.ensures.served
-        (written g.K.Sink.held (Ok c.answer-handled.result.answer) _ _ c.send_answer-served.result c.send_answer-served.ensures.reported
-        c.send_answer-served.ensures.cut_off);
-  });
-}
+pub returns-in-Ok-clause-entry : goal.returns-in-Ok-clause-entry
+returns-in-Ok-clause-entry g c = rw c.told.ensures.entry (told_if c.args.is_told _)
 
-pub returns-in-Err-Refused-clause-fault : goal.returns-in-Err-Refused-clause-fault
-returns-in-Err-Refused-clause-fault g c =
-    rw c.told-in-Err-Refused.ensures.served
-    (faulty c.args.routes.now _ _ _ _ _ _ _ _ (Err c.in-Err-Refused.refusal) (
-      subst (λ fault. IfRefused fault (λ why. IsAsked c.args.routes.now (g.S.Source.left c.args.source.now) (Err why)))
-          c.in-Err-Refused.field-0-is c.in-Err-Refused.ensures.refused,
-      refl,
-    ) c.send_refusal-served.result
-    c.send_refusal-served.ensures.cut_off)
+pub returns-in-Ok-clause-told : goal.returns-in-Ok-clause-told
+returns-in-Ok-clause-told g c =
+    rw (c.told.ensures.entry, c.told.ensures.served) (entry_told _ c.args.is_told _ (λ told. record {
+      at = refl;
+      status = refl;
+      told = record {
+        asked = c.in-Ok.ensures.asked;
+        handled = c.answer-handled.ensures.handled;
+        acts = c.answer-handled.ensures.user told;
+        written = written g.K.Sink.held (Ok c.answer-handled.result.answer) _ _ c.send_answer-served.result
+            c.send_answer-served.ensures.reported c.send_answer-served.ensures.cut_off;
+      };
+    }))
 
 pub returns-in-Err-Refused-clause-served : goal.returns-in-Err-Refused-clause-served
 returns-in-Err-Refused-clause-served g c =
@@ -64,6 +57,16 @@ returns-in-Err-Refused-clause-served g c =
       refl,
     ) c.send_refusal-served.result
     c.send_refusal-served.ensures.reported)
+
+pub returns-in-Err-Refused-clause-fault : goal.returns-in-Err-Refused-clause-fault
+returns-in-Err-Refused-clause-fault g c =
+    rw c.told-in-Err-Refused.ensures.served
+    (faulty c.args.routes.now _ _ _ _ _ _ _ _ (Err c.in-Err-Refused.refusal) (
+      subst (λ fault. IfRefused fault (λ why. IsAsked c.args.routes.now (g.S.Source.left c.args.source.now) (Err why)))
+          c.in-Err-Refused.field-0-is c.in-Err-Refused.ensures.refused,
+      refl,
+    ) c.send_refusal-served.result
+    c.send_refusal-served.ensures.cut_off)
 
 pub returns-in-Err-Refused-clause-read : goal.returns-in-Err-Refused-clause-read
 returns-in-Err-Refused-clause-read g c =
@@ -79,17 +82,20 @@ pub returns-in-Err-Refused-clause-write : goal.returns-in-Err-Refused-clause-wri
 returns-in-Err-Refused-clause-write g c =
     rw c.told-in-Err-Refused.ensures.served (only_failed _ _ _ c.requires.writer c.send_refusal-served.ensures.write)
 
+pub returns-in-Err-Refused-clause-entry : goal.returns-in-Err-Refused-clause-entry
+returns-in-Err-Refused-clause-entry g c = rw c.told-in-Err-Refused.ensures.entry (told_if c.args.is_told _)
+
 pub returns-in-Err-Refused-clause-told : goal.returns-in-Err-Refused-clause-told
-returns-in-Err-Refused-clause-told g c = record {
-  at = c.told-in-Err-Refused.ensures.moment;
-  status = rw c.told-in-Err-Refused.ensures.served c.told-in-Err-Refused.ensures.status;
-  told = rw (c.told-in-Err-Refused.ensures.request, c.told-in-Err-Refused.ensures.reply, c.told-in-Err-Refused.ensures.user) (record {
-    asked = subst (λ fault. IfRefused fault (λ why. IsAsked c.args.routes.now (g.S.Source.left c.args.source.now) (Err why)))
-        c.in-Err-Refused.field-0-is c.in-Err-Refused.ensures.refused;
-    same = refl;
-    nobody = refl;
-    written = rw c.told-in-Err-Refused.ensures.served
-        (written g.K.Sink.held (Err c.in-Err-Refused.refusal) _ _ c.send_refusal-served.result c.send_refusal-served.ensures.reported
-        c.send_refusal-served.ensures.cut_off);
-  });
-}
+returns-in-Err-Refused-clause-told g c =
+    rw (c.told-in-Err-Refused.ensures.entry, c.told-in-Err-Refused.ensures.served) (entry_told _ c.args.is_told _ (λ told. record {
+      at = refl;
+      status = refl;
+      told = record {
+        asked = subst (λ fault. IfRefused fault (λ why. IsAsked c.args.routes.now (g.S.Source.left c.args.source.now) (Err why)))
+            c.in-Err-Refused.field-0-is c.in-Err-Refused.ensures.refused;
+        same = refl;
+        nobody = refl;
+        written = written g.K.Sink.held (Err c.in-Err-Refused.refusal) _ _ c.send_refusal-served.result
+            c.send_refusal-served.ensures.reported c.send_refusal-served.ensures.cut_off;
+      };
+    }))

@@ -19,11 +19,17 @@ use Rattle.opc_cli_program.specs.Imports.{exported}
 use Rattle.opc_cli_questions.specs.Answers.{IsAnsweredOver, exported_rows, on_board, rows_answer}
 use Rattle.opc_cli_questions.specs.declared.question.PolicyQuestion.{PolicyQuestion}
 use Rattle.opc_import.specs.Lines.{policy_text}
+use Rattle.opc_cli.specs.declared.reading.Reading.{Reading as Borrowed}
+use Rattle.opc_cli.specs.declared.reading.Reading.TheVariants as borrowed
 
 -- what is read: the rows of the account that a query shows, or the answer to a question about the policy
 pub data Reading : Type 0 where
   AccountOf : Query → Reading
   AnswerTo : PolicyQuestion → Reading
+
+abbrev pub reading_of : Borrowed → Reading
+reading_of (borrowed.Account query) = AccountOf query.now
+reading_of (borrowed.Answer question) = AnswerTo question.now
 
 module _ {D : Type 0} {g : disk.Ghosts D} where
   -- What was asked for was read of tables, which were not changed, and written.

@@ -7,8 +7,7 @@ pub mod laws;
 mod made;
 pub mod memory;
 mod questions;
-pub mod read_work;
-mod reading;
+pub mod reading;
 mod run;
 pub mod script;
 pub mod service;
@@ -32,7 +31,7 @@ use crate::database::reason_at;
 use crate::file::{Closed, EndedWork, work_at};
 use crate::made::report_made;
 use crate::questions::answer_from;
-use crate::reading::account_in_file;
+use crate::reading::{Reading, read_in_file};
 use crate::run::run_over;
 pub use crate::script::run_script;
 pub use crate::service::serve_on;
@@ -118,7 +117,8 @@ fn do_words<S: Start, R: Read, W: Write, E: Write>(
             answer_from(rt, start, source, &question, input, output, errors)
         }
         Ok(Task::Account(account)) => {
-            account_in_file(rt, start, account.path, &account.query, output, errors)
+            let reading = Reading::Account(&account.query);
+            read_in_file(rt, start, account.path, &reading, output, errors)
         }
         Ok(Task::Digest) => {
             let is_typed = is_typed(rt);

@@ -5,7 +5,7 @@ ghost use Rattle.opc_store_file.specs.Copies.{IsAsRead};
 ghost use Rattle.opc_cli_questions.specs.Printed.{left_in};
 ghost use Rattle.opc_cli.specs.Words.{IsAnsweredByFile, IsAnsweredFrom};
 
-use crate::reading::answer_in_file;
+use crate::reading::{Reading, read_in_file};
 use opc_cli_failures::status::Status;
 use opc_cli_questions::answer::answer_question;
 use opc_cli_questions::checking::answer_check;
@@ -32,7 +32,9 @@ pub(crate) fn answer_from<S: Start, R: Read, W: Write, E: Write>(
 {
     match source {
         Source::PolicyFile(policy) => answer_by(rt, policy, question, input, output, errors),
-        Source::Database(path) => answer_in_file(rt, start, path, question, output, errors),
+        Source::Database(path) => {
+            read_in_file(rt, start, path, &Reading::Answer(question), output, errors)
+        }
     }
 }
 

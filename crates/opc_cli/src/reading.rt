@@ -1,25 +1,73 @@
 //! What is read of a database file.
-ghost use Rattle.std.specs.Prelude.{◌≡◌};
+ghost use Rattle.std.specs.Prelude.{◌≡◌, IfErr, IfOk, OnErr};
 ghost use Rattle.sqlite.specs.WalFiles.{image_at};
 ghost use Rattle.opc_store_file.specs.Copies.{IsAsRead};
 ghost use Rattle.opc_store.specs.Opening.{opening_fault};
+ghost use Rattle.opc_store.specs.Reading.{IsNotRead};
 ghost use Rattle.opc_cli.specs.Words.{IsReadInFile};
-ghost use Rattle.opc_cli.specs.Reads.{AccountOf, AnswerTo};
+ghost use Rattle.opc_cli.specs.Reads.{IsRead, IsReadAt, reading_of};
 
 use crate::database::{reason_for_tables, reason_to_read};
 use crate::of_database;
-use crate::read_work::{account_at, answer_at};
+use opc_account::printing::print_account;
 use opc_account::query::Query;
 use opc_cli_failures::failure::{Failure, Paths, reported};
 use opc_cli_failures::status::Status;
+use opc_cli_questions::answering::answer_on;
 use opc_cli_questions::question::PolicyQuestion;
 use opc_io::watched::Watched;
 use opc_store::opening::{NotOpened, OpenFault};
+use opc_store::store::Store;
 use opc_store_file::copy::CopyFrom;
 use opc_terms::fault::Fault;
-use sqlite::Start;
+use sqlite::{FileStore, Start};
 use sqlite_disk::Disk;
+use std::alloc::Global;
 use std::io::Write;
+
+/// What is asked of a database file that is only read.
+#[derive(Clone, Copy)]
+pub enum Reading<'a> {
+    /// The rows of its account that a query shows.
+    Account(&'a Query<'a>),
+    /// The answer to a question about its policy.
+    Answer(&'a PolicyQuestion<'a>),
+}
+
+/// Opens the database file at a path to read it, and prints what is asked. `start` stands for what the files hold.
+/// Returns what that came to.
+pub fn read_at<S: Start, W: Write>(
+    rt: &HostRuntime,
+    path: &str,
+    start: S,
+    reading: &Reading<'_>,
+    output: &mut W,
+) -> Result<Result<Status, Failure>, NotOpened>
+    ensures done { IfOk result (λ end. IsReadAt ⟦<CopyFrom<S> as Disk>⟧ W.contents (image_at S.Start)
+        (reading_of reading.now) output.old output.new end) }
+    ensures failed { IfErr result
+        (λ refused. IsNotRead ⟦<CopyFrom<S> as Disk>⟧ IsAsRead (image_at S.Start) refused.fault) }
+    ensures silent { OnErr result (output.new ≡ output.old) }
+{
+    match Store::open_to_read(rt, path, start) {
+        Ok(mut tables) => Ok(read_on(rt.alloc(), &mut tables, reading, output)),
+        Err(refused) => Err(refused),
+    }
+}
+
+fn read_on<S: Start, W: Write>(
+    alloc: Global,
+    tables: &mut Store<FileStore<CopyFrom<S>>>,
+    reading: &Reading<'_>,
+    output: &mut W,
+) -> Result<Status, Failure>
+    ensures { IsRead W.contents tables.old tables.new output.old output.new result (reading_of reading.now) }
+{
+    match *reading {
+        Reading::Account(query) => print_account(alloc, tables, query, output),
+        Reading::Answer(question) => answer_on(alloc, tables, question, output),
+    }
+}
 
 /// The file that messages name.
 fn paths_of(path: &str) -> Paths<'_> {
@@ -30,38 +78,19 @@ fn paths_of(path: &str) -> Paths<'_> {
     }
 }
 
-/// Prints the rows of the account that are asked for, of the database file at a path. Neither the file nor its log is
-/// made or changed.
-pub(crate) fn account_in_file<S: Start, W: Write, E: Write>(
+/// Prints what is asked of the database file at a path. Neither the file nor its log is made or changed.
+pub(crate) fn read_in_file<S: Start, W: Write, E: Write>(
     rt: &HostRuntime,
     start: S,
     path: &str,
-    query: &Query<'_>,
+    reading: &Reading<'_>,
     output: &mut Watched<W>,
     errors: &mut Watched<E>,
 ) -> Status
     ensures { IsReadInFile ⟦<CopyFrom<S> as Disk>⟧ IsAsRead (image_at S.Start) W.contents E.contents output.old
-        output.new errors.old errors.new result (AccountOf query.now) }
+        output.new errors.old errors.new result (reading_of reading.now) }
 {
-    match account_at(rt, path, start, query, &mut output.inner) {
-        Ok(end) => reported(end, &paths_of(path), errors),
-        Err(refused) => reported(Err(not_read(rt, path, refused)), &paths_of(path), errors),
-    }
-}
-
-/// The same for the answer to a question about its policy.
-pub(crate) fn answer_in_file<S: Start, W: Write, E: Write>(
-    rt: &HostRuntime,
-    start: S,
-    path: &str,
-    question: &PolicyQuestion<'_>,
-    output: &mut Watched<W>,
-    errors: &mut Watched<E>,
-) -> Status
-    ensures { IsReadInFile ⟦<CopyFrom<S> as Disk>⟧ IsAsRead (image_at S.Start) W.contents E.contents output.old
-        output.new errors.old errors.new result (AnswerTo question.now) }
-{
-    match answer_at(rt, path, start, question, &mut output.inner) {
+    match read_at(rt, path, start, reading, &mut output.inner) {
         Ok(end) => reported(end, &paths_of(path), errors),
         Err(refused) => reported(Err(not_read(rt, path, refused)), &paths_of(path), errors),
     }

@@ -67,7 +67,7 @@ returns-in-Ok-Serve g c =
 
 pub returns-in-Ok-Account : goal.returns-in-Ok-Account
 returns-in-Ok-Account g c =
-    let done = c.account_in_file in
+    let done = c.read_in_file in
     task_done _ _ _ _ _ g.W.Write.contents g.E.Write.contents _ (words_after c.args.words.now) c.args.output.now
     c.read_words.new.output done.new.output c.args.errors.now c.read_words.new.errors done.new.errors
     done.result

@@ -1,7 +1,7 @@
 use Rattle.std.proofs.Common.{◌∙◌, ap, inl, inr}
 use Rattle.opc_cli_failures.specs.Statuses.{status_of}
 use Rattle.opc_cli.proofs.Done.{openings_fail, same_fault}
-use Rattle.opc_cli.proofs.reading.answer_in_file.Goals as goal
+use Rattle.opc_cli.proofs.reading.read_in_file.Goals as goal
 
 pub returns-in-Ok : goal.returns-in-Ok
 returns-in-Ok g c = inl (record {

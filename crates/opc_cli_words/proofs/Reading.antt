@@ -1,6 +1,6 @@
 -- What is read of the words, by what `clap` makes of them.
 use Rattle.std.proofs.Common.{◌≡◌, ◌∙◌, ◌⊎◌, ℕ, List, [], ◌∷◌, Option, None, inl, inr, refl, subst, sym}
-use Rattle.std.specs.Prelude.{Bool, is_some, Result, Ok, Err}
+use Rattle.std.specs.Prelude.{Bool, false, if◌then◌else◌, is_some, true, Result, Ok, Err}
 use Rattle.clap.specs.Faults.{check_fault, defaults_fault, entered_fault, fault_of, level_fault, settle_fault, walk_fault}
 use Rattle.clap.specs.Kinds.{HasKind, Kinds, or_else}
 use Rattle.clap.specs.Simple.{Shape, argument_words, built, entered, names_of, subcommand_of}
@@ -8,7 +8,13 @@ use Rattle.clap.specs.Values.{kind_of}
 use Rattle.clap.specs.Walk.{Held, Names, Row, finished, nothing_held, settled, walk, walk_from}
 use Rattle.clap.specs.declared.error.Error.{Error}
 use Rattle.clap.specs.declared.error.kind.ErrorKind.{ErrorKind}
-use Rattle.clap.specs.declared.error.kind.ErrorKind.TheVariants.{DisplayHelp, DisplayVersion, MissingSubcommand, OutOfMemory}
+use Rattle.clap.specs.declared.error.kind.ErrorKind.TheVariants.{
+  DisplayHelp,
+  DisplayHelpOnMissingArgumentOrSubcommand,
+  DisplayVersion,
+  MissingSubcommand,
+  OutOfMemory,
+}
 use Rattle.opc_io.specs.declared.watched.Watched.{Watched}
 use Rattle.opc_cli_failures.specs.declared.status.Status.{Status}
 use Rattle.opc_cli_failures.specs.declared.status.Status.TheVariants.{Done, Refused, BadInput, Failed}
@@ -24,8 +30,14 @@ last_is_empty (kind ∷ kinds) last h = absurd (cc)
 none_is_some : (kind : ErrorKind) (kinds : Kinds) → kind ∷ kinds ≡ [] → ⊥
 none_is_some kind kinds h = absurd (cc)
 
+one_of_two : (b : Bool) (one other : ErrorKind) → (if b then one ∷ [] else other ∷ []) ≡ [] → ⊥
+one_of_two true one other h = none_is_some one [] h
+one_of_two false one other h = none_is_some other [] h
+
+-- without a command there is an error: the help, or that there is none
 unnamed : (rows : List Row) (found : Option (List ℕ × List Row)) → found ≡ None → check_fault (built command_line).top rows (is_some found) ≡ [] → ⊥
-unnamed rows found none fine = none_is_some MissingSubcommand [] (subst (λ f. check_fault (built command_line).top rows (is_some f) ≡ []) none fine)
+unnamed rows found none fine = one_of_two _ DisplayHelpOnMissingArgumentOrSubcommand MissingSubcommand
+    (subst (λ f. check_fault (built command_line).top rows (is_some f) ≡ []) none fine)
 
 -- a level that takes its words passes the last checks
 level_ends : (s : Shape) (names : Names) (held : Held) (words : List (List ℕ)) (has : Bool) (below : Kinds)

@@ -86,12 +86,13 @@ commands =
     ∷ command (codes "digest") []
     ∷ []
 
--- the program before its commands: it has a version, a command is required, and the program's own name is none of the
--- words
+-- the program before its commands: it has a version, a command is required, words that are missing are answered with the
+-- help, and the program's own name is none of the words
 abbrev pub program : App
 program = record {
   top = record (new_shape (codes "opcmds")) {
     has_version = true;
+    arg_required_else_help = true;
     subcommand_required = true;
     no_binary_name = true;
   };

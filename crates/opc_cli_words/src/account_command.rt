@@ -13,9 +13,12 @@ fn account_alone<'a>(alloc: Global) -> Command<'a>
     command(
         alloc,
         "account",
-        "Shows the account of a database file: each refusal, and each command that only a warning let pass",
-        "Neither the file nor its log is made or changed, and no older version is brought to this one.\n\
-         A moment T is a time with its offset from UTC, as 2026-11-27T08:00:00Z, or @ and its seconds since 1970.\n\
+        "Shows the account of a database file: the audit log",
+        "opcmds account --db FILE [OPTIONS]",
+        "It has each refusal, and each command that only a warning let pass. Neither\n\
+         the file nor its log is made or changed. A moment T is a time with its offset\n\
+         from UTC, as 2026-11-27T08:00:00Z, or @ and its seconds since 1970.\n\
+         \n\
          Example: opcmds account --db gate.db --last 1000 --user ANNA --code 'E2*'\n\
          Status: 0 done, 2 bad words, 3 out of memory or a failed device",
     )
@@ -31,19 +34,22 @@ fn with_rows<'a>(alloc: Global) -> Result<Command<'a>, AllocError>
             alloc,
             "from",
             "NUMBER",
-            "The number of the first row that is looked at; 1 without this",
+            "The number of the first row that is looked at;\n\
+             1 without this",
         ))?
         .arg(value(
             alloc,
             "last",
             "NUMBER",
-            "In place of --from: looks at this many rows, the last ones",
+            "In place of --from: looks at this many rows,\n\
+             the last ones",
         ))?
         .arg(value(
             alloc,
             "count",
             "NUMBER",
-            "How many rows are shown at most, of those that the other options ask for; all without this",
+            "How many rows are shown at most; all without\n\
+             this",
         ))
 }
 
@@ -64,11 +70,13 @@ pub(crate) fn account_command<'a>(alloc: Global) -> Result<Command<'a>, AllocErr
             alloc,
             "code",
             "CODE",
-            "Rows of this code, as E20; with a * at its end all that begin so, as E2*",
+            "Rows of this code, as E20; with a * at its end\n\
+             of all that begin so, as E2*",
         ))?
         .arg(flag(
             alloc,
             "json",
-            "Writes a JSON object for each row, in place of columns under a header",
+            "Writes a JSON object for each row, in place of\n\
+             columns",
         ))
 }

@@ -12,10 +12,14 @@ pub(crate) fn check_command<'a>(alloc: Global) -> Result<Command<'a>, AllocError
     command(
         alloc,
         "check",
-        "Says what is wrong with a policy: each row that does not read, or else each that loading it would \
-         refuse, or else notes on what may be a mistake",
-        "Example: opcmds check < policy.csv\n\
-         Status: 0 nothing is wrong, 1 notes, 2 bad words or rows, 3 out of memory or a failed device",
+        "Says what is wrong with a policy",
+        "opcmds check [OPTIONS] [< POLICY]",
+        "Shows each row that does not read; or else each that loading the policy would\n\
+         refuse; or else notes on what may be a mistake.\n\
+         \n\
+         Example: opcmds check < policy.csv\n\
+         Status: 0 nothing is wrong, 1 notes, 2 bad words or rows,\n\
+         \x20       3 out of memory or a failed device",
     )
     .arg(value(alloc, "policy", "FILE", POLICY_FILE))?
     .arg(value(alloc, "db", "FILE", DATABASE_FILE))?

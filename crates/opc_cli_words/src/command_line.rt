@@ -25,13 +25,34 @@ use clap::{Arg, ArgAction, Command};
 use std::alloc::{AllocError, Global};
 
 /// What the help says of `--policy` where a policy is asked.
-pub(crate) const POLICY_FILE: &str =
-    "The policy file (16,777,216 bytes at most), in place of standard input";
+pub(crate) const POLICY_FILE: &str = "The policy file, in place of standard input";
 
 /// What the help says of `--db` there.
-pub(crate) const DATABASE_FILE: &str =
-    "A database file, whose policy and consoles are asked, in place of a policy file; \
-     neither it nor its log is made or changed";
+pub(crate) const DATABASE_FILE: &str = "The database file that is asked, in place of a\n\
+     policy file; neither it nor its log is changed";
+
+/// What the help says of `--db` where the file is opened.
+const MADE_DATABASE: &str = "The database file, made if it is not there";
+
+/// What `opcmds` and its help print: the commands by what they are for. No line of it, or of any other help, is longer
+/// than 78 columns.
+const SCREEN: &str = "\
+Decides from a written policy who may enter operator commands.
+
+Usage: opcmds COMMAND [OPTIONS]
+
+Ask a policy      who       who may enter a command
+                  explain   why one user may, or may not
+                  check     what is wrong with it
+Run a room        run       answer a script, or a terminal (--now)
+                  serve     answer over HTTP or a Unix socket
+                  account   show the audit log
+Keep a policy     import    load a policy file, or a batch of rows
+                  export    write the policy as a file
+                  digest    make the digest of a password
+
+opcmds COMMAND --help has options, examples and statuses; man opcmds has all.
+";
 
 /// An option that takes a value.
 pub(crate) fn value<'a>(alloc: Global, name: &'a str, shown: &'a str, help: &'a str) -> Arg<'a>
@@ -83,11 +104,15 @@ pub(crate) fn command<'a>(
     alloc: Global,
     name: &'a str,
     about: &'a str,
+    usage: &'a str,
     after: &'a str,
 ) -> Command<'a>
     ensures { IsCommand result name.entry.now [] }
 {
-    Command::new(alloc, name).about(about).after_help(after)
+    Command::new(alloc, name)
+        .about(about)
+        .override_usage(usage)
+        .after_help(after)
 }
 
 fn run_command<'a>(alloc: Global) -> Result<Command<'a>, AllocError>
@@ -96,33 +121,42 @@ fn run_command<'a>(alloc: Global) -> Result<Command<'a>, AllocError>
     command(
         alloc,
         "run",
-        "Answers the commands and events of the script on standard input (1,048,576 bytes at most), one a line",
-        "A line: MOMENT CONSOLE COMMAND, or MOMENT * EVENT; the moment has 1 to 13 digits. With --now no moment.\n\
-         Example: echo '1 C1 S MONPL' | opcmds run --policy policy.csv\n\
-         Status: 0 all done, 1 something refused, 2 bad words, policy file or line, 3 out of memory or a failed device",
+        "Answers the commands and events of a script, or of a terminal (--now)",
+        "opcmds run [OPTIONS] [< SCRIPT]",
+        "A line: MOMENT CONSOLE COMMAND, or MOMENT * EVENT. The moment has 1 to 13\n\
+         digits; with --now there is none. A script has at most 1,048,576 bytes.\n\
+         \n\
+         Examples: echo '1 C1 S MONPL' | opcmds run --policy policy.csv\n\
+         \x20         opcmds run --now --console C1 --db gate.db\n\
+         Status: 0 all done, 1 something refused, 2 bad words, policy file or line,\n\
+         \x20       3 out of memory or a failed device",
     )
     .arg(value(
         alloc,
         "db",
         "FILE",
-        "The database file, made if it is not there; in memory without this",
+        "The database file, made if it is not there;\n\
+         in memory without this",
     ))?
     .arg(value(
         alloc,
         "policy",
         "FILE",
-        "The first policy (16,777,216 bytes at most), for tables in which no user is stored",
+        "The first policy, for tables in which no user\n\
+         is stored",
     ))?
     .arg(flag(
         alloc,
         "now",
-        "Answers each line, which has no moment, before the next is read, by the clock",
+        "Answers each line by the clock, before the next\n\
+         is read",
     ))?
     .arg(value(
         alloc,
         "console",
         "CONSOLE",
-        "With --now: each line is a command, typed at this console",
+        "With --now: each line is a command, typed at\n\
+         this console",
     ))
 }
 
@@ -132,17 +166,17 @@ fn import_command<'a>(alloc: Global) -> Result<Command<'a>, AllocError>
     command(
         alloc,
         "import",
-        "Puts the policy file on standard input (16,777,216 bytes at most) into a database file, all its rows or none",
-        "A batch that is kept with equal rows changes nothing, however often it is sent.\n\
-         Example: opcmds import --db gate.db --batch 7 --console C2 < day.csv\n\
-         Status: 0 done, 1 refused, 2 bad words or policy file, 3 out of memory or a failed device",
+        "Loads a policy file into a database file, all its rows or none",
+        "opcmds import --db FILE --batch NUMBER [--console CONSOLE] < POLICY",
+        "A batch that is kept with equal rows changes nothing, however often it is\n\
+         sent. A policy file has at most 16,777,216 bytes.\n\
+         \n\
+         Examples: opcmds import --db gate.db --batch 1 < policy.csv\n\
+         \x20         opcmds import --db gate.db --batch 7 --console C2 < day.csv\n\
+         Status: 0 done, 1 refused, 2 bad words or policy file,\n\
+         \x20       3 out of memory or a failed device",
     )
-    .arg(needed(
-        alloc,
-        "db",
-        "FILE",
-        "The database file, made if it is not there",
-    ))?
+    .arg(needed(alloc, "db", "FILE", MADE_DATABASE))?
     .arg(needed(
         alloc,
         "batch",
@@ -153,7 +187,9 @@ fn import_command<'a>(alloc: Global) -> Result<Command<'a>, AllocError>
         alloc,
         "console",
         "CONSOLE",
-        "The console that asks, for whoever is on there; without it this is the first policy, which is no batch",
+        "The console that asks, for whoever is on there;\n\
+         without it this is the first policy, and no\n\
+         batch is kept",
     ))
 }
 
@@ -164,15 +200,11 @@ fn export_command<'a>(alloc: Global) -> Result<Command<'a>, AllocError>
         alloc,
         "export",
         "Writes the policy and the consoles of a database file as a policy file",
+        "opcmds export --db FILE > POLICY",
         "Example: opcmds export --db gate.db > policy.csv\n\
          Status: 0 done, 2 bad words, 3 out of memory or a failed device",
     )
-    .arg(needed(
-        alloc,
-        "db",
-        "FILE",
-        "The database file, made if it is not there",
-    ))
+    .arg(needed(alloc, "db", "FILE", MADE_DATABASE))
 }
 
 /// `serve` with the options that state where it listens, and what is refused there.
@@ -185,24 +217,28 @@ fn with_address<'a>(alloc: Global, serve: Command<'a>) -> Result<Command<'a>, Al
             alloc,
             "port",
             "NUMBER",
-            "The port of 127.0.0.1, 0 to 65,535, with 0 one that the system chooses; this or --socket",
+            "The port of 127.0.0.1, or 0 for one that the\n\
+             system chooses",
         ))?
         .arg(value(
             alloc,
             "socket",
             "PATH",
-            "The path of the Unix socket, which is made; file permissions say who can connect, and no web page can",
+            "The path of a Unix socket, which is made; its\n\
+             permissions say who can connect",
         ))?
         .arg(value(
             alloc,
             "socket-mode",
             "MODE",
-            "The permissions of the socket, 600, 660 for its group or 666 for everybody; 600 without this",
+            "The permissions of the socket: 600, 660 for its\n\
+             group or 666 for everybody; 600 without this",
         ))?
         .arg(flag(
             alloc,
             "strict",
-            "Refuses what a web page can send: Origin, Sec-Fetch-Site, or a Host that is not 127.0.0.1:PORT or localhost:PORT",
+            "With --port: refuses each request that a web\n\
+             page may have sent",
         ))
 }
 
@@ -212,37 +248,39 @@ fn serve_command<'a>(alloc: Global) -> Result<Command<'a>, AllocError>
     let serve = command(
         alloc,
         "serve",
-        "Answers requests over HTTP on 127.0.0.1 or a Unix socket, one connection after another, over a database file",
-        "Prints LISTENING 127.0.0.1:PORT or LISTENING unix:PATH once it answers.\n\
+        "Answers requests over HTTP, at a port of 127.0.0.1 or a Unix socket",
+        "opcmds serve --db FILE (--port NUMBER | --socket PATH) [OPTIONS]",
+        "Prints LISTENING 127.0.0.1:PORT or LISTENING unix:PATH once it answers. It\n\
+         serves one connection after another.\n\
+         \n\
          Example: opcmds serve --db gate.db --port 8011 --count 1 &\n\
-         \x20        curl -s --retry 5 --retry-connrefused -d '{\"text\":\"D U\"}' http://127.0.0.1:8011/consoles/C1/command\n\
-         Status: 0 all connections were served, 2 bad words, 3 out of memory or a failed device",
+         \x20        curl -s --retry 5 --retry-connrefused -d '{\"text\":\"D U\"}' \\\n\
+         \x20            http://127.0.0.1:8011/consoles/C1/command\n\
+         Status: 0 all connections were served, 2 bad words,\n\
+         \x20       3 out of memory or a failed device",
     )
-    .arg(needed(
-        alloc,
-        "db",
-        "FILE",
-        "The database file, made if it is not there",
-    ))?;
+    .arg(needed(alloc, "db", "FILE", MADE_DATABASE))?;
     with_address(alloc, serve)?
         .arg(preset(
             alloc,
             "count",
             "NUMBER",
-            "How many connections are served, 1 to 1,000,000",
+            "How many connections are served",
             "1000000",
         ))?
         .arg(preset(
             alloc,
             "timeout",
             "SECONDS",
-            "How long an exchange may take, 0 to 3,600; with 0 as long as it takes",
+            "How long an exchange may take; with 0 as long\n\
+             as it takes",
             "30",
         ))?
         .arg(flag(
             alloc,
             "log",
-            "Writes a line for each exchange to standard error: when, where, who, what, and what came of it",
+            "Writes a line for each exchange to standard\n\
+             error: when, where, who, what, and the outcome",
         ))
 }
 
@@ -252,8 +290,11 @@ fn digest_command<'a>(alloc: Global) -> Command<'a>
     command(
         alloc,
         "digest",
-        "Prints the digest of the password on standard input, as the row of a user in a policy file has it",
-        "The password is one line: 1 to 8 of A to Z, 0 to 9, #, $ and @. It is read in capitals, as at LOGON.\n\
+        "Makes the digest of a password, as a user's row in a policy file has it",
+        "opcmds digest",
+        "The password is a line of standard input: 1 to 8 of A to Z, 0 to 9, #, $\n\
+         and @. It is read in capitals, as at LOGON.\n\
+         \n\
          Example: printf ABC | opcmds digest\n\
          Status: 0 done, 2 bad words or no password, 3 out of memory or a failed device",
     )
@@ -265,9 +306,10 @@ fn program<'a>(alloc: Global) -> Command<'a>
     ensures { app_of result ≡ program }
 {
     Command::new(alloc, "opcmds")
-        .about("The authority gate for operator commands, by RACF-like profiles")
-        .after_help("Example: opcmds explain --help")
+        .override_usage("opcmds COMMAND [OPTIONS]")
+        .override_help(SCREEN)
         .version(VERSION)
+        .arg_required_else_help(true)
         .subcommand_required(true)
         .no_binary_name(true)
 }

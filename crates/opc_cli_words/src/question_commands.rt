@@ -19,33 +19,37 @@ fn with_question<'a>(alloc: Global, asking: Command<'a>) -> Result<Command<'a>, 
             alloc,
             "as",
             "UNIT",
-            "What the unit is that the command names: TSU, or STC:MEMBER; without this what the board has with --db, \
-             or else a job",
+            "What the unit is that it names: TSU, or\n\
+             STC:MEMBER; without this what the board of\n\
+             --db has, or else a job",
         ))?
         .arg(value(
             alloc,
             "resource",
             "RESOURCE",
-            "The resource, in place of a command: 1 to 39 characters",
+            "The resource, in place of a command",
         ))?
         .arg(value(
             alloc,
             "level",
             "LEVEL",
-            "The level that is needed on it: NONE, READ, UPDATE, CONTROL or ALTER",
+            "The level that is needed on it:\n\
+             NONE, READ, UPDATE, CONTROL or ALTER",
         ))?
         .arg(preset(
             alloc,
             "class",
             "CLASS",
-            "The class of the resource: OPERCMDS or CONSOLE",
+            "The class of the resource:\n\
+             OPERCMDS or CONSOLE",
             "OPERCMDS",
         ))?
         .arg(value(
             alloc,
             "console",
             "CONSOLE",
-            "The console at which the users act; entries for one console alone count there",
+            "The console at which they act; entries for\n\
+             one console alone count there",
         ))?
         .arg(flag(alloc, "json", "Answers in JSON, an object a line"))
 }
@@ -58,16 +62,21 @@ fn explain_alone<'a>(alloc: Global) -> Result<Command<'a>, AllocError>
         alloc,
         "explain",
         "Says which profile decides for a user, by a policy",
-        "Asks about a command, or about a resource and a level.\n\
-         Examples: opcmds explain --user ANNA --command 'C PAYROLL' --console C1 --why --db gate.db\n\
-         \x20         opcmds explain --user ANNA --resource MVS.CANCEL.JOB.PAYROLL --level UPDATE < policy.csv\n\
-         Status: 0 allowed or undecided, 1 refused, 2 bad words or policy file, 3 out of memory or a failed device",
+        "opcmds explain --user USER (--command TEXT | --resource R --level L)\n\
+         \x20                     [OPTIONS] [< POLICY]",
+        "Examples: opcmds explain --user ANNA --command 'C PAYROLL' --console C1 \\\n\
+         \x20             --why --db gate.db\n\
+         \x20         opcmds explain --user ANNA --resource MVS.CANCEL.JOB.PAYROLL \\\n\
+         \x20             --level UPDATE < policy.csv\n\
+         Status: 0 allowed or undecided, 1 refused, 2 bad words or policy file,\n\
+         \x20       3 out of memory or a failed device",
     )
     .arg(needed(
         alloc,
         "user",
         "USER",
-        "The user: 1 to 8 name characters; - is nobody, with --command and --console",
+        "The user; - is nobody, with --command and\n\
+         --console",
     ))
 }
 
@@ -78,7 +87,8 @@ pub(crate) fn explain_command<'a>(alloc: Global) -> Result<Command<'a>, AllocErr
         .arg(flag(
             alloc,
             "why",
-            "Shows behind each pattern which level the user holds in its profile, and from where",
+            "Shows behind each pattern which level the user\n\
+             holds in its profile, and from where",
         ))?
         .arg(value(alloc, "policy", "FILE", POLICY_FILE))?
         .arg(value(alloc, "db", "FILE", DATABASE_FILE))
@@ -91,10 +101,14 @@ fn who_alone<'a>(alloc: Global) -> Command<'a>
     command(
         alloc,
         "who",
-        "Says who may enter a command, or holds a level, by a policy: each user, and each console with nobody on",
-        "Asks about a command, or about a resource and a level.\n\
+        "Says who may enter a command, or holds a level, by a policy",
+        "opcmds who (--command TEXT | --resource R --level L) [OPTIONS]\n\
+         \x20                 [< POLICY]",
+        "Each user has a line, and so has each console with nobody on.\n\
+         \n\
          Example: opcmds who --command 'C PAYROLL' < policy.csv\n\
-         Status: 0 answered, 1 refused, 2 bad words or policy file, 3 out of memory or a failed device",
+         Status: 0 answered, 1 refused, 2 bad words or policy file,\n\
+         \x20       3 out of memory or a failed device",
     )
 }
 

@@ -4,7 +4,14 @@ import re
 import subprocess
 from typing import NamedTuple
 
-COMMAND = re.compile(r"  (\S+) +(\S.*)")
+from lib.files import bytes_of
+from lib.places import TOP
+
+# a line of the first screen: a group or nothing, a command, and what it is for
+COMMAND = re.compile(r"(?:[A-Z][a-z ]*| ) {2,}([a-z]+) {2,}(\S.*)")
+# the commands that are not about a policy or a room, and so stand in no group
+OTHERS = {"help": "print the help of a command"}
+WIDEST = 78  # columns
 OPTION = re.compile(r"  (?:-\w, |    )--([\w-]+)(?: <(\S+)>)?(?: +(\S.*))?")
 MORE = re.compile(r" {10,}(\S.*)")
 
@@ -14,12 +21,15 @@ class Option(NamedTuple):
     value: str  # what the help calls its value, or nothing
     text: str
     is_needed: bool = False
+    codes: tuple[str, ...] = ()  # that its value may be
 
     def is_path(self) -> bool:
         return self.value in ("FILE", "PATH", "FOLDER")
 
     def words(self) -> list[str]:
-        """The values that it may have, if its help lists them."""
+        """The values that it may have, if its help lists them or they are codes."""
+        if self.codes:
+            return list(self.codes)
         if found := re.search(r"\[possible values: ([^]]*)\]", self.text):
             return found[1].split(", ")
         if self.value == "MODE":
@@ -44,14 +54,24 @@ def part_of(text: str, heading: str) -> list[str]:
 
 
 def commands_in(text: str) -> dict[str, str]:
-    """The commands that the help of the program names, each with what it says of it."""
-    return {found[1]: found[2] for line in part_of(text, "Commands") if (found := COMMAND.fullmatch(line))}
+    """The commands that the first screen names, each with what it is for."""
+    return {found[1]: found[2] for line in text.split("\n") if (found := COMMAND.fullmatch(line))}
+
+
+def usage_of(text: str) -> str:
+    """How the command is typed, in one line."""
+    _, _, rest = f"\n{text}".partition("\nUsage: ")
+    return " ".join(rest.partition("\n\n")[0].split())
+
+
+def too_wide(text: str) -> list[str]:
+    """The lines of a help that a terminal of 80 columns breaks, or nearly."""
+    return [line for line in text.split("\n") if len(line) > WIDEST]
 
 
 def options_in(text: str) -> list[Option]:
-    """The options that the help of a command names."""
-    usage, options = re.search(r"(?m)^Usage: (.*)$", text), []
-    needed = re.findall(r"--([\w-]+)", re.sub(r"\[[^]]*\]", "", usage[1])) if usage else []
+    """The options that the help of a command names. Those are needed that its usage has outside brackets."""
+    needed, options = re.findall(r"--([\w-]+)", re.sub(r"\[[^]]*\]|\([^)]*\)", "", usage_of(text))), []
     for line in part_of(text, "Options"):
         if found := OPTION.fullmatch(line):
             options.append(Option(f"--{found[1]}", found[2] or "", found[3] or "", found[1] in needed))
@@ -64,9 +84,22 @@ def help_of(program: str, *words: str) -> str:
     return subprocess.run([program, *words, "--help"], stdout=subprocess.PIPE, text=True, check=True).stdout
 
 
+def codes_of(value: str) -> tuple[str, ...]:
+    """The codes of the rules that the value of an option may be: of refusals, or of notes."""
+    if value == "CODE":
+        return (*codes_in("docs/RULES.md", "E"), "WARN")
+    return codes_in("docs/rules/notes.md", "N") if value == "CODES" else ()
+
+
+def codes_in(page: str, letter: str) -> tuple[str, ...]:
+    """The codes that begin rows of the tables of a page, each once."""
+    return tuple(dict.fromkeys(re.findall(rf"(?m)^\| ({letter}\d\d) \|", bytes_of(f"{TOP}/{page}").decode())))
+
+
 def table_of(program: str) -> list[Command]:
     """The commands of the program with their options; `help` has none."""
-    return [
-        Command(name, text, options_in(help_of(program, name)) if name != "help" else [])
-        for name, text in commands_in(help_of(program)).items()
-    ]
+    table = []
+    for name, text in {**commands_in(help_of(program)), **OTHERS}.items():
+        options = options_in(help_of(program, name)) if name != "help" else []
+        table.append(Command(name, text, [option._replace(codes=codes_of(option.value)) for option in options]))
+    return table

@@ -8,6 +8,8 @@ OPTION = re.compile(r"Fl -([\w-]+)(?: Ar (\S+))?")
 EXPLAINED = re.compile(r"\.It Fl -([\w-]+)(?: Ar (\S+))?")
 MISPLACED = re.compile(r"\S*(?:\|[\]}]|[\[{]\|)\S*|‘[^’]*‘[^’]*’+")
 CODE = re.compile(r"(?m)^\.It Sy (E\d\d \w+)(?: Ar (.*))?\n((?:[^.\n].*\n)+)")
+NOTE = re.compile(r"\.It Sy (N\d\d)")
+OPERATION = re.compile(r"(?m)^\.It Li ([A-Z]\w+(?: , \w+)*)\n\.Li (.*)$")
 
 
 class Named(NamedTuple):
@@ -56,6 +58,23 @@ def codes_in(page: str) -> list[tuple[str, str]]:
         line = " ".join(meaning.split()).removesuffix(".")
         found.append((code, f"`{name}`{' ' + details if details else ''}", line[0].lower() + line[1:]))
     return found
+
+
+def notes_in(page: str) -> list[str]:
+    """The codes of notes, in their order."""
+    return NOTE.findall("\n".join(section(page, "NOTES ON A POLICY")))
+
+
+def operations_in(page: str) -> dict[str, list[str]]:
+    """The operations over HTTP, each with its keys."""
+    text = "\n".join(section(page, "HTTP"))
+    return {name: keys.split(" , ") for names, keys in OPERATION.findall(text) for name in names.split(" , ")}
+
+
+def display_in(page: str, name: str) -> str:
+    """The text that a section displays as it stands."""
+    _, _, rest = "\n".join(section(page, name)).partition("\n.Bd -literal -offset indent\n")
+    return rest.partition(".Ed")[0]
 
 
 def misplaced_in(printed: str) -> list[str]:

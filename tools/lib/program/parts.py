@@ -406,6 +406,7 @@ PARTS: dict[str, Callable[[Room], None]] = {
     "name": another_name,
     "version": says_version,
     "words": table("words"),
+    "screen": table("screen"),
     "scripts": table("scripts"),
     "now": now,
     "files": table("files"),

@@ -1,26 +1,24 @@
 """The help of a program as a table of its commands and options."""
 import unittest
 
-from lib.manual.help import Option, commands_in, options_in
+from lib.manual.help import Option, codes_of, commands_in, options_in, too_wide, usage_of
 
-PROGRAM = """\
-The gate
+SCREEN = """\
+Decides who may.
 
-Usage: gate <COMMAND>
+Usage: gate COMMAND [OPTIONS]
 
-Commands:
-  explain  Says why
-  help     Print this message or the help of the given subcommand(s)
+Ask a policy      who       who may enter it
+                  explain   why one may, or may not (--why)
+Keep a policy     import    load a policy file
 
-Options:
-  -h, --help  Print help
-
-Example: gate explain --help
+gate COMMAND --help has options; man gate has all.
 """
 COMMAND = """\
 Says why
 
-Usage: gate explain [OPTIONS] --user <USER> --level <LEVEL>
+Usage: gate explain --user USER (--json | --mode MODE)
+                    --level LEVEL [--db FILE] [< POLICY]
 
 Options:
       --user <USER>    The user: 1 to 8 name characters
@@ -40,8 +38,22 @@ Status: 0
 
 class Help(unittest.TestCase):
     def test_commands(self) -> None:
-        wanted = {"explain": "Says why", "help": "Print this message or the help of the given subcommand(s)"}
-        self.assertEqual(commands_in(PROGRAM), wanted)
+        wanted = {
+            "who": "who may enter it", "explain": "why one may, or may not (--why)", "import": "load a policy file",
+        }
+        self.assertEqual(commands_in(SCREEN), wanted)
+
+    def test_usage(self) -> None:
+        wanted = "gate explain --user USER (--json | --mode MODE) --level LEVEL [--db FILE] [< POLICY]"
+        self.assertEqual((usage_of(SCREEN), usage_of(COMMAND)), ("gate COMMAND [OPTIONS]", wanted))
+
+    def test_width(self) -> None:
+        self.assertEqual(too_wide("x" * 78 + "\n" + "y" * 79), ["y" * 79])
+
+    def test_codes(self) -> None:
+        codes, notes = codes_of("CODE"), codes_of("CODES")
+        self.assertEqual((codes[0], codes[-1], notes[0], codes_of("FILE")), ("E01", "WARN", "N01", ()))
+        self.assertEqual(Option("--code", "CODE", "As E20 or WARN", codes=("E20",)).words(), ["E20"])
 
     def test_options(self) -> None:
         self.assertEqual(

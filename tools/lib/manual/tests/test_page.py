@@ -2,7 +2,9 @@
 import unittest
 
 from lib.manual.help import Command, Option
-from lib.manual.page import codes_in, differences, examples_in, misplaced_in
+from lib.manual.page import (
+    codes_in, differences, display_in, examples_in, misplaced_in, notes_in, operations_in,
+)
 
 PAGE = """\
 .Sh NAME
@@ -33,6 +35,26 @@ The socket.
 .It Fl -strict
 Strictly.
 .El
+.El
+.Sh OPERATOR COMMANDS
+They are
+.Bd -literal -offset indent
+COMMAND GROUP
+LOGOFF  -
+.Ed
+.Sh NOTES ON A POLICY
+.Bl -tag
+.It Sy N01
+It warns.
+.It Sy N03
+Nobody gets on.
+.El
+.Sh HTTP
+.Bl -tag
+.It Li Connect , Remove
+.Li user , group
+.It Li DelUser
+.Li id
 .El
 .Sh EXAMPLES
 .Dl gate serve --db x
@@ -99,6 +121,12 @@ class Page(unittest.TestCase):
         shown = "gate {--port number [--strict |] --socket\n    path} [--log] says ‘HELD level ‘BY source’’ or ‘a’ ‘b’"
         self.assertEqual(misplaced_in(shown), ["|]", "‘HELD level ‘BY source’’"])
         self.assertEqual(misplaced_in("gate {--port number [--strict] | --socket path} says ‘a’ or ‘b’."), [])
+
+    def test_what_is_listed(self) -> None:
+        wanted = {"Connect": ["user", "group"], "Remove": ["user", "group"], "DelUser": ["id"]}
+        self.assertEqual(operations_in(PAGE), wanted)
+        self.assertEqual(notes_in(PAGE), ["N01", "N03"])
+        self.assertEqual(display_in(PAGE, "OPERATOR COMMANDS"), "COMMAND GROUP\nLOGOFF  -\n")
 
     def test_examples(self) -> None:
         self.assertEqual(examples_in(PAGE), ["gate serve --db x"])

@@ -20,7 +20,6 @@ use Rattle.opc_policy.specs.Rulings.{by_verdict, console_ruling, profile_rule, r
 use Rattle.opc_board.specs.declared.rows.ConsoleRow.{ConsoleRow}
 use Rattle.opc_state.specs.State.{State, deciding_in}
 use Rattle.opc_machine.specs.Rulings.{access_ruling, acting, denied_or, is_required, is_revoked, own_user, ruling}
-use Rattle.opc_answers.specs.declared.wanted.Wanted.TheVariants.{Command}
 use Rattle.opc_answers.specs.Who.{by_decider, decider, nobody_at}
 
 verdict_is : (b : Bool) (rule : Rule) (other : Ruling)
@@ -39,12 +38,12 @@ decides true (Some p) user console groups auth need =
 
 pub access_so : (s : State) (c : ConsoleRow) (user : User) (need : Need)
     → access_ruling s c (Some user) need
-    ≡ by_decider (decider s.policy (Command need)) user (Some c.name) (groups_of s.policy.connects user.id) c.auth need
+    ≡ by_decider (decider s.policy Opercmds need.resource) user (Some c.name) (groups_of s.policy.connects user.id) c.auth need
 access_so s c user need =
     decides (is_active s.policy.active Opercmds) (deciding_in s.policy Opercmds need.resource) user (Some c.name)
     (groups_of s.policy.connects user.id) c.auth need
 
-pub access_by : (s : State) (c : ConsoleRow) (user : User) (need : Need) (decided : Option Profile) → decided ≡ decider s.policy (Command need)
+pub access_by : (s : State) (c : ConsoleRow) (user : User) (need : Need) (decided : Option Profile) → decided ≡ decider s.policy Opercmds need.resource
     → by_decider decided user (Some c.name) (groups_of s.policy.connects user.id) c.auth need ≡ access_ruling s c (Some user) need
 access_by s c user need decided is =
     ap (λ d. by_decider d user (Some c.name) (groups_of s.policy.connects user.id) c.auth need) is ∙ sym (access_so s c user need)

@@ -3,6 +3,7 @@ use Rattle.std.proofs.Common.{◌≡◌, ℕ, Bool, true, false, List, Option, S
 use Rattle.std.specs.Prelude.{◌&&◌, unwrap_or}
 use Rattle.std.specs.Option.{is_some}
 use Rattle.opc_names.specs.declared.auth.Auth.{Auth}
+use Rattle.opc_names.specs.declared.class.Class.TheVariants.{Opercmds}
 use Rattle.opc_names.specs.declared.level.Level.{Level}
 use Rattle.opc_terms.specs.declared.need.Need.{Need}
 use Rattle.opc_terms.specs.declared.rule.Rule.{Rule}
@@ -20,7 +21,6 @@ use Rattle.opc_board.specs.declared.rows.ConsoleRow.{ConsoleRow}
 use Rattle.opc_state.specs.State.{State}
 use Rattle.opc_machine.specs.Rulings.{access_ruling, denied_or, is_required, is_revoked, ruling}
 use Rattle.opc_answers.specs.declared.lines.UserLine.{UserLine}
-use Rattle.opc_answers.specs.declared.wanted.Wanted.TheVariants.{Command}
 use Rattle.opc_answers.specs.Laws.{
   RaisesWhereNamed,
   SaysTheRulingAtAConsole,
@@ -59,20 +59,20 @@ ruled s need c user acting is =
     ∙ ap (λ d. denied_or d (access_ruling s (on_at user.id c) (Some user) need))
     (on_required (is_required c.mode) (if user.revoked then Some rule.Revoked else None))
     ∙ ap (denied_or (if user.revoked then Some rule.Revoked else None)) (access_so s (on_at user.id c) user need)
-    ∙ by_revoked user.revoked (decider s.policy (Command need)) user (Some c.name) (groups_of s.policy.connects user.id) c.auth need
+    ∙ by_revoked user.revoked (decider s.policy Opercmds need.resource) user (Some c.name) (groups_of s.policy.connects user.id) c.auth need
 
 pub ruling_so : (s : State) (need : Need) (c : ConsoleRow) (user : User) → user_of s.policy.users user.id ≡ Some user
     → ruling s (on_at user.id c) need ≡ ruling_or (said s need (Some c.name) user).ruling c.auth need
 ruling_so s need c user is = ruled s need c user (user_of s.policy.users user.id) is
 
 pub ruling_by : (s : State) (need : Need) (c : ConsoleRow) (user : User) (decided : Option Profile) (groups : List (List ℕ)) (l : UserLine)
-    → decided ≡ decider s.policy (Command need) → user_of s.policy.users user.id ≡ Some user
+    → decided ≡ decider s.policy Opercmds need.resource → user_of s.policy.users user.id ≡ Some user
     → groups ≡ groups_of s.policy.connects user.id → l ≡ line_of decided (Some c.name) need.level groups user
     → ruling_or l.ruling c.auth need ≡ ruling s (on_at user.id c) need
 ruling_by s need c user decided groups l decides stored are is =
     ap (λ (x : UserLine). ruling_or x.ruling c.auth need)
     (is ∙ ap (λ d. line_of d (Some c.name) need.level groups user) decides
-    ∙ ap (λ g. line_of (decider s.policy (Command need)) (Some c.name) need.level g user) are)
+    ∙ ap (λ g. line_of (decider s.policy Opercmds need.resource) (Some c.name) need.level g user) are)
     ∙ sym (ruling_so s need c user stored)
 
 pub at_a_console : SaysTheRulingAtAConsole
@@ -89,7 +89,7 @@ raised_so false (Some p) user console groups level auth need is = refl
 
 pub where_raised : SaysTheRulingWhereRaised
 where_raised s need c user is raises =
-    raised_so user.revoked (decider s.policy (Command need)) user (Some c.name) (groups_of s.policy.connects user.id) need.level c.auth need
+    raised_so user.revoked (decider s.policy Opercmds need.resource) user (Some c.name) (groups_of s.policy.connects user.id) need.level c.auth need
     raises
     ∙ ap (λ r. Some r) (sym (ruling_so s need c user is))
 
@@ -112,7 +112,7 @@ unraised_so false (Some p) user console groups level auth need none = same_rulin
 
 pub elsewhere : SaysTheRulingElsewhere
 elsewhere s need c user is none =
-    unraised_so user.revoked (decider s.policy (Command need)) user c.name (groups_of s.policy.connects user.id) need.level c.auth need none
+    unraised_so user.revoked (decider s.policy Opercmds need.resource) user c.name (groups_of s.policy.connects user.id) need.level c.auth need none
     ∙ sym (ruling_so s need c user is)
 
 unnamed_so : (b : Bool) (d : Option Profile) (user : User) (c : ConsoleRow) (groups : List (List ℕ)) (level : Level) → is_named d c ≡ false
@@ -123,4 +123,4 @@ unnamed_so false (Some p) user c groups level none = unnamed_raises_none p user 
 
 pub where_named : RaisesWhereNamed
 where_named s need c user none =
-    unnamed_so user.revoked (decider s.policy (Command need)) user c (groups_of s.policy.connects user.id) need.level none
+    unnamed_so user.revoked (decider s.policy Opercmds need.resource) user c (groups_of s.policy.connects user.id) need.level none

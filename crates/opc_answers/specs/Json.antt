@@ -34,7 +34,7 @@ use Rattle.opc_answers.specs.declared.wanted.Wanted.{Wanted}
 use Rattle.opc_answers.specs.declared.wanted.Wanted.TheVariants.{Command, Access}
 use Rattle.opc_answers.specs.declared.who.Who.{Who}
 use Rattle.opc_answers.specs.Who.{class_of, consoles_of, level_of, raised_of, resource_of, users_of}
-use Rattle.opc_answers.specs.Texts.{may, may_with_nobody_on, ruling_word, verdict_word}
+use Rattle.opc_answers.specs.Texts.{kind_words, may, may_with_nobody_on, ruling_word, verdict_word}
 
 -- 10 is the line feed
 abbrev pub json_line : Data → List ℕ
@@ -46,13 +46,19 @@ text_or_null (Some text) = string text
 
 -- the group of the command that is asked about
 abbrev pub group_of : Wanted → Option (List ℕ)
-group_of (Command need) = Some (group_text need.group)
+group_of (Command entered) = Some (group_text entered.need.group)
 group_of (Access class resource level) = None
+
+-- what the unit of the command was taken for
+abbrev pub taken_words : Wanted → Option (List ℕ)
+taken_words (Command entered) = option_map kind_words entered.unit
+taken_words (Access class resource level) = None
 
 -- what is asked about, and the profile that decides
 abbrev pub question_value : Who → Data
 question_value who =
     object (member (codes "active") (boolean who.active)
+    (member (codes "as") (text_or_null (taken_words who.wanted))
     (member (codes "class") (string (class_text (class_of who.wanted)))
     (member (codes "group") (text_or_null (group_of who.wanted))
     (member (codes "kind") (string (codes "question"))
@@ -61,7 +67,7 @@ question_value who =
     (member (codes "resource") (string (resource_of who.wanted))
     (member (codes "uacc") (text_or_null (option_map (λ (p : Profile). level_text p.uacc) who.decided))
     (member (codes "warning") (boolean (option_map_or (λ (p : Profile). p.warning) who.decided false))
-    no_members)))))))))
+    no_members))))))))))
 
 -- the level held, its source, and the console if the entry is for it alone
 abbrev pub held_words : Option HeldLevel → Option (List ℕ)

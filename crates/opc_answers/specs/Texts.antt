@@ -25,7 +25,8 @@ use Rattle.std.specs.List.{flat_map}
 use Rattle.std.specs.Option.{is_none}
 use Rattle.opc_names.specs.declared.class.Class.{Class}
 use Rattle.opc_names.specs.Spellings.{class_text, group_text, level_text}
-use Rattle.opc_terms.specs.declared.need.Need.{Need}
+use Rattle.opc_terms.specs.declared.unit_kind.UnitKindAt.{UnitKindAt}
+use Rattle.opc_terms.specs.declared.unit_kind.UnitKindAt.TheVariants.{Absent, Job, Stc, Tsu}
 use Rattle.opc_terms.specs.Rules.{rule_text}
 use Rattle.opc_policy_members.specs.declared.profile.Profile.{Profile}
 use Rattle.opc_policy.specs.declared.ruling.Ruling.{Ruling}
@@ -38,6 +39,7 @@ use Rattle.opc_machine.specs.Machine.{is_warned}
 use Rattle.opc_machine.specs.Rulings.{is_allowed}
 use Rattle.opc_answers.specs.declared.consoles.ConsoleLine.{ConsoleLine}
 use Rattle.opc_answers.specs.declared.lines.UserLine.{UserLine}
+use Rattle.opc_answers.specs.declared.wanted.Entered.{Entered}
 use Rattle.opc_answers.specs.declared.wanted.Wanted.{Wanted}
 use Rattle.opc_answers.specs.declared.wanted.Wanted.TheVariants.{Command, Access}
 use Rattle.opc_answers.specs.declared.who.Who.{Who}
@@ -100,12 +102,23 @@ shown_user allowed line = if allowed && not (may line) then [] else user_text li
 abbrev pub shown_console : Bool → ConsoleLine → List ℕ
 shown_console allowed line = if allowed && not (may_with_nobody_on line) then [] else console_text line
 
-abbrev pub need_line : Need → List ℕ
-need_line need = columns
-    (codes "NEEDS" ∷ level_text need.level ∷ need.resource ∷ codes "GROUP" ∷ (group_text need.group ++ 10 ∷ []) ∷ [])
+-- what a unit is taken for, as `--as` has it; what is on no board is a job
+abbrev pub kind_words : UnitKindAt → List ℕ
+kind_words Absent = codes "JOB"
+kind_words Job = codes "JOB"
+kind_words (Stc member) = codes "STC:" ++ member
+kind_words Tsu = codes "TSU"
+
+abbrev pub taken_text : Option UnitKindAt → List ℕ
+taken_text None = []
+taken_text (Some kind) = codes " AS " ++ kind_words kind
+
+abbrev pub need_line : Entered → List ℕ
+need_line entered = columns (codes "NEEDS" ∷ level_text entered.need.level ∷ entered.need.resource ∷ codes "GROUP"
+    ∷ (group_text entered.need.group ++ (taken_text entered.unit ++ 10 ∷ [])) ∷ [])
 
 abbrev pub needs_text : Wanted → List ℕ
-needs_text (Command need) = need_line need
+needs_text (Command entered) = need_line entered
 needs_text (Access class resource level) = []
 
 -- what decides: a profile, or none

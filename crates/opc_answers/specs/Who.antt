@@ -58,20 +58,23 @@ use Rattle.opc_answers.specs.Made.{members_of, state_of}
 
 -- the class, the resource and the level that are asked about; the resources of commands are in OPERCMDS
 abbrev pub class_of : Wanted → Class
-class_of (Command need) = Opercmds
+class_of (Command entered) = Opercmds
 class_of (Access class resource level) = class
 
 abbrev pub resource_of : Wanted → List ℕ
-resource_of (Command need) = need.resource
+resource_of (Command entered) = entered.need.resource
 resource_of (Access class resource level) = resource
 
 abbrev pub level_of : Wanted → Level
-level_of (Command need) = need.level
+level_of (Command entered) = entered.need.level
 level_of (Access class resource level) = level
 
 -- the profile that decides, if the class is active and a profile covers the resource
-abbrev pub decider : Policy → Wanted → Option Profile
-decider p w = if is_active p.active (class_of w) then deciding_in p (class_of w) (resource_of w) else None
+abbrev pub decider : Policy → Class → (resource : List ℕ) → Option Profile
+decider p class resource = if is_active p.active class then deciding_in p class resource else None
+
+abbrev pub decider_of : Policy → Wanted → Option Profile
+decider_of p w = decider p (class_of w) (resource_of w)
 
 -- What is said of a user, at a console if one is given: who is revoked is denied; else the profile that decides rules
 -- on the level that the user holds; if none decides, nothing is said.
@@ -151,7 +154,7 @@ command_at need (OnBoard c) line = or_authority c need line
 command_at need place line = line
 
 abbrev pub decided_at : Wanted → AskedAt → UserLine → UserLine
-decided_at (Command need) place line = command_at need place line
+decided_at (Command entered) place line = command_at entered.need place line
 decided_at (Access class resource level) place line = line
 
 -- The lines of an answer: what is said of each user;
@@ -183,7 +186,7 @@ consoles_at s need (OnBoard c) = Some (console_lines s need (c ∷ []))
 consoles_at s need (Named name) = None
 
 abbrev pub consoles_in : State → Wanted → AskedAt → Option (List ConsoleLine)
-consoles_in s (Command need) place = consoles_at s need place
+consoles_in s (Command entered) place = consoles_at s entered.need place
 consoles_in s (Access class resource level) place = None
 
 abbrev pub consoles_of : Who → Option (List ConsoleLine)
@@ -191,7 +194,7 @@ consoles_of who = consoles_in (state_of who.room.policy who.room.board) who.want
 
 -- the profile of an answer is the one that decides
 abbrev pub HasDecider : Who → Type 0
-HasDecider who = who.decided ≡ decider who.room.policy who.wanted
+HasDecider who = who.decided ≡ decider_of who.room.policy who.wanted
 
 -- A command can be asked about at a console of the board, a level of access at any.
 abbrev pub on_board : Option ConsoleRow → Result AskedAt Fault
@@ -200,7 +203,7 @@ on_board (Some c) = Ok (OnBoard c)
 
 abbrev pub asked_at : BoardRows → Wanted → Option (List ℕ) → Result AskedAt Fault
 asked_at b w None = Ok Everywhere
-asked_at b (Command need) (Some name) = on_board (console_at b name)
+asked_at b (Command entered) (Some name) = on_board (console_at b name)
 asked_at b (Access class resource level) (Some name) = Ok (Named name)
 
 -- the answer, by the profile that decides
@@ -208,7 +211,7 @@ abbrev pub who_at : Policy → BoardRows → Wanted → AskedAt → Who
 who_at p b w place = record {
   wanted = w;
   active = is_active p.active (class_of w);
-  decided = decider p w;
+  decided = decider_of p w;
   room = record { policy = p; members = members_of p; board = b };
   at = place;
 }

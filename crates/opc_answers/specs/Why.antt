@@ -5,7 +5,6 @@ use Rattle.std.specs.List.{flat_map}
 use Rattle.std.specs.Option.{option_or}
 use Rattle.opc_terms.specs.declared.fault.Fault.{Fault}
 use Rattle.opc_terms.specs.declared.fault.Fault.TheVariants.{NoConsole}
-use Rattle.opc_terms.specs.declared.need.Need.{Need}
 use Rattle.opc_terms.specs.declared.rule.Rule.{Rule}
 use Rattle.opc_terms.specs.Rules.{rule_text}
 use Rattle.opc_policy_members.specs.declared.policy.Policy.{Policy}
@@ -17,6 +16,7 @@ use Rattle.opc_policy_sources.specs.declared.levels.CoveringLevel.{CoveringLevel
 use Rattle.opc_policy_sources.specs.Levels.{covering_levels, levels_text}
 use Rattle.opc_state.specs.State.{State}
 use Rattle.opc_answers.specs.declared.explaining.CommandExplained.{CommandExplained}
+use Rattle.opc_answers.specs.declared.wanted.Entered.{Entered}
 use Rattle.opc_answers.specs.declared.wanted.Wanted.{Wanted}
 use Rattle.opc_answers.specs.declared.wanted.Wanted.TheVariants as wanted
 use Rattle.opc_answers.specs.declared.why.Covers.{Covers}
@@ -65,17 +65,17 @@ command_covers p w levels None actor console = Ok covers.Nobody
 command_covers p w levels (Some patterns) actor console =
     covers_of p w levels patterns (option_or actor console) console
 
-abbrev pub why_command : Policy → (levels : Bool) → Need → (actor console : Option (List ℕ))
+abbrev pub why_command : Policy → (levels : Bool) → Entered → (actor console : Option (List ℕ))
     → Result CommandExplained Fault → Result Why Fault
-why_command p levels need actor console (Ok e) =
-    why_with (wanted.Command need) actor console e.verdict e.rule
-    (command_covers p (wanted.Command need) levels e.covering actor console)
-why_command p levels need actor console (Err fault) = Err fault
+why_command p levels entered actor console (Ok e) =
+    why_with (wanted.Command entered) actor console e.verdict e.rule
+    (command_covers p (wanted.Command entered) levels e.covering actor console)
+why_command p levels entered actor console (Err fault) = Err fault
 
 -- why somebody, or nobody, may or may not, at a console if one is named
 abbrev pub why_in : State → (levels : Bool) → Wanted → (actor console : Option (List ℕ)) → Result Why Fault
-why_in s levels (wanted.Command need) actor console =
-    why_command s.policy levels need actor console (explained_in s need actor console)
+why_in s levels (wanted.Command entered) actor console =
+    why_command s.policy levels entered actor console (explained_in s entered.need actor console)
 why_in s levels (wanted.Access class resource level) None console = Err NoConsole
 why_in s levels (wanted.Access class resource level) (Some id) console =
     why_access s.policy levels (wanted.Access class resource level) id console

@@ -10,7 +10,7 @@ use Rattle.opc_policy_sources.specs.SourceTexts.{source_text}
 use Rattle.opc_answers.specs.declared.why.Covers.{Covers}
 use Rattle.opc_answers.specs.declared.why.Covers.TheVariants.{Levels}
 use Rattle.opc_answers.specs.declared.why.Why.{Why}
-use Rattle.opc_answers.specs.Json.{group_of, json_line, text_or_null}
+use Rattle.opc_answers.specs.Json.{group_of, json_line, taken_words, text_or_null}
 use Rattle.opc_answers.specs.Who.{class_of, level_of, resource_of}
 
 -- a profile that covers, with the level that is held in it
@@ -30,7 +30,8 @@ levels_of others = []
 
 abbrev pub why_value : Why → Data
 why_value w =
-    object (member (codes "class") (string (class_text (class_of w.wanted)))
+    object (member (codes "as") (text_or_null (taken_words w.wanted))
+    (member (codes "class") (string (class_text (class_of w.wanted)))
     (member (codes "console") (text_or_null w.console)
     (member (codes "covers") (array (covering_items (levels_of w.covers)))
     (member (codes "group") (text_or_null (group_of w.wanted))
@@ -38,7 +39,7 @@ why_value w =
     (member (codes "resource") (string (resource_of w.wanted))
     (member (codes "rule") (string (rule_text w.rule))
     (member (codes "user") (text_or_null w.actor)
-    (member (codes "verdict") (string (verdict_text w.verdict)) no_members)))))))))
+    (member (codes "verdict") (string (verdict_text w.verdict)) no_members))))))))))
 
 abbrev pub why_json : Why → List ℕ
 why_json w = json_line (why_value w)

@@ -1,10 +1,10 @@
 //! What is said of consoles where nobody is on.
 ghost use Rattle.std.specs.Prelude.{◌≡◌, IfOk, Some};
 ghost use Rattle.std.specs.Option.{is_some, option_and_then, option_copied};
+ghost use Rattle.opc_names.specs.declared.class.Class.TheVariants.{Opercmds};
 ghost use Rattle.opc_policy_members.specs.Members.{user_of};
 ghost use Rattle.opc_machine.specs.Rulings.{access_ruling, is_required, is_revoked, own_user, ruling};
 ghost use Rattle.opc_answers.specs.Made.{state_of};
-ghost use Rattle.opc_answers.specs.declared.wanted.Wanted.TheVariants.{Command};
 ghost use Rattle.opc_answers.specs.Who.{by_decider, console_line, console_lines, decider, nobody_at};
 
 use opc_board::board::Board;
@@ -77,7 +77,7 @@ fn access_ruling(
     console: &ConsoleRow,
     user: Option<&User>,
 ) -> Result<Ruling, AllocError>
-    requires { option_copied decided ≡ decider policy.now (Command need.now) }
+    requires { option_copied decided ≡ decider policy.now Opercmds need.now.resource }
     ensures { IfOk result (λ ruling. ruling ≡ access_ruling (state_of policy.now board.now) console.now
         (option_copied user.entry) need.now) }
 {
@@ -128,7 +128,7 @@ pub(crate) fn ruling(
     need: &Need,
     console: &ConsoleRow,
 ) -> Result<Ruling, AllocError>
-    requires { option_copied decided ≡ decider policy.now (Command need.now) }
+    requires { option_copied decided ≡ decider policy.now Opercmds need.now.resource }
     ensures { IfOk result (λ answer. answer ≡ ruling (state_of policy.now board.now) (nobody_at console.now) need.now) }
 {
     if is_required(console.mode) {
@@ -150,7 +150,7 @@ fn console_line(
     need: &Need,
     console: &ConsoleRow,
 ) -> Result<ConsoleLine, AllocError>
-    requires { option_copied decided ≡ decider policy.now (Command need.now) }
+    requires { option_copied decided ≡ decider policy.now Opercmds need.now.resource }
     ensures { IfOk result (λ line. line ≡ console_line (state_of policy.now board.now) need.now console.now) }
 {
     let own = own_user(policy, board, console).is_some();
@@ -170,7 +170,7 @@ pub(crate) fn console_lines(
     need: &Need,
     consoles: &[ConsoleRow],
 ) -> Result<Rows<ConsoleLine>, AllocError>
-    requires { option_copied decided ≡ decider policy.now (Command need.now) }
+    requires { option_copied decided ≡ decider policy.now Opercmds need.now.resource }
     ensures { IfOk result (λ lines. lines ≡ console_lines (state_of policy.now board.now) need.now consoles.now) }
 {
     // Named for the prover, which else does not find the types of a line.

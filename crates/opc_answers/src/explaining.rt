@@ -15,7 +15,6 @@ ghost use Rattle.opc_answers.specs.Made.{state_of};
 use crate::consoles::{own_name, ruling};
 use crate::lines::{decider, ruling_with};
 use crate::room::Room;
-use crate::wanted::Wanted;
 use crate::who::console_of;
 use opc_board::rows::ConsoleRow;
 use opc_names::class::Class;
@@ -87,7 +86,7 @@ fn with_nobody_on(
         → at_console (state_of room.now.policy room.now.board) need.now None console.now ≡ Err fault) }
 {
     let (policy, board) = (&room.policy, &room.board);
-    let found = decider(policy, &Wanted::Command(*need))?;
+    let found = decider(policy, Class::Opercmds, &need.resource)?;
     let ruled = ruling(alloc, policy, board, found.as_ref(), need, console)?;
     match own_name(policy, board, console) {
         Some(id) => {
@@ -120,7 +119,7 @@ fn with_user_on(
     let Some(user) = policy.users.get(id) else {
         return Err(Fault::Missing(Subject::of(id)));
     };
-    let found = decider(policy, &Wanted::Command(*need))?;
+    let found = decider(policy, Class::Opercmds, &need.resource)?;
     let ruled = ruling_with(alloc, room, found.as_ref(), need, console, user)?;
     let explained = by_profiles(alloc, policy, need, id, Some(&console.name))?;
     Ok(with_ruling(ruled, explained))

@@ -16,6 +16,7 @@ ghost use Rattle.opc_answers.specs.Json.{
   question_value,
   rule_words,
   source_words,
+  taken_words,
   text_or_null,
   user_json,
   user_value,
@@ -23,8 +24,8 @@ ghost use Rattle.opc_answers.specs.Json.{
 
 use crate::consoles::ConsoleLine;
 use crate::lines::UserLine;
-use crate::text::{is_allowed, may, ruling_word, verdict_word};
-use crate::wanted::Wanted;
+use crate::text::{is_allowed, kind_words, may, ruling_word, verdict_word};
+use crate::wanted::{Entered, Wanted};
 use crate::who::Who;
 use opc_policy::ruling::Ruling;
 use opc_policy_members::profile::Profile;
@@ -56,9 +57,26 @@ pub(crate) fn group_value(alloc: Global, wanted: &Wanted) -> Result<Value, Alloc
     ensures { IfOk result (λ value. view value ≡ text_or_null (group_of wanted.now)) }
 {
     match wanted {
-        Wanted::Command(need) => text_or_null(alloc, Some(need.group.text())),
+        Wanted::Command(entered) => text_or_null(alloc, Some(entered.need.group.text())),
         Wanted::Access { .. } => Ok(Value::Null),
     }
+}
+
+/// What the unit of a command was taken for.
+pub(crate) fn taken_value(alloc: Global, wanted: &Wanted) -> Result<Value, AllocError>
+    ensures { IfOk result (λ value. view value ≡ text_or_null (taken_words wanted.now)) }
+{
+    let Wanted::Command(
+        Entered {
+            unit: Some(kind),
+            ..
+        },
+    ) = wanted
+    else {
+        return Ok(Value::Null);
+    };
+    let words = kind_words(alloc, *kind)?;
+    Value::try_from_str(alloc, words.as_str())
 }
 
 fn pattern_value(alloc: Global, decided: &Option<Profile>) -> Result<Value, AllocError>
@@ -98,14 +116,15 @@ fn question_value(alloc: Global, who: &Who) -> Result<Value, AllocError>
         who.wanted.resource(),
         who.wanted.level(),
     );
+    let taken = taken_value(alloc, &who.wanted)?;
     let group = group_value(alloc, &who.wanted)?;
     let pattern = pattern_value(alloc, &who.decided)?;
     let uacc = uacc_value(alloc, &who.decided)?;
     let (active, warning) = (who.active, has_warning(&who.decided));
     let (class, resource, level) = (class.text(), resource.text(), level.text());
     json!(in alloc; {
-        "active": active, "class": class, "group": group, "kind": "question", "level": level, "pattern": pattern,
-        "resource": resource, "uacc": uacc, "warning": warning
+        "active": active, "as": taken, "class": class, "group": group, "kind": "question", "level": level,
+        "pattern": pattern, "resource": resource, "uacc": uacc, "warning": warning
     })
 }
 

@@ -2,19 +2,19 @@
 ghost use Rattle.std.specs.Prelude.{◌≡◌, IfOk, IsOkUnless, Some, unwrap_or};
 ghost use Rattle.std.specs.Option.{option_copied};
 ghost use Rattle.opc_policy.specs.Rulings.{console_ruling};
+ghost use Rattle.opc_names.specs.declared.class.Class.TheVariants.{Opercmds};
 ghost use Rattle.opc_policy_members.specs.Members.{user_of};
 ghost use Rattle.opc_machine.specs.Rulings.{ruling};
 ghost use Rattle.opc_terms.specs.declared.store_fault.StoreFault.TheVariants.{NoMemory};
 ghost use Rattle.opc_answers.specs.Made.{state_of};
-ghost use Rattle.opc_answers.specs.declared.wanted.Wanted.TheVariants.{Command};
 ghost use Rattle.opc_answers.specs.Who.{by_profile, decider, line_of, member_line, on_at, or_authority};
 
 use crate::members::Member;
 use crate::room::Room;
-use crate::wanted::Wanted;
 use opc_board::rows::ConsoleRow;
+use opc_names::class::Class;
 use opc_names::level::Level;
-use opc_names::name::{ConsoleName, GroupName, UserId};
+use opc_names::name::{ConsoleName, GroupName, Resource, UserId};
 use opc_policy::policy_source::ClassProfiles;
 use opc_policy::ruling::{Ruling, console_ruling, ruling_at};
 use opc_policy::source::Taken;
@@ -37,14 +37,18 @@ pub struct UserLine {
 }
 
 /// The profile that decides, if the class is active and a profile covers the resource.
-pub(crate) fn decider(policy: &Policy, wanted: &Wanted) -> Result<Option<Profile>, StoreFault>
-    ensures profile { IfOk result (λ decided. decided ≡ decider policy.now wanted.now) }
+pub(crate) fn decider(
+    policy: &Policy,
+    class: Class,
+    resource: &Resource,
+) -> Result<Option<Profile>, StoreFault>
+    ensures profile { IfOk result (λ decided. decided ≡ decider policy.now class resource.now) }
     ensures fault { IsOkUnless result NoMemory }
 {
-    if !policy.active.contains(wanted.class()) {
+    if !policy.active.contains(class) {
         return Ok(None);
     }
-    let Taken { profile, rows: _ } = policy.first(wanted.class(), &wanted.resource())?;
+    let Taken { profile, rows: _ } = policy.first(class, resource)?;
     Ok(profile)
 }
 
@@ -142,7 +146,7 @@ pub(crate) fn ruling_with(
     console: &ConsoleRow,
     user: &User,
 ) -> Result<Ruling, AllocError>
-    requires decided { option_copied decided ≡ decider room.now.policy (Command need.now) }
+    requires decided { option_copied decided ≡ decider room.now.policy Opercmds need.now.resource }
     requires stored { user_of room.now.policy.users user.now.id ≡ Some user.now }
     ensures { IfOk result (λ answer. answer ≡ ruling (state_of room.now.policy room.now.board)
         (on_at user.now.id console.now) need.now) }

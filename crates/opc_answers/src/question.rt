@@ -1,8 +1,10 @@
 //! What a policy is asked.
 ghost use Rattle.std.specs.Prelude.{◌≡◌};
+ghost use Rattle.opc_answers.specs.Needed.{need_in, unit_in};
+ghost use Rattle.opc_answers.specs.Questions.{wanted_by};
 
-use crate::needed::need_in;
-use crate::wanted::Wanted;
+use crate::needed::{need_in, unit_in};
+use crate::wanted::{Entered, Wanted};
 use opc_names::class::Class;
 use opc_names::level::Level;
 use opc_names::name::{ConsoleName, Resource, UserId};
@@ -24,6 +26,18 @@ pub enum About<'a> {
     },
 }
 
+/// The command that a text is, if it needs anything.
+fn command_wanted(text: &str, kind: &UnitKindAt) -> Result<Option<Wanted>, Fault>
+    ensures { result ≡ wanted_by (need_in text.now kind.now) (unit_in text.now kind.now) }
+{
+    let unit = unit_in(text, kind);
+    match need_in(text, *kind) {
+        Ok(Some(need)) => Ok(Some(Wanted::Command(Entered { need, unit }))),
+        Ok(None) => Ok(None),
+        Err(fault) => Err(fault),
+    }
+}
+
 impl About<'_> {
     ghost use Rattle.opc_answers.specs.Questions.{wanted_of};
 
@@ -32,11 +46,7 @@ impl About<'_> {
         ensures { result ≡ wanted_of self.now }
     {
         match *self {
-            About::Command { text, kind } => match need_in(text, kind) {
-                Ok(Some(need)) => Ok(Some(Wanted::Command(need))),
-                Ok(None) => Ok(None),
-                Err(fault) => Err(fault),
-            },
+            About::Command { text, kind } => command_wanted(text, &kind),
             About::Access {
                 class,
                 resource,

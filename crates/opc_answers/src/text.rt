@@ -12,6 +12,7 @@ ghost use Rattle.opc_answers.specs.Texts.{
   console_text,
   decides_text,
   ground_text,
+  kind_words,
   level_word,
   may,
   need_line,
@@ -20,6 +21,7 @@ ghost use Rattle.opc_answers.specs.Texts.{
   ruling_word,
   shown_console,
   shown_user,
+  taken_text,
   user_text,
   warning_text,
   verdict_word,
@@ -27,15 +29,15 @@ ghost use Rattle.opc_answers.specs.Texts.{
 
 use crate::consoles::ConsoleLine;
 use crate::lines::UserLine;
-use crate::wanted::Wanted;
+use crate::wanted::{Entered, Wanted};
 use crate::who::Who;
 use opc_names::class::Class;
 use opc_policy::ruling::Ruling;
 use opc_policy_members::profile::Profile;
 use opc_policy_sources::sources::HeldLevel;
 use opc_rows::Rows;
-use opc_terms::need::Need;
 use opc_terms::rule::Rule;
+use opc_terms::unit_kind::UnitKindAt;
 use std::alloc::{AllocError, Global};
 
 /// What a ruling says in a word; what a warning alone lets pass has a word of its own.
@@ -223,19 +225,44 @@ pub fn console_lines_text(
     }
 }
 
-/// The line of what a command needs.
-fn need_line(alloc: Global, need: &Need) -> Result<String, AllocError>
-    ensures { IfOk result (λ text. string_bytes text ≡ need_line need.now) }
+/// What a unit is taken for, as `--as` has it; what is on no board is a job.
+pub(crate) fn kind_words(alloc: Global, kind: UnitKindAt) -> Result<String, AllocError>
+    ensures { IfOk result (λ text. string_bytes text ≡ kind_words kind) }
 {
+    match kind {
+        UnitKindAt::Absent | UnitKindAt::Job => String::from_str(alloc, "JOB"),
+        UnitKindAt::Stc { member } => format!(in alloc; "STC:{member}"),
+        UnitKindAt::Tsu => String::from_str(alloc, "TSU"),
+    }
+}
+
+fn taken_text(alloc: Global, unit: Option<UnitKindAt>) -> Result<String, AllocError>
+    ensures { IfOk result (λ text. string_bytes text ≡ taken_text unit) }
+{
+    let Some(kind) = unit else {
+        return Ok(String::new(alloc));
+    };
+    let words = kind_words(alloc, kind)?;
+    let words = words.as_str();
+    format!(in alloc; " AS {words}")
+}
+
+/// The line of what a command needs.
+fn need_line(alloc: Global, entered: &Entered) -> Result<String, AllocError>
+    ensures { IfOk result (λ text. string_bytes text ≡ need_line entered.now) }
+{
+    let Entered { need, unit } = *entered;
     let (level, resource, group) = (need.level, need.resource, need.group);
-    format!(in alloc; "NEEDS {level} {resource} GROUP {group}\n")
+    let taken = taken_text(alloc, unit)?;
+    let taken = taken.as_str();
+    format!(in alloc; "NEEDS {level} {resource} GROUP {group}{taken}\n")
 }
 
 pub(crate) fn needs_text(alloc: Global, wanted: &Wanted) -> Result<String, AllocError>
     ensures { IfOk result (λ text. string_bytes text ≡ needs_text wanted.now) }
 {
     match wanted {
-        Wanted::Command(need) => need_line(alloc, need),
+        Wanted::Command(entered) => need_line(alloc, entered),
         Wanted::Access { .. } => Ok(String::new(alloc)),
     }
 }

@@ -5,11 +5,20 @@ use opc_names::class::Class;
 use opc_names::level::Level;
 use opc_names::name::Resource;
 use opc_terms::need::Need;
+use opc_terms::unit_kind::UnitKindAt;
 
-/// What is asked about: what a command needs, or a level of access to a resource of a class.
+/// A command that is asked about: what it needs, and what the unit that it names was taken for, if the need depends on
+/// that.
+#[derive(Clone, Copy)]
+pub struct Entered {
+    pub need: Need,
+    pub unit: Option<UnitKindAt>,
+}
+
+/// What is asked about: a command, or a level of access to a resource of a class.
 #[derive(Clone, Copy)]
 pub enum Wanted {
-    Command(Need),
+    Command(Entered),
     Access {
         class: Class,
         resource: Resource,
@@ -35,7 +44,7 @@ impl Wanted {
         ensures { result ≡ resource_of self.now }
     {
         match self {
-            Wanted::Command(need) => need.resource,
+            Wanted::Command(entered) => entered.need.resource,
             Wanted::Access { resource, .. } => *resource,
         }
     }
@@ -45,7 +54,7 @@ impl Wanted {
         ensures { result ≡ level_of self.now }
     {
         match self {
-            Wanted::Command(need) => need.level,
+            Wanted::Command(entered) => entered.need.level,
             Wanted::Access { level, .. } => *level,
         }
     }

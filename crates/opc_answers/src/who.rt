@@ -2,9 +2,9 @@
 ghost use Rattle.std.specs.Prelude.{◌≡◌, ◌≢◌, IfErr, IfOk, Ok, Err, Some};
 ghost use Rattle.std.specs.Option.{option_copied};
 ghost use Rattle.opc_terms.specs.declared.fault.Fault.TheVariants as why;
+ghost use Rattle.opc_names.specs.declared.class.Class.TheVariants.{Opercmds};
 ghost use Rattle.opc_board.specs.Invariants.{console_at};
 ghost use Rattle.opc_answers.specs.Made.{members_of, state_of};
-ghost use Rattle.opc_answers.specs.declared.wanted.Wanted.TheVariants.{Command};
 ghost use Rattle.opc_answers.specs.Who.{HasDecider, asked_at, console_lines, decider, who_at, who_in};
 
 use crate::consoles::{ConsoleLine, console_lines};
@@ -79,7 +79,7 @@ impl Who {
         let level = self.wanted.level();
         let line = member_line(self.decided.as_ref(), self.at.name(), level, member);
         match &self.wanted {
-            Wanted::Command(need) => self.at.command_at(need, line),
+            Wanted::Command(entered) => self.at.command_at(&entered.need, line),
             Wanted::Access { .. } => line,
         }
     }
@@ -132,7 +132,7 @@ impl Who {
         need: &Need,
         consoles: &[ConsoleRow],
     ) -> Result<Option<Rows<ConsoleLine>>, AllocError>
-        requires { self.now.decided ≡ decider self.now.room.policy (Command need.now) }
+        requires { self.now.decided ≡ decider self.now.room.policy Opercmds need.now.resource }
         ensures { IfOk result (λ lines. lines
             ≡ Some (console_lines (state_of self.now.room.policy self.now.room.board) need.now consoles.now)) }
     {
@@ -146,7 +146,7 @@ impl Who {
         alloc: Global,
         need: &Need,
     ) -> Result<Option<Rows<ConsoleLine>>, AllocError>
-        requires { self.now.decided ≡ decider self.now.room.policy (Command need.now) }
+        requires { self.now.decided ≡ decider self.now.room.policy Opercmds need.now.resource }
         ensures { IfOk result (λ lines. lines
             ≡ consoles_at (state_of self.now.room.policy self.now.room.board) need.now self.now.at) }
     {
@@ -165,7 +165,7 @@ impl Who {
         ensures { IfOk result (λ lines. lines ≡ consoles_of self.now) }
     {
         match &self.wanted {
-            Wanted::Command(need) => self.consoles_at(alloc, need),
+            Wanted::Command(entered) => self.consoles_at(alloc, &entered.need),
             Wanted::Access { .. } => Ok(None),
         }
     }
@@ -202,7 +202,7 @@ fn who_at(room: Room, wanted: &Wanted, at: AskedAt) -> Result<Who, Fault>
     ensures decider { IfOk result HasDecider }
     ensures fault { IfErr result (λ fault. fault ≡ why.NoMemory) }
 {
-    let decided = decider(&room.policy, wanted)?;
+    let decided = decider(&room.policy, wanted.class(), &wanted.resource())?;
     Ok(Who {
         wanted: *wanted,
         active: room.policy.active.contains(wanted.class()),

@@ -22,7 +22,7 @@ ghost use Rattle.opc_answers.specs.Why.{
 use crate::explaining::explained_in;
 use crate::room::Room;
 use crate::text::needs_text;
-use crate::wanted::Wanted;
+use crate::wanted::{Entered, Wanted};
 use opc_names::name::{ConsoleName, Pattern, UserId};
 use opc_policy::explained::{Patterns, explain};
 use opc_policy::verdict::Verdict;
@@ -31,7 +31,6 @@ use opc_policy_sources::levels::{CoveringLevel, covering_levels};
 use opc_policy_sources::levels_text::levels_text;
 use opc_rows::Rows;
 use opc_terms::fault::Fault;
-use opc_terms::need::Need;
 use opc_terms::rule::Rule;
 use std::alloc::{AllocError, Global};
 
@@ -172,21 +171,21 @@ fn why_command(
     alloc: Global,
     room: &Room,
     levels: bool,
-    need: &Need,
+    entered: &Entered,
     actor: Option<&UserId>,
     console: Option<&ConsoleName>,
 ) -> Result<Why, Fault>
-    ensures ok { IfOk result (λ why. why_command room.now.policy levels need.now (option_copied actor.entry)
-        (option_copied console.entry) (explained_in (state_of room.now.policy room.now.board) need.now
+    ensures ok { IfOk result (λ why. why_command room.now.policy levels entered.now (option_copied actor.entry)
+        (option_copied console.entry) (explained_in (state_of room.now.policy room.now.board) entered.now.need
         (option_copied actor.entry) (option_copied console.entry)) ≡ Ok why) }
-    ensures fault { IfErr result (λ fault. fault ≢ NoMemory → why_command room.now.policy levels need.now
+    ensures fault { IfErr result (λ fault. fault ≢ NoMemory → why_command room.now.policy levels entered.now
         (option_copied actor.entry) (option_copied console.entry) (explained_in
-        (state_of room.now.policy room.now.board) need.now (option_copied actor.entry) (option_copied console.entry))
-        ≡ Err fault) }
+        (state_of room.now.policy room.now.board) entered.now.need (option_copied actor.entry)
+        (option_copied console.entry)) ≡ Err fault) }
 {
-    let explained = explained_in(alloc, room, need, actor, console)?;
+    let explained = explained_in(alloc, room, &entered.need, actor, console)?;
     let (covering, verdict, rule) = (explained.covering, explained.verdict, explained.rule);
-    let wanted = Wanted::Command(*need);
+    let wanted = Wanted::Command(*entered);
     Ok(Why {
         wanted,
         actor: actor.copied(),
@@ -221,7 +220,9 @@ pub(crate) fn why_in(
         wanted.now (option_copied actor.entry) (option_copied console.entry) ≡ Err fault) }
 {
     match (wanted, actor) {
-        (Wanted::Command(need), _) => why_command(alloc, room, levels, need, actor, console),
+        (Wanted::Command(entered), _) => {
+            why_command(alloc, room, levels, entered, actor, console)
+        }
         (Wanted::Access { .. }, Some(id)) => {
             why_access(alloc, &room.policy, levels, wanted, id, console)
         }

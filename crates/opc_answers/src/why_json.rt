@@ -5,7 +5,7 @@ ghost use Rattle.serde_json.specs.View.{view};
 ghost use Rattle.opc_answers.specs.Json.{text_or_null};
 ghost use Rattle.opc_answers.specs.WhyJson.{covering_items, covering_value, levels_of, why_value};
 
-use crate::json::{group_value, json_line};
+use crate::json::{group_value, json_line, taken_value};
 use crate::why::{Covers, Why};
 use opc_names::name::{ConsoleName, UserId};
 use opc_policy_sources::levels::CoveringLevel;
@@ -65,6 +65,7 @@ fn covers_value(alloc: Global, covers: &Covers) -> Result<Value, AllocError>
 fn why_value(alloc: Global, why: &Why) -> Result<Value, AllocError>
     ensures { IfOk result (λ value. view value ≡ why_value why.now) }
 {
+    let taken = taken_value(alloc, &why.wanted)?;
     let console = console_value(alloc, &why.console)?;
     let covers = covers_value(alloc, &why.covers)?;
     let group = group_value(alloc, &why.wanted)?;
@@ -75,8 +76,8 @@ fn why_value(alloc: Global, why: &Why) -> Result<Value, AllocError>
     let (class, resource, level) = (class.text(), resource.text(), level.text());
     let (rule, verdict) = (rule.as_str(), why.verdict.text());
     json!(in alloc; {
-        "class": class, "console": console, "covers": covers, "group": group, "level": level, "resource": resource,
-        "rule": rule, "user": user, "verdict": verdict
+        "as": taken, "class": class, "console": console, "covers": covers, "group": group, "level": level,
+        "resource": resource, "rule": rule, "user": user, "verdict": verdict
     })
 }
 

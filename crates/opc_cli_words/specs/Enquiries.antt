@@ -26,7 +26,7 @@ use Rattle.opc_names.specs.Names.{name_fault, resource_rule, unit_rule}
 use Rattle.opc_names.specs.Spellings.{classes, levels, lookup}
 use Rattle.opc_names.specs.declared.rule.NameRule.{NameRule}
 use Rattle.opc_terms.specs.declared.unit_kind.UnitKindAt.{UnitKindAt}
-use Rattle.opc_terms.specs.declared.unit_kind.UnitKindAt.TheVariants.{Absent, Stc, Tsu}
+use Rattle.opc_terms.specs.declared.unit_kind.UnitKindAt.TheVariants.{Absent, Job, Stc, Tsu}
 use Rattle.opc_cli_words.specs.Checks.{Check}
 use Rattle.opc_cli_words.specs.declared.who.Asked.{Asked}
 use Rattle.opc_cli_words.specs.declared.who.Asked.TheVariants.{Command, Access}
@@ -36,13 +36,14 @@ use Rattle.opc_cli_words.specs.declared.mistake.Opt.TheVariants as opt
 abbrev pub is_a : NameRule → List ℕ → Bool
 is_a rule text = is_none (name_fault rule text)
 
--- a kind of unit, as it is written: TSU, or STC: and a member
+-- a kind of unit, as it is written: JOB, TSU, or STC: and a member
 abbrev pub task_of : List ℕ → Option UnitKindAt
 task_of text = if starts_with nat_eq text (codes "STC:") && is_a unit_rule (drop 4 text) then Some (Stc (drop 4 text))
     else None
 
 abbrev pub kind_of : List ℕ → Option UnitKindAt
-kind_of text = if bytes_eq text (codes "TSU") then Some Tsu else task_of text
+kind_of text = if bytes_eq text (codes "JOB") then Some Job else
+    (if bytes_eq text (codes "TSU") then Some Tsu else task_of text)
 
 -- no unit is on the board if none is written
 abbrev pub kind_given : (kind : Option (List ℕ)) → Option UnitKindAt

@@ -30,6 +30,7 @@ fn kind_of(text: &str) -> Option<UnitKindAt>
     ensures { result ≡ kind_of text.now }
 {
     match text {
+        "JOB" => Some(UnitKindAt::Job),
         "TSU" => Some(UnitKindAt::Tsu),
         _ => task_of(text),
     }

@@ -19,9 +19,9 @@ fn with_question<'a>(alloc: Global, asking: Command<'a>) -> Result<Command<'a>, 
             alloc,
             "as",
             "UNIT",
-            "What the unit is that it names: TSU, or\n\
-             STC:MEMBER; without this what the board of\n\
-             --db has, or else a job",
+            "What the unit is that it names: JOB, TSU,\n\
+             or STC:MEMBER; without this what the board\n\
+             of --db has, or else a job",
         ))?
         .arg(value(
             alloc,

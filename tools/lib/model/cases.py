@@ -99,7 +99,7 @@ def command_asked(chance: Random, first: bytes) -> dict[str, str]:
     """A command, with what its unit is. No word of a command line has a NUL in it, and a hyphen begins an option."""
     words = {"command": random_lines.any_line(chance, state_of(first)).replace("\0", "\1").lstrip("-")}
     if one_in(chance, 3):
-        words["as"] = chance.choice(("TSU", "STC:PAY", "STC:", "JOB", "STC:A.B"))
+        words["as"] = chance.choice(("TSU", "STC:PAY", "JOB", "STC:", "STC:A.B", "JOB:PAY"))
     return words
 
 

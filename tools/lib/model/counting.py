@@ -59,8 +59,9 @@ BRANCHES = {
         "a user, GROUP AT", "a user, EVERYONE AT", "a console, AUTO", "a console, NOBODY", "as JSON",
     ),
     "why": ("OWN", "GROUP", "EVERYONE", "UACC", "RESTRICTED", "OWN AT", "GROUP AT", "EVERYONE AT"),
-    "entering": ("may", "may not", "no logon"), "over a file": ("a STC on the board", "a TSU on the board"),
-    "account": ("no row",), "digest": ("no password",),
+    "entering": ("may", "may not", "no logon"), "taken for": ("JOB", "STC", "TSU", "nothing"),
+    "over a file": ("a STC on the board", "a TSU on the board"), "account": ("no row",),
+    "digest": ("no password",),
     "acting": ("the user who is on", "the console's own user", "nobody at AUTO"),
 }
 

@@ -87,5 +87,5 @@ def cases(chance: Random) -> list[Step]:
         form = reading.read(command).form
     words = {"command": command, "console": chance.choice(sorted(state.board.consoles))}
     if form in needs.OF_UNITS and not one_in(chance, 3):
-        words["as"] = chance.choice(("TSU", "STC:PAY", "STC:CICSPROD"))
+        words["as"] = chance.choice(("JOB", "TSU", "STC:PAY", "STC:CICSPROD"))
     return [Enter(words, first)]

@@ -113,7 +113,10 @@ class Explain:
         outcome, rule = policy.verdict(found.policy, of, resource, user, level, console)
         counting.met["explain", outcome] += 1
         covering = why.covers(found.policy, of, resource, user, self.words)
-        question = {"class": of, "console": console, "group": None, "level": level, "resource": resource, "user": user}
+        question = {
+            "as": None, "class": of, "console": console, "group": None, "level": level, "resource": resource,
+            "user": user,
+        }
         output = why.printed([], question, covering, outcome, rule, self.words)
         return [("explain", (int(outcome == "DENIED"), output, ""))]
 

@@ -109,13 +109,13 @@ def decides(held: Policy, of: str, resource: str) -> str:
     return f"DECIDES PROFILE {of} {pattern} UACC {profile.uacc}" + " WARNING" * profile.warning
 
 
-def question(held: Policy, of: str, resource: str, level: str, group: str | None) -> dict:
-    """The object of what is asked."""
+def question(held: Policy, of: str, resource: str, level: str, group: str | None, taken: str | None = None) -> dict:
+    """The object of what is asked, with what the unit is taken for that a command names."""
     pattern = policy.deciding(held, of, resource) if of in held.active else None
     profile = None if pattern is None else held.profiles[of, pattern]
     return {
-        "kind": "question", "active": of in held.active, "class": of, "resource": resource, "level": level,
-        "group": group, "pattern": pattern, "uacc": profile.uacc if profile else None,
+        "kind": "question", "active": of in held.active, "as": taken, "class": of, "resource": resource,
+        "level": level, "group": group, "pattern": pattern, "uacc": profile.uacc if profile else None,
         "warning": profile.warning if profile else False,
     }
 
@@ -158,16 +158,24 @@ def nothing(words: dict[str, str]) -> str:
     return json_line({"needs": "nothing"}) if "json" in words else "NEEDS NOTHING\n"
 
 
-def needs_line(need: tuple[str, str, str]) -> str:
+def taken_for(words: dict[str, str]) -> str | None:
+    """What the unit is taken for that the command names, if the need depends on it: a job, unless it is said."""
+    form = reading.read(words["command"]).form
+    taken = words.get("as", "JOB") if form in needs.OF_UNITS else None
+    counting.met["taken for", taken[:3] if taken else "nothing"] += 1
+    return taken
+
+
+def needs_line(need: tuple[str, str, str], taken: str | None) -> str:
     group, level, resource = need
-    return f"NEEDS {level} {resource} GROUP {group}"
+    return f"NEEDS {level} {resource} GROUP {group}" + (f" AS {taken}" if taken else "")
 
 
 def of_command(state: State, need: tuple[str, str, str], words: dict[str, str]) -> str:
     """The answer about a command that needs this, at a console if one is named."""
-    (group, level, resource), console = need, words.get("console")
-    first = [needs_line(need), decides(state.policy, "OPERCMDS", resource)]
-    asked = question(state.policy, "OPERCMDS", resource, level, group)
+    (group, level, resource), console, taken = need, words.get("console"), taken_for(words)
+    first = [needs_line(need, taken), decides(state.policy, "OPERCMDS", resource)]
+    asked = question(state.policy, "OPERCMDS", resource, level, group, taken)
     everybody = sorted(state.policy.users)
     if console is not None:
         wants(console in state.board.consoles, "E10")
@@ -202,7 +210,8 @@ def unit(text: str | None) -> Unit | None:
     """The unit that a command names, by what is said of it."""
     if text is None:
         return None
-    return Unit("TSU", None, True) if text == "TSU" else Unit("STC", text[len("STC:"):], True)
+    kind, _, member = text.partition(":")
+    return Unit(kind, member or None, True)
 
 
 def has_one_source(words: dict[str, str]) -> bool:
@@ -217,7 +226,8 @@ def reads(words: dict[str, str]) -> bool:
         return False
     if "command" in words:
         kind = words.get("as")
-        named = kind is None or kind == "TSU" or (kind.startswith("STC:") and names.is_name(kind[len("STC:"):], 8))
+        member = (kind or "").removeprefix("STC:")
+        named = kind in (None, "JOB", "TSU") or (member != kind and names.is_name(member, 8))
         return named and "resource" not in words and "level" not in words
     of = words.get("class", "OPERCMDS")
     known = of in names.CLASSES and words.get("level") in names.LEVELS

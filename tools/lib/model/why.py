@@ -76,8 +76,9 @@ def answer(state: State, words: dict[str, str]) -> tuple[str, str]:
     acting, outcome, rule = found
     group, level, resource = need
     covering = covers(state.policy, "OPERCMDS", resource, acting, words) if acting else []
+    taken = who.taken_for(words)
     asked = {
-        "class": "OPERCMDS", "console": console, "group": group, "level": level, "resource": resource,
+        "as": taken, "class": "OPERCMDS", "console": console, "group": group, "level": level, "resource": resource,
         "user": None if user == "-" else user,
     }
-    return outcome, printed([who.needs_line(need)], asked, covering, outcome, rule, words)
+    return outcome, printed([who.needs_line(need, taken)], asked, covering, outcome, rule, words)

@@ -83,6 +83,7 @@ class Opening(Single):
         return held.opened == self.wanted and held.tables_then == self.outcome.after
 
     def compared(self, held: Held) -> Tables | str:
+        """Until the first page of a new file is whole, other programs do not read it as a database; ours opens it."""
         return {} if self.version is None and held.tables == NO_DATABASE else held.tables
 
 

@@ -253,7 +253,10 @@ int unlink(const char *path) {
         errno = error;
         return -1;
     }
-    return removed(path);
+    struct stat found;
+    int is_known = is_losing && !stat(path, &found), result = removed(path);
+    if (is_known && !result) forget_kept(&found);
+    return result;
 }
 
 int close(int file) {

@@ -115,12 +115,10 @@ static void forget_made(const struct stat *folder) {
         }
 }
 
-/* The file or the folder is synced: what was written to it stays. */
-static void forget(int file) {
-    struct stat found;
-    if (!is_losing || fstat(file, &found)) return;
-    if (S_ISDIR(found.st_mode)) return forget_made(&found);
-    struct unsynced **place = place_of(&found), *gone = *place;
+/* What is kept of a file goes, if there is anything. A file that is removed would else come back in a later one of its
+   name, or of its number. */
+static void forget_kept(const struct stat *file) {
+    struct unsynced **place = place_of(file), *gone = *place;
     if (!gone) return;
     *place = gone->next;
     for (struct change *change = gone->first, *later; change; change = later) {
@@ -130,6 +128,14 @@ static void forget(int file) {
     }
     __libc_free(gone->bytes);
     __libc_free(gone);
+}
+
+/* The file or the folder is synced: what was written to it stays. */
+static void forget(int file) {
+    struct stat found;
+    if (!is_losing || fstat(file, &found)) return;
+    if (S_ISDIR(found.st_mode)) return forget_made(&found);
+    forget_kept(&found);
 }
 
 /* Xorshift; the dice are no zero. */

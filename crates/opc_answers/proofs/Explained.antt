@@ -1,5 +1,6 @@
 -- What is explained at a console, by what is found there.
-use Rattle.std.proofs.Common.{◌≡◌, ℕ, List, Some, None, Result, Ok, Err, sym, ap, ◌∙◌}
+use Rattle.std.proofs.Common.{◌≡◌, ℕ, List, Option, Some, None, Result, Ok, Err, sym, ap, ◌∙◌}
+use Rattle.std.specs.Option.{option_and_then}
 use Rattle.opc_names.specs.declared.class.Class.TheVariants.{Opercmds}
 use Rattle.opc_terms.specs.declared.fault.Fault.{Fault}
 use Rattle.opc_terms.specs.declared.fault.Fault.TheVariants.{Missing}
@@ -13,33 +14,69 @@ use Rattle.opc_board.specs.declared.rows.ConsoleRow.{ConsoleRow}
 use Rattle.opc_state.specs.State.{State}
 use Rattle.opc_machine.specs.Rulings.{own_user, ruling}
 use Rattle.opc_answers.specs.declared.explaining.CommandExplained.{CommandExplained}
-use Rattle.opc_answers.specs.Explaining.{at_console, by_actor, by_profiles, with_nobody, with_ruling}
-use Rattle.opc_answers.specs.Who.{nobody_at, on_at}
+use Rattle.opc_answers.specs.Explaining.{
+  at_console,
+  at_none,
+  by_actor,
+  by_profiles,
+  no_logon_of,
+  with_nobody,
+  with_ruling,
+  without_console,
+}
+use Rattle.opc_answers.specs.declared.logons.NoLogon.{NoLogon}
+use Rattle.opc_answers.specs.declared.who.AskedAt.{AskedAt}
+use Rattle.opc_answers.specs.declared.who.AskedAt.TheVariants.{Everywhere, OnBoard}
+use Rattle.opc_answers.specs.Made.{member_of}
+use Rattle.opc_answers.specs.Who.{no_logon_at, nobody_at, on_at}
 use Rattle.opc_answers.proofs.Found.{has_the_id}
+
+-- why a stored user does not get on
+stored_so : (s : State) (place : AskedAt) (id : List ℕ) (u : User) (why : Option NoLogon) → Some u ≡ user_of s.policy.users id
+    → why ≡ no_logon_at s.policy s.board place (member_of s.policy.connects u) → no_logon_of s place id ≡ why
+stored_so s place id u why found is =
+    ap (option_and_then (λ (v : User). no_logon_at s.policy s.board place (member_of s.policy.connects v))) (sym found) ∙ sym is
 
 module _ (s : State) (need : Need) (c : ConsoleRow) (ruled : Ruling) (out : Result CommandExplained Fault) where
   pub with_own : (id : List ℕ) (r : Result Explained Fault) → Some id ≡ own_user s c → ruled ≡ ruling s (nobody_at c) need
-      → by_profiles s.policy need id (Some c.name) ≡ r → with_ruling ruled r ≡ out → at_console s need None c ≡ out
+      → by_profiles s.policy need id (Some c.name) ≡ r → with_ruling ruled None r ≡ out → at_console s need None c ≡ out
   with_own id r own is by so =
       ap (by_actor s need c) (sym own)
-      ∙ ap (λ x. with_ruling x (by_profiles s.policy need id (Some c.name))) (sym is)
-      ∙ ap (with_ruling ruled) by
+      ∙ ap (λ x. with_ruling x None (by_profiles s.policy need id (Some c.name))) (sym is)
+      ∙ ap (with_ruling ruled None) by
       ∙ so
 
   pub without_own : None ≡ own_user s c → ruled ≡ ruling s (nobody_at c) need → Ok (with_nobody ruled) ≡ out
       → at_console s need None c ≡ out
   without_own own is so = ap (by_actor s need c) (sym own) ∙ ap (λ x. Ok (with_nobody x)) (sym is) ∙ so
 
-  pub with_on : (id : List ℕ) (u : User) (r : Result Explained Fault) → Some u ≡ user_of s.policy.users id
-      → ruled ≡ ruling s (on_at u.id c) need → by_profiles s.policy need id (Some c.name) ≡ r → with_ruling ruled r ≡ out
-      → at_console s need (Some id) c ≡ out
-  with_on id u r found is by so =
-      ap (λ x. with_ruling x (by_profiles s.policy need id (Some c.name)))
+  pub with_on : (id : List ℕ) (u : User) (why : Option NoLogon) (r : Result Explained Fault) → Some u ≡ user_of s.policy.users id
+      → ruled ≡ ruling s (on_at u.id c) need → why ≡ no_logon_at s.policy s.board (OnBoard c) (member_of s.policy.connects u)
+      → by_profiles s.policy need id (Some c.name) ≡ r → with_ruling ruled why r ≡ out → at_console s need (Some id) c ≡ out
+  with_on id u why r found is off by so =
+      ap (λ x. with_ruling x (no_logon_of s (OnBoard c) id) (by_profiles s.policy need id (Some c.name)))
       (ap (λ name. ruling s (on_at name c) need) (has_the_id s.policy.users id u (sym found)) ∙ sym is)
-      ∙ ap (with_ruling ruled) by
+      ∙ ap (λ y. with_ruling ruled y (by_profiles s.policy need id (Some c.name))) (stored_so s (OnBoard c) id u why found off)
+      ∙ ap (with_ruling ruled why) by
       ∙ so
 
 pub not_stored : (s : State) (need : Need) (c : ConsoleRow) (id : List ℕ) → None ≡ user_of s.policy.users id
     → at_console s need (Some id) c ≡ Err (Missing id)
 not_stored s need c id none =
-    ap (λ o. with_ruling (ruling s (on_at id c) need) (explained_to o s.policy Opercmds need.resource id (Some c.name) need.level)) (sym none)
+    ap (λ o. with_ruling (ruling s (on_at id c) need) (no_logon_of s (OnBoard c) id)
+    (explained_to o s.policy Opercmds need.resource id (Some c.name) need.level)) (sym none)
+
+-- at no console
+module _ (s : State) (need : Need) (id : List ℕ) (console : Option (List ℕ)) where
+  pub with_none : (u : User) (why : Option NoLogon) (r : Result Explained Fault) (out : Result CommandExplained Fault)
+      → Some u ≡ user_of s.policy.users id → why ≡ no_logon_at s.policy s.board Everywhere (member_of s.policy.connects u)
+      → by_profiles s.policy need id console ≡ r → without_console why r ≡ out → at_none s need (Some id) console ≡ out
+  with_none u why r out found off by so =
+      ap (λ y. without_console y (by_profiles s.policy need id console)) (stored_so s Everywhere id u why found off)
+      ∙ ap (without_console why) by
+      ∙ so
+
+  pub not_stored_anywhere : None ≡ user_of s.policy.users id → at_none s need (Some id) console ≡ Err (Missing id)
+  not_stored_anywhere none =
+      ap (λ o. without_console (no_logon_of s Everywhere id)
+      (explained_to o s.policy Opercmds need.resource id console need.level)) (sym none)

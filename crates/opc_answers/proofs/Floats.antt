@@ -17,7 +17,7 @@ pub user_so : (line : UserLine) → has_float (user_value line) ≡ false
 user_so line = rw (
   or_null_so (place_words line.held),
   or_null_so (held_words line.held),
-  or_null_so (rule_words line.ruling),
+  or_null_so (rule_words line.ruling line.no_logon),
   or_null_so (source_words line.held),
 ) refl
 

@@ -1,3 +1,4 @@
+pub mod Admitted
 pub mod Explained
 pub mod Found
 pub mod Grouped

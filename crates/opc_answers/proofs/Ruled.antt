@@ -20,7 +20,8 @@ use Rattle.opc_policy.specs.Rulings.{by_verdict, console_ruling, profile_rule, r
 use Rattle.opc_board.specs.declared.rows.ConsoleRow.{ConsoleRow}
 use Rattle.opc_state.specs.State.{State, deciding_in}
 use Rattle.opc_machine.specs.Rulings.{access_ruling, acting, denied_or, is_required, is_revoked, own_user, ruling}
-use Rattle.opc_answers.specs.Who.{by_decider, decider, nobody_at}
+use Rattle.opc_answers.specs.Deciding.{decider}
+use Rattle.opc_answers.specs.Who.{by_decider, nobody_at}
 
 verdict_is : (b : Bool) (rule : Rule) (other : Ruling)
     → by_verdict (if b then Allowed else Denied) rule other ≡ (if b then rulings.Allowed rule else rulings.Denied rule)
@@ -64,10 +65,10 @@ module _ (s : State) (c : ConsoleRow) (need : Need) where
   where_required is = ap (λ b. denied_or (if b && true then Some rules.LogonRequired else
       (if is_revoked (acting s (nobody_at c)) then Some rules.Revoked else None)) (access_ruling s (nobody_at c) (acting s (nobody_at c)) need)) is
 
-  said : (user : Option User) → is_required c.mode ≡ false → option_and_then (user_of s.policy.users) (own_user s c) ≡ user
+  pub by_own : (user : Option User) → is_required c.mode ≡ false → option_and_then (user_of s.policy.users) (own_user s c) ≡ user
       → ruling s (nobody_at c) need
       ≡ denied_or (if is_revoked user then Some rules.Revoked else None) (access_ruling s (nobody_at c) user need)
-  said user is acts =
+  by_own user is acts =
       ap (λ b. denied_or (if b && true then Some rules.LogonRequired else
       (if is_revoked (acting s (nobody_at c)) then Some rules.Revoked else None)) (access_ruling s (nobody_at c) (acting s (nobody_at c)) need)) is
       ∙ ap (λ u. denied_or (if is_revoked u then Some rules.Revoked else None) (access_ruling s (nobody_at c) u need)) acts
@@ -75,13 +76,13 @@ module _ (s : State) (c : ConsoleRow) (need : Need) where
   pub where_revoked : (user : Option User) → is_required c.mode ≡ false → option_and_then (user_of s.policy.users) (own_user s c) ≡ user
       → is_revoked user ≡ true → ruling s (nobody_at c) need ≡ rulings.Denied rules.Revoked
   where_revoked user is acts revoked =
-      said user is acts ∙ ap (λ b. denied_or (if b then Some rules.Revoked else None) (access_ruling s (nobody_at c) user need)) revoked
+      by_own user is acts ∙ ap (λ b. denied_or (if b then Some rules.Revoked else None) (access_ruling s (nobody_at c) user need)) revoked
 
   pub where_allowed_to_act : (user : Option User) → is_required c.mode ≡ false
       → option_and_then (user_of s.policy.users) (own_user s c) ≡ user
       → is_revoked user ≡ false → ruling s (nobody_at c) need ≡ access_ruling s c user need
   where_allowed_to_act user is acts active =
-      said user is acts ∙ ap (λ b. denied_or (if b then Some rules.Revoked else None) (access_ruling s (nobody_at c) user need)) active
+      by_own user is acts ∙ ap (λ b. denied_or (if b then Some rules.Revoked else None) (access_ruling s (nobody_at c) user need)) active
       ∙ same user
     where
       same : (u : Option User) → access_ruling s (nobody_at c) u need ≡ access_ruling s c u need

@@ -28,7 +28,8 @@ use Rattle.opc_answers.specs.Laws.{
   SaysTheRulingWhereRaised,
   said,
 }
-use Rattle.opc_answers.specs.Who.{by_decider, by_profile, decider, is_named, is_raised, line, line_of, on_at}
+use Rattle.opc_answers.specs.Deciding.{decider}
+use Rattle.opc_answers.specs.Who.{by_decider, by_profile, is_named, is_raised, line, line_of, on_at}
 use Rattle.opc_answers.proofs.Ruled.{access_so}
 
 -- what is said, or else the console's authority
@@ -49,15 +50,22 @@ on_required true other = refl
 on_required false other = refl
 
 -- the ruling with a stored user on
+pub with_user : (s : State) (need : Need) (c : ConsoleRow) (user : User) (acting : Option User) → acting ≡ Some user
+    → denied_or (if is_required c.mode && false then Some rule.LogonRequired else (if is_revoked acting then Some rule.Revoked else None))
+    (access_ruling s (on_at user.id c) acting need)
+    ≡ denied_or (if user.revoked then Some rule.Revoked else None) (access_ruling s (on_at user.id c) (Some user) need)
+with_user s need c user acting is =
+    ap (λ a. denied_or (if is_required c.mode && false then Some rule.LogonRequired else (if is_revoked a then Some rule.Revoked else None))
+    (access_ruling s (on_at user.id c) a need)) is
+    ∙ ap (λ d. denied_or d (access_ruling s (on_at user.id c) (Some user) need))
+    (on_required (is_required c.mode) (if user.revoked then Some rule.Revoked else None))
+
 ruled : (s : State) (need : Need) (c : ConsoleRow) (user : User) (acting : Option User) → acting ≡ Some user
     → denied_or (if is_required c.mode && false then Some rule.LogonRequired else (if is_revoked acting then Some rule.Revoked else None))
     (access_ruling s (on_at user.id c) acting need)
     ≡ ruling_or (said s need (Some c.name) user).ruling c.auth need
 ruled s need c user acting is =
-    ap (λ a. denied_or (if is_required c.mode && false then Some rule.LogonRequired else (if is_revoked a then Some rule.Revoked else None))
-    (access_ruling s (on_at user.id c) a need)) is
-    ∙ ap (λ d. denied_or d (access_ruling s (on_at user.id c) (Some user) need))
-    (on_required (is_required c.mode) (if user.revoked then Some rule.Revoked else None))
+    with_user s need c user acting is
     ∙ ap (denied_or (if user.revoked then Some rule.Revoked else None)) (access_so s (on_at user.id c) user need)
     ∙ by_revoked user.revoked (decider s.policy Opercmds need.resource) user (Some c.name) (groups_of s.policy.connects user.id) c.auth need
 

@@ -30,11 +30,12 @@ use Rattle.opc_policy_sources.specs.declared.sources.HeldLevel.{HeldLevel}
 use Rattle.opc_policy_sources.specs.SourceTexts.{source_text}
 use Rattle.opc_answers.specs.declared.consoles.ConsoleLine.{ConsoleLine}
 use Rattle.opc_answers.specs.declared.lines.UserLine.{UserLine}
+use Rattle.opc_answers.specs.declared.logons.NoLogon.{NoLogon}
 use Rattle.opc_answers.specs.declared.wanted.Wanted.{Wanted}
 use Rattle.opc_answers.specs.declared.wanted.Wanted.TheVariants.{Command, Access}
 use Rattle.opc_answers.specs.declared.who.Who.{Who}
 use Rattle.opc_answers.specs.Who.{class_of, consoles_of, level_of, raised_of, resource_of, users_of}
-use Rattle.opc_answers.specs.Texts.{kind_words, may, may_with_nobody_on, ruling_word, verdict_word}
+use Rattle.opc_answers.specs.Texts.{kind_words, may, may_with_nobody_on, no_logon_text, ruling_word, verdict_word}
 
 -- 10 is the line feed
 abbrev pub json_line : Data → List ℕ
@@ -79,8 +80,10 @@ source_words held = option_map (λ (h : HeldLevel). source_text h.source) held
 abbrev pub place_words : Option HeldLevel → Option (List ℕ)
 place_words held = option_and_then (λ (h : HeldLevel). h.when) held
 
-abbrev pub rule_words : Option Ruling → Option (List ℕ)
-rule_words ruling = option_map (λ (r : Ruling). rule_text (rule_of r)) ruling
+-- the rule that decided, or why the user does not get on
+abbrev pub rule_words : Option Ruling → Option NoLogon → Option (List ℕ)
+rule_words ruling None = option_map (λ (r : Ruling). rule_text (rule_of r)) ruling
+rule_words ruling (Some why) = Some (no_logon_text why)
 
 abbrev pub user_value : UserLine → Data
 user_value line =
@@ -88,9 +91,9 @@ user_value line =
     (member (codes "held") (text_or_null (held_words line.held))
     (member (codes "id") (string line.id)
     (member (codes "kind") (string (codes "user"))
-    (member (codes "rule") (text_or_null (rule_words line.ruling))
+    (member (codes "rule") (text_or_null (rule_words line.ruling line.no_logon))
     (member (codes "source") (text_or_null (source_words line.held))
-    (member (codes "verdict") (string (verdict_word line.ruling)) no_members)))))))
+    (member (codes "verdict") (string (verdict_word line.ruling line.no_logon)) no_members)))))))
 
 abbrev pub console_value : ConsoleLine → Data
 console_value line =

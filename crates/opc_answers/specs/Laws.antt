@@ -1,5 +1,6 @@
 -- What an answer says is what the access machine rules, with the user on at the console.
-use Rattle.std.specs.Prelude.{◌≡◌, ℕ, false, true, List, Option, Some, None, unwrap_or, ◌↔◌, codes}
+use Rattle.std.specs.Prelude.{◌≡◌, ◌&&◌, ℕ, false, true, List, Option, Some, None, unwrap_or, ◌↔◌, codes}
+use Rattle.std.specs.Option.{is_none}
 use Rattle.opc_names.specs.declared.class.Class.TheVariants.{Opercmds}
 use Rattle.opc_terms.specs.declared.need.Need.{Need}
 use Rattle.opc_policy_members.specs.declared.user.User.{User}
@@ -7,11 +8,19 @@ use Rattle.opc_policy_members.specs.Members.{user_of}
 use Rattle.opc_policy.specs.Rulings.{console_ruling}
 use Rattle.opc_board.specs.declared.rows.ConsoleRow.{ConsoleRow}
 use Rattle.opc_state.specs.State.{State}
-use Rattle.opc_machine.specs.Rulings.{ruling, is_allowed}
+use Rattle.opc_machine.specs.Rulings.{ruling, is_allowed, logon_ruling}
 use Rattle.opc_answers.specs.declared.lines.UserLine.{UserLine}
-use Rattle.opc_answers.specs.Who.{decider, is_named, is_raised, on_at, or_authority, user_line}
+use Rattle.opc_answers.specs.declared.logons.NoLogon.TheVariants.{NoDigest}
+use Rattle.opc_answers.specs.declared.members.Member.{Member}
+use Rattle.opc_answers.specs.declared.wanted.Entered.{Entered}
+use Rattle.opc_answers.specs.declared.wanted.Wanted.TheVariants.{Command}
+use Rattle.opc_answers.specs.declared.who.AskedAt.TheVariants.{OnBoard}
+use Rattle.opc_answers.specs.Deciding.{decider}
+use Rattle.opc_answers.specs.Logons.{Door, acts_for, door_of, gets_on, refusal}
+use Rattle.opc_answers.specs.Made.{member_of}
+use Rattle.opc_answers.specs.Who.{is_named, is_raised, nobody_at, on_at, or_authority, said_at, user_line, who_at}
 use Rattle.opc_policy.specs.declared.ruling.Ruling.{Ruling}
-use Rattle.opc_answers.specs.Texts.{ruling_word}
+use Rattle.opc_answers.specs.Texts.{may, ruling_word}
 
 -- what is said of a user and a command, at a console if one is given
 abbrev pub said : State → Need → Option (List ℕ) → User → UserLine
@@ -40,6 +49,34 @@ SaysTheRulingElsewhere = (s : State) (need : Need) (c : ConsoleRow) (user : User
 abbrev pub RaisesWhereNamed : Type 0
 RaisesWhereNamed = (s : State) (need : Need) (c : ConsoleRow) (user : User)
     → is_named (decider s.policy Opercmds need.resource) c ≡ false → is_raised (said s need (Some c.name) user) ≡ false
+
+-- what is said of a user and a command at a console of the board
+abbrev pub said_there : State → Entered → ConsoleRow → User → UserLine
+said_there s entered c user = said_at (who_at s.policy s.board (Command entered) (OnBoard c)) (OnBoard c)
+    (member_of s.policy.connects user)
+
+-- A stored user may, exactly if the command is allowed with the user on there, and the user gets on there.
+abbrev pub SaysWhoMayThere : Type 0
+SaysWhoMayThere = (s : State) (entered : Entered) (c : ConsoleRow) (user : User)
+    → user_of s.policy.users user.id ≡ Some user
+    → may (said_there s entered c user) ≡ (gets_on (member_of s.policy.connects user) (door_of s.policy c)
+    && is_allowed (ruling s (on_at user.id c) entered.need))
+
+-- Whoever has a digest is admitted exactly if the machine's ruling on a LOGON there allows,
+abbrev pub AdmitsAsTheMachineDoes : Type 0
+AdmitsAsTheMachineDoes = (s : State) (c : ConsoleRow) (user : User) (digest : List ℕ) → user.digest ≡ Some digest
+    → is_none (refusal (door_of s.policy c) (member_of s.policy.connects user))
+    ≡ is_allowed (logon_ruling s c user)
+
+-- and whoever has none is admitted nowhere.
+abbrev pub AdmitsNobodyWithoutADigest : Type 0
+AdmitsNobodyWithoutADigest = (d : Door) (m : Member) → m.user.digest ≡ None → refusal d m ≡ Some NoDigest
+
+-- At a console that acts for a stored user the ruling is the same without a logon.
+abbrev pub OwnUsersNeedNoLogon : Type 0
+OwnUsersNeedNoLogon = (s : State) (need : Need) (c : ConsoleRow) (user : User)
+    → user_of s.policy.users user.id ≡ Some user → acts_for c (member_of s.policy.connects user) ≡ true
+    → ruling s (nobody_at c) need ≡ ruling s (on_at user.id c) need
 
 -- A line with a ruling says DENIED exactly if the ruling denies.
 abbrev pub SaysWhatIsDenied : Type 0

@@ -1,7 +1,10 @@
 pub mod Answers
+pub mod Deciding
+pub mod Doors
 pub mod Explaining
 pub mod Json
 pub mod Laws
+pub mod Logons
 pub mod Made
 pub mod Needed
 pub mod Questions

@@ -22,7 +22,7 @@ use Rattle.std.specs.Prelude.{
 }
 use Rattle.std.specs.Fmt.{decimal}
 use Rattle.std.specs.List.{flat_map}
-use Rattle.std.specs.Option.{is_none}
+use Rattle.std.specs.Option.{is_none, is_some}
 use Rattle.opc_names.specs.declared.class.Class.{Class}
 use Rattle.opc_names.specs.Spellings.{class_text, group_text, level_text}
 use Rattle.opc_terms.specs.declared.unit_kind.UnitKindAt.{UnitKindAt}
@@ -39,6 +39,8 @@ use Rattle.opc_machine.specs.Machine.{is_warned}
 use Rattle.opc_machine.specs.Rulings.{is_allowed}
 use Rattle.opc_answers.specs.declared.consoles.ConsoleLine.{ConsoleLine}
 use Rattle.opc_answers.specs.declared.lines.UserLine.{UserLine}
+use Rattle.opc_answers.specs.declared.logons.NoLogon.{NoLogon}
+use Rattle.opc_answers.specs.declared.logons.NoLogon.TheVariants as no_logon
 use Rattle.opc_answers.specs.declared.wanted.Entered.{Entered}
 use Rattle.opc_answers.specs.declared.wanted.Wanted.{Wanted}
 use Rattle.opc_answers.specs.declared.wanted.Wanted.TheVariants.{Command, Access}
@@ -52,9 +54,19 @@ abbrev pub ruling_word : Ruling → List ℕ
 ruling_word (Allowed rule) = if is_warned (Some rule) then codes "WARNED" else codes "ALLOWED"
 ruling_word (Denied rule) = codes "DENIED"
 
-abbrev pub verdict_word : Option Ruling → List ℕ
-verdict_word None = codes "UNDECIDED"
-verdict_word (Some ruling) = ruling_word ruling
+abbrev pub decided_word : Option Ruling → List ℕ
+decided_word None = codes "UNDECIDED"
+decided_word (Some ruling) = ruling_word ruling
+
+-- of a user who does not get on that is said, and why
+abbrev pub verdict_word : Option Ruling → Option NoLogon → List ℕ
+verdict_word ruling None = decided_word ruling
+verdict_word ruling (Some why) = codes "NOLOGON"
+
+abbrev pub no_logon_text : NoLogon → List ℕ
+no_logon_text (no_logon.Denied rule) = rule_text rule
+no_logon_text no_logon.NoDigest = codes "NODIGEST"
+no_logon_text no_logon.NoConsole = codes "NOCONSOLE"
 
 -- the level held, if it was asked
 abbrev pub level_word : Option HeldLevel → List ℕ
@@ -72,7 +84,7 @@ ground_text (Some held) ruling = held_source_text held
 
 -- 10 is the line feed
 abbrev pub user_text : UserLine → List ℕ
-user_text line = columns (left 7 (verdict_word line.ruling) ∷ left 8 line.id ∷ left 7 (level_word line.held)
+user_text line = columns (left 7 (verdict_word line.ruling line.no_logon) ∷ left 8 line.id ∷ left 7 (level_word line.held)
     ∷ (ground_text line.held line.ruling ++ 10 ∷ []) ∷ [])
 
 -- for whom a console acts where nobody is on
@@ -91,7 +103,7 @@ allows None = false
 allows (Some ruling) = is_allowed ruling
 
 abbrev pub may : UserLine → Bool
-may line = allows line.ruling
+may line = is_none line.no_logon && allows line.ruling
 
 abbrev pub may_with_nobody_on : ConsoleLine → Bool
 may_with_nobody_on line = is_allowed line.ruling
@@ -150,19 +162,26 @@ abbrev pub console_share_of : List ConsoleLine → Share
 console_share_of lines = record { may = count_by may_with_nobody_on lines; all = length lines }
 
 abbrev pub is_undecided : UserLine → Bool
-is_undecided line = is_none line.ruling
+is_undecided line = is_none line.no_logon && is_none line.ruling
+
+abbrev pub cannot_log_on : UserLine → Bool
+cannot_log_on line = is_some line.no_logon
 
 -- what the last line counts
 abbrev pub counts_of : Who → Counts
 counts_of who = record {
   users = share_of (users_of who);
   undecided = count_by is_undecided (users_of who);
+  no_logon = count_by cannot_log_on (users_of who);
   raised = share_of (raised_of who);
   consoles = option_map console_share_of (consoles_of who);
 }
 
 abbrev pub undecided_text : ℕ → List ℕ
 undecided_text n = if n == 0 then [] else codes ", " ++ decimal n ++ codes " undecided"
+
+abbrev pub no_logons_text : ℕ → List ℕ
+no_logons_text n = if n == 0 then [] else codes ", " ++ decimal n ++ codes " cannot log on"
 
 abbrev pub raised_text : Share → List ℕ
 raised_text share =
@@ -174,7 +193,7 @@ consoles_text (Some share) = codes ", " ++ share_text share ++ codes " consoles 
 
 abbrev pub counts_text : Counts → List ℕ
 counts_text counts = share_text counts.users ++ (codes " users" ++ (undecided_text counts.undecided
-    ++ (raised_text counts.raised ++ (consoles_text counts.consoles ++ 10 ∷ []))))
+    ++ (no_logons_text counts.no_logon ++ (raised_text counts.raised ++ (consoles_text counts.consoles ++ 10 ∷ [])))))
 
 abbrev pub console_lines_text : Bool → Option (List ConsoleLine) → List ℕ
 console_lines_text allowed None = []

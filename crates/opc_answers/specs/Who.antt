@@ -16,6 +16,7 @@ use Rattle.std.specs.Prelude.{
   Err,
   filter,
   map,
+  not,
   if◌then◌else◌,
   unwrap_or,
 }
@@ -44,16 +45,19 @@ use Rattle.opc_policy_sources.specs.Sources.{held_from}
 use Rattle.opc_board.specs.declared.rows.ConsoleRow.{ConsoleRow}
 use Rattle.opc_board.specs.declared.board.BoardRows.{BoardRows}
 use Rattle.opc_board.specs.Invariants.{console_at}
-use Rattle.opc_state.specs.State.{State, deciding_in}
-use Rattle.opc_machine.specs.Rulings.{own_user, ruling}
+use Rattle.opc_state.specs.State.{State}
+use Rattle.opc_machine.specs.Rulings.{is_allowed, own_user, ruling}
 use Rattle.opc_answers.specs.declared.wanted.Wanted.{Wanted}
 use Rattle.opc_answers.specs.declared.wanted.Wanted.TheVariants.{Command, Access}
 use Rattle.opc_answers.specs.declared.consoles.ConsoleLine.{ConsoleLine}
 use Rattle.opc_answers.specs.declared.lines.UserLine.{UserLine}
+use Rattle.opc_answers.specs.declared.logons.NoLogon.{NoLogon}
 use Rattle.opc_answers.specs.declared.members.Member.{Member}
 use Rattle.opc_answers.specs.declared.who.AskedAt.{AskedAt}
 use Rattle.opc_answers.specs.declared.who.AskedAt.TheVariants.{Everywhere, Named, OnBoard}
 use Rattle.opc_answers.specs.declared.who.Who.{Who}
+use Rattle.opc_answers.specs.Deciding.{decider}
+use Rattle.opc_answers.specs.Logons.{door_of, no_logon, nowhere}
 use Rattle.opc_answers.specs.Made.{members_of, state_of}
 
 -- the class, the resource and the level that are asked about; the resources of commands are in OPERCMDS
@@ -69,17 +73,14 @@ abbrev pub level_of : Wanted → Level
 level_of (Command entered) = entered.need.level
 level_of (Access class resource level) = level
 
--- the profile that decides, if the class is active and a profile covers the resource
-abbrev pub decider : Policy → Class → (resource : List ℕ) → Option Profile
-decider p class resource = if is_active p.active class then deciding_in p class resource else None
-
+-- the profile that decides
 abbrev pub decider_of : Policy → Wanted → Option Profile
 decider_of p w = decider p (class_of w) (resource_of w)
 
 -- What is said of a user, at a console if one is given: who is revoked is denied; else the profile that decides rules
 -- on the level that the user holds; if none decides, nothing is said.
 abbrev pub line : User → Option Ruling → Option HeldLevel → UserLine
-line user ruling held = record { id = user.id; ruling = ruling; held = held }
+line user ruling held = record { id = user.id; ruling = ruling; held = held; no_logon = None }
 
 abbrev pub by_profile : Option Profile → Option (List ℕ) → Level → List (List ℕ) → User → UserLine
 by_profile None console needed groups user = line user None None
@@ -100,6 +101,11 @@ user_line p decided console needed user = line_of decided console needed (groups
 abbrev pub or_authority : ConsoleRow → Need → UserLine → UserLine
 or_authority c need line = record line { ruling = Some (unwrap_or line.ruling (console_ruling c.auth need)) }
 
+-- whether a ruling denies
+abbrev pub is_denied : Option Ruling → Bool
+is_denied None = false
+is_denied (Some ruling) = not (is_allowed ruling)
+
 -- whether an entry is for the console of this name alone
 abbrev pub is_for : List ℕ → Entry → Bool
 is_for name e = option_eq bytes_eq e.when (Some name)
@@ -115,10 +121,6 @@ named decided consoles = filter (is_named decided) consoles
 -- whether an entry for one console alone gives the level
 abbrev pub is_raised : UserLine → Bool
 is_raised line = option_map_or (λ (h : HeldLevel). is_some h.when) line.held false
-
--- What is said of users at one console alone, if an entry for it raises the level that they hold.
-abbrev pub raised_at : Option Profile → Level → List Member → ConsoleRow → List UserLine
-raised_at decided needed members c = filter is_raised (map (member_line decided (Some c.name) needed) members)
 
 -- by the profile that decides or, if none does, by an authority
 abbrev pub by_decider : Option Profile → User → Option (List ℕ) → List (List ℕ) → Auth → Need → Ruling
@@ -153,19 +155,34 @@ abbrev pub command_at : Need → AskedAt → UserLine → UserLine
 command_at need (OnBoard c) line = or_authority c need line
 command_at need place line = line
 
-abbrev pub decided_at : Wanted → AskedAt → UserLine → UserLine
-decided_at (Command entered) place line = command_at entered.need place line
-decided_at (Access class resource level) place line = line
+-- Why a user does not get on: at the console, or wherever it is.
+abbrev pub no_logon_at : Policy → BoardRows → AskedAt → Member → Option NoLogon
+no_logon_at p b Everywhere m = nowhere m (map (door_of p) b.consoles)
+no_logon_at p b (OnBoard c) m = no_logon (door_of p c) m
+no_logon_at p b (Named name) m = None
+
+-- That says more than a ruling, unless it denies anyway.
+abbrev pub unless_on : Option NoLogon → UserLine → UserLine
+unless_on why line = if is_denied line.ruling then line else record line { no_logon = why }
+
+-- For a level of access no logon counts.
+abbrev pub decided_at : Wanted → AskedAt → Option NoLogon → UserLine → UserLine
+decided_at (Command entered) place why line = unless_on why (command_at entered.need place line)
+decided_at (Access class resource level) place why line = line
+
+abbrev pub said_at : Who → AskedAt → Member → UserLine
+said_at who place m = decided_at who.wanted place (no_logon_at who.room.policy who.room.board place m)
+    (member_line who.decided (name_of place) (level_of who.wanted) m)
 
 -- The lines of an answer: what is said of each user;
 abbrev pub user_said : Who → Member → UserLine
-user_said who m =
-    decided_at who.wanted who.at (member_line who.decided (name_of who.at) (level_of who.wanted) m)
+user_said who m = said_at who who.at m
 
 abbrev pub users_of : Who → List UserLine
 users_of who = map (user_said who) who.room.members
 
--- if no console is named, what is said of users at one console alone, console by console;
+-- if no console is named, what is said of users at one console alone, console by console, if an entry for it raises the
+-- level that they hold;
 abbrev pub named_at : AskedAt → Option Profile → List ConsoleRow → List ConsoleRow
 named_at Everywhere decided consoles = named decided consoles
 named_at place decided consoles = []
@@ -174,7 +191,7 @@ abbrev pub named_of : Who → List ConsoleRow
 named_of who = named_at who.at who.decided who.room.board.consoles
 
 abbrev pub raised_there : Who → ConsoleRow → List UserLine
-raised_there who c = raised_at who.decided (level_of who.wanted) who.room.members c
+raised_there who c = filter is_raised (map (said_at who (OnBoard c)) who.room.members)
 
 abbrev pub raised_of : Who → List UserLine
 raised_of who = flat_map (raised_there who) (named_of who)

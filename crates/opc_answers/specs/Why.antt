@@ -16,6 +16,7 @@ use Rattle.opc_policy_sources.specs.declared.levels.CoveringLevel.{CoveringLevel
 use Rattle.opc_policy_sources.specs.Levels.{covering_levels, levels_text}
 use Rattle.opc_state.specs.State.{State}
 use Rattle.opc_answers.specs.declared.explaining.CommandExplained.{CommandExplained}
+use Rattle.opc_answers.specs.declared.logons.NoLogon.{NoLogon}
 use Rattle.opc_answers.specs.declared.wanted.Entered.{Entered}
 use Rattle.opc_answers.specs.declared.wanted.Wanted.{Wanted}
 use Rattle.opc_answers.specs.declared.wanted.Wanted.TheVariants as wanted
@@ -23,7 +24,7 @@ use Rattle.opc_answers.specs.declared.why.Covers.{Covers}
 use Rattle.opc_answers.specs.declared.why.Covers.TheVariants as covers
 use Rattle.opc_answers.specs.declared.why.Why.{Why}
 use Rattle.opc_answers.specs.Explaining.{explained_in}
-use Rattle.opc_answers.specs.Texts.{needs_text}
+use Rattle.opc_answers.specs.Texts.{needs_text, no_logon_text}
 use Rattle.opc_answers.specs.Who.{class_of, resource_of}
 
 -- the profiles that cover, as they are shown of who acts: with the level that is held in each, or without
@@ -38,23 +39,24 @@ covers_of p w true patterns None console = Ok covers.Nobody
 covers_of p w true patterns (Some id) console =
     with_levels (covering_levels p (class_of w) (resource_of w) id console)
 
-abbrev pub why_with : Wanted → (actor console : Option (List ℕ)) → Verdict → Rule → Result Covers Fault
-    → Result Why Fault
-why_with w actor console verdict rule (Ok shown) = Ok (record {
+abbrev pub why_with : Wanted → (actor console : Option (List ℕ)) → Verdict → Rule → Option NoLogon
+    → Result Covers Fault → Result Why Fault
+why_with w actor console verdict rule no_logon (Ok shown) = Ok (record {
   wanted = w;
   actor = actor;
   console = console;
   covers = shown;
   verdict = verdict;
   rule = rule;
+  no_logon = no_logon;
 })
-why_with w actor console verdict rule (Err fault) = Err fault
+why_with w actor console verdict rule no_logon (Err fault) = Err fault
 
 -- Of a level of access the profiles alone decide.
 abbrev pub why_access : Policy → (levels : Bool) → Wanted → (id : List ℕ) → (console : Option (List ℕ))
     → Result Explained Fault → Result Why Fault
 why_access p levels w id console (Ok e) =
-    why_with w (Some id) console e.verdict e.rule (covers_of p w levels e.covering (Some id) console)
+    why_with w (Some id) console e.verdict e.rule None (covers_of p w levels e.covering (Some id) console)
 why_access p levels w id console (Err fault) = Err fault
 
 -- Of a command it is as the machine rules. Who acts, if anybody does, is the user, or a console's own user, who has its
@@ -68,7 +70,7 @@ command_covers p w levels (Some patterns) actor console =
 abbrev pub why_command : Policy → (levels : Bool) → Entered → (actor console : Option (List ℕ))
     → Result CommandExplained Fault → Result Why Fault
 why_command p levels entered actor console (Ok e) =
-    why_with (wanted.Command entered) actor console e.verdict e.rule
+    why_with (wanted.Command entered) actor console e.verdict e.rule e.no_logon
     (command_covers p (wanted.Command entered) levels e.covering actor console)
 why_command p levels entered actor console (Err fault) = Err fault
 
@@ -87,9 +89,18 @@ covers_text covers.Nobody = []
 covers_text (covers.Patterns patterns) = flat_map covers_line patterns
 covers_text (covers.Levels levels) = levels_text levels
 
+-- that the user does not get on comes in the place of a verdict that does not deny
+abbrev pub said_verdict : Verdict → Option NoLogon → List ℕ
+said_verdict verdict None = verdict_text verdict
+said_verdict verdict (Some why) = codes "NOLOGON"
+
+abbrev pub said_rule : Rule → Option NoLogon → List ℕ
+said_rule rule None = rule_text rule
+said_rule rule (Some why) = no_logon_text why
+
 -- 10 is the line feed
-abbrev pub verdict_line : Verdict → Rule → List ℕ
-verdict_line verdict rule = verdict_text verdict ++ (codes " " ++ (rule_text rule ++ 10 ∷ []))
+abbrev pub verdict_line : Why → List ℕ
+verdict_line w = said_verdict w.verdict w.no_logon ++ (codes " " ++ (said_rule w.rule w.no_logon ++ 10 ∷ []))
 
 abbrev pub why_text : Why → List ℕ
-why_text w = needs_text w.wanted ++ (covers_text w.covers ++ verdict_line w.verdict w.rule)
+why_text w = needs_text w.wanted ++ (covers_text w.covers ++ verdict_line w)

@@ -3,8 +3,6 @@ use Rattle.std.specs.Prelude.{ℕ, List, [], codes, map}
 use Rattle.serde_json.specs.Data.{Data, Items, array, member, no_members, object, string}
 use Rattle.serde_json.specs.View.{items_of}
 use Rattle.opc_names.specs.Spellings.{class_text, level_text}
-use Rattle.opc_terms.specs.Rules.{rule_text}
-use Rattle.opc_policy.specs.Verdicts.{verdict_text}
 use Rattle.opc_policy_sources.specs.declared.levels.CoveringLevel.{CoveringLevel}
 use Rattle.opc_policy_sources.specs.SourceTexts.{source_text}
 use Rattle.opc_answers.specs.declared.why.Covers.{Covers}
@@ -12,6 +10,7 @@ use Rattle.opc_answers.specs.declared.why.Covers.TheVariants.{Levels}
 use Rattle.opc_answers.specs.declared.why.Why.{Why}
 use Rattle.opc_answers.specs.Json.{group_of, json_line, taken_words, text_or_null}
 use Rattle.opc_answers.specs.Who.{class_of, level_of, resource_of}
+use Rattle.opc_answers.specs.Why.{said_rule, said_verdict}
 
 -- a profile that covers, with the level that is held in it
 abbrev pub covering_value : CoveringLevel → Data
@@ -37,9 +36,9 @@ why_value w =
     (member (codes "group") (text_or_null (group_of w.wanted))
     (member (codes "level") (string (level_text (level_of w.wanted)))
     (member (codes "resource") (string (resource_of w.wanted))
-    (member (codes "rule") (string (rule_text w.rule))
+    (member (codes "rule") (string (said_rule w.rule w.no_logon))
     (member (codes "user") (text_or_null w.actor)
-    (member (codes "verdict") (string (verdict_text w.verdict)) no_members))))))))))
+    (member (codes "verdict") (string (said_verdict w.verdict w.no_logon)) no_members))))))))))
 
 abbrev pub why_json : Why → List ℕ
 why_json w = json_line (why_value w)

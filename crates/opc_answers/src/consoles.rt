@@ -5,7 +5,8 @@ ghost use Rattle.opc_names.specs.declared.class.Class.TheVariants.{Opercmds};
 ghost use Rattle.opc_policy_members.specs.Members.{user_of};
 ghost use Rattle.opc_machine.specs.Rulings.{access_ruling, is_required, is_revoked, own_user, ruling};
 ghost use Rattle.opc_answers.specs.Made.{state_of};
-ghost use Rattle.opc_answers.specs.Who.{by_decider, console_line, console_lines, decider, nobody_at};
+ghost use Rattle.opc_answers.specs.Deciding.{decider};
+ghost use Rattle.opc_answers.specs.Who.{by_decider, console_line, console_lines, nobody_at};
 
 use opc_board::board::Board;
 use opc_board::rows::ConsoleRow;

@@ -5,8 +5,10 @@ ghost use Rattle.opc_answers.specs.Texts.{
   consoles_text,
   counts_text,
   is_undecided,
+  cannot_log_on,
   may,
   may_with_nobody_on,
+  no_logons_text,
   raised_text,
   share_of,
   share_text,
@@ -25,12 +27,13 @@ pub struct Share {
     pub all: usize,
 }
 
-/// What the last line counts: users, those of them of whom nothing is said, users at one console alone, and consoles,
-/// if a command is asked about.
+/// What the last line counts: users, those of them of whom nothing is said and those who do not get on, users at one
+/// console alone, and consoles, if a command is asked about.
 #[derive(Clone, Copy)]
 pub struct Counts {
     pub users: Share,
     pub undecided: usize,
+    pub no_logon: usize,
     pub raised: Share,
     pub consoles: Option<Share>,
 }
@@ -51,7 +54,7 @@ fn count_who_may(lines: &[UserLine]) -> usize
 fn is_undecided(line: &UserLine) -> bool
     ensures { result ≡ is_undecided line.now }
 {
-    line.ruling.is_none()
+    line.no_logon.is_none() && line.ruling.is_none()
 }
 
 /// Of how many users nothing is said.
@@ -61,6 +64,26 @@ pub fn count_undecided(lines: &[UserLine]) -> usize
     let mut count = 0;
     for line in lines {
         if is_undecided(line) {
+            count += 1;
+        }
+    }
+    count
+}
+
+/// Whether it is said that the user does not get on.
+fn cannot_log_on(line: &UserLine) -> bool
+    ensures { result ≡ cannot_log_on line.now }
+{
+    line.no_logon.is_some()
+}
+
+/// Of how many users it is said that they do not get on.
+pub fn count_no_logon(lines: &[UserLine]) -> usize
+    ensures { result ≡ count_by cannot_log_on lines.now }
+{
+    let mut count = 0;
+    for line in lines {
+        if cannot_log_on(line) {
             count += 1;
         }
     }
@@ -124,6 +147,15 @@ fn undecided_text(alloc: Global, count: usize) -> Result<String, AllocError>
     format!(in alloc; ", {count} undecided")
 }
 
+fn no_logons_text(alloc: Global, count: usize) -> Result<String, AllocError>
+    ensures { IfOk result (λ text. string_bytes text ≡ no_logons_text count) }
+{
+    if count == 0 {
+        return Ok(String::new(alloc));
+    }
+    format!(in alloc; ", {count} cannot log on")
+}
+
 fn raised_text(alloc: Global, share: &Share) -> Result<String, AllocError>
     ensures { IfOk result (λ text. string_bytes text ≡ raised_text share.now) }
 {
@@ -152,9 +184,10 @@ pub fn counts_text(alloc: Global, counts: &Counts) -> Result<String, AllocError>
 {
     let share = share_text(alloc, &counts.users)?;
     let open = undecided_text(alloc, counts.undecided)?;
+    let off = no_logons_text(alloc, counts.no_logon)?;
     let raised = raised_text(alloc, &counts.raised)?;
     let consoles = consoles_text(alloc, &counts.consoles)?;
-    let (share, open) = (share.as_str(), open.as_str());
+    let (share, open, off) = (share.as_str(), open.as_str(), off.as_str());
     let (raised, consoles) = (raised.as_str(), consoles.as_str());
-    format!(in alloc; "{share} users{open}{raised}{consoles}\n")
+    format!(in alloc; "{share} users{open}{off}{raised}{consoles}\n")
 }

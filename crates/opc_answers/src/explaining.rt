@@ -8,14 +8,21 @@ ghost use Rattle.opc_answers.specs.Explaining.{
   by_profiles,
   console_named,
   explained_in,
+  unless_denied,
   with_ruling,
+  without_console,
 };
-ghost use Rattle.opc_answers.specs.Made.{state_of};
+ghost use Rattle.opc_answers.specs.Made.{member_of, state_of};
+ghost use Rattle.opc_answers.specs.Who.{no_logon_at};
 
 use crate::consoles::{own_name, ruling};
-use crate::lines::{decider, ruling_with};
+use crate::deciding::decider;
+use crate::doors::doors_at;
+use crate::lines::ruling_with;
+use crate::logons::NoLogon;
+use crate::members::Member;
 use crate::room::Room;
-use crate::who::console_of;
+use crate::who::{AskedAt, console_of};
 use opc_board::rows::ConsoleRow;
 use opc_names::class::Class;
 use opc_names::name::{ConsoleName, UserId};
@@ -23,18 +30,21 @@ use opc_policy::explained::{Explained, Patterns, explain};
 use opc_policy::ruling::Ruling;
 use opc_policy::verdict::Verdict;
 use opc_policy_members::policy::Policy;
+use opc_policy_members::user::User;
+use opc_rows::Rows;
 use opc_terms::fault::{Fault, Subject};
 use opc_terms::need::Need;
 use opc_terms::rule::Rule;
-use std::alloc::Global;
+use std::alloc::{AllocError, Global};
 
-/// Why a command may or may not be entered: the patterns of the profiles that cover, if it is entered for a user, and
-/// the verdict with its rule.
+/// Why a command may or may not be entered: the patterns of the profiles that cover, if it is entered for a user; the
+/// verdict with its rule; and why the user does not get on, if that says more.
 #[derive(Drop)]
 pub(crate) struct CommandExplained {
     pub(crate) covering: Option<Patterns>,
     pub(crate) verdict: Verdict,
     pub(crate) rule: Rule,
+    pub(crate) no_logon: Option<NoLogon>,
 }
 
 /// What the profiles say of a user who enters what a command needs.
@@ -61,14 +71,56 @@ fn by_profiles(
     )
 }
 
+/// That a user does not get on says more than a verdict, unless it denies anyway.
+fn unless_denied(verdict: Verdict, no_logon: Option<NoLogon>) -> Option<NoLogon>
+    ensures { result ≡ unless_denied verdict no_logon }
+{
+    match verdict {
+        Verdict::Denied => None,
+        Verdict::Allowed | Verdict::Undecided => no_logon,
+    }
+}
+
 /// The patterns that cover, and the ruling at a console.
-fn with_ruling(ruling: Ruling, explained: Explained) -> CommandExplained
-    ensures { with_ruling ruling (Ok explained) ≡ Ok result }
+fn with_ruling(ruling: Ruling, no_logon: Option<NoLogon>, explained: Explained) -> CommandExplained
+    ensures { with_ruling ruling no_logon (Ok explained) ≡ Ok result }
 {
     CommandExplained {
         covering: Some(explained.covering),
         verdict: ruling.verdict(),
         rule: ruling.rule(),
+        no_logon: unless_denied(ruling.verdict(), no_logon),
+    }
+}
+
+/// Why a user does not get on there.
+fn no_logon_at(
+    alloc: Global,
+    room: &Room,
+    at: &AskedAt,
+    user: &User,
+) -> Result<Option<NoLogon>, AllocError>
+    ensures { IfOk result (λ why. why
+        ≡ no_logon_at room.now.policy room.now.board at.now (member_of room.now.policy.connects user.now)) }
+{
+    let groups = room.policy.connects.groups_of(alloc, &user.id)?;
+    let member = Member {
+        user: *user,
+        groups: Rows::of(groups),
+    };
+    let doors = doors_at(alloc, &room.policy, &room.board, at)?;
+    Ok(doors.no_logon(&member))
+}
+
+/// What the profiles alone say.
+fn without_console(no_logon: Option<NoLogon>, explained: Explained) -> CommandExplained
+    ensures { without_console no_logon (Ok explained) ≡ Ok result }
+{
+    CommandExplained {
+        covering: Some(explained.covering),
+        verdict: explained.verdict,
+        rule: explained.rule,
+        no_logon: unless_denied(explained.verdict, no_logon),
     }
 }
 
@@ -91,12 +143,13 @@ fn with_nobody_on(
     match own_name(policy, board, console) {
         Some(id) => {
             let explained = by_profiles(alloc, policy, need, &id, Some(&console.name))?;
-            Ok(with_ruling(ruled, explained))
+            Ok(with_ruling(ruled, None, explained))
         }
         None => Ok(CommandExplained {
             covering: None,
             verdict: ruled.verdict(),
             rule: ruled.rule(),
+            no_logon: None,
         }),
     }
 }
@@ -121,8 +174,9 @@ fn with_user_on(
     };
     let found = decider(policy, Class::Opercmds, &need.resource)?;
     let ruled = ruling_with(alloc, room, found.as_ref(), need, console, user)?;
+    let no_logon = no_logon_at(alloc, room, &AskedAt::OnBoard(*console), user)?;
     let explained = by_profiles(alloc, policy, need, id, Some(&console.name))?;
-    Ok(with_ruling(ruled, explained))
+    Ok(with_ruling(ruled, no_logon, explained))
 }
 
 /// At a console with this user on or, without one, with nobody on.
@@ -144,7 +198,29 @@ fn at_console(
     }
 }
 
-/// At no console of the board, where the profiles alone decide. Nobody acts there.
+/// At no console of the board, where the profiles alone decide, and whether the user gets on anywhere.
+#[tactic(auto, using(crate::proofs::Explained::with_none, crate::proofs::Explained::not_stored_anywhere))]
+fn of_user(
+    alloc: Global,
+    room: &Room,
+    need: &Need,
+    id: &UserId,
+    console: Option<&ConsoleName>,
+) -> Result<CommandExplained, Fault>
+    ensures ok { IfOk result (λ explained. at_none (state_of room.now.policy room.now.board) need.now (Some id.now)
+        (option_copied console.entry) ≡ Ok explained) }
+    ensures fault { IfErr result (λ fault. fault ≢ why.NoMemory → at_none (state_of room.now.policy room.now.board)
+        need.now (Some id.now) (option_copied console.entry) ≡ Err fault) }
+{
+    let Some(user) = room.policy.users.get(id) else {
+        return Err(Fault::Missing(Subject::of(id)));
+    };
+    let no_logon = no_logon_at(alloc, room, &AskedAt::Everywhere, user)?;
+    let explained = by_profiles(alloc, &room.policy, need, id, console)?;
+    Ok(without_console(no_logon, explained))
+}
+
+/// At no console of the board. Nobody acts there.
 fn at_none(
     alloc: Global,
     room: &Room,
@@ -157,15 +233,10 @@ fn at_none(
     ensures fault { IfErr result (λ fault. fault ≢ why.NoMemory → at_none (state_of room.now.policy room.now.board)
         need.now (option_copied user.entry) (option_copied console.entry) ≡ Err fault) }
 {
-    let Some(id) = user else {
-        return Err(Fault::NoConsole);
-    };
-    let explained = by_profiles(alloc, &room.policy, need, id, console)?;
-    Ok(CommandExplained {
-        covering: Some(explained.covering),
-        verdict: explained.verdict,
-        rule: explained.rule,
-    })
+    match user {
+        Some(id) => of_user(alloc, room, need, id, console),
+        None => Err(Fault::NoConsole),
+    }
 }
 
 /// The console of the board, if one is named that is there.

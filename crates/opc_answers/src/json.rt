@@ -24,7 +24,8 @@ ghost use Rattle.opc_answers.specs.Json.{
 
 use crate::consoles::ConsoleLine;
 use crate::lines::UserLine;
-use crate::text::{is_allowed, kind_words, may, ruling_word, verdict_word};
+use crate::logons::NoLogon;
+use crate::text::{is_allowed, kind_words, may, no_logon_text, ruling_word, verdict_word};
 use crate::wanted::{Entered, Wanted};
 use crate::who::Who;
 use opc_policy::ruling::Ruling;
@@ -161,13 +162,19 @@ fn place_value(alloc: Global, held: &Option<HeldLevel>) -> Result<Value, AllocEr
     }
 }
 
-fn rule_value(alloc: Global, ruling: &Option<Ruling>) -> Result<Value, AllocError>
-    ensures { IfOk result (λ value. view value ≡ text_or_null (rule_words ruling.now)) }
+/// The rule that decided, or why the user does not get on.
+fn rule_value(
+    alloc: Global,
+    ruling: &Option<Ruling>,
+    no_logon: &Option<NoLogon>,
+) -> Result<Value, AllocError>
+    ensures { IfOk result (λ value. view value ≡ text_or_null (rule_words ruling.now no_logon.now)) }
 {
-    let Some(ruling) = ruling else {
-        return Ok(Value::Null);
+    let text = match (no_logon, ruling) {
+        (Some(no_logon), _) => no_logon_text(alloc, no_logon)?,
+        (None, Some(ruling)) => ruling.rule().text(alloc)?,
+        (None, None) => return Ok(Value::Null),
     };
-    let text = ruling.rule().text(alloc)?;
     Value::try_from_str(alloc, text.as_str())
 }
 
@@ -176,9 +183,9 @@ fn user_value(alloc: Global, line: &UserLine) -> Result<Value, AllocError>
 {
     let place = place_value(alloc, &line.held)?;
     let held = held_value(alloc, &line.held)?;
-    let rule = rule_value(alloc, &line.ruling)?;
+    let rule = rule_value(alloc, &line.ruling, &line.no_logon)?;
     let source = source_value(alloc, &line.held)?;
-    let (id, verdict) = (line.id.text(), verdict_word(&line.ruling));
+    let (id, verdict) = (line.id.text(), verdict_word(&line.ruling, &line.no_logon));
     json!(in alloc; {
         "at": place, "held": held, "id": id, "kind": "user", "rule": rule, "source": source, "verdict": verdict
     })

@@ -4,10 +4,13 @@
 pub mod answer;
 pub mod consoles;
 pub mod counts;
+mod deciding;
+mod doors;
 mod explaining;
 pub mod json;
 pub mod laws;
 pub mod lines;
+pub mod logons;
 mod members;
 pub mod needed;
 pub mod question;

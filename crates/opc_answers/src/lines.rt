@@ -1,55 +1,37 @@
 //! What is said of users.
-ghost use Rattle.std.specs.Prelude.{◌≡◌, IfOk, IsOkUnless, Some, unwrap_or};
+ghost use Rattle.std.specs.Prelude.{◌≡◌, IfOk, Some, unwrap_or};
 ghost use Rattle.std.specs.Option.{option_copied};
 ghost use Rattle.opc_policy.specs.Rulings.{console_ruling};
 ghost use Rattle.opc_names.specs.declared.class.Class.TheVariants.{Opercmds};
 ghost use Rattle.opc_policy_members.specs.Members.{user_of};
 ghost use Rattle.opc_machine.specs.Rulings.{ruling};
-ghost use Rattle.opc_terms.specs.declared.store_fault.StoreFault.TheVariants.{NoMemory};
+ghost use Rattle.opc_answers.specs.Deciding.{decider};
 ghost use Rattle.opc_answers.specs.Made.{state_of};
-ghost use Rattle.opc_answers.specs.Who.{by_profile, decider, line_of, member_line, on_at, or_authority};
+ghost use Rattle.opc_answers.specs.Who.{by_profile, is_denied, line_of, member_line, on_at, or_authority};
 
+use crate::logons::NoLogon;
 use crate::members::Member;
 use crate::room::Room;
 use opc_board::rows::ConsoleRow;
-use opc_names::class::Class;
 use opc_names::level::Level;
-use opc_names::name::{ConsoleName, GroupName, Resource, UserId};
-use opc_policy::policy_source::ClassProfiles;
+use opc_names::name::{ConsoleName, GroupName, UserId};
 use opc_policy::ruling::{Ruling, console_ruling, ruling_at};
-use opc_policy::source::Taken;
 use opc_policy_members::policy::Policy;
 use opc_policy_members::profile::Profile;
 use opc_policy_members::user::User;
 use opc_policy_sources::sources::{HeldLevel, LevelSource, held_from};
 use opc_terms::need::Need;
 use opc_terms::rule::Rule;
-use opc_terms::store_fault::StoreFault;
 use std::alloc::{AllocError, Global};
 
-/// What is said of a user: the ruling, if there is one, and the level held in the profile that decides, with its
-/// source, if it was asked.
+/// What is said of a user: the ruling, if there is one; the level held in the profile that decides, with its source, if
+/// it was asked; and why the user does not get on, if that says more than the ruling.
 #[derive(Clone, Copy)]
 pub struct UserLine {
     pub id: UserId,
     pub ruling: Option<Ruling>,
     pub held: Option<HeldLevel>,
-}
-
-/// The profile that decides, if the class is active and a profile covers the resource.
-pub(crate) fn decider(
-    policy: &Policy,
-    class: Class,
-    resource: &Resource,
-) -> Result<Option<Profile>, StoreFault>
-    ensures profile { IfOk result (λ decided. decided ≡ decider policy.now class resource.now) }
-    ensures fault { IsOkUnless result NoMemory }
-{
-    if !policy.active.contains(class) {
-        return Ok(None);
-    }
-    let Taken { profile, rows: _ } = policy.first(class, resource)?;
-    Ok(profile)
+    pub no_logon: Option<NoLogon>,
 }
 
 /// What the profile that decides says of a user, at a console if one is given; nothing if none decides.
@@ -68,6 +50,7 @@ fn by_profile(
             id: user.id,
             ruling: None,
             held: None,
+            no_logon: None,
         };
     };
     let held = held_from(profile, user, console, groups);
@@ -75,6 +58,7 @@ fn by_profile(
         id: user.id,
         ruling: Some(ruling_at(profile, held.level, needed)),
         held: Some(held),
+        no_logon: None,
     }
 }
 
@@ -93,6 +77,7 @@ fn line_of(
             id: user.id,
             ruling: Some(Ruling::Denied(Rule::Revoked)),
             held: None,
+            no_logon: None,
         };
     }
     by_profile(decided, console, needed, groups, user)
@@ -134,6 +119,17 @@ pub(crate) fn or_authority(console: &ConsoleRow, need: &Need, line: &UserLine) -
         id: line.id,
         ruling: Some(ruling_or(console, need, line.ruling)),
         held: line.held,
+        no_logon: line.no_logon,
+    }
+}
+
+/// Whether a ruling denies.
+pub(crate) fn is_denied(ruling: &Option<Ruling>) -> bool
+    ensures { result ≡ is_denied ruling.now }
+{
+    match ruling {
+        Some(Ruling::Denied(_)) => true,
+        Some(Ruling::Allowed(_)) | None => false,
     }
 }
 

@@ -2,19 +2,13 @@
 ghost use Rattle.std.specs.Prelude.{◌≡◌, IfOk};
 ghost use Rattle.std.specs.List.{list_any};
 ghost use Rattle.std.specs.Option.{option_copied};
-ghost use Rattle.opc_answers.specs.Who.{is_for, is_named, is_raised, named, raised_at};
+ghost use Rattle.opc_answers.specs.Who.{is_for, is_named, is_raised, named};
 
-use crate::lines::{UserLine, member_line};
-use crate::members::Member;
+use crate::lines::UserLine;
 use opc_board::rows::ConsoleRow;
-use opc_names::level::Level;
 use opc_names::name::ConsoleName;
-use opc_policy::ruling::Ruling;
 use opc_policy_members::entry::Entry;
 use opc_policy_members::profile::Profile;
-use opc_policy_sources::sources::{HeldLevel, LevelSource};
-use opc_rows::Rows;
-use opc_terms::rule::Rule;
 use std::alloc::{AllocError, Global};
 
 /// Whether an entry is for this console alone.
@@ -59,34 +53,11 @@ pub(crate) fn named(
 }
 
 /// Whether an entry for one console alone gives the level.
-fn is_raised(line: &UserLine) -> bool
+pub(crate) fn is_raised(line: &UserLine) -> bool
     ensures { result ≡ is_raised line.now }
 {
     match line.held {
         Some(held) => held.when.is_some(),
         None => false,
     }
-}
-
-/// What is said of users at a console, if an entry for it raises the level that they hold.
-pub(crate) fn raised_at(
-    alloc: Global,
-    decided: Option<&Profile>,
-    needed: Level,
-    members: &[Member],
-    console: &ConsoleRow,
-) -> Result<Rows<UserLine>, AllocError>
-    ensures { IfOk result (λ lines. lines ≡ raised_at (option_copied decided.entry) needed members.now console.now) }
-{
-    // Named for the prover, which else does not find the types of a line.
-    let (_no_rule, _no_ruling): (Option<Rule>, Option<Ruling>) = (None, None);
-    let (_no_held, _no_source): (Option<HeldLevel>, Option<LevelSource>) = (None, None);
-    let mut lines = Rows::new(alloc);
-    for member in members {
-        let line = member_line(decided, Some(&console.name), needed, member);
-        if is_raised(&line) {
-            lines.push(line)?;
-        }
-    }
-    Ok(lines)
 }

@@ -17,6 +17,7 @@ ghost use Rattle.opc_answers.specs.Texts.{
   may,
   need_line,
   needs_text,
+  no_logon_text,
   profile_text,
   ruling_word,
   shown_console,
@@ -29,6 +30,7 @@ ghost use Rattle.opc_answers.specs.Texts.{
 
 use crate::consoles::ConsoleLine;
 use crate::lines::UserLine;
+use crate::logons::NoLogon;
 use crate::wanted::{Entered, Wanted};
 use crate::who::Who;
 use opc_names::class::Class;
@@ -53,14 +55,27 @@ pub(crate) fn ruling_word(ruling: &Ruling) -> &'static str
     }
 }
 
-pub(crate) fn verdict_word(ruling: &Option<Ruling>) -> &'static str
-    ensures text { result.now ≡ verdict_word ruling.now }
+/// What is said of a user in a word: that the user does not get on, or the ruling.
+pub(crate) fn verdict_word(ruling: &Option<Ruling>, no_logon: &Option<NoLogon>) -> &'static str
+    ensures text { result.now ≡ verdict_word ruling.now no_logon.now }
     ensures ascii { IsAscii result.now }
     ensures short { length result.now ≤ 1000 }
 {
-    match ruling {
-        Some(ruling) => ruling_word(ruling),
-        None => "UNDECIDED",
+    match (no_logon, ruling) {
+        (Some(_), _) => "NOLOGON",
+        (None, Some(ruling)) => ruling_word(ruling),
+        (None, None) => "UNDECIDED",
+    }
+}
+
+/// Why a user does not get on.
+pub(crate) fn no_logon_text(alloc: Global, no_logon: &NoLogon) -> Result<String, AllocError>
+    ensures { IfOk result (λ text. string_bytes text ≡ no_logon_text no_logon.now) }
+{
+    match no_logon {
+        NoLogon::Denied(rule) => rule.text(alloc),
+        NoLogon::NoDigest => String::from_str(alloc, "NODIGEST"),
+        NoLogon::NoConsole => String::from_str(alloc, "NOCONSOLE"),
     }
 }
 
@@ -111,7 +126,10 @@ fn user_text(alloc: Global, line: &UserLine) -> Result<String, AllocError>
     ensures { IfOk result (λ text. string_bytes text ≡ user_text line.now) }
 {
     let ground = ground_text(alloc, line)?;
-    let (verdict, level) = (verdict_word(&line.ruling), level_word(&line.held));
+    let (verdict, level) = (
+        verdict_word(&line.ruling, &line.no_logon),
+        level_word(&line.held),
+    );
     user_columns(alloc, verdict, line.id.text(), level, ground.as_str())
 }
 
@@ -160,13 +178,13 @@ pub(crate) fn is_allowed(ruling: &Ruling) -> bool
     }
 }
 
-/// Whether the user may.
+/// Whether the user may, and gets on.
 pub(crate) fn may(line: &UserLine) -> bool
     ensures { result ≡ may line.now }
 {
-    match &line.ruling {
-        Some(ruling) => is_allowed(ruling),
-        None => false,
+    match (&line.no_logon, &line.ruling) {
+        (None, Some(ruling)) => is_allowed(ruling),
+        (Some(_), _) | (None, None) => false,
     }
 }
 

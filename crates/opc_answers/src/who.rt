@@ -1,16 +1,21 @@
 //! Who may do what is asked about.
-ghost use Rattle.std.specs.Prelude.{◌≡◌, ◌≢◌, IfErr, IfOk, Ok, Err, Some};
+ghost use Rattle.std.specs.Prelude.{◌≡◌, ◌≢◌, IfErr, IfOk, Ok, Err, Some, filter, map};
 ghost use Rattle.std.specs.Option.{option_copied};
 ghost use Rattle.opc_terms.specs.declared.fault.Fault.TheVariants as why;
 ghost use Rattle.opc_names.specs.declared.class.Class.TheVariants.{Opercmds};
 ghost use Rattle.opc_board.specs.Invariants.{console_at};
 ghost use Rattle.opc_answers.specs.Made.{members_of, state_of};
-ghost use Rattle.opc_answers.specs.Who.{HasDecider, asked_at, console_lines, decider, who_at, who_in};
+ghost use Rattle.opc_answers.specs.Deciding.{decider};
+ghost use Rattle.opc_answers.specs.Who.{HasDecider, asked_at, console_lines, who_at, who_in};
+ghost use Rattle.opc_answers.specs.Doors.{AreDoorsAt};
 
 use crate::consoles::{ConsoleLine, console_lines};
-use crate::lines::{UserLine, decider, member_line, or_authority};
+use crate::deciding::decider;
+use crate::doors::{Doors, doors_at};
+use crate::lines::{UserLine, member_line, or_authority};
+use crate::logons::NoLogon;
 use crate::members::Member;
-use crate::raised::{named, raised_at};
+use crate::raised::{is_raised, named};
 use crate::room::Room;
 use crate::wanted::Wanted;
 use opc_board::board::Board;
@@ -71,32 +76,59 @@ impl AskedAt {
 }
 
 impl Who {
-    ghost use Rattle.opc_answers.specs.Who.{consoles_at, consoles_of, named_of, raised_there, user_said, users_of};
+    ghost use Rattle.opc_answers.specs.Who.{
+      consoles_at,
+      consoles_of,
+      is_raised,
+      named_of,
+      raised_there,
+      said_at,
+      users_of,
+    };
 
-    fn user_said(&self, member: &Member) -> UserLine
-        ensures { result ≡ user_said self.now member.now }
+    /// What is said of a user there, with those doors.
+    fn said_at(&self, at: &AskedAt, doors: &Doors<'_>, member: &Member) -> UserLine
+        requires { AreDoorsAt self.now.room.policy self.now.room.board at.now doors.now }
+        ensures { result ≡ said_at self.now at.now member.now }
     {
         let level = self.wanted.level();
-        let line = member_line(self.decided.as_ref(), self.at.name(), level, member);
+        let line = member_line(self.decided.as_ref(), at.name(), level, member);
         match &self.wanted {
-            Wanted::Command(entered) => self.at.command_at(&entered.need, line),
+            Wanted::Command(entered) => {
+                doors.unless_on(member, at.command_at(&entered.need, line))
+            }
             Wanted::Access { .. } => line,
         }
+    }
+
+    /// What is said of each user there, in order.
+    fn lines_at(
+        &self,
+        alloc: Global,
+        at: &AskedAt,
+        doors: &Doors<'_>,
+    ) -> Result<Rows<UserLine>, AllocError>
+        requires { AreDoorsAt self.now.room.policy self.now.room.board at.now doors.now }
+        ensures { IfOk result (λ lines. lines ≡ map (said_at self.now at.now) self.now.room.members) }
+    {
+        // Named for the prover, which else does not find the types of a line and of a console.
+        let (_no_rule, _no_ruling): (Option<Rule>, Option<Ruling>) = (None, None);
+        let (_no_held, _no_source): (Option<HeldLevel>, Option<LevelSource>) = (None, None);
+        let _on: Option<NoLogon> = None;
+        let _nowhere: Option<ConsoleName> = None;
+        let mut lines = Rows::new(alloc);
+        for member in self.room.members.as_slice() {
+            lines.push(self.said_at(at, doors, member))?;
+        }
+        Ok(lines)
     }
 
     /// What is said of each user, in order.
     pub fn users(&self, alloc: Global) -> Result<Rows<UserLine>, AllocError>
         ensures { IfOk result (λ lines. lines ≡ users_of self.now) }
     {
-        // Named for the prover, which else does not find the types of a line and of a console.
-        let (_no_rule, _no_ruling): (Option<Rule>, Option<Ruling>) = (None, None);
-        let _nowhere: Option<ConsoleName> = None;
-        let (_no_held, _no_source): (Option<HeldLevel>, Option<LevelSource>) = (None, None);
-        let mut lines = Rows::new(alloc);
-        for member in self.room.members.as_slice() {
-            lines.push(self.user_said(member))?;
-        }
-        Ok(lines)
+        let doors = doors_at(alloc, &self.room.policy, &self.room.board, &self.at)?;
+        self.lines_at(alloc, &self.at, &doors)
     }
 
     /// The consoles at each of which an entry for it alone may raise the level that a user holds, if none is named.
@@ -112,6 +144,32 @@ impl Who {
         }
     }
 
+    /// What is said of users there, if an entry for one console alone raises the level that they hold.
+    fn raised_at(
+        &self,
+        alloc: Global,
+        at: &AskedAt,
+        doors: &Doors<'_>,
+    ) -> Result<Rows<UserLine>, AllocError>
+        requires { AreDoorsAt self.now.room.policy self.now.room.board at.now doors.now }
+        ensures { IfOk result (λ lines. lines
+            ≡ filter is_raised (map (said_at self.now at.now) self.now.room.members)) }
+    {
+        // Named for the prover, which else does not find the types of a line and of a console.
+        let (_no_rule, _no_ruling): (Option<Rule>, Option<Ruling>) = (None, None);
+        let (_no_held, _no_source): (Option<HeldLevel>, Option<LevelSource>) = (None, None);
+        let _on: Option<NoLogon> = None;
+        let _nowhere: Option<ConsoleName> = None;
+        let mut lines = Rows::new(alloc);
+        for member in self.room.members.as_slice() {
+            let line = self.said_at(at, doors, member);
+            if is_raised(&line) {
+                lines.push(line)?;
+            }
+        }
+        Ok(lines)
+    }
+
     /// What is said of users at one of these consoles, if an entry for it raises the level that they hold.
     pub fn raised_there(
         &self,
@@ -120,9 +178,9 @@ impl Who {
     ) -> Result<Rows<UserLine>, AllocError>
         ensures { IfOk result (λ lines. lines ≡ raised_there self.now console.now) }
     {
-        let members = self.room.members.as_slice();
-        let level = self.wanted.level();
-        raised_at(alloc, self.decided.as_ref(), level, members, console)
+        let at = AskedAt::OnBoard(*console);
+        let doors = doors_at(alloc, &self.room.policy, &self.room.board, &at)?;
+        self.raised_at(alloc, &at, &doors)
     }
 
     /// What is said of a command at each of these consoles, where nobody is on.

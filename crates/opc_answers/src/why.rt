@@ -12,7 +12,6 @@ ghost use Rattle.opc_answers.specs.Why.{
   command_covers,
   covers_of,
   covers_text,
-  verdict_line,
   why_access,
   why_command,
   why_in,
@@ -20,8 +19,9 @@ ghost use Rattle.opc_answers.specs.Why.{
 };
 
 use crate::explaining::explained_in;
+use crate::logons::NoLogon;
 use crate::room::Room;
-use crate::text::needs_text;
+use crate::text::{needs_text, no_logon_text};
 use crate::wanted::{Entered, Wanted};
 use opc_names::name::{ConsoleName, Pattern, UserId};
 use opc_policy::explained::{Patterns, explain};
@@ -43,7 +43,8 @@ pub enum Covers {
     Levels(Rows<CoveringLevel>),
 }
 
-/// What is wanted, by whom and where, the profiles that cover, and the verdict with its rule.
+/// What is wanted, by whom and where, the profiles that cover, the verdict with its rule, and why the user does not get
+/// on, if that says more.
 #[derive(Drop)]
 pub struct Why {
     pub wanted: Wanted,
@@ -52,6 +53,7 @@ pub struct Why {
     pub covers: Covers,
     pub verdict: Verdict,
     pub rule: Rule,
+    pub no_logon: Option<NoLogon>,
 }
 
 /// The profiles that cover, with the level that a user holds in each.
@@ -122,6 +124,7 @@ fn why_access(
         covers: covers_of(alloc, policy, wanted, levels, patterns, Some(id), console)?,
         verdict,
         rule,
+        no_logon: None,
     })
 }
 
@@ -184,7 +187,8 @@ fn why_command(
         (option_copied console.entry)) ≡ Err fault) }
 {
     let explained = explained_in(alloc, room, &entered.need, actor, console)?;
-    let (covering, verdict, rule) = (explained.covering, explained.verdict, explained.rule);
+    let (covering, no_logon) = (explained.covering, explained.no_logon);
+    let (verdict, rule) = (explained.verdict, explained.rule);
     let wanted = Wanted::Command(*entered);
     Ok(Why {
         wanted,
@@ -201,6 +205,7 @@ fn why_command(
         )?,
         verdict,
         rule,
+        no_logon,
     })
 }
 
@@ -257,14 +262,36 @@ fn covers_text(alloc: Global, covers: &Covers) -> Result<String, AllocError>
     }
 }
 
-fn verdict_line(alloc: Global, verdict: Verdict, rule: Rule) -> Result<String, AllocError>
-    ensures { IfOk result (λ text. string_bytes text ≡ verdict_line verdict rule) }
-{
-    format!(in alloc; "{verdict} {rule}\n")
-}
-
 impl Why {
-    ghost use Rattle.opc_answers.specs.Why.{why_text};
+    ghost use Rattle.opc_answers.specs.Why.{said_rule, said_verdict, verdict_line, why_text};
+
+    /// The verdict, or in its place that the user does not get on.
+    pub(crate) fn said_verdict(&self) -> &str
+        ensures { result.now ≡ said_verdict self.now.verdict self.now.no_logon }
+    {
+        match self.no_logon {
+            Some(_) => "NOLOGON",
+            None => self.verdict.text(),
+        }
+    }
+
+    /// The rule, or why the user does not get on.
+    pub(crate) fn said_rule(&self, alloc: Global) -> Result<String, AllocError>
+        ensures { IfOk result (λ text. string_bytes text ≡ said_rule self.now.rule self.now.no_logon) }
+    {
+        match &self.no_logon {
+            Some(no_logon) => no_logon_text(alloc, no_logon),
+            None => self.rule.text(alloc),
+        }
+    }
+
+    fn verdict_line(&self, alloc: Global) -> Result<String, AllocError>
+        ensures { IfOk result (λ text. string_bytes text ≡ verdict_line self.now) }
+    {
+        let (verdict, rule) = (self.said_verdict(), self.said_rule(alloc)?);
+        let rule = rule.as_str();
+        format!(in alloc; "{verdict} {rule}\n")
+    }
 
     /// What is needed, if a command is asked about, the profiles that cover, and the verdict with its rule.
     pub fn text(&self, alloc: Global) -> Result<String, AllocError>
@@ -272,7 +299,7 @@ impl Why {
     {
         let mut text = needs_text(alloc, &self.wanted)?;
         text.push_str(covers_text(alloc, &self.covers)?.as_str())?;
-        text.push_str(verdict_line(alloc, self.verdict, self.rule)?.as_str())?;
+        text.push_str(self.verdict_line(alloc)?.as_str())?;
         Ok(text)
     }
 }

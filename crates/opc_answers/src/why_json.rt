@@ -69,12 +69,12 @@ fn why_value(alloc: Global, why: &Why) -> Result<Value, AllocError>
     let console = console_value(alloc, &why.console)?;
     let covers = covers_value(alloc, &why.covers)?;
     let group = group_value(alloc, &why.wanted)?;
-    let rule = why.rule.text(alloc)?;
+    let rule = why.said_rule(alloc)?;
     let user = user_value(alloc, &why.actor)?;
     let wanted = &why.wanted;
     let (class, resource, level) = (wanted.class(), wanted.resource(), wanted.level());
     let (class, resource, level) = (class.text(), resource.text(), level.text());
-    let (rule, verdict) = (rule.as_str(), why.verdict.text());
+    let (rule, verdict) = (rule.as_str(), why.said_verdict());
     json!(in alloc; {
         "as": taken, "class": class, "console": console, "covers": covers, "group": group, "level": level,
         "resource": resource, "rule": rule, "user": user, "verdict": verdict

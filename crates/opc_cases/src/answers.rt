@@ -7,7 +7,7 @@ use crate::table::alone;
 use crate::words::{class_in, first_word, level_in};
 use anyhow::{Result, bail};
 use opc_answers::answer::{Answer, answer_of};
-use opc_answers::counts::{Counts, Share, count_undecided, counts_text};
+use opc_answers::counts::{Counts, Share, count_no_logon, count_undecided, counts_text};
 use opc_answers::lines::UserLine;
 use opc_answers::question::{About, Asks, Question};
 use opc_answers::text::{beginning_text, console_lines_text, users_text};
@@ -86,6 +86,7 @@ fn who_text(alloc: Global, who: &Who, allowed: bool) -> Result<String, AllocErro
     let counts = Counts {
         users: Share::of_users(users),
         undecided: count_undecided(users),
+        no_logon: count_no_logon(users),
         raised: Share::of_users(raised),
         consoles,
     };

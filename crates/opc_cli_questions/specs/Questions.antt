@@ -1,9 +1,10 @@
 -- Questions about a policy, what its rows answer, and how that is written.
-use Rattle.std.specs.Prelude.{ℕ, Bool, ◌||◌, List, Some, Result, Ok, Err}
+use Rattle.std.specs.Prelude.{ℕ, Bool, ◌||◌, List, Option, Some, None, Result, Ok, Err}
 use Rattle.opc_terms.specs.declared.fault.Fault.{Fault}
 use Rattle.opc_policy_members.specs.declared.policy.Policy.{Policy}
 use Rattle.opc_policy_members.specs.declared.row.Row.{Row}
 use Rattle.opc_policy_members.specs.Taken.{no_policy, policy_after}
+use Rattle.opc_policy.specs.declared.verdict.Verdict.{Verdict}
 use Rattle.opc_answers.specs.Answers.{answer_of}
 use Rattle.opc_answers.specs.Json.{who_json}
 use Rattle.opc_answers.specs.Texts.{who_text}
@@ -11,6 +12,7 @@ use Rattle.opc_answers.specs.Why.{why_text}
 use Rattle.opc_answers.specs.WhyJson.{why_json}
 use Rattle.opc_answers.specs.declared.answer.Answer.{Answer as Answered}
 use Rattle.opc_answers.specs.declared.answer.Answer.TheVariants as answer
+use Rattle.opc_answers.specs.declared.logons.NoLogon.{NoLogon}
 use Rattle.opc_answers.specs.declared.question.About.{About}
 use Rattle.opc_answers.specs.declared.question.About.TheVariants as about
 use Rattle.opc_answers.specs.declared.question.Asks.TheVariants as asks
@@ -19,7 +21,7 @@ use Rattle.opc_answers.specs.declared.why.Why.{Why}
 use Rattle.opc_check.specs.declared.form.Form.{Form}
 use Rattle.opc_check.specs.declared.form.Form.TheVariants.{Json, Text}
 use Rattle.opc_cli_failures.specs.declared.status.Status.{Status}
-use Rattle.opc_cli_failures.specs.declared.status.Status.TheVariants.{Done}
+use Rattle.opc_cli_failures.specs.declared.status.Status.TheVariants.{Done, Refused}
 use Rattle.opc_cli_words.specs.declared.command_question.CommandQuestion.{CommandQuestion}
 use Rattle.opc_cli_words.specs.declared.question.Question.{Question as AccessQuestion}
 use Rattle.opc_cli_words.specs.declared.who.Asked.{Asked}
@@ -78,9 +80,14 @@ shown form answer.Nothing = nothing_text form
 shown form (answer.Why why) = why_shown form why
 shown form (answer.Who who allowed) = who_shown form allowed who
 
+-- a user who does not get on may not
+abbrev pub status_of_why : Verdict → Option NoLogon → Status
+status_of_why verdict None = status_of_verdict verdict
+status_of_why verdict (Some why) = Refused
+
 abbrev pub status_of : Answered → Status
 status_of answer.Nothing = Done
-status_of (answer.Why why) = status_of_verdict why.verdict
+status_of (answer.Why why) = status_of_why why.verdict why.no_logon
 status_of (answer.Who who allowed) = Done
 
 abbrev pub written : Form → Result Answered Fault → Result Answer Fault

@@ -4,7 +4,7 @@ ghost use Rattle.std.specs.Io.KnownBytes.{Appends};
 ghost use Rattle.opc_answers.specs.Answers.{CanBePrinted};
 ghost use Rattle.opc_cli_failures.specs.Statuses.{IsFailure};
 ghost use Rattle.opc_cli_questions.specs.Printed.{IsAnsweredBy, IsReportedBy, IsWritten, left_in, status_of_verdict};
-ghost use Rattle.opc_cli_questions.specs.Questions.{question_answer, shown, status_of, why_shown};
+ghost use Rattle.opc_cli_questions.specs.Questions.{question_answer, shown, status_of, status_of_why, why_shown};
 
 use crate::openings::Openings;
 use crate::policy_file::{paths_of, place_of, read_rows_from};
@@ -131,11 +131,21 @@ fn status_of_verdict(verdict: Verdict) -> Status
     }
 }
 
+/// A user who does not get on may not.
+fn status_of_why(why: &Why) -> Status
+    ensures { result ≡ status_of_why why.now.verdict why.now.no_logon }
+{
+    match why.no_logon {
+        Some(_) => Status::Refused,
+        None => status_of_verdict(why.verdict),
+    }
+}
+
 fn status_of(answer: &Answer) -> Status
     ensures { result ≡ status_of answer.now }
 {
     match answer {
-        Answer::Why(why) => status_of_verdict(why.verdict),
+        Answer::Why(why) => status_of_why(why),
         Answer::Nothing | Answer::Who(..) => Status::Done,
     }
 }

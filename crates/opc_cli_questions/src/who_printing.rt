@@ -3,13 +3,13 @@ ghost use Rattle.std.specs.Prelude.{◌≡◌, ◌+◌, ◌++◌, IfErr, IfOk, O
 ghost use Rattle.std.specs.Io.KnownBytes.{Appends};
 ghost use Rattle.opc_cli_failures.specs.Statuses.{IsFailure};
 ghost use Rattle.opc_answers.specs.Who.{HasDecider, consoles_of, raised_of, raised_there, users_of};
-ghost use Rattle.opc_answers.specs.Texts.{console_share_of, counts_of, is_undecided, share_of};
+ghost use Rattle.opc_answers.specs.Texts.{cannot_log_on, console_share_of, counts_of, is_undecided, share_of};
 ghost use Rattle.opc_cli_questions.specs.Questions.{who_shown};
 ghost use Rattle.opc_cli_questions.specs.WhoPrinted.{beginning, consoles_shown, ending, users_shown};
 
 use crate::printing::{no_memory, print_text};
 use opc_answers::consoles::ConsoleLine;
-use opc_answers::counts::{Counts, Share, count_undecided, counts_text};
+use opc_answers::counts::{Counts, Share, count_no_logon, count_undecided, counts_text};
 use opc_answers::json::{consoles_json, question_json, users_json};
 use opc_answers::lines::UserLine;
 use opc_answers::text::{beginning_text, console_lines_text, users_text};
@@ -101,11 +101,12 @@ fn print_users<W: Write>(
     print_text(text.as_str(), output)
 }
 
-/// How many of the users may, and of how many nothing is said.
+/// How many of the users may, of how many nothing is said, and how many do not get on.
 #[derive(Clone, Copy)]
 struct UserCounts {
     share: Share,
     undecided: usize,
+    no_logon: usize,
 }
 
 /// Prints what is said of each user, and counts.
@@ -121,6 +122,7 @@ fn print_all_users<W: Write>(
     ensures counts { IfOk result (λ counts. counts ≡ record {
       share = share_of (users_of who.now);
       undecided = count_by is_undecided (users_of who.now);
+      no_logon = count_by cannot_log_on (users_of who.now);
     }) }
     ensures fails { IfErr result (λ failure. IsFailure failure.fault) }
 {
@@ -132,6 +134,7 @@ fn print_all_users<W: Write>(
     Ok(UserCounts {
         share: Share::of_users(lines),
         undecided: count_undecided(lines),
+        no_logon: count_no_logon(lines),
     })
 }
 
@@ -268,6 +271,7 @@ fn print_lines<W: Write>(
     Ok(Counts {
         users: users.share,
         undecided: users.undecided,
+        no_logon: users.no_logon,
         raised,
         consoles,
     })

@@ -1,0 +1,83 @@
+//! Where users get on: at each console, or at the one that is named.
+ghost use Rattle.std.specs.Prelude.{◌≡◌, IfOk, map};
+ghost use Rattle.opc_answers.specs.Logons.{door_of};
+ghost use Rattle.opc_answers.specs.Doors.{AreDoorsAt, no_logon_by};
+ghost use Rattle.opc_answers.specs.Who.{unless_on};
+
+use crate::lines::{UserLine, is_denied};
+use crate::logons::{Door, NoLogon, nowhere};
+use crate::members::Member;
+use crate::who::AskedAt;
+use opc_board::board::Board;
+use opc_board::rows::ConsoleRow;
+use opc_policy_members::policy::Policy;
+use std::alloc::{AllocError, Global};
+
+/// Where users get on: at the consoles of the board, at one of them, or wherever that does not count.
+#[derive(Drop)]
+pub(crate) enum Doors<'a> {
+    All(Vec<Door<'a>>),
+    One(Door<'a>),
+    Uncounted,
+}
+
+impl Doors<'_> {
+    /// Why a user does not get on there.
+    pub(crate) fn no_logon(&self, member: &Member) -> Option<NoLogon>
+        ensures { result ≡ no_logon_by self.now member.now }
+    {
+        match self {
+            Doors::All(doors) => nowhere(member, doors.as_slice()),
+            Doors::One(door) => door.no_logon(member),
+            Doors::Uncounted => None,
+        }
+    }
+
+    /// The line of a user, with why the user does not get on, unless it denies anyway.
+    pub(crate) fn unless_on(&self, member: &Member, line: UserLine) -> UserLine
+        ensures { result ≡ unless_on (no_logon_by self.now member.now) line }
+    {
+        if is_denied(&line.ruling) {
+            return line;
+        }
+        UserLine {
+            id: line.id,
+            ruling: line.ruling,
+            held: line.held,
+            no_logon: self.no_logon(member),
+        }
+    }
+}
+
+fn all_doors<'a>(
+    alloc: Global,
+    policy: &'a Policy,
+    consoles: &[ConsoleRow],
+) -> Result<Vec<Door<'a>>, AllocError>
+    ensures { IfOk result (λ doors. doors.items ≡ map (door_of policy.entry.now) consoles.now) }
+{
+    let mut doors = Vec::new(alloc);
+    for console in consoles {
+        doors.push(Door::of(policy, console))?;
+    }
+    Ok(doors)
+}
+
+/// Those that count where it is asked about.
+pub(crate) fn doors_at<'a>(
+    alloc: Global,
+    policy: &'a Policy,
+    board: &Board,
+    at: &AskedAt,
+) -> Result<Doors<'a>, AllocError>
+    ensures { IfOk result (λ doors. AreDoorsAt policy.entry.now board.now at.now doors) }
+{
+    match at {
+        AskedAt::Everywhere => {
+            let doors = all_doors(alloc, policy, board.rows().consoles.as_slice())?;
+            Ok(Doors::All(doors))
+        }
+        AskedAt::OnBoard(console) => Ok(Doors::One(Door::of(policy, console))),
+        AskedAt::Named(_) => Ok(Doors::Uncounted),
+    }
+}

@@ -41,7 +41,7 @@ def any_source(chance: Random) -> dict[str, str]:
 
 def explain(chance: Random) -> list[Step]:
     """A policy file, good or bad, with a question."""
-    if one_in(chance, 3):
+    if one_in(chance, 2):
         return explain_command(chance)
     if one_in(chance, 2):
         rows, of = random_policies.first_policy(chance), random_policies.any_class(chance)
@@ -84,8 +84,9 @@ def explain(chance: Random) -> list[Step]:
 
 
 def with_consoles(chance: Random) -> bytes:
-    """A policy file with consoles of all modes."""
-    rows = random_policies.first_policy(chance) if one_in(chance, 3) else overlapping(chance)[0]
+    """A policy file with consoles of all modes; now and then one of its rows is refused."""
+    rows = random_policies.with_doors(chance) if one_in(chance, 2) else overlapping(chance)[0]
+    rows += [random_policies.row("connect", name="ANNA", id="OTHERS")] * one_in(chance, 12)
     rows += [
         random_policies.row(
             "console", name=name, value=world.any_auth(chance), flags=chance.choice(("OPTIONAL", "REQUIRED", "AUTO"))
@@ -98,6 +99,8 @@ def with_consoles(chance: Random) -> bytes:
 def command_asked(chance: Random, first: bytes) -> dict[str, str]:
     """A command, with what its unit is. No word of a command line has a NUL in it, and a hyphen begins an option."""
     words = {"command": random_lines.any_line(chance, state_of(first)).replace("\0", "\1").lstrip("-")}
+    if one_in(chance, 6):
+        words["command"] = random_lines.typed(chance, chance.choice(("LOGON", "LOGON ANNA", "LOGON X,Y,Z", "LOGOFF")))
     if one_in(chance, 3):
         words["as"] = chance.choice(("TSU", "STC:PAY", "JOB", "STC:", "STC:A.B", "JOB:PAY"))
     return words
@@ -140,7 +143,7 @@ def who_asked(chance: Random, first: bytes) -> dict[str, str]:
     else:
         words |= command_asked(chance, first)
     if one_in(chance, 3):
-        words["console"] = chance.choice(world.CONSOLES)
+        words["console"] = chance.choice((*world.CONSOLES, *filter(names.is_console, world.USERS)))
     if one_in(chance, 4):
         words["allowed"] = ""
     if one_in(chance, 3):

@@ -12,36 +12,38 @@ from .world import one_in
 PASSWORDS = {digest: word for word, digest in world.DIGESTS.items()}
 # what refuses a command for authority: other refusals say that it may be entered
 NOT_ALLOWED = ("E12", "E13", "E20", "E21")
+# what `who` says of a user, by what comes of it
+SAID = {
+    "may": ("ALLOWED", "WARNED"), "may not": ("DENIED",), "no logon": ("DENIED", "NOLOGON"),
+}
 
 
 def unit_event(words: dict[str, str]) -> list[str]:
     """The event that makes the unit what the command takes it for."""
-    kind, named = words.get("as"), reading.read(words["command"]).operands[:1]
-    return [f"* JOBIN {named[0]} {kind.replace(':', ' ')}"] if kind and named else []
+    kind, operands = words.get("as"), reading.read(words["command"]).operands
+    return [f"* JOBIN {operands[0]} {kind.replace(':', ' ')}"] if kind and operands else []
 
 
 def script_of(state: State, user: str, words: dict[str, str]) -> list[str]:
     """The lines of this user, who needs no LOGON where the console acts for the user."""
     console, stored = words["console"], state.policy.users[user]
-    password = PASSWORDS.get(stored.digest, world.PASSWORD)
-    log_on = [] if state.acting(console) == user else [f"{console} LOGON {user},{password}"]
-    lines = [*unit_event(words), *log_on, f"{console} {words['command']}"]
+    log_on = f"{console} LOGON {user},{PASSWORDS.get(stored.digest, world.PASSWORD)}"
+    lines = [*unit_event(words), *[log_on] * (state.acting(console) != user), f"{console} {words['command']}"]
     return [f"{at} {line}\n" for at, line in enumerate(lines)]
 
 
 def came_of(script: list[str], printed: str) -> str:
-    """Whether the command may be entered, once the LOGON is done."""
+    """Whether the command may be entered: the LOGON before it has to be done, if there is one."""
     answers = [line.split(" ") for line in printed.splitlines() if not line.startswith(" ")]
-    log_on = [answer for line, answer in zip(script[:-1], answers) if " LOGON " in line]
-    if any(answer[1] != "DONE" for answer in log_on):
+    if any(" LOGON " in line and answer[1] != "DONE" for line, answer in zip(script, answers)):
         return "no logon"
     return "may not" if answers[-1][2] in NOT_ALLOWED else "may"
 
 
 @dataclass
 class Enter:
-    """Each user logs on at a console of a policy file and enters the command there. What `who` said of the users who
-    get on there has to be what comes of it."""
+    """Each user logs on at a console of a policy file and enters the command there. What `who` said of the user has to
+    be what comes of it."""
     words: dict
     rows: bytes
 
@@ -61,10 +63,10 @@ class Enter:
             policy_file.write(self.rows)
         _, output, _ = run(["who", "--json", *options_of(self.words)], self.rows)
         lines = [line for line in map(json.loads, output.splitlines()) if line["kind"] == "user"]
-        may = {line["id"]: "may" if line["verdict"] in ("ALLOWED", "WARNED") else "may not" for line in lines}
+        verdicts = {line["id"]: line["verdict"] for line in lines}
         return self.each(
             lambda script: run(["run", "--policy", f"{file}.csv"], script)[1],
-            lambda user, came: came if came == "no logon" else may.get(user),
+            lambda user, came: came if verdicts.get(user) in SAID[came] else verdicts.get(user),
         )
 
     def model(self, _: State) -> Answers:
@@ -80,8 +82,11 @@ class Enter:
 
 def cases(chance: Random) -> list[Step]:
     """A policy file with a command at a console, which each user enters there."""
-    first = random_policies.with_doors(chance)
-    state, form = random_policies.state_of(first), "LOGON"
+    state, form = State(), "LOGON"
+    while not state.board.consoles:
+        rows = random_policies.with_doors(chance)
+        first = random_policies.joined(chance, random_policies.written(chance, rows), plain=True)
+        state = random_policies.state_of(first)
     while form in ("LOGON", "LOGOFF"):
         command = random_lines.typed(chance, random_lines.any_command(chance, state))
         form = reading.read(command).form

@@ -181,22 +181,18 @@ def state_of(data: bytes) -> State:
     return state
 
 
-def with_doors(chance: Random) -> bytes:
-    """A first policy that is taken, in which some users have no digest, and some consoles are kept from some users."""
-    while True:
-        rows = [
-            (*made[:7], "", *made[8:]) if made[0] == "user" and one_in(chance, 6) else made
-            for made in first_policy(chance)
-        ]
-        doors = [
-            row(
-                "profile", of="CONSOLE", name=world.any_pattern(chance, "CONSOLE"), owner="SECADM",
-                value=chance.choice(("NONE", "NONE", "READ")), flags="W" * one_in(chance, 6),
-            )
-            for _ in range(chance.choice((0, 1, 3)))
-        ]
-        ids = [made[2] for made in rows if made[0] in ("user", "group")]
-        rows += doors + [permit_row(chance, doors, ids) for _ in range(6) if doors]
-        first = joined(chance, written(chance, rows), plain=True)
-        if state_of(first).board.consoles:
-            return first
+def with_doors(chance: Random) -> list[Row]:
+    """A first policy in which some users have no digest, and some consoles are kept from some users."""
+    rows = [
+        (*made[:7], "", *made[8:]) if made[0] == "user" and one_in(chance, 6) else made
+        for made in first_policy(chance)
+    ]
+    doors = [
+        row(
+            "profile", of="CONSOLE", name=world.any_pattern(chance, "CONSOLE"), owner="SECADM",
+            value=chance.choice(("NONE", "NONE", "READ")), flags="W" * one_in(chance, 6),
+        )
+        for _ in range(chance.choice((0, 1, 3)))
+    ]
+    ids = [made[2] for made in rows if made[0] in ("user", "group")]
+    return rows + doors + [permit_row(chance, doors, ids) for _ in range(6) if doors]

@@ -9,7 +9,8 @@ from dataclasses import dataclass
 from lib import clients
 from lib.places import built
 from lib.service import Service
-from . import account, check, counting, digest, exchange, files, names, policy, reading, scripts, tables, who, why
+from . import account, check, counting, digest, exchange, files, names, policy, questions, reading, scripts, tables
+from . import who, why
 from .faults import Fault
 from .machine import State
 from .requests import Import
@@ -101,7 +102,7 @@ class Explain:
         of, console = self.words.get("class", "OPERCMDS"), self.words.get("console")
         good = names.is_user(user) and names.is_resource(resource) and level in names.LEVELS and of in names.CLASSES
         good = good and (console is None or names.is_console(console))
-        if not good or not who.has_one_source(self.words):
+        if not good or not questions.has_one_source(self.words):
             counting.met["explain", "words"] += 1
             return [("explain", (2, "", None))]
         try:
@@ -117,7 +118,7 @@ class Explain:
             "as": None, "class": of, "console": console, "group": None, "level": level, "resource": resource,
             "user": user,
         }
-        output = why.printed([], question, covering, outcome, rule, self.words)
+        output = why.printed(question, [], covering, (outcome, rule), self.words)
         return [("explain", (int(outcome == "DENIED"), output, ""))]
 
 
@@ -137,13 +138,14 @@ class ExplainCommand:
         found = State()
         try:
             rows = files.read(self.rows)
-            who.wants_command(self.words)
-            found.bootstrap(rows)
+            questions.wants_command(self.words)
+            if not questions.is_about_nothing(self.words):
+                found.bootstrap(rows)
             outcome, output = why.answer(found, self.words)
         except Fault as fault:
             return [("explain", refused("explain", fault))]
         counting.met["explain", outcome] += 1
-        return [("explain", (int(outcome == "DENIED"), output, ""))]
+        return [("explain", (int(outcome in ("DENIED", "NOLOGON")), output, ""))]
 
 
 @dataclass
@@ -156,14 +158,15 @@ class Who:
         return asked("who", self.words, self.rows, file)
 
     def model(self, _: State) -> Answers:
-        if not who.reads(self.words):
+        if not questions.reads(self.words):
             counting.met["who", "words"] += 1
             return [("who", (2, "", None))]
         found = State()
         try:
             rows = files.read(self.rows)
-            who.wants_command(self.words)
-            found.bootstrap(rows)
+            questions.wants_command(self.words)
+            if not questions.is_about_nothing(self.words):
+                found.bootstrap(rows)
             output = who.answer(found, self.words)
         except Fault as fault:
             return [("who", refused("who", fault))]
@@ -186,7 +189,7 @@ class Check:
         return [("check", (status, output, None if errors.startswith("error: ") else errors))]
 
     def model(self, _: State) -> Answers:
-        if not who.has_one_source(self.source):
+        if not questions.has_one_source(self.source):
             counting.met["check", "words"] += 1
             return [("check", (2, "", None))]
         output, rows = check.found(self.data, self.as_json)

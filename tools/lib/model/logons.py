@@ -1,0 +1,31 @@
+"""Who gets on at a console where nobody is on: the machine is asked, by a user who has the right password."""
+import hashlib
+
+from . import counting
+from .machine import State
+from .requests import Command
+
+PASSWORD = "TRIED"
+
+
+def tried(state: State, console: str, user: str) -> tuple[bool, str]:
+    """Whether a LOGON is done, and its rule."""
+    if state.policy.users[user].digest is None:
+        return False, "NODIGEST"
+    other = State(state.policy.copied(), state.board)
+    other.policy.users[user].digest = hashlib.sha256(PASSWORD.encode()).hexdigest()
+    with counting.aside():
+        answer = other.handle("0", Command(console, f"LOGON {user},{PASSWORD}"))
+    return answer.code is None, answer.rule
+
+
+def why_not(state: State, console: str | None, user: str) -> str | None:
+    """Why a user does not get on at the console, or at any without one; none if the user does."""
+    if console is None:
+        # (a policy without consoles is a part of one, and does not tell)
+        known = state.board.consoles
+        return "NOCONSOLE" if known and all(why_not(state, name, user) for name in known) else None
+    if state.acting(console) == user:
+        return None
+    is_admitted, rule = tried(state, console, user)
+    return None if is_admitted else rule

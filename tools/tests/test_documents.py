@@ -15,7 +15,9 @@ BLOCK = re.compile(r"(?ms)^```.*?^```")
 PART = re.compile(r"(?ms)^```\n(.*?)^```$")
 QUOTED = re.compile(r"`([^`\n]+)`")
 NAME = re.compile(r"\b(?:[a-z]+_[a-z_]+|[A-Z][a-z]+(?:[A-Z][a-z]*)+)\b")
+LOGON = re.compile(r"\b\d+ (\w+) (LOGON|LOGOFF)\b")
 LONGEST_REASON = 60
+README_WORDS, README_LINES = 1_500, 150
 
 
 def text_of(path: str) -> str:
@@ -108,14 +110,25 @@ class Documents(unittest.TestCase):
         self.assertEqual(is_index_complete(f"{TOP}/examples/scripts", ".script", index), [])
 
     def test_ports_are_opened_with_nobody_on(self) -> None:
-        for path in ("README.md", "packaging/opcmds.1"):
+        for path in ("docs/GUIDE.md", "packaging/opcmds.1"):
             with self.subTest(path):
                 before = text_of(f"{TOP}/{path}").rpartition("opcmds serve --db")[0]
-                on: dict[str, str] = {}
-                for console, verb in re.findall(r"\b\d+ (\w+) (LOGON|LOGOFF)\b", before):
-                    on[console] = verb
                 self.assertIn("LOGON SECADM", before)
-                self.assertEqual({*on.values()}, {"LOGOFF"})
+                self.assertEqual({*dict(LOGON.findall(before)).values()}, {"LOGOFF"})
+
+    def test_readme_leaves_nobody_on(self) -> None:
+        self.assertEqual(dict(LOGON.findall(text_of(f"{TOP}/README.md"))), {"C1": "LOGOFF"})
+
+    def test_readme_is_short(self) -> None:
+        readme = text_of(f"{TOP}/README.md")
+        self.assertLessEqual(len(readme.split()), README_WORDS)
+        self.assertLessEqual(readme.count("\n"), README_LINES)
+
+    def test_rows_that_readme_explains_are_those_of_the_example(self) -> None:
+        rows = re.findall(r"(?m)^\| `(\w+,\w*,[^`]*)` \|", text_of(f"{TOP}/README.md"))
+        policy = text_of(f"{TOP}/examples/base-policy.csv").splitlines()
+        self.assertTrue(rows)
+        self.assertEqual([row for row in rows if row not in policy], [])
 
     def test_readme_shows_stored_runs(self) -> None:
         readme, tour = text_of(f"{TOP}/README.md"), f"{TOP}/examples/scripts/tour"

@@ -1,4 +1,4 @@
-"""Which blocks of a page are sessions, and of what they consist."""
+"""Which blocks of a page are sessions, of what they consist, and which commands stand in a table."""
 import re
 from typing import NamedTuple
 
@@ -8,6 +8,9 @@ ANSWERS = re.compile(r"\s*\| The script \| The answers \|.*\n\|[-|]+\n((?:\|.*\n
 ANSWER = re.compile(r"(?m)^\| `[^`]*` \| `([^`]*)` \|")
 # a file that a page shows before it is used: a paragraph ends with its name, and a block follows
 FILE = re.compile(r"(?m)^.*`([\w.-]+)`[^`\n]*:\n\n *```\w*\n((?:(?!\$ ).*\n)*?) *```$")
+# a table of what there is to do, with the command for each
+JOBS = re.compile(r"(?m)^\| To \| Type \|\n\|[-|]+\n((?:\|.*\n)+)")
+JOB = re.compile(r"(?m)^\|[^|`]*\| `([^`]*)` \|$")
 
 
 class Run(NamedTuple):
@@ -39,6 +42,11 @@ def runs_in(text: str) -> list[Run]:
         if table := ANSWERS.match(text, block.end()):
             found[-1].printed.extend(ANSWER.findall(table[1]))
     return found
+
+
+def jobs_in(text: str) -> list[str]:
+    """The commands of the tables of what there is to do."""
+    return [command for table in JOBS.findall(text) for command in JOB.findall(table)]
 
 
 def files_in(text: str) -> dict[str, str]:

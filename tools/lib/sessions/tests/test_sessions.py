@@ -1,8 +1,10 @@
-"""Sessions are found in a page, and run as a reader types them."""
+"""Sessions and jobs are found in a page, and run as a reader types them."""
+import os
 import tempfile
 import unittest
 
-from lib.sessions.pages import Run, files_in, runs_in
+from lib.sessions.jobs import faults_of
+from lib.sessions.pages import Run, files_in, jobs_in, runs_in
 from lib.sessions.shell import Shell
 
 PAGE = """\
@@ -41,6 +43,15 @@ $ program < tour.script
 | `2 C1 D U` | `2 REFUSED E12` | nobody is on |
 
 And `another.csv` is not shown.
+
+| To | Type |
+|---|---|
+| look | `program who < day.csv` |
+| write | `(umask 077; program export > day.csv)` |
+
+| To | Run |
+|---|---|
+| build | `tools/build` |
 """
 
 
@@ -57,6 +68,20 @@ class Sessions(unittest.TestCase):
 
     def test_files(self) -> None:
         self.assertEqual(files_in(PAGE), {"day.csv": "kind,class\ngroup,,DAY\n"})
+
+    def test_jobs(self) -> None:
+        self.assertEqual(jobs_in(PAGE), ["program who < day.csv", "(umask 077; program export > day.csv)"])
+
+    def test_faults_of_jobs(self) -> None:
+        good = ["true", "cat no-such-file", "echo LISTENING here; sleep 60", "echo a > b", "cat b; read line"]
+        bad = ["echo no; exit 2", "exit 3", "no-such-command"]
+        with tempfile.TemporaryDirectory() as folder:
+            self.assertEqual(faults_of(good, folder, folder), [])
+            found = faults_of(bad, folder, folder)
+            self.assertEqual(os.listdir(folder), ["b"])
+        self.assertEqual([fault.partition(", ")[0] for fault in found], [
+            "echo no; exit 2: status 2", "exit 3: status 3", "no-such-command: status 127",
+        ])
 
     def test_a_shell(self) -> None:
         with tempfile.TemporaryDirectory() as folder, Shell(folder, folder) as shell:

@@ -149,7 +149,7 @@ class Runs(unittest.TestCase):
             "layout opc_low: passed",
             "layout opc_middle: passed",
             "layout opc_low_cases: passed",
-            "selftest test_documents test_crates test_minutes test_commands: good",
+            "selftest test_documents test_crates test_minutes test_commands test_proved_page: good",
             "doubles HEAD: good",
             "rt check opc_low: good",
             "rt check opc_middle: good",

@@ -1,6 +1,6 @@
 """The documents: links lead to files and headings that are there, names in them are names of the code, the picture of
 the layers is that of crates.txt, decisions are numbered and short, scripts of examples/ have a line in its index, and
-what README shows of runs is what is stored of them."""
+what README shows of runs is what is stored of them, and what PROVED quotes of the sources stands in them."""
 import os
 import re
 import subprocess
@@ -14,6 +14,8 @@ TOP = os.path.dirname(os.path.dirname(os.path.dirname(os.path.abspath(__file__))
 BLOCK = re.compile(r"(?ms)^```.*?^```")
 PART = re.compile(r"(?ms)^```\n(.*?)^```$")
 QUOTED = re.compile(r"`([^`\n]+)`")
+OF_SOURCES = re.compile(r"(?ms)^```rattle\n(.*?)^```$")
+SOURCE = re.compile(r"`(opc_\w+/[\w/]+\.(?:rt|antt))`")
 NAME = re.compile(r"\b(?:[a-z]+_[a-z_]+|[A-Z][a-z]+(?:[A-Z][a-z]*)+)\b")
 LOGON = re.compile(r"\b\d+ (\w+) (LOGON|LOGOFF)\b")
 LONGEST_REASON = 60
@@ -129,6 +131,23 @@ class Documents(unittest.TestCase):
         policy = text_of(f"{TOP}/examples/base-policy.csv").splitlines()
         self.assertTrue(rows)
         self.assertEqual([row for row in rows if row not in policy], [])
+
+    def test_quotes_stand_in_the_sources(self) -> None:
+        """Each block of Rattle stands in the file that is named last before it, spaces aside."""
+        text = text_of(f"{TOP}/docs/PROVED.md")
+        found = list(OF_SOURCES.finditer(text))
+        self.assertGreater(len(found), 5)
+        for quote in found:
+            path = SOURCE.findall(text[: quote.start()])[-1]
+            with self.subTest(path, quote=quote[1].split("\n")[0]):
+                self.assertIn("".join(quote[1].split()), "".join(text_of(f"{TOP}/crates/{path}").split()))
+
+    def test_paths_in_proved_are_in_the_index(self) -> None:
+        index = QUOTED.findall(text_of(f"{TOP}/docs/promises.md"))
+        quoted = QUOTED.findall(BLOCK.sub("", text_of(f"{TOP}/docs/PROVED.md")))
+        paths = [it for it in quoted if re.search(r"\w::\w", it)]
+        self.assertGreater(len(paths), 80)
+        self.assertEqual([path for path in paths if not any(f"::{it}".endswith(f"::{path}") for it in index)], [])
 
     def test_readme_shows_stored_runs(self) -> None:
         readme, tour = text_of(f"{TOP}/README.md"), f"{TOP}/examples/scripts/tour"

@@ -1,6 +1,10 @@
 """Policies whose answer to `who` is far longer than they are."""
+import hashlib
+
 from lib.places import WIDE_HEADER
 
+# without a digest no user gets on anywhere, so nobody may
+DIGEST = hashlib.sha256(b"ABC").hexdigest()
 ENQUIRY = ["who", "--command", "D A,L"]
 
 
@@ -10,8 +14,8 @@ def crowd(count: int) -> str:
     rows = [
         WIDE_HEADER,
         "class,OPERCMDS,,,ACTIVE,,,,,",
-        "user,,SECADM,,,,S,,,",
-        *(f"user,,U{at:05},,,,,,," for at in places[1:]),
+        f"user,,SECADM,,,,S,{DIGEST},,",
+        *(f"user,,U{at:05},,,,,{DIGEST},," for at in places[1:]),
         *(f"console,,C{at:05},,INFO,,OPTIONAL,,," for at in places),
         "profile,OPERCMDS,MVS.**,,NONE,SECADM,,,,",
         *(f"permit,OPERCMDS,MVS.**,*,READ,,,,C{at:05}," for at in places),

@@ -62,6 +62,10 @@ RESPONSE = re.compile(
 )
 
 
+# how what is said of arguments that do not read begins; without any it is the first screen
+MISTAKES = ("error: ", "Decides from a written policy ")
+
+
 class Form(NamedTuple):
     """What the table says of a fault: the form of its text, the status of a response with it, and that of a run."""
     text: re.Pattern[str]
@@ -115,7 +119,7 @@ def wrong_said(status: int, said: bytes) -> str | None:
         return None
     if status == 0:
         return None if MADE.fullmatch(text) else f"it is done, and says {text[:200]!r}"
-    if status == 2 and text.startswith("error: "):
+    if status == 2 and text.startswith(MISTAKES):
         return None
     if status == 2 and text.startswith("opcmds: script"):
         return wrong_note(text)

@@ -1,4 +1,4 @@
--- What a hole with a width writes.
+-- What a format hole with a width writes.
 use Rattle.std.proofs.Common.{
   ◌≡◌,
   ℕ,

@@ -21,7 +21,7 @@ with_console row b = record b { consoles = replaced row b.consoles }
 abbrev pub loses_master : List ConsoleRow → List ConsoleRow → Bool
 loses_master old new = has_master old && not (has_master new)
 
--- a console becomes this row, unless the last master is lost by it
+-- a console becomes this row, unless that loses the last master
 abbrev pub vary_faults : ConsoleRow → BoardRows → List (Bool × BoardFault)
 vary_faults row b = (loses_master b.consoles (replaced row b.consoles), LastMaster) ∷ []
 

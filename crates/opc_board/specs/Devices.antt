@@ -31,7 +31,7 @@ vary_offline number b = do
   device ← found NoDevice (device_at b number)
   faults_or (offline_faults device) (done (with_device (record device { online = false }) b))
 
--- M dev,VOL=volume: a volume onto an online device that has none, whoever has the device
+-- M dev,VOL=volume: a volume is mounted on an online device that has none, whoever has the device
 abbrev pub mount_faults : DeviceRow → List (Bool × BoardFault)
 mount_faults d = (not d.online, DeviceState) ∷ (is_some d.volume, DeviceState) ∷ []
 
@@ -40,7 +40,7 @@ mount number volume b = do
   device ← found NoDevice (device_at b number)
   faults_or (mount_faults device) (done (with_device (record device { volume = Some volume }) b))
 
--- U dev: the volume off a device that nobody has, online or not
+-- U dev: the volume is removed from a device that nobody has, online or not
 abbrev pub unload_faults : DeviceRow → List (Bool × BoardFault)
 unload_faults d = (is_none d.volume, NoVolume) ∷ (is_some d.unit, DeviceInUse) ∷ []
 

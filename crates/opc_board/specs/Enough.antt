@@ -1,4 +1,4 @@
--- The smallest footprint of a command or an event: the rows that it names, and those that it asks about.
+-- The smallest footprint of a command or an event: the rows that it names, and those that it depends on.
 use Rattle.std.specs.Prelude.{ℕ, Bool, true, false, ◌||◌, ◌==◌, Option, Some, None}
 use Rattle.opc_reader_commands.specs.declared.command.Command.{Command}
 use Rattle.opc_reader_commands.specs.declared.command.Command.TheVariants.{

@@ -124,9 +124,9 @@ abbrev pub HasVaried : Footprint → BoardRows → Name → Type 0
 HasVaried footprint b name = (footprint.consoles name ≡ true)
     × (has_other_master name (only footprint b).consoles ≡ has_other_master name b.consoles)
 
--- What the footprint of a command has to have: what the command names, and what it asks about others. A display of all
--- rows needs them all, and SE needs to know whether the user is logged on at some console. Any choice that has these
--- rows will do.
+-- What the footprint of a command must have: what the command names, and what it depends on besides. A display of all
+-- rows needs them all, and SE needs to know whether the user is logged on at some console. Any set with these rows will
+-- do.
 abbrev pub IsFootprintOf : Footprint → BoardRows → Command → Name → Type 0
 IsFootprintOf footprint b DisplayUnits console = (name : Name) → footprint.units name ≡ true
 IsFootprintOf footprint b (DisplayUnit name) console = footprint.units name.value ≡ true

@@ -1,4 +1,4 @@
--- What a command or an event comes to.
+-- The outcome of a command or an event.
 use Rattle.std.specs.Prelude.{
   ◌≡◌,
   ◌≢◌,
@@ -35,13 +35,13 @@ done_with board lines = Ok (record { board = board; lines = lines })
 abbrev pub done : BoardRows → BoardOutcome
 done board = done_with board []
 
--- A call without lines came to this outcome: the new board is that of the outcome, or it met the outcome's fault and
+-- A call without lines had this outcome: the new board is that of the outcome, or the call met the outcome's fault and
 -- left the board as it was.
 abbrev pub ComesTo : (old new : BoardRows) → BoardOutcome → Result Unit BoardFault → Type 0
 ComesTo old new outcome result = MatchResult result (λ _. outcome ≡ done new)
     (λ fault. (new ≡ old) × (outcome ≡ Err fault))
 
--- the same of a call that takes memory, which may be refused
+-- the same of a call that allocates, which may fail
 abbrev pub ComesToOrNoMemory : (old new : BoardRows) → BoardOutcome → Result Unit BoardFault → Type 0
 ComesToOrNoMemory old new outcome result =
     MatchResult result (λ _. outcome ≡ done new) (λ fault. (new ≡ old) × (fault ≢ NoMemory → outcome ≡ Err fault))
@@ -51,7 +51,7 @@ abbrev pub faults_or : List (Bool × BoardFault) → BoardOutcome → BoardOutco
 faults_or [] outcome = outcome
 faults_or ((there, fault) ∷ faults) outcome = if there then Err fault else faults_or faults outcome
 
--- what was looked up, or this fault if there is none
+-- what was found, or this fault if nothing was
 abbrev pub found : {A : Type 0} → BoardFault → Option A → Result A BoardFault
 found fault (Some x) = Ok x
 found fault None = Err fault

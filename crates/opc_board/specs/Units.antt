@@ -71,7 +71,7 @@ job_end name b = do
   unit ← found NoUnit (unit_at b name)
   done (without_unit name b)
 
--- a new unit comes, on a day that isn't halted
+-- a new unit comes, on a day that is not halted
 abbrev pub new_unit : Name → UnitKind → Bool → UnitRow
 new_unit name kind cancelable = record {
   name = name;

@@ -33,7 +33,7 @@ impl Board {
     }
 
     /// Runs a command that is typed at a console of the board, and returns its lines in order, unfiltered. LOGON and
-    /// LOGOFF are not the board's. After a fault, refused memory included, the board is as it was.
+    /// LOGOFF are not the board's. After a fault, a failed allocation included, the board is as it was.
     pub fn act(
         &mut self,
         alloc: Global,
@@ -108,7 +108,7 @@ impl Board {
         }
     }
 
-    /// Lets an event happen. After a fault, refused memory included, the board is as it was.
+    /// Lets an event happen. After a fault, a failed allocation included, the board is as it was.
     pub fn event(&mut self, alloc: Global, event: &Event) -> Result<(), BoardFault>
         ensures done { OnOk result (event_effect self.old event.now ≡ done self.new) }
         ensures refused { IfErr result (λ fault. fault ≢ NoMemory → event_effect self.old event.now ≡ Err fault) }

@@ -93,7 +93,7 @@ impl BoardRows {
 }
 
 impl UnitKind {
-    /// The kind of a unit that is found, as needs go by it.
+    /// The kind of the unit that was found, on which needs depend.
     pub fn found(&self) -> UnitKindAt
         ensures { result ≡ kind_found self.now }
     {
@@ -156,7 +156,7 @@ impl Board {
         &self.rows
     }
 
-    /// What a unit of this name is, or that there is none: what `opc_table::need` asks, for those who have a whole
+    /// What a unit of this name is, or that there is none: what `opc_table::need` depends on, for callers with a whole
     /// board. The gate loads the unit alone.
     pub fn kind_at(&self, name: &UnitName) -> UnitKindAt
         ensures { result ≡ kind_at self.now name.now }

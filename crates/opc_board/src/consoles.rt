@@ -1,4 +1,4 @@
-//! Consoles that come and change.
+//! Consoles that are added and change.
 ghost use Rattle.std.specs.Prelude.{◌≡◌, if◌then◌else◌, IsSome, IsSomeAnd, None, OnErr, OnOk};
 ghost use Rattle.std.specs.List.{list_any};
 ghost use Rattle.opc_board.specs.declared.fault.BoardFault.TheVariants.{NoTarget};
@@ -29,7 +29,7 @@ use opc_terms::mode::Mode;
 use std::alloc::AllocError;
 
 impl ConsoleRow {
-    // The same as `is_master`, with the other row in its place if that has its name.
+    // The same as `is_master`, but with the other row in its place if that has its name.
     fn is_master_with(&self, row: &ConsoleRow) -> bool
         ensures { result ≡ is_master (if is self.now.name row.now.name then row.now else self.now) }
     {
@@ -172,7 +172,7 @@ impl Board {
         self.set_user(name, None);
     }
 
-    // Adds a console that isn't there.
+    // Adds a console that is not there.
     fn add_console(&mut self, name: ConsoleName, auth: Auth, mode: Mode) -> Result<(), AllocError>
         requires { console_at self.old name ≡ None }
         ensures added { OnOk result (self.new ≡ defined name auth mode None self.old) }
@@ -189,8 +189,8 @@ impl Board {
         Ok(())
     }
 
-    /// Gives a console its authority and mode. A new console comes online with nobody logged on. Whether that loses the
-    /// last master is not asked here: `has_master` answers that before and after.
+    /// Gives a console its authority and mode. A new console comes online with nobody logged on. This does not check
+    /// whether the last master is lost: the caller compares `has_master` before and after.
     pub fn define_console(
         &mut self,
         name: ConsoleName,

@@ -1,4 +1,4 @@
-//! Devices that come and change.
+//! Devices that are added and change.
 ghost use Rattle.std.specs.Prelude.{◌≡◌, IfOk};
 ghost use Rattle.opc_board.specs.declared.fault.BoardFault.TheVariants.{NoDevice};
 ghost use Rattle.opc_board.specs.Invariants.{IsHeldRightly, device_at};

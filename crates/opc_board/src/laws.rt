@@ -17,7 +17,7 @@ pub fn histories_only_grow()
 {}
 
 /// Commands, events, logons and logoffs do on their footprint what they do on the whole board, and leave its other rows
-/// as they are. The rows that a command or an event names or asks about are enough for a footprint.
+/// as they are. The rows that a command or an event names or depends on are enough for a footprint.
 pub fn footprints_suffice()
     ensures commands { CommandsAreLocal }
     ensures events { EventsAreLocal }

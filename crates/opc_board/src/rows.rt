@@ -62,7 +62,7 @@ pub struct ConsoleRow {
     pub mode: Mode,
     pub online: bool,
     pub user: Option<UserId>,
-    /// Whether it shows messages of jobs that come and go.
+    /// Whether it shows messages of jobs that start and end.
     pub monitor: bool,
 }
 
@@ -76,7 +76,7 @@ impl Keyed for ConsoleRow {
     }
 }
 
-/// An open reply with the text that it asks, or an answered one with the answer.
+/// An open reply with the text of its question, or an answered one with the answer.
 #[derive(Drop)]
 pub struct ReplyRow {
     pub id: ReplyId,

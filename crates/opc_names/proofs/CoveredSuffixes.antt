@@ -92,7 +92,7 @@ pub prepended_stars : (q : List Token) (p : List (List Token)) (r : List (List �
 prepended_stars q p [] = refl
 prepended_stars q p (s ∷ r) = let here = any_covered p (suffixes (s ∷ r)) in let rest = prepended_stars q p r in cc
 
--- no qualifier covers only the empty suffix
+-- without qualifiers, only the empty suffix is covered
 pub nothing_is : (r : List (List ℕ)) → covered_suffixes [] r ≡ replicate (length r) false ++ true ∷ []
 nothing_is [] = refl
 nothing_is (s ∷ r) = ap (λ bs. false ∷ bs) (nothing_is r)
@@ -102,7 +102,7 @@ pub prefix_written : (old new : List Bool) (x : Bool) → 0 < length old → sli
 prefix_written [] new x h = absurd (omega (arith, h))
 prefix_written (b ∷ bs) new x h = grind (arith, common_steps)
 
--- the places for the suffixes of a name, of which only the last is true, stand for no qualifier
+-- the places for the suffixes of a name, of which only the last is true, stand for a pattern without qualifiers
 pub nothing_prepended : (n : ℕ) (r : List (List ℕ)) → length r < n → take (length r + 1) (slice_set (replicate n false) (length r) true) ≡ covered_suffixes [] r
 nothing_prepended n r h =
     let short : length r < length (replicate n false) = rw length-replicate h in

@@ -1,4 +1,4 @@
--- What a hole of two digits writes.
+-- What a format hole of two digits writes.
 use Rattle.std.proofs.Common.{◌≡◌, ℕ, ◌-◌, ◌^◌, false, [], ◌∷◌, ◌++◌, replicate, refl, ap, arith, suc, zero, append-nil}
 use Rattle.std.specs.Fmt.{char_count, padded_integral, format_spec, decimal}
 use Rattle.std.specs.List.{repeat}

@@ -1,4 +1,4 @@
--- A text that reads as a group's or a console's name reads as a user's id.
+-- A text that is a group's or a console's name is a valid user id.
 use Rattle.std.proofs.Common.{◌≡◌, ℕ, ◌+◌, true, false, not, cond, List, [], ◌∷◌, length, Some, None, refl, sym, subst, ◌∙◌, arith}
 use Rattle.std.specs.Prelude.{nat_lt}
 use Rattle.std.specs.List.{position}

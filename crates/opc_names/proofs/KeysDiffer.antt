@@ -58,7 +58,7 @@ same_tokens opened (t ∷ p) (u ∷ q) a b e =
     let tokens = same_tokens (is_open t) p q a.1 b.1 (subst (λ x. sort_key_after (is_open t) p ≡ sort_key_after (is_open x) q) (sym token) rest) in
     cc
 
--- texts with the same tokens are one
+-- texts with the same tokens are the same
 pub same_text : (p q : List ℕ) → tokens p ≡ tokens q → p ≡ q
 same_text p q e = sym (spelled p) ∙ ap (flat_map spelling) e ∙ spelled q
 

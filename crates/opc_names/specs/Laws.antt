@@ -46,6 +46,6 @@ LongerHeadsComeFirst =
     (p q r : List ℕ) → IsPattern p → IsPattern q → CoversText p r → CoversText q r
     → length (head (tokens q)) < length (head (tokens p)) → Before (tokens p) (tokens q)
 
--- a text that reads as a group's name reads as a user's id
+-- a text that is a group's name is a valid user id
 abbrev pub GroupNamesReadAsUsers : Type 0
 GroupNamesReadAsUsers = (text : List ℕ) → name_fault group_rule text ≡ None → name_fault user_rule text ≡ None

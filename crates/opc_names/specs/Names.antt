@@ -147,7 +147,7 @@ fault_words TooLong = codes "too long"
 fault_words (BadCharacter at) = codes "bad character at " ++ decimal at
 fault_words (BadQualifier at) = codes "bad qualifier at " ++ decimal at
 
--- a text that reads as a resource, or as a pattern
+-- a text that is a valid resource, or a valid pattern
 abbrev pub IsResource : List ℕ → Type 0
 IsResource text = name_fault resource_rule text ≡ None
 

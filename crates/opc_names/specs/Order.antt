@@ -36,8 +36,8 @@ Earlier t u = ⊥
 abbrev pub EndsOpen : List Token → Type 0
 EndsOpen ts = (prefix : List Token) × ((ts ≡ prefix ++ Star ∷ []) ⊎ (ts ≡ prefix ++ Stars ∷ []))
 
--- what decides after a common part: the earlier token; if one pattern ends, the end, unless the common part leaves open
--- what follows
+-- what decides after a common part: the earlier token; if one pattern ends, it comes first, unless the common part
+-- leaves open what follows
 abbrev pub Decides : List Token → List Token → List Token → Type 0
 Decides common [] [] = ⊥
 Decides common [] (u ∷ q) = EndsOpen common → ⊥

@@ -1,4 +1,4 @@
-//! Short lists of bytes that lie in the value itself.
+//! Short lists of bytes that are kept in place.
 ghost use Rattle.std.specs.Prelude.{◌≡◌, ℕ, ◌-◌, ◌≤◌, ◌<◌, List, length, take};
 ghost use Rattle.std.specs.Prelude.{◌≢◌, Some, IfSome, nat_eq, refl};
 ghost use Rattle.std.specs.Cmp.{partial_equiv_from_equiv};
@@ -66,6 +66,7 @@ impl<const N: usize> Bytes<N> {
     }
 }
 
+// Not derived: only the bytes count, not the zeros after them.
 impl<const N: usize> PartialEq for Bytes<N> {
     ghost eq = { λ s t. pointwise nat_eq s t };
 
@@ -107,8 +108,8 @@ impl<const N: usize> Ord for Bytes<N> {
     }
 }
 
-/// The order of bytes as long as theirs, if words of eight of them show it, which are faster to compare. Names and sort
-/// keys are looked up in ordered maps. Most comparisons there are of different ones, and the keys of one policy begin
+/// The order of two lists of equal length, if comparing eight bytes at a time shows it, which is faster. Names and sort
+/// keys are looked up in ordered maps, where most comparisons are of different ones, and the keys of one policy begin
 /// alike.
 fn order_of_words(ours: &[u8], theirs: &[u8]) -> Option<Ordering>
     requires { length ours.now ≡ length theirs.now }
@@ -134,7 +135,7 @@ fn prefix(room: &[u8]) -> u64
 {
     match room {
         [a, b, c, d, e, f, g, h, ..] => u64::from_be_bytes([*a, *b, *c, *d, *e, *f, *g, *h]),
-        // Fewer bytes have no word to compare; the caller passes eight or more.
+        // Fewer bytes make no number to compare; the caller passes eight or more.
         _ => 0,
     }
 }

@@ -62,8 +62,8 @@ fn prepend_stars(covered: &mut [bool]) -> bool
     any
 }
 
-/// Whether a qualifier other than `**` covers a part of a name, and what follows it in the name:
-/// it is the last one and ends in `*`, or those after it cover that.
+/// Whether a qualifier other than `**` covers a part of a name, and the rest of the name is covered: the qualifier is
+/// the last one and ends in `*`, or those after it cover the rest.
 fn covers_from(qualifier: &[u8], part: &[u8], is_last: bool, covers_rest: bool) -> bool
     requires { StarOnlyLast qualifier.now }
     ensures { result
@@ -73,7 +73,7 @@ fn covers_from(qualifier: &[u8], part: &[u8], is_last: bool, covers_rest: bool) 
 }
 
 /// Puts a qualifier other than `**` before the others of a pattern. `covered` holds, for each suffix of a name, longest
-/// first, whether the others cover it, and then, whether all of them do.
+/// first, whether the others cover it, and afterwards, whether all of them do.
 fn prepend_qualifier(
     qualifier: &[u8],
     others: Option<&[u8]>,
@@ -131,7 +131,7 @@ pub(crate) fn covers(pattern: &str, name: &str) -> bool
     // walk that tries each split of a `**` is exponential.
     let mut covered = [false; SUFFIXES];
 
-    // No qualifier covers nothing but the empty suffix, the last one.
+    // Without qualifiers, only the empty suffix is covered, which is the last one.
     covered[count] = true;
     cover_suffixes(Some(pattern.as_bytes()), name, &mut covered[..=count]);
     covered[0]

@@ -41,7 +41,8 @@ pub fn longer_heads_come_first()
     ensures { LongerHeadsComeFirst }
 {}
 
-/// Every group's name reads as a user's id, so an entry of an access list reads whom it is for by the rule of users.
+/// Every group's name is a valid user id, so an entry of an access list reads the name of its holder by the rule of
+/// users.
 pub fn group_names_read_as_users()
     ensures { GroupNamesReadAsUsers }
 {}

@@ -47,7 +47,7 @@ impl Level {
         }
     }
 
-    /// Whether whoever holds this level has the needed one: a level includes those below it.
+    /// Whether a user who holds this level has the needed one: a level includes those below it.
     pub fn includes(self, needed: Level) -> bool
         ensures { result ≡ includes self needed }
     {

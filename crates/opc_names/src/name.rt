@@ -1,4 +1,4 @@
-//! The names of the product: one type, by its kind and its room.
+//! The names of the product: one type, with the kind and the size as parameters.
 ghost use Rattle.std.specs.Prelude.{◌≡◌, ◌≤◌, List, ℕ, length, MatchResult, Some, None};
 ghost use Rattle.std.specs.Prelude.{nat_eq, refl};
 ghost use Rattle.std.specs.Cmp.{partial_equiv_from_equiv};
@@ -35,7 +35,8 @@ use std::hash::{Hash, Hasher};
 use std::marker::{Model, PhantomData};
 use std::{fmt, str};
 
-/// A kind of name that fits in `N` bytes.
+/// A kind of name that fits in `N` bytes: a rule of least and most characters and an alphabet, so that one type serves
+/// all eight kinds.
 pub trait NameKind<const N: usize> {
     ghost rule: { Rule };
 
@@ -47,7 +48,8 @@ pub trait NameKind<const N: usize> {
     ghost small: { N ≤ 39 };
 }
 
-/// A name of one kind, kept in place. Names are in the order of their ASCII texts.
+/// A name of one kind, kept in place. Names and patterns compare by their ASCII texts, as a Rust programmer expects.
+/// `Pattern::before` is the order by precedence; to sort by it, sort by `sort_key`.
 #[derive_where(Clone, Copy)]
 pub struct Name<K: NameKind<N>, const N: usize> {
     bytes: Bytes<N>,
@@ -103,8 +105,8 @@ impl<K: NameKind<N>, const N: usize> Name<K, N> {
         unsafe { str::from_utf8_unchecked(self.bytes.as_slice()) }
     }
 
-    /// The same text as a name of a wider kind: each name of this kind is one of that, as each console name is a valid
-    /// user id.
+    /// The same text as a name of a wider kind: each name of this kind is also one of that kind, as each console name
+    /// is a valid user id.
     pub fn as_kind<L: NameKind<M>, const M: usize>(&self) -> Name<L, M>
         requires wider { (text : List ℕ) → name_fault K.rule text ≡ None → name_fault L.rule text ≡ None }
         ensures { result ≡ self.now }

@@ -1,4 +1,4 @@
-//! Resources made of fixed words and names: no test, no fault, no memory.
+//! Resources made of fixed words and names: no test, no fault, no allocation.
 ghost use Rattle.std.specs.Prelude.{◌≡◌, ◌≤◌, ◌<◌, ◌+◌, ◌++◌, ◌∷◌, IsTrue, length};
 ghost use Rattle.opc_names.specs.Names.{is_plain, is_resource, IsResource};
 

@@ -18,15 +18,15 @@ use crate::qualifier::{is_stars, split_qualifier};
 use std::error::Error;
 use std::fmt;
 
-/// Why a text is not a valid name. The first that holds, in this order, is the answer; places are byte places.
+/// Why a text is not a valid name. The first that holds, in this order, is reported; places are byte places.
 #[derive(Clone, Copy, Debug, PartialEq, Eq)]
 pub enum NameFault {
     Empty,
-    /// Fewer characters than the kind of name has at least.
+    /// Fewer characters than the kind of name requires.
     TooShort,
-    /// More characters than the kind of name has at most.
+    /// More characters than the kind of name allows.
     TooLong,
-    /// Where the first character stands that can't stand there.
+    /// Where the first character stands that cannot stand there.
     BadCharacter(usize),
     /// Where the first qualifier begins that is empty, has a `*` before its end or combines `**` with other characters.
     BadQualifier(usize),
@@ -113,7 +113,7 @@ impl Alphabet {
     {
         match self {
             Alphabet::NoDigitFirst => is_name_character(byte) && !byte.is_ascii_digit(),
-            // In the other alphabets what may follow may begin.
+            // In the other alphabets, what may follow may also begin.
             _ => self.may_follow(byte),
         }
     }

@@ -13,7 +13,7 @@ pub enum Token {
 }
 
 impl Token {
-    /// `*` and `**` leave open what follows them.
+    /// Whether it is `*` or `**`, which leave open what follows them.
     pub(crate) fn is_open(self) -> bool
         ensures { result ≡ is_open self }
     {

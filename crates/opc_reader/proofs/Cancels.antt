@@ -15,7 +15,7 @@ use Rattle.opc_reader_commands.specs.Stretches.{Stretch, folded, word}
 use Rattle.opc_reader.proofs.Leaves.{length_folded, word_found, word_run, name_chars}
 use Rattle.opc_reader.proofs.Steps.{over_word, back_word, over_last_name, back_last_name, bind_some, Gives, gives}
 
--- a name alone doesn't begin with `U=`
+-- a name alone does not begin with `U=`
 name_no_user : (o : Operand (List ℕ)) (s : Stretch) → AreTyped (Name unit_rule o ∷ []) s → word (codes "U=") s ≡ None
 name_no_user o s (a, b, e, (typed, value, fine), rest) = none_is_left (word (codes "U=") s) refl where
   fault : name_fault unit_rule (folded a) ≡ None

@@ -140,7 +140,7 @@ no_early line c r =
     let quote : open_place (verb_of c) (operands_place (trimmed line)) ≡ None = ap (open_place (verb_of c)) (operands_are line c r) ∙ no_open c _ r.typed in
     rw (not_blank line c r, short, none, spelled, quote) refl
 
--- what is a command is read as it
+-- what is a command is read as that command
 pub reads_so : (line : List ℕ) (c : Command) → Reads line c → reading line ≡ Ok c
 reads_so line c r =
     let spelled : lookup verbs (folded (verb_place (trimmed line)).text) ≡ Some (verb_of c) =

@@ -88,7 +88,7 @@ word_found w s r h =
     let P : Stretch → Type 0 = λ q. (a : List ℕ) × (s.text ≡ a ++ q.text) × (folded a ≡ w) × (q ≡ after_part a q.text s.from) in
     subst P parts.1 (take (length w) s.text, sym (take-append-drop (length w) s.text), same, left)
 
--- which word it begins with says how far its name characters go
+-- the word at its beginning shows how far its name characters reach
 pub word_run : (w : List ℕ) (s r : Stretch) → word w s ≡ Some r → prefix_len is_name_character w < length w
     → prefix_len in_name s.text ≡ prefix_len is_name_character w
 word_run w s r h few =
@@ -151,7 +151,7 @@ or_none : {A : Type 0} (o p : Option A) → option_or o p ≡ None → o ≡ Non
 or_none None p h = refl
 or_none (Some x) p h = cc
 
--- a name has at least as many characters as its kind asks for
+-- a name has at least as many characters as its kind requires
 pub name_long : (rule : NameRule) (v : List ℕ) → name_fault rule v ≡ None → nat_lt (length (chars v)) rule.least ≡ false
 name_long rule v h =
     let some = cond_none (length (chars v) == 0) Empty _ h in

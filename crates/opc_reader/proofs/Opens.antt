@@ -1,4 +1,4 @@
--- What is typed as a command has no quoted text that isn't closed.
+-- What is typed as a command has no quoted text that is not closed.
 use Rattle.std.proofs.Common.{
   ◌≡◌,
   ℕ,

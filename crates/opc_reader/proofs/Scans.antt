@@ -84,7 +84,7 @@ verb_word w v h =
     let some : 0 < length (folded w) = grind (arith, nat_tests, both.0) in
     record { run = all_run no_space w (sym (unspaced w) ∙ both.1); some = omega (arith, some, length_folded w) }
 
--- a word doesn't begin with a space, nor end with one
+-- a word does not begin with a space, nor end with one
 no_run : (xs ys : List ℕ) → prefix_len no_space xs ≡ length xs → 0 < length xs → prefix_len is_space (xs ++ ys) ≡ 0
 no_run [] ys h some = absurd (omega arith)
 no_run (c ∷ cs) ys h some =

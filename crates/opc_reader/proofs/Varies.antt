@@ -79,7 +79,7 @@ short_device f =
       true_false : true ≡ false → ⊥
       true_false e = absurd (false≢true (sym e))
 
--- a device doesn't begin with `CN(`
+-- a device does not begin with `CN(`
 device_no_console : (o : Operand (List ℕ)) (ps : List Part) (s : Stretch) → Stops ps → AreTyped (Name device_rule o ∷ ps) s → word (codes "CN(") s ≡ None
 device_no_console o ps s h (a, b, e, (typed, value, fine), rest) = none_is_left (word (codes "CN(") s) refl where
   fault : name_fault device_rule (folded a) ≡ None

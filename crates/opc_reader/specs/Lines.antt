@@ -113,7 +113,7 @@ operands_place s = skip_spaces (after (prefix_len (λ c. not (is_space c)) s.tex
 abbrev pub span : Stretch → Span
 span s = record { from = s.from; to = s.from + length s.text }
 
--- The place of a quoted text that isn't closed: after the first comma of F and R, whatever is before it, and as the
+-- The place of a quoted text that is not closed: after the first comma of F and R, whatever is before it, and as the
 -- first operand of SE and L. 44 is the comma.
 abbrev pub open_at : ℕ → List ℕ → Option ℕ
 open_at at text = if is_open text then Some at else None
@@ -145,8 +145,8 @@ early_fault line =
     some_fault (position (λ c. not (is_typeable c)) line) BadCharacter
     (quote_fault (lookup verbs (folded (verb_place (trimmed line)).text)) (trimmed line)))
 
--- The first fault of a line. Operands are bad if nothing earlier is wrong and yet no command reads; their place is all
--- of them, up to the end of the trimmed line.
+-- The first fault of a line. Operands are bad if nothing earlier is wrong and yet the line is no command; their place
+-- is all of them, up to the end of the trimmed line.
 abbrev pub IsReadFault : List ℕ → ReadFault → Type 0
 IsReadFault line fault =
     (early_fault line ≡ Some fault) ⊎

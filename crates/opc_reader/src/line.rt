@@ -49,14 +49,14 @@ pub enum ReadFault {
     Empty,
     /// More than 126 characters.
     TooLong,
-    /// Where the first character stands that isn't one from the space to the tilde.
+    /// Where the first character stands that is not from the space to the tilde.
     BadCharacter(usize),
-    /// A verb that isn't one: all up to the next space.
+    /// A word that is no verb: all up to the next space.
     UnknownVerb(Span),
     /// Operands that are no form of the verb: from the first of their characters to the last except spaces. If there
     /// are none, both places are their end.
     BadOperand(Span),
-    /// Where a quoted text begins that isn't closed.
+    /// Where a quoted text begins that is not closed.
     OpenQuote(usize),
 }
 
@@ -160,7 +160,7 @@ fn comma(text: &[u8]) -> Option<usize>
     text.iter().position(|c| *c == b',')
 }
 
-/// The place of a quoted text that isn't closed.
+/// The place of a quoted text that is not closed.
 fn open_place(verb: Verb, s: &Piece<'_>) -> Option<usize>
     ensures { result ≡ open_place verb s.now }
 {
@@ -216,10 +216,10 @@ fn read(line: &str) -> Result<Command<'_>, ReadFault>
     read_operands(verb, skip_spaces(&rest))
 }
 
-/// The command that a line is, with each operand as the slice of the line at its span, or the first fault of the
-/// line. It takes no memory.
+/// The command that a line is, with each operand as the slice of the line at its span, or the first fault of the line.
+/// It allocates nothing.
 pub fn read_command(line: &str) -> Result<Command<'_>, ReadFault>
-    // It is a command if and only if the grammar has one.
+    // The line is a command if and only if the grammar has one.
     ensures command { (c : TheCommand) → (result ≡ Ok c) ↔ Reads line.now c }
     ensures fault { (f : TheFault) → (result ≡ Err f) ↔ IsReadFault line.now f }
     ensures slices { IfOk result (λ c. OperandsAreSlices line.now c) }

@@ -37,8 +37,8 @@ OpensQuote (c ∷ text) = c ≡ 39
 abbrev pub IsQuoted : List ℕ → Type 0
 IsQuoted typed = (text : List ℕ) × (typed ≡ quoted text)
 
--- After an apostrophe: how many characters the quoted text has up to the one that closes it, which is
--- the first that isn't one of a pair
+-- After an apostrophe: how many characters the quoted text has up to the one that closes it, which is the first that is
+-- not one of a pair
 abbrev pub closing_len : List ℕ → Option ℕ
 closing_len [] = None
 closing_len (c ∷ []) = if c == 39 then Some 1 else None
@@ -60,7 +60,7 @@ abbrev pub is_quoted : List ℕ → Bool
 is_quoted [] = false
 is_quoted (c ∷ cs) = (c == 39) && ends_at (closing_len cs) (length cs)
 
--- a quoted text that isn't closed
+-- a quoted text that is not closed
 abbrev pub is_open : List ℕ → Bool
 is_open [] = false
 is_open (c ∷ cs) = (c == 39) && is_none (closing_len cs)
@@ -81,7 +81,7 @@ abbrev pub text_value : List ℕ → List ℕ
 text_value [] = []
 text_value (c ∷ cs) = if c == 39 then unquoted cs else folded (c ∷ cs)
 
--- a quoted text means what is between its apostrophes, with each pair as one; another means itself in upper case
+-- a quoted text means what is between its apostrophes, with each pair as one; any other means itself in upper case
 pub record Says (typed value : List ℕ) : Type 0 where
   pub between : (text : List ℕ) → typed ≡ quoted text → value ≡ text
   pub plain : (OpensQuote typed → ⊥) → value ≡ folded typed

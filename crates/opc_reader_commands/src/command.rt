@@ -61,7 +61,7 @@ pub enum Command<'a> {
     Cancel(Operand<'a, UnitName>),
     /// `C U=user`: a user's session.
     CancelUser(Operand<'a, UserId>),
-    /// `FORCE name`: a unit that C doesn't end.
+    /// `FORCE name`: a unit that C does not end.
     Force(Operand<'a, UnitName>),
     /// `S member`: a started task under its member's name.
     Start(Operand<'a, UnitName>),
@@ -83,13 +83,13 @@ pub enum Command<'a> {
     VaryConsoleOffline(Operand<'a, ConsoleName>),
     /// `V CN(name),AUTH=auth`: the console's authority from now on.
     VaryConsoleAuth(Operand<'a, ConsoleName>, Operand<'a, Auth>),
-    /// `M dev,VOL=vol`: a volume onto a device.
+    /// `M dev,VOL=vol`: mounts a volume on a device.
     Mount(Operand<'a, Device>, Operand<'a, Volume>),
-    /// `U dev`: the volume off a device.
+    /// `U dev`: removes the volume from a device.
     Unload(Operand<'a, Device>),
-    /// `G from,to`: a volume from one device to another.
+    /// `G from,to`: moves a volume from one device to another.
     Swap(Operand<'a, Device>, Operand<'a, Device>),
-    /// `E CN(name)`: the user off a console.
+    /// `E CN(name)`: logs the user off a console.
     ResetConsole(Operand<'a, ConsoleName>),
     /// `SE 'text',USER=(user)`: a message for a user.
     Send(Text<'a>, Operand<'a, UserId>),

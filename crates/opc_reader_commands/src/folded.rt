@@ -1,4 +1,4 @@
-//! Texts in upper case that lie in the value itself.
+//! Texts in upper case that are kept in place.
 ghost use Rattle.std.specs.Prelude.{◌≡◌, ◌≤◌, length};
 ghost use Rattle.std.specs.Str.{IsAscii};
 ghost use Rattle.opc_reader_commands.specs.Stretches.{folded};
@@ -47,7 +47,7 @@ impl Folded {
     {
         match str::from_utf8(&self.room[..self.len]) {
             Ok(text) => text,
-            // Folding changes ASCII letters alone, so what was UTF-8 is UTF-8.
+            // Folding changes ASCII letters alone, so the text stays UTF-8.
             Err(_) => unreachable!(),
         }
     }

@@ -54,7 +54,7 @@ pub fn is_quoted(text: &[u8]) -> bool
     }
 }
 
-/// Whether it begins as quoted text and isn't closed.
+/// Whether it begins as quoted text and is not closed.
 pub fn is_open(text: &[u8]) -> bool
     ensures { result ≡ is_open text.now }
 {
@@ -120,8 +120,9 @@ fn value_of(bytes: &[u8], alloc: Global) -> Result<String, AllocError>
 }
 
 impl Text<'_> {
-    /// What the text means: for quoted text, what is between its apostrophes, with each pair as one and in the case in
-    /// which it was typed; for plain text, all of it, in upper case.
+    /// What the text means, which depends on the slice alone, since an operand keeps its slice as typed: for quoted
+    /// text, what is between its apostrophes, with each pair as one and in the case in which it was typed; for plain
+    /// text, all of it, in upper case.
     pub fn value(&self, alloc: Global) -> Result<String, AllocError>
         ensures says { IfOk result (λ value. Says self.now.typed.text (string_bytes value)) }
         ensures computed { IfOk result (λ value. string_bytes value ≡ text_value self.now.typed.text) }

@@ -34,7 +34,7 @@ module _ {A : Type 0} where
       go false true here there more = ap (λ c. cond c (x ∷ filter p (filter s xs)) (filter p (filter s xs))) here ∙ more
       go false false here there more = more
 
-  -- what is left out were others
+  -- what is left out is others
   pub filter_left : (p t : A → Bool) → ((x : A) → p x ≡ false → t x ≡ false) → (xs : List A) → filter t (filter p xs) ≡ filter t xs
   filter_left p t other [] = refl
   filter_left p t other (x ∷ xs) = go (p x) (t x) refl refl (filter_left p t other xs)

@@ -70,7 +70,7 @@ ascends_filter before p (x ∷ xs) order = elim (p x) as (λ b. Ascends before (
   | false ↦ ascends_filter before p xs order.1
 ]
 
--- a change that the order does not see
+-- a change that the order does not notice
 pub ascends_map : {A : Type 0} (before : A → A → Bool) (f : A → A) → ((x y : A) → before (f x) (f y) ≡ before x y)
     → (xs : List A) → Ascends before xs → Ascends before (map f xs)
 ascends_map before f blind [] order = tt
@@ -144,7 +144,7 @@ all_found P p y (x ∷ xs) = elim (p x) as (λ b. cond b (Some x) (find p xs) �
   | false ↦ λ at all. all_found P p y xs at all.1
 ]
 
--- a change that a look-up does not see
+-- a change that a look-up does not notice
 pub find_changed : {A : Type 0} (p q : A → Bool) (f : A → A) → ((x : A) → q x ≡ true → p (f x) ≡ p x) → (xs : List A)
     → is_some (find p (changed q f xs)) ≡ is_some (find p xs)
 find_changed p q f blind [] = refl

@@ -82,7 +82,7 @@ changed_nowhere p f (x ∷ xs) = elim (p x) as (λ b. cond b (Some x) (find p xs
   | false ↦ λ none. ap (λ ws. x ∷ ws) (changed_nowhere p f xs none)
 ]
 
--- an element put after all that it isn't before
+-- an element put after all that it is not before
 pub insert_after : {A : Type 0} (before : A → A → Bool) (x : A) (xs : List A) (at : ℕ) → at ≤ length xs
     → IsPartitionPoint (λ y. before x y ≡ false) (λ y. before x y ≡ true) xs at → insert xs at x ≡ put before x xs
 insert_after before x xs at within split =
@@ -116,7 +116,7 @@ module _ {K R : Type 0} (cmp : K → K → Ordering) (total : IsTotalOrder cmp) 
       equal_is Equal e = refl
       equal_is Greater e = absurd (cc)
 
-  -- the comparisons with a key rise along the rows, as a binary search asks
+  -- the comparisons with a key rise along the rows, as a binary search requires
   comparisons_rise : (xs : List R) (key : K) → IsInKeyOrder cmp key_of xs → IsNonDecreasingBy (λ row. ordering_index (cmp (key_of row) key)) xs
   comparisons_rise xs key order = searchable_from_sorted total key_of xs key sorted
     where
@@ -126,7 +126,7 @@ module _ {K R : Type 0} (cmp : K → K → Ordering) (total : IsTotalOrder cmp) 
           later (comes_before cmp key_of) xs k (k + 1) d order (omega arith) lt in
           ap is_lt (mirrored _ _ (less_is _ here))
 
-  -- the row that a binary search ends at is the first of its key, and if it ends at none there is none
+  -- the row at which a binary search ends is the first of its key, and if it ends at none there is none
   pub searched : (xs : List R) (key : K) (r : Result ℕ ℕ) → IsInKeyOrder cmp key_of xs → IsSearchInRange r (length xs)
       → IsBinarySearchResult (λ row. cmp (key_of row) key) xs r
       → MatchResult r (λ at. position (λ row. eq (key_of row) key) xs ≡ Some at) (λ _. find (λ row. eq (key_of row) key) xs ≡ None)
@@ -152,7 +152,7 @@ module _ {K R : Type 0} (cmp : K → K → Ordering) (total : IsTotalOrder cmp) 
         | false ↦ λ above. ties _ key ∙ ap is_eq (cut.1 k d (grind (arith, nat_tests, above)) lt)
       ] refl)
 
-  -- the rows that a key isn't less than come first
+  -- the rows that a key is not less than come first
   pub parted_by_key : (xs : List R) (key : K) → IsInKeyOrder cmp key_of xs → IsPartitionedBy (λ row. not (is_lt (cmp key (key_of row)))) xs
   parted_by_key xs key order i j d le within passes =
       elim (is_lt (cmp key (key_of (get_or xs i d)))) as (λ b. is_lt (cmp key (key_of (get_or xs i d))) ≡ b → not b ≡ true) [

@@ -33,7 +33,7 @@ abbrev pub IsChangedAtOne : {A : Type 0} → (A → Bool) → (A → A → Type 
 IsChangedAtOne {A} p becomes old new =
     MatchOption (find p old) (new ≡ old) (λ x. (y : A) × (becomes x y × (new ≡ changed p (λ _. y) old)))
 
--- Each element has become one that it may become. None came, left or moved.
+-- Each element has become one that it may become. None was added, removed or moved.
 abbrev pub IsChangedAtEach : {A : Type 0} → (A → A → Type 0) → List A → List A → Type 0
 IsChangedAtEach becomes [] [] = Unit {0}
 IsChangedAtEach becomes [] (y ∷ ys) = ⊥

@@ -41,8 +41,8 @@ pub trait Keyed {
         ensures { result.now ≡ key_of self.now };
 }
 
-/// A list of rows. Those calls that look a key up need the rows in the order of their keys, which `is_ascending` tests
-/// and which `insert` keeps if the key is new.
+/// A list of rows. Calls that look up a key need the rows in the order of their keys, which `is_ascending` tests and
+/// which `insert` keeps if the key is new.
 #[derive(Drop)]
 pub struct Rows<R> {
     items: Vec<R>,
@@ -164,7 +164,7 @@ impl<R: Keyed + Drop> Rows<R> {
         }
     }
 
-    /// Changes every row. None comes, leaves or moves.
+    /// Changes every row. None is added, removed or moved.
     pub fn change_all<F: Fn(R) -> R>(&mut self, change: F)
     where
         R: Copy,

@@ -47,11 +47,12 @@ needs group level resource = Some (record { resource = resource; level = level; 
 abbrev pub qualified : List ℕ → List ℕ → List ℕ
 qualified words name = words ++ 46 ∷ name
 
--- a started task goes by its member and its name
+-- a started task is named by its member and its name
 abbrev pub started : List ℕ → List ℕ → List ℕ → List ℕ
 started words member id = qualified (qualified words member) id
 
--- A unit goes as a started task or as a job. A name that isn't on the board, and a user's session, go as a job.
+-- A unit is named as a started task or as a job. A name that is not on the board, and a user's session, are named as a
+-- job.
 abbrev pub of_unit : List ℕ → List ℕ → UnitKindAt → List ℕ → List ℕ
 of_unit job task Absent name = qualified job name
 of_unit job task Job name = qualified job name

@@ -31,7 +31,7 @@ fn fixed(group: Group, level: Level, words: &str) -> Option<Need>
     needs(group, level, Resource::of_words(words))
 }
 
-/// What a command needs that only displays or sends.
+/// What a command that only displays or sends needs.
 fn info(words: &str) -> Option<Need>
     requires { IsTrue (is_resource words.now) }
     ensures { result ≡ needs Info Read words.now }
@@ -79,7 +79,7 @@ fn of_unit(job: &str, task: &str, kind: UnitKindAt, name: &UnitName) -> Resource
     }
 }
 
-/// The resource of a unit that is forced; a user's session has a form of its own.
+/// The resource for FORCE of a unit; a user's session has a form of its own.
 fn forced(kind: UnitKindAt, name: &UnitName) -> Resource
     ensures { result ≡ forced kind name.now }
 {
@@ -91,7 +91,7 @@ fn forced(kind: UnitKindAt, name: &UnitName) -> Resource
 
 /// What a command needs (MVS System Commands, RACF guide: resource names of operator commands), if the unit that it
 /// names is of this kind on the board. The kind counts for C name, FORCE, P and F alone. LOGON and LOGOFF need nothing
-/// here. It takes no memory.
+/// here. It allocates nothing.
 pub fn need(command: &Command<'_>, kind: UnitKindAt) -> Option<Need>
     ensures { result ≡ need command.now kind }
 {

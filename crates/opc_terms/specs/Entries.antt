@@ -15,7 +15,7 @@ entry_text (Some name) = name
 abbrev pub entry_name : List ℕ → Option (List ℕ)
 entry_name text = if bytes_eq text (codes "*") then None else Some text
 
--- The first fault of a text as an id. A group's name reads as a user's.
+-- The first fault of a text as an id. A group's name is a valid user id.
 abbrev pub entry_fault : List ℕ → Option NameFault
 entry_fault text = if bytes_eq text (codes "*") then None else name_fault user_rule text
 

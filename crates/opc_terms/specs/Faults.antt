@@ -50,7 +50,7 @@ use Rattle.opc_terms.specs.declared.fault.Why.TheVariants as why
 use Rattle.opc_terms.specs.declared.store_fault.StoreFault.{StoreFault}
 use Rattle.opc_terms.specs.declared.store_fault.StoreFault.TheVariants as store
 
--- what a request is refused with if its source has no answer
+-- the refusal of a request whose source has no answer
 abbrev pub store_fault : StoreFault → Fault
 store_fault store.NoMemory = NoMemory
 store_fault store.Store = Store

@@ -85,6 +85,7 @@ impl From<UserId> for EntryId {
     }
 }
 
+// Not derived: the model of an id is its text, `*` included.
 impl PartialEq for EntryId {
     ghost eq = { λ s t. pointwise nat_eq s t };
 

@@ -173,7 +173,7 @@ pub enum Fault {
     NoUnit,
     /// The unit is not cancelable.
     NonCancelable,
-    /// The unit is cancelable, so it is not to be forced.
+    /// The unit is cancelable, so it must not be forced.
     Cancelable,
     /// There is a unit of that name.
     UnitExists,
@@ -213,7 +213,7 @@ pub enum Fault {
     NotEmpty,
     /// A row of a policy file, counted from 1, is bad; row 0 is the header.
     RowFault { row: u32, why: Why },
-    /// Memory was refused.
+    /// An allocation failed.
     NoMemory,
     /// The store failed.
     Store,

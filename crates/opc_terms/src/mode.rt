@@ -6,8 +6,8 @@ ghost use Rattle.opc_terms.specs.Modes.{modes, mode_text};
 
 use std::fmt;
 
-/// Whether a user has to be logged on at a console before commands are entered there, or whether the console acts for
-/// the user of its own name if nobody is (MVS Planning: Operations, LOGON).
+/// Whether a user must be logged on at a console before commands are entered there, or whether the console acts for the
+/// user of its own name if nobody is (MVS Planning: Operations, LOGON).
 #[derive(Clone, Copy, PartialEq, Eq)]
 pub enum Mode {
     Optional,

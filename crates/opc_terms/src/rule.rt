@@ -10,9 +10,9 @@ use opc_names::name::Pattern;
 use std::alloc::{AllocError, Global};
 use std::fmt;
 
-/// Why a request is allowed or denied: by a profile (the level that the user holds by it, the level that was
-/// needed, and whether it passed with a warning alone), because none decides, by the authority of the
-/// console, because a user has to log on first, or because the user is revoked.
+/// Why a request is allowed or denied: by a profile (the level that the user holds by it, the level that was needed,
+/// and whether it passed with a warning alone), because none decides, by the authority of the console, because a user
+/// must log on first, or because the user is revoked.
 #[derive(Clone, Copy, PartialEq, Eq)]
 pub enum Rule {
     Profile {

@@ -1,8 +1,8 @@
--- The moment that a time names, as RFC 3339 writes it.
+-- The timestamp that a text names in the form of RFC 3339.
 use Rattle.std.specs.Prelude.{ℕ, zero, suc, ℤ, pos, negsuc, List, Option, Some, None, Result, Ok, Err, int_div, int_rem}
 use Rattle.jiff.specs.Words.{parse_timestamp}
 
--- a moment is a whole second, and none before 1970
+-- a timestamp is a whole second, none before 1970
 abbrev pub whole : (seconds rest : ℤ) → Option ℕ
 whole (pos moment) (pos zero) = Some moment
 whole (pos moment) (pos (suc rest)) = None

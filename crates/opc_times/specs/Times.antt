@@ -1,4 +1,4 @@
--- The time of a moment, as RFC 3339 writes it.
+-- A timestamp as a time, as RFC 3339 writes it.
 use Rattle.std.specs.Prelude.{◌≡◌, ◌≤◌, ◌⊎◌, ℕ, ◌*◌, List, ◌++◌, codes, decimal, pos}
 use Rattle.jiff.specs.Types.{DateTime}
 use Rattle.jiff.specs.Words.{civil_nanos, iso_datetime_text}
@@ -9,7 +9,7 @@ pub record IsDated (moment : ℕ) (text : List ℕ) : Type 0 where
   pub since : civil_nanos at ≡ pos (moment * 1_000_000_000)
   pub is : text ≡ iso_datetime_text at ++ codes "Z"
 
--- the moment by its number, after the year 9999
+-- the timestamp as a number, after the year 9999
 pub record IsPastDates (moment : ℕ) (text : List ℕ) : Type 0 where
   pub past : 253_402_300_800 ≤ moment
   pub is : text ≡ decimal moment

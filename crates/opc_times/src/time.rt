@@ -16,7 +16,7 @@ fn epoch() -> DateTime
     Offset::UTC.to_datetime(Timestamp::UNIX_EPOCH)
 }
 
-/// The time of a moment in UTC; after the year 9999 its number.
+/// A timestamp as a time in UTC; after the year 9999 as a number.
 pub fn time_text(alloc: Global, moment: u64) -> Result<String, AllocError>
     ensures { IfOk result (λ time. IsTime moment (string_bytes time)) }
 {

@@ -117,7 +117,7 @@ module _ (content : List Profile) (class : Class) (name : List ℕ) (sound : Are
     longest = none_longer_start (of_class class content) name patterns;
   }
 
-  -- what the source answers for that head
+  -- the answer of the source for that head
   module _ (k rows more : ℕ) (before : Asked (of_class class content) name k rows) (answer : Option Profile)
       (decided : answer ≡ deciding (with_head (take k name) (of_class class content)) name)
       (read : more ≡ length (read_until answer (with_head (take k name) (of_class class content)))) where

@@ -22,12 +22,12 @@ verdict true None user console groups needed = Undecided
 verdict true (Some p) user console groups needed =
     if includes (held p user console groups) needed || p.warning then Allowed else Denied
 
--- the rule of a profile for whoever holds a level in it: with a warning if the level is not enough and the profile only
--- warns
+-- the rule of a profile for a user who holds this level in it: with a warning if the level is not enough and the
+-- profile only warns
 abbrev pub rule_at : Profile → Level → Level → Rule
 rule_at p level needed = rules.Profile p.class p.pattern level needed (not (includes level needed) && p.warning)
 
--- the ruling of a profile on whoever holds a level in it
+-- the ruling of a profile on a user who holds this level in it
 abbrev pub ruling_at : Profile → Level → Level → Ruling
 ruling_at p level needed = if includes level needed
     || p.warning then rulings.Allowed (rule_at p level needed) else rulings.Denied (rule_at p level needed)

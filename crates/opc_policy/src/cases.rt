@@ -44,7 +44,7 @@ pub fn most_specific_profiles()
     ensures same_head { deciding short_profiles (codes "A.XY") ≡ Some (profile (codes "A.*") level.None false []) }
 {}
 
-/// How many profiles a search by heads reads, and how many heads it asks for.
+/// How many profiles a search by heads reads, and how many heads it looks up.
 pub fn profiles_that_are_read()
     ensures payroll { length (examined (Some cancel_pay) (codes "MVS.CANCEL.JOB.PAYROLL") base_profiles) ≡ 1 }
     ensures payroll_heads { length (codes "MVS.CANCEL.JOB.PAYROLL") + 1 - head_length (Some cancel_pay) ≡ 5 }
@@ -66,7 +66,7 @@ pub fn levels_that_are_held()
 {}
 
 /// An entry for a console raises a level there and nowhere else, and lowers none; a RESTRICTED user has nothing of what
-/// everyone has.
+/// is given to everyone.
 #[tactic(auto, unfolding(opc_policy_members::specs::Held::held))]
 pub fn levels_at_consoles()
     ensures there { held cancel_pay_at_c1 anna (Some (codes "C1")) ops ≡ level.Update }
@@ -77,7 +77,7 @@ pub fn levels_at_consoles()
     ensures restricted { held display restricted_carl (Some (codes "C1")) [] ≡ level.None }
 {}
 
-/// Whoever is logged on is ruled by the profiles, and a denial by one of them is final.
+/// A user who is logged on is ruled by the profiles, and a denial by one of them is final.
 #[tactic(auto, unfolding(opc_policy_members::specs::Held::held))]
 pub fn rulings_by_profiles()
     ensures backup { ruled_by base_profiles (Some anna) None ops auth.Sys
@@ -97,7 +97,7 @@ pub fn rulings_by_profiles()
         ≡ Allowed (rule.Profile Opercmds (codes "MVS.VARY.DEV") level.None level.Update true) }
 {}
 
-/// If nobody is logged on, or no profile decides, the authority of the console does.
+/// If nobody is logged on, or no profile decides, the authority of the console decides.
 pub fn rulings_by_consoles()
     ensures start { ruled_by base_profiles None None [] auth.Sys
         (need (codes "MVS.START.STC.MONPL.MONPL") level.Update group.Sys) ≡ Allowed

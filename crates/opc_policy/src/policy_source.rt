@@ -60,7 +60,7 @@ fn copies_of(alloc: Global, profiles: &Profiles, class: Class) -> Result<Vec<Pro
     Ok(copies)
 }
 
-/// What answers for the profiles of a whole class.
+/// A source of the profiles of a whole class.
 pub trait ClassProfiles {
     /// The profiles, in the order of their patterns.
     ghost profiles: { Self → List TheProfile };

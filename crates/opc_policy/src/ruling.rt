@@ -67,7 +67,7 @@ pub fn profile_ruling(
     ruling_at(profile, profile.level_of(user, console, groups), needed)
 }
 
-/// The ruling on whoever holds a level in a profile, if it decides.
+/// The ruling on a user who holds this level in a profile, if the profile decides.
 pub fn ruling_at(profile: &Profile, held: Level, needed: Level) -> Ruling
     ensures ruling { result ≡ ruling_at profile.now held needed }
     ensures rule { rule_of result ≡ rule_at profile.now held needed }
@@ -104,7 +104,8 @@ pub fn console_ruling(auth: Auth, need: &Need) -> Ruling
 
 /// The ruling on a command at a console, apart from any logon rule: by the profile that decides, if the class is active
 /// and the console acts for a user, or else by the authority of the console. The groups are the user's connect groups;
-/// without a user they are not looked at.
+/// without a user they are not used. This is for callers who have a profile, a user and groups at hand; the gate rules
+/// over tables, which load only what the ruling needs.
 pub fn rule_on(
     found: &Found,
     active: bool,

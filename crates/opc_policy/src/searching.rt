@@ -20,8 +20,8 @@ pub struct Found {
     pub rows: u64,
 }
 
-/// The profile of a class that decides a resource. The source is asked for the prefixes of the name as heads,
-/// from the whole name down to the empty one, and no more once a profile covers; no two patterns are compared.
+/// The profile of a class that decides a resource. The source is asked for the prefixes of the name as heads, from the
+/// whole name down to the empty one, until a profile covers; no two patterns are compared.
 pub fn search<S: ProfileSource>(
     source: &mut S,
     class: Class,

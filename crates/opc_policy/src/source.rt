@@ -31,26 +31,28 @@ impl Taken {
     }
 }
 
-/// Where profiles come from: of one class and with one head at a time. A source over files may fail for good while it
-/// is searched, so an answer counts only if the source is faithful afterwards.
+/// Where profiles come from: of one class and with one head at a time, by one call, so that a search cannot read more
+/// than its heads give. For all profiles of a class, or the first that covers, ask a policy by `ClassProfiles`, or the
+/// store by `all` and `first`. A source over files may fail for good while it is searched, so an answer counts only if
+/// the source is faithful afterwards.
 pub trait ProfileSource {
-    /// That these are the profiles, as it gives them. A relation, since tables have them as rows.
+    /// These are the profiles, as it gives them. A relation, since tables have them as rows.
     ghost has: { Self → List TheProfile → Type 0 };
 
-    /// That it may be asked.
+    /// It may be asked.
     ghost is_ready: { Self → Type 0 };
 
     /// If this holds after a call, an answer is about the profiles that were there before, and as long as the source is
     /// open they are still there.
     ghost is_faithful: { Self → Type 0 };
 
-    /// What a search leaves of the source as it was before, whatever comes of it.
+    /// What a search leaves of the source as it was before, whatever its result.
     ghost is_kept: { Self → Self → Type 0 };
 
-    /// That it is still open, as a source that has answered is.
+    /// It is still open, as a source that has answered is.
     ghost is_open: { Self → Type 0 };
 
-    /// The faults that a search may end in.
+    /// The faults with which a search may end.
     ghost can_fail_with: { TheFault → Type 0 };
 
     /// The first profile, in the order of the patterns, that covers a resource, of those of a class with this

@@ -114,7 +114,7 @@ passed test (x ∷ ids) group h = go (test x) refl (passed test ids group) h
     go false kept rest is = rest is
 
 module _ (entries : List Entry) (when : Option (List ℕ)) where
-  -- a group that is among the groups raises their level no more
+  -- a group that is already among the groups does not raise their level
   absorbed : (group : List ℕ) (groups : List (List ℕ)) → is_group groups group ≡ true
       → higher (entry_level entries when group) (highest_level entries when groups) ≡ highest_level entries when groups
   absorbed group [] h = absurd (search (rules, h))

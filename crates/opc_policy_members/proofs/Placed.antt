@@ -39,7 +39,7 @@ module _ {X : Type 0} (cmp : X → X → Ordering) (x : X) where
 pub order : IsTotalOrder entry_cmp
 order = then_total (on_total (λ (e : Entry). e.id) nat_list_cmp_total) (on_total (λ (e : Entry). e.when) (options_total nat_list_cmp_total))
 
--- the other way round
+-- the converse
 turned : (a b : Entry) (o : Ordering) → entry_cmp a b ≡ o → entry_cmp b a ≡ ordering_reverse o
 turned a b o e = order.antisymm b a ∙ ap ordering_reverse e
 

@@ -8,7 +8,7 @@ use Rattle.opc_policy_members.specs.declared.entry.Entry.{Entry}
 use Rattle.opc_policy_members.specs.declared.profile.Profile.{Profile}
 use Rattle.opc_policy_members.specs.declared.user.User.{User}
 
--- what a profile gives those for whom it has no entry: its universal access, of which a RESTRICTED user gets nothing
+-- what a profile gives to users without an entry: its universal access, of which a RESTRICTED user gets nothing
 abbrev pub universal_level : Profile → User → Level
 universal_level profile user = if user.restricted then level.None else profile.uacc
 
@@ -30,11 +30,11 @@ unfoldable pub held : Profile → User → Option (List ℕ) → List (List ℕ)
 held profile user console groups = higher_level (plain_level profile user groups)
     (conditional_level profile user console groups)
 
--- those groups that an access list has entries for, as often as it has
+-- those groups for which an access list has entries, as often as it has them
 abbrev pub listed_groups : List Entry → List (List ℕ) → List (List ℕ)
 listed_groups entries groups = filter (is_group groups) (map (λ (e : Entry). e.id) entries)
 
--- Of a user's groups those with an entry are enough.
+-- Of a user's groups, those with an entry suffice.
 abbrev pub ListedGroupsSuffice : Type 0
 ListedGroupsSuffice = (p : Profile) (user : User) (console : Option (List ℕ)) (groups : List (List ℕ))
     → held p user console (listed_groups p.entries groups) ≡ held p user console groups

@@ -66,7 +66,7 @@ after_definition profile p = needing (has_user p profile.owner) profile.owner
     (Ok (record p { profiles = with_definition profile p.profiles }))
 
 -- The policy after a row, or its fault. A row defines or replaces and never deletes. A user and a group never have one
--- name. What a row needs has to be stored, in the order in which the row lists it. A group or a connect that is there
+-- name. What a row needs must be stored, in the order in which the row lists it. A group or a connect that is there
 -- stays, and a profile keeps its access list. Consoles are not part of a policy.
 abbrev pub after_row : Row → Policy → Result Policy Fault
 after_row (rows.Class class active) p = Ok (record p { active = with_active class active p.active })

@@ -60,7 +60,7 @@ impl Entries {
     pub fn level_of(&self, when: Option<&ConsoleName>, id: &str) -> Option<Level>
         ensures { result ≡ entry_level self.now (option_copied when.entry) id.now }
     {
-        // by halves, since a long list is asked once for each group of a user
+        // by halves, since a long list is searched once for each group of a user
         match self
             .list
             .binary_search_by(|entry| entry.place_cmp_for(when, id))
@@ -121,7 +121,7 @@ pub struct EntryLevels {
 }
 
 impl EntryLevels {
-    /// The level of the first that there is. A RESTRICTED user gets nothing from the entry for everyone.
+    /// The level of the first of them that exists. A RESTRICTED user gets nothing from the entry for everyone.
     pub fn first_level(self, user: &User) -> Option<Level>
         ensures { result ≡ option_or self.own
             (option_or self.groups (if user.now.restricted then None else self.everyone)) }

@@ -117,8 +117,8 @@ impl Policy {
         }
     }
 
-    /// Applies rows one after another, up to the first that is refused or for which there is no memory. Those before it
-    /// stay applied.
+    /// Applies rows one after another, up to the first that is refused or whose allocation fails. Those before it stay
+    /// applied.
     pub fn take_all(&mut self, alloc: Global, rows: &[Row]) -> Result<(), RefusedAt>
         ensures ok { OnOk result (policy_after rows.now self.old ≡ Ok self.new) }
         ensures fault { IfErr result (λ r. r.fault ≢ NoMemory → policy_after rows.now self.old ≡ Err r.fault) }
@@ -134,7 +134,7 @@ impl Policy {
         Ok(())
     }
 
-    /// Applies a row. A fault, out of memory among them, leaves the policy as it was.
+    /// Applies a row. A fault, a failed allocation included, leaves the policy as it was.
     pub fn take(&mut self, alloc: Global, row: &Row) -> Result<(), Fault>
         ensures ok { OnOk result (after_row row.now self.old ≡ Ok self.new) }
         ensures fault { IfErr result (λ fault. fault ≢ NoMemory → after_row row.now self.old ≡ Err fault) }

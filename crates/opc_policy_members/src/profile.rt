@@ -37,8 +37,8 @@ impl Profile {
         }
     }
 
-    /// The level that a user holds at a console, who is connected to these groups: the higher of the level that holds
-    /// at every console and the one at this console alone.
+    /// The level that a user who is connected to these groups holds at a console: the higher of the level that holds at
+    /// every console and the one at this console alone.
     #[tactic(auto, unfolding(crate::specs::Held::held))]
     pub fn level_of(
         &self,
@@ -68,8 +68,8 @@ impl Profile {
         self.entries.first_level(console, user, groups)
     }
 
-    /// The level that a user holds to whom these of the entries apply: of those for every console, and of those for one
-    /// console alone. Without one of the former, there is the universal access.
+    /// The level that a user holds by the entries that apply: those for every console, and those for one console alone.
+    /// Without one of the former, there is the universal access.
     pub fn level_from(&self, user: &User, plain: Option<Level>, conditional: Option<Level>) -> Level
         ensures { result ≡ higher_level (unwrap_or plain (universal_level self.now user.now))
             (unwrap_or conditional Level.None) }
@@ -78,7 +78,7 @@ impl Profile {
         higher_level(plain, conditional.unwrap_or(Level::None))
     }
 
-    /// What is given to those for whom there is no entry: a RESTRICTED user gets nothing of it.
+    /// What is given to users without an entry; a RESTRICTED user gets nothing of it.
     fn universal_level(&self, user: &User) -> Level
         ensures { result ≡ universal_level self.now user.now }
     {

@@ -89,7 +89,7 @@ impl Profiles {
         let (class, pattern, owner) = (profile.class, profile.pattern, profile.owner);
         let (uacc, warning) = (profile.uacc, profile.warning);
         // The profile is put at once, and put again with the old access list if it replaced one: a new profile, as most
-        // rows are, costs one look-up. The second put takes no memory, so a definition happens whole or changes
+        // rows are, costs one look-up. The second put allocates nothing, so a definition happens whole or changes
         // nothing.
         if let Some(replaced) = self.put(profile)? {
             self.put(Profile {

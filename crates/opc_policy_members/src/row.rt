@@ -7,7 +7,7 @@ use opc_names::name::{ConsoleName, GroupName, Pattern, UserId};
 use opc_terms::entry_id::EntryId;
 use opc_terms::mode::Mode;
 
-/// One row of a written policy, of the kinds in the order in which a policy is written.
+/// One row of a written policy. The kinds are in the order in which a policy is written.
 #[derive(Clone, Copy, PartialEq, Eq)]
 pub enum Row {
     Class {

@@ -55,7 +55,7 @@ impl Users {
         self.by_id.contains_key(&Bytes::copied(name.as_bytes()))
     }
 
-    /// One more user, in the place of one with its id.
+    /// One more user, who replaces the one with the same id.
     pub fn insert(&mut self, user: User) -> Result<(), AllocError>
         ensures ok { OnOk result (self.new ≡ with_user user self.old) }
         ensures err { OnErr result (self.new ≡ self.old) }

@@ -50,7 +50,7 @@ stands Percent c = not (c == 46)
 stands Star c = true
 stands Stars c = true
 
--- whether a text goes on as tokens do, up to a first `*` or `**`
+-- whether a text follows tokens, up to a first `*` or `**`
 abbrev walks : List Token → List ℕ → Bool
 walks [] text = true
 walks (t ∷ ts) [] = true

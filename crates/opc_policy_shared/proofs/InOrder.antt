@@ -70,7 +70,7 @@ rises profiles up = sorted_far is_before ordered profiles up
 
 module _ (name : List ℕ) (profiles : List Profile) (patterns : All (λ (p : Profile). IsPattern p.pattern) profiles)
     (up : IsSortedBy is_before profiles) where
-  -- what is passed over if a name differs from a key
+  -- what is skipped if a name differs from a key
   pub passed : (place to : ℕ) (p : Profile) (upto : List ℕ) → place < length profiles → to ≤ length profiles
       → get_or profiles place p ≡ p → NoneBefore name profiles place → follows (sort_key p.pattern) (name ++ 46 ∷ []) ≡ false
       → FollowsNone (name ++ 46 ∷ []) (sort_key p.pattern) upto

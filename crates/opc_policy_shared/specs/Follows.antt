@@ -1,4 +1,4 @@
--- How far a name goes on as the sort key of a pattern does, byte by byte.
+-- How far a name follows the sort key of a pattern, byte by byte.
 use Rattle.std.specs.Prelude.{◌≡◌, ℕ, Bool, true, false, not, ◌&&◌, ◌||◌, ◌==◌, if◌then◌else◌, nat_lt, List, [], ◌∷◌}
 use Rattle.std.specs.Cmp.Lexicographic.{slice_cmp}
 use Rattle.std.specs.Ordering.{nat_cmp, is_lt}
@@ -7,7 +7,7 @@ use Rattle.std.specs.Ordering.{nat_cmp, is_lt}
 abbrev pub stands_for : ℕ → ℕ → Bool
 stands_for b c = if b == 128 then not (c == 46) else b == c
 
--- A text follows a key as far as both go: each byte stands for the character there, up to a first `*` or `**`.
+-- A text follows a key as far as both reach: each byte stands for the character there, up to a first `*` or `**`.
 abbrev pub follows : List ℕ → List ℕ → Bool
 follows [] text = true
 follows (b ∷ key) [] = true

@@ -20,7 +20,7 @@ with_heads_between first last profiles = filter (λ (p : Profile). lies_between 
 abbrev pub MayCover : List ℕ → Profile → Type 0
 MayCover beginning p = (rest : List ℕ) × ((head_of p ≡ beginning ++ rest) ⊎ (beginning ≡ head_of p ++ rest))
 
--- Candidates among profiles for names with a beginning: some of them, and of those that may cover such a name all.
+-- Candidates among profiles for names with a beginning: some of them, and all of those that may cover such a name.
 pub record AreCandidates (beginning : List ℕ) (profiles candidates : List Profile) : Type 0 where
   pub among : (p : Profile) → Contains candidates p → Contains profiles p
   pub all : (p : Profile) → Contains profiles p → MayCover beginning p → Contains candidates p
@@ -30,6 +30,6 @@ pub record AreSearchable (profiles : List Profile) : Type 0 where
   pub patterns : All (λ (p : Profile). IsPattern p.pattern) profiles
   pub order : IsSortedBy is_before profiles
 
--- A beginning of names, which ends with a period, and the text that no head that goes on after it is beyond.
+-- A beginning of names, which ends with a period, and a text that no head which goes on after the beginning exceeds.
 abbrev pub IsBeginning : List ℕ → List ℕ → Type 0
 IsBeginning beginning last = (words : List ℕ) × (beginning ≡ words ++ 46 ∷ []) × (last ≡ words ++ 47 ∷ [])

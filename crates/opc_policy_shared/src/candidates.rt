@@ -143,7 +143,7 @@ impl Candidates {
         Ok(Candidates { list })
     }
 
-    /// How many they are.
+    /// How many there are.
     pub fn len(&self) -> usize
         ensures { result ≡ length self.now }
     {
@@ -159,7 +159,7 @@ impl Candidates {
     }
 
     /// The place of the profile that decides a name among them: the first that covers it. If the name differs from the
-    /// key of a pattern before its first `*` or `**`, all patterns that differ from it there are passed over at once.
+    /// key of a pattern before its first `*` or `**`, all patterns that differ from it there are skipped together.
     pub fn deciding(&self, resource: &Resource) -> Option<usize>
         ensures { MatchOption result (deciding self.now resource.now ≡ None) (λ place.
             (place < length self.now) × (slice_get self.now place ≡ deciding self.now resource.now)) }

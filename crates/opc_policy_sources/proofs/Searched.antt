@@ -86,7 +86,7 @@ ascending (e ∷ entries) h = (
 )
 
 module _ (when : Option (List ℕ)) (id : List ℕ) (entries : List Entry) (in_order : AreInOrder entries) where
-  -- what the search ends at
+  -- where the search ends
   pub ended : (r : Result ℕ ℕ) → IsSearchInRange r (length entries) → IsBinarySearchResult (λ (e : Entry). key_cmp (key_of e) (id, when)) entries r
       → MatchResult r (λ at. position (is_for when id) entries ≡ Some at) (λ _. find (is_for when id) entries ≡ None)
   ended r within found = searched key_cmp order key_eq ties key_of entries (id, when) r (ascending entries in_order) within found
@@ -96,7 +96,7 @@ get_or_same [] at d e within = absurd (omega (arith, within))
 get_or_same (x ∷ entries) zero d e within = refl
 get_or_same (x ∷ entries) (suc at) d e within = get_or_same entries at d e (omega (arith, within))
 
--- with whatever default the entry is read
+-- whatever the default with which the entry is read
 pub at_its_place : (when : Option (List ℕ)) (id : List ℕ) (entries : List Entry) (at : ℕ) (d : Entry)
     → position (is_for when id) entries ≡ Some at → Some (get_or entries at d).level ≡ entry_level entries when id
 at_its_place when id entries at d place =

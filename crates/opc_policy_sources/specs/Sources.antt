@@ -1,4 +1,4 @@
--- Where a level comes from that a user holds in a profile.
+-- The source of the level that a user holds in a profile.
 use Rattle.std.specs.Prelude.{
   ◌≡◌,
   ℕ,
@@ -38,7 +38,7 @@ use Rattle.opc_policy_sources.specs.declared.sources.LevelSource.TheVariants.{
 abbrev pub from_entry : LevelSource → Option (List ℕ) → Option Level → Option HeldLevel
 from_entry source when level = option_map (λ (l : Level). record { level = l; source = source; when = when }) level
 
--- of two, of those that are there, the first, unless the other one's level is higher
+-- of up to two levels, the first, unless the other one is higher
 abbrev pub highest_first : HeldLevel → HeldLevel → HeldLevel
 highest_first first other = if includes first.level other.level then first else other
 
@@ -58,7 +58,7 @@ abbrev pub everyone_source : List Entry → Option (List ℕ) → User → Optio
 everyone_source entries when user =
     if user.restricted then None else from_entry Everyone when (entry_level entries when (codes "*"))
 
--- the first source that there is: the user's own entry, the highest entry for a connect group, the entry for everyone
+-- the first source that exists: the user's own entry, the highest entry for a connect group, the entry for everyone
 abbrev pub first_source : List Entry → Option (List ℕ) → User → List (List ℕ) → Option HeldLevel
 first_source entries when user groups = option_or (from_entry Own when (entry_level entries when user.id))
     (option_or (group_source entries when groups) (everyone_source entries when user))
@@ -82,7 +82,7 @@ held_from p user None groups = plain_source p user groups
 held_from p user (Some console) groups =
     raised (plain_source p user groups) (first_source p.entries (Some console) user groups)
 
--- The source gives this level: the entry is in the access list, and the user is who it is for.
+-- The source gives this level: the entry is in the access list, and it is for the user.
 abbrev pub gives : Profile → User → List (List ℕ) → Level → Option (List ℕ) → LevelSource → Type 0
 gives p user groups held when Own = entry_level p.entries when user.id ≡ Some held
 gives p user groups held when (Group group) = Contains groups group × (entry_level p.entries when group ≡ Some held)

@@ -1,4 +1,4 @@
-//! Where a level comes from that a user holds in a profile, and the level in each profile that covers a resource.
+//! The source of the level that a user holds in a profile, and the level in each profile that covers a resource.
 #![tactic(auto)]
 
 mod entries;

@@ -31,7 +31,7 @@ pub enum LevelSource {
     Restricted,
 }
 
-/// A level that a user holds, with its source, and the console if it is an entry for that console alone.
+/// A level that a user holds, with its source, and the console, if the source is an entry for that console alone.
 #[derive(Clone, Copy)]
 pub struct HeldLevel {
     pub level: Level,
@@ -57,7 +57,7 @@ fn from_entry(
     }
 }
 
-/// Of two, of those that are there, the first, unless the other one's level is higher.
+/// Of up to two levels, the first, unless the other one is higher.
 fn first_highest(first: Option<HeldLevel>, other: Option<HeldLevel>) -> Option<HeldLevel>
     ensures { result ≡ first_highest first other }
 {
@@ -99,7 +99,7 @@ fn everyone_source(profile: &Profile, when: Option<&ConsoleName>, user: &User) -
     )
 }
 
-/// The first source that there is among the entries with one condition.
+/// The first source that exists among the entries with one condition.
 fn first_source(
     profile: &Profile,
     when: Option<&ConsoleName>,
@@ -118,7 +118,7 @@ fn first_source(
     own.or(shared).or(everyone)
 }
 
-/// What is given to those for whom there is no entry.
+/// What is given to users without an entry.
 fn universal_source(profile: &Profile, user: &User) -> HeldLevel
     ensures { result ≡ universal_source profile.now user.now }
 {
@@ -159,12 +159,13 @@ fn higher_source(
     }
     match first_source(profile, console, user, groups) {
         Some(raised) if !plain.level.includes(raised.level) => raised,
+        // Nothing gives more at this console alone.
         _ => plain,
     }
 }
 
 /// The level that a user holds at a console, if one is given, with its source. The groups are the user's connect
-/// groups. It takes no memory.
+/// groups. It allocates nothing.
 pub fn held_from(
     profile: &Profile,
     user: &User,

@@ -1,4 +1,4 @@
-//! Tests of `opc_policy` and `opc_import` that no program can print: sources that fail, memory that is refused.
+//! Tests of `opc_policy` and `opc_import` that no program can print: sources and allocations that fail.
 #![tactic(auto)]
 
 #[cfg(test)]

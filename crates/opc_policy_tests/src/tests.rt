@@ -1,4 +1,4 @@
-//! Rulings over a policy, sources of profiles that fail, and memory that is refused.
+//! Rulings over a policy, and sources of profiles and allocations that fail.
 use opc_import::fault::ImportFault;
 use opc_import::read::read_policy;
 use opc_import::write::write_policy;
@@ -112,7 +112,7 @@ fn a_class_answers_whole_or_its_first(rt: HostRuntime) -> Result<(), Fail> {
     Ok(())
 }
 
-// The profile decides for a user if the class is active, and otherwise the authority of the console does.
+// The profile decides for a user if the class is active, and otherwise the authority of the console decides.
 #[test]
 fn a_ruling_names_its_rule(rt: HostRuntime) -> Result<(), Fail> {
     let mut policy = policy(rt.alloc())?;
@@ -154,7 +154,7 @@ fn a_ruling_names_its_rule(rt: HostRuntime) -> Result<(), Fail> {
     Ok(())
 }
 
-// Under an allocator that refuses a request, each call answers in full or with memory refused.
+// Under an allocator that refuses a request, each call answers in full or reports the failed allocation.
 #[test]
 fn memory_may_be_refused(rt: HostRuntime) {
     match read_policy(rt.alloc(), FILE) {

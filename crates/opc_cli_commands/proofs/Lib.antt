@@ -1,0 +1,3 @@
+mod Distances
+pub mod Pieces
+mod Worked

@@ -24,8 +24,8 @@ use Rattle.csv.specs.declared.parser.Action.TheVariants as act
 use Rattle.csv.specs.declared.parser.State.{State}
 use Rattle.csv.specs.declared.parser.State.TheVariants as st
 use Rattle.csv.specs.declared.parser.Terminator.TheVariants as term
-use Rattle.opc_import.specs.Extent.{end_of}
-use Rattle.opc_import.specs.declared.extent.End.TheVariants as end
+use Rattle.opc_import.specs.CsvBytes.{end_of}
+use Rattle.opc_import.specs.declared.csv_bytes.ByteEnd.TheVariants as end
 
 -- how many fields of a record have ended after a byte
 abbrev pub ended : Action → ℕ → ℕ

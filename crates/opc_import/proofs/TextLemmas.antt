@@ -1,4 +1,4 @@
--- Texts that read are ASCII.
+-- Texts that can be read are ASCII.
 use Rattle.std.proofs.Common.{◌≡◌, ℕ, Bool, true, false, List, [], ◌∷◌, refl, cond, arith}
 use Rattle.std.specs.Prelude.{None, ◌&&◌}
 use Rattle.std.specs.List.{list_all}

@@ -102,6 +102,6 @@ width_of fields =
     else if is_header first_columns fields then Some (length first_columns)
     else None
 
--- that the record's field in the column is empty
+-- the record's field in the column is empty
 abbrev pub unused : Column → Record → Result Unit Why
 unused column fields = if length (field_in column fields) == 0 then Ok tt else Err (reason column)

@@ -63,7 +63,7 @@ name_of rule text = if is_none (name_fault rule text) then Some text else None
 abbrev pub entry_id_of : List ℕ → Option (List ℕ)
 entry_id_of text = if is_none (entry_fault text) then Some text else None
 
--- the console that an entry is for alone; an empty text means that it is for every console
+-- the only console that an entry is for; an empty text means that it is for every console
 abbrev pub when_of : List ℕ → Option (Option (List ℕ))
 when_of text = if length text == 0 then Some None else option_map Some (name_of console_rule text)
 

@@ -30,11 +30,11 @@ abbrev pub ◌>>=◌ : {A B : Type 0} → Result A Why → (A → Result B Why) 
 Ok x >>= f = f x
 Err e >>= f = Err e
 
--- what a reader of texts has for the field in a column, otherwise that the column is bad
+-- what a reader of texts returns for the field in a column, or that the column is bad
 abbrev pub read_in : {A : Type 0} → Column → (List ℕ → Option A) → Record → Result A Why
 read_in column reader fields = ok_or (reader (field_in column fields)) (reason column)
 
--- Each kind reads its columns from left to right. A column that it doesn't use is empty.
+-- Each kind reads its columns from left to right. A column that it does not use is empty.
 abbrev pub class_row : Record → Result Row Why
 class_row fields = do
   class ← read_in column.Class (lookup classes) fields

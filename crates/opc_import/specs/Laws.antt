@@ -42,7 +42,7 @@ use Rattle.opc_import.specs.declared.column.Column.TheVariants as column
 use Rattle.opc_import.specs.declared.kind.Kind.{Kind}
 use Rattle.opc_import.specs.declared.kind.Kind.TheVariants as kind
 
--- Whether a kind takes a text in a column, past the one that names the kind. A column that it doesn't use is empty.
+-- Whether a kind takes a text in a column, past the one that names the kind. A column that it does not use is empty.
 abbrev pub takes : Kind → Column → List ℕ → Bool
 takes kind column.Kind text = true
 takes kind.Class column.Class text = is_some (lookup classes text)

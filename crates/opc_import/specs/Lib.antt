@@ -1,4 +1,5 @@
 pub mod Columns
+pub mod CsvBytes
 pub mod Each
 pub mod Extent
 pub mod Faults

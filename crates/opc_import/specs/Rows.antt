@@ -28,7 +28,7 @@ abbrev pub restriction_text : Bool → List ℕ
 restriction_text true = codes "Y"
 restriction_text false = []
 
--- the console that an entry is for alone, or nothing
+-- the only console that an entry is for, or nothing
 abbrev pub when_text : Option (List ℕ) → List ℕ
 when_text None = []
 when_text (Some console) = console
@@ -87,12 +87,12 @@ text_in column row = []
 abbrev pub record_of : Row → Record
 record_of row = map (λ column. text_in column row) columns
 
--- a console that is given is one by its name
+-- the text of a console that is given is a console's name
 abbrev pub IsValidWhen : Option (List ℕ) → Type 0
 IsValidWhen None = ⊤
 IsValidWhen (Some console) = name_fault console_rule console ≡ None
 
--- the names and the digest that a row has in a column are such
+-- the names and the digest that a row has in a column are valid
 abbrev pub IsValidIn : Column → Row → Type 0
 IsValidIn column.Name (row.Group name) = name_fault group_rule name ≡ None
 IsValidIn column.Name (row.User user) = name_fault user_rule user.id ≡ None

@@ -85,14 +85,14 @@ impl Column {
     }
 }
 
-// The field of a record in a column, empty if the record is too short.
-pub(crate) fn field_in(line: &StringRecord, column: Column) -> &str
+/// The field of a record in a column, empty if the record is too short.
+pub fn field_in(line: &StringRecord, column: Column) -> &str
     ensures { result.now ≡ field_in column (fields_of line.now) }
 {
     line.get(column as usize).unwrap_or("")
 }
 
-// That a column that the row's kind does not use is empty.
+// Checks that a column that the row's kind does not use is empty.
 pub(crate) fn unused(line: &StringRecord, column: Column) -> Result<(), Why>
     ensures { result ≡ unused column (fields_of line.now) }
 {

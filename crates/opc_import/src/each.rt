@@ -14,8 +14,8 @@ use opc_policy_members::row::Row;
 use opc_terms::fault::Why;
 use std::alloc::{AllocError, Global};
 
-/// What is left of a policy file below its header, and how many fields its rows have. Each record is read whole, also
-/// one that has more fields than any row.
+/// What is left of a policy file below its header, and how many fields its rows have. Each record is read whole, even
+/// one with more fields than any row.
 #[derive(Drop)]
 pub struct EachRecord<'a> {
     records: Records<'a>,

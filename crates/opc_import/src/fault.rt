@@ -2,7 +2,7 @@
 use opc_terms::fault::{Fault, Why};
 use std::alloc::{AllocError, AllocFailed};
 
-/// Why no rows were read: the first bad row, counted from 1, with the header as row 0; or out of memory.
+/// Why no rows were read: the first bad row, counted from 1, with the header as row 0; or a failed allocation.
 #[derive(Clone, Copy, Debug, PartialEq, Eq)]
 pub enum ImportFault {
     Row { row: u32, why: Why },

@@ -76,7 +76,7 @@ pub(crate) fn read_restriction(text: &str) -> Option<bool>
     }
 }
 
-// The console that an entry is for alone; with an empty text it is for every console.
+// The only console that an entry is for; with an empty text it is for every console.
 pub(crate) fn read_when(text: &str) -> Option<Option<ConsoleName>>
     ensures { result ≡ when_of text.now }
 {

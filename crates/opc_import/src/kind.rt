@@ -61,7 +61,8 @@ impl Kind {
         }
     }
 
-    fn read(text: &str) -> Option<Self>
+    /// The kind of this text.
+    pub fn read(text: &str) -> Option<Self>
         ensures { result ≡ lookup kinds text.now }
     {
         match text {

@@ -2,6 +2,7 @@
 #![tactic(auto)]
 
 pub mod column;
+pub mod csv_bytes;
 pub mod each;
 pub mod extent;
 pub mod fault;

@@ -31,7 +31,7 @@ pub fn read_policy(alloc: Global, text: &str) -> Result<Vec<Row>, ImportFault>
     let Some(width) = width_of(&line) else {
         return Err(BAD_HEADER);
     };
-    // For the prover alone, which needs the type of a row's console named.
+    // Named for the prover, which otherwise cannot infer the type of a row's console.
     let _nowhere: Option<ConsoleName> = None;
     let mut rows = Vec::new(alloc);
     for number in 1..MOST_ROWS + 2 {

@@ -8,7 +8,7 @@ use csv::{Reader, ReaderBuilder, StringRecord};
 use std::alloc::{AllocError, Global};
 use std::marker::Model;
 
-/// What is left of a text, as records. Once out of memory, nothing is left.
+/// What is left of a text, as records. Once an allocation has failed, nothing is left.
 #[derive(Drop)]
 pub(crate) struct Records<'a> {
     reader: Reader<&'a [u8]>,
@@ -39,8 +39,8 @@ impl<'a> Records<'a> {
         ensures { IfOk result (λ found. TakesFirst self.old found (fields_of row.new) self.new) }
     {
         // Records are read as text, so that no field is tested by itself. What is cut out of a text at commas, quotes
-        // and line ends is a text, of any length, and a slice can be read: the only failure is refused memory. No
-        // clause states that it is a text; that fault would be reported as out of memory, too.
+        // and line ends is a text, of any length, and a slice can be read: the only failure is that of an allocation.
+        // No clause states that it is a text; that fault would be reported as E90, too.
         let Ok(found) = self.reader.read_record(row) else {
             return Err(AllocError);
         };

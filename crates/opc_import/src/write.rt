@@ -39,7 +39,7 @@ fn lines_of(alloc: Global, rows: &[Row]) -> Result<Vec<u8>, AllocError>
     writer.into_inner().map_err(|_| AllocError)
 }
 
-/// The policy file that has these rows. One of at most 10,000 rows reads back as they are.
+/// The policy file that has these rows. A file of at most 10,000 rows reads back as they are.
 pub fn write_policy(alloc: Global, rows: &[Row]) -> Result<String, AllocError>
     ensures text { IfOk result (λ text. string_bytes text ≡ policy_text rows.now) }
     ensures reads_back { length rows.now ≤ most_rows

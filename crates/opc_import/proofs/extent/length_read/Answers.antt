@@ -1,7 +1,7 @@
 use Rattle.std.proofs.Common.{◌≡◌, ◌∙◌, ◌+◌, [], drop, get_or, length, take, sym, arith}
 use Rattle.std.proofs.lemmas.List.{append-nil, length-take}
 use Rattle.csv.specs.declared.parser.State.TheVariants as st
-use Rattle.opc_import.specs.Extent.{state_of}
+use Rattle.opc_import.specs.CsvBytes.{state_of}
 use Rattle.opc_import.proofs.Cutting.{after_field, after_nothing, after_record, after_tenth, all_bytes, byte_more, cut}
 use Rattle.opc_import.proofs.CutRows.{few_fields, read_alike}
 use Rattle.opc_import.proofs.extent.length_read.Goals.{in-Nothing, in-Record, in-Field+else-ended-eq10}

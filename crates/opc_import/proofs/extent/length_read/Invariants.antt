@@ -1,6 +1,6 @@
 use Rattle.std.proofs.Common.{◌≡◌, ◌++◌, ◌<◌, drop, take}
 use Rattle.csv.specs.declared.parser.State.TheVariants as st
-use Rattle.opc_import.specs.Extent.{state_of}
+use Rattle.opc_import.specs.CsvBytes.{state_of}
 use Rattle.opc_import.proofs.Cutting.{cut}
 use Rattle.opc_import.proofs.extent.length_read.Given as goal
 
